@@ -1,0 +1,18 @@
+//! Why a cell or a context can't be made.
+
+use crate::memory::OutOfMemory;
+
+/// Why a cell or a reactive context wasn't made. Nothing has changed then.
+#[derive(Clone, Copy, Debug, PartialEq, Eq)]
+pub enum CellsFault {
+    /// There was no memory for it.
+    OutOfMemory,
+    /// Its counter is at its end, so there is no number for it.
+    IdsExhausted,
+}
+
+impl From<OutOfMemory> for CellsFault {
+    fn from(_error: OutOfMemory) -> CellsFault {
+        CellsFault::OutOfMemory
+    }
+}
