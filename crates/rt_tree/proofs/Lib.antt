@@ -1,0 +1,12 @@
+pub mod NamesLemmas
+pub mod NodeTestLemmas
+pub mod PropsLemmas
+pub mod WalkLemmas
+pub mod Failures
+pub mod Rows
+pub mod Next
+pub mod Found
+pub mod Times
+pub mod Numbered
+pub mod Elsewhere
+pub mod Rising

@@ -1,0 +1,15 @@
+pub mod Met
+pub mod Names
+pub mod NodeTest
+pub mod Place
+pub mod Places
+pub mod Shown
+pub mod Slots
+pub mod Texts
+pub mod Walk
+pub mod Sinks
+pub mod Nodes
+pub mod Ordered
+pub mod Document
+pub mod Changing
+pub mod Laws

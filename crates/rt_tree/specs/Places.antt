@@ -1,0 +1,96 @@
+-- The places of a tree: where its document's nodes stand, and its component slots.
+use Rattle.std.specs.Prelude.{ℕ, ◌+◌, List, [], ◌∷◌, ◌++◌}
+use Rattle.std.specs.List.{slice_index_or}
+use Rattle.rt_tree.specs.Met.{Met, AtElement, AtAttribute, AtText, AtSlot, met_in}
+use Rattle.rt_tree.specs.declared.template.Template.{Template}
+use Rattle.rt_tree.specs.declared.vnode.VNode.{VNode}
+use Rattle.rt_tree.specs.declared.vnode.DynamicNode.TheOpen.{DynamicNode-F, VNode-F}
+use Rattle.rt_tree.specs.declared.vnode.DynamicNode.TheFolds.{fold-VNode}
+
+-- one step down to a place: a path in a template, or a position in a fragment
+pub data Step : Type 0 where
+  InTemplate : (template : Template) → (path : List ℕ) → Step
+  InFragment : (position : ℕ) → Step
+
+-- what stands at a place
+pub data Kind : Type 0 where
+  AnElement : Kind
+  AText : Kind
+  ATextSlot : Kind
+  APlaceholder : Kind
+  AnEmptyFragment : Kind
+
+-- the place of one node of the document, with what stands there; two places match where they are equal
+abbrev pub NodePlace : Type 0
+NodePlace = List Step × Kind
+
+-- what stands below the steps to it
+abbrev pub Below : Type 0 → Type 0
+Below A = List Step → List A
+
+-- a fragment's items, of which the first has the position k
+abbrev pub in_items : {A : Type 0} → List (Below A) → ℕ → Below A
+in_items [] k steps = []
+in_items (item ∷ rest) k steps = item (steps ++ InFragment k ∷ []) ++ in_items rest (k + 1) steps
+
+-- what stands in one slot, where `values` has that of each
+abbrev pub in_value : {A : Type 0} → List (Below A) → ℕ → Below A
+in_value values slot steps = slice_index_or values slot (λ below. []) steps
+
+-- the nodes at what is met of a template, where `values` has those of each slot
+abbrev pub nodes_met : Template → List (Below NodePlace) → List Met → Below NodePlace
+nodes_met template values [] steps = []
+nodes_met template values (AtElement path attrs children ∷ ms) steps = (steps ++ InTemplate template path ∷ [], AnElement) ∷ nodes_met template values ms steps
+nodes_met template values (AtAttribute path id ∷ ms) steps = nodes_met template values ms steps
+nodes_met template values (AtText path ∷ ms) steps = (steps ++ InTemplate template path ∷ [], AText) ∷ nodes_met template values ms steps
+nodes_met template values (AtSlot path id ∷ ms) steps = in_value values id (steps ++ InTemplate template path ∷ []) ++ nodes_met template values ms steps
+
+-- the component slots among what is met of a template
+abbrev pub slots_met : {A : Type 0} → Template → List (Below A) → List Met → Below A
+slots_met template values [] steps = []
+slots_met template values (AtElement path attrs children ∷ ms) steps = slots_met template values ms steps
+slots_met template values (AtAttribute path id ∷ ms) steps = slots_met template values ms steps
+slots_met template values (AtText path ∷ ms) steps = slots_met template values ms steps
+slots_met template values (AtSlot path id ∷ ms) steps = in_value values id (steps ++ InTemplate template path ∷ []) ++ slots_met template values ms steps
+
+-- a fragment's nodes, or the one that stands for it where it is empty
+abbrev pub fragment_nodes : List (Below NodePlace) → Below NodePlace
+fragment_nodes [] steps = (steps, AnEmptyFragment) ∷ []
+fragment_nodes (item ∷ rest) steps = in_items (item ∷ rest) 0 steps
+
+-- the place of a component slot; two places match where they are equal
+abbrev pub SlotPlace : Type 0
+SlotPlace = List Step
+
+module _ {P Component Props Value Handler TaskState Effect Payload : Type 0} where
+  -- the nodes of one slot's value; those of a component are another scope's
+  abbrev pub value_nodes : DynamicNode-F P Component Props Value Handler TaskState Effect Payload (Below NodePlace) (Below NodePlace) (Below NodePlace) (Below NodePlace) (Below NodePlace) (Below NodePlace) → Below NodePlace
+  value_nodes (DynamicNode-F.Text text) steps = (steps, ATextSlot) ∷ []
+  value_nodes DynamicNode-F.Placeholder steps = (steps, APlaceholder) ∷ []
+  value_nodes (DynamicNode-F.Component below) steps = []
+  value_nodes (DynamicNode-F.DynamicNode::Fragment items) steps = fragment_nodes items steps
+
+  abbrev pub tree_nodes : VNode-F P Component Props Value Handler TaskState Effect Payload (Below NodePlace) (Below NodePlace) (Below NodePlace) (Below NodePlace) (Below NodePlace) (Below NodePlace) → Below NodePlace
+  tree_nodes tree steps = nodes_met tree.template tree.dynamic_nodes (met_in tree.template.roots) steps
+
+  -- the places at which a tree has a node of the document, depth first
+  abbrev pub node_places : VNode P Component Props Value Handler TaskState Effect Payload → List NodePlace
+  node_places tree = fold-VNode P Component Props Value Handler TaskState Effect Payload
+      (Below NodePlace) (Below NodePlace) (Below NodePlace) (Below NodePlace) (Below NodePlace) (Below NodePlace)
+      value_nodes (λ component steps. []) (λ props steps. []) (λ props steps. []) (λ props steps. []) tree_nodes tree []
+
+  -- the component slots of one slot's value; those below a component are another scope's
+  abbrev pub value_slots : DynamicNode-F P Component Props Value Handler TaskState Effect Payload (Below SlotPlace) (Below SlotPlace) (Below SlotPlace) (Below SlotPlace) (Below SlotPlace) (Below SlotPlace) → Below SlotPlace
+  value_slots (DynamicNode-F.Text text) steps = []
+  value_slots DynamicNode-F.Placeholder steps = []
+  value_slots (DynamicNode-F.Component below) steps = steps ∷ []
+  value_slots (DynamicNode-F.DynamicNode::Fragment items) steps = in_items items 0 steps
+
+  abbrev pub tree_slots : VNode-F P Component Props Value Handler TaskState Effect Payload (Below SlotPlace) (Below SlotPlace) (Below SlotPlace) (Below SlotPlace) (Below SlotPlace) (Below SlotPlace) → Below SlotPlace
+  tree_slots tree steps = slots_met tree.template tree.dynamic_nodes (met_in tree.template.roots) steps
+
+  -- the places at which a tree has a component slot, depth first
+  abbrev pub slot_places : VNode P Component Props Value Handler TaskState Effect Payload → List SlotPlace
+  slot_places tree = fold-VNode P Component Props Value Handler TaskState Effect Payload
+      (Below SlotPlace) (Below SlotPlace) (Below SlotPlace) (Below SlotPlace) (Below SlotPlace) (Below SlotPlace)
+      value_slots (λ component steps. []) (λ props steps. []) (λ props steps. []) (λ props steps. []) tree_slots tree []
