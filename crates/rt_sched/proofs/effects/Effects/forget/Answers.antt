@@ -1,0 +1,22 @@
+use Rattle.std.proofs.Common.{◌≡◌, ℕ, Bool, true, false, cond, eqb, List, [], ◌∷◌, ◌++◌, Option, Some, None, refl, ap, sym, ◌∙◌, subst, arith}
+use Rattle.std.specs.Option.{is_some}
+use Rattle.std.specs.Ordering.{nat_cmp}
+use Rattle.std.specs.BTreeMap.{get}
+use Rattle.rt_sched.specs.Lines.{Row, waits, with_last, with_waiting, without_waiting}
+use Rattle.rt_sched.specs.Batches.{has_batch, with_later, with_batch, with_effect, without_batch}
+use Rattle.rt_sched.specs.Pending.{ArePending, AllTagged, effects_of, batches_of}
+use Rattle.rt_sched.proofs.BatchLemmas.{by, by_same, has_batch_by, by_absent, by_later, by_begun, by_gone, none_waits}
+use Rattle.rt_sched.proofs.PendingLemmas.{now_at, pending_same, pending_begun, pending_gone, undone, none_from_some, some_later}
+use Rattle.rt_sched.proofs.Waits.{without_waiting_absent}
+use Rattle.rt_sched.proofs.effects.Effects.forget.Goals as goal
+
+pub invariant_of-self : goal.invariant_of-self
+invariant_of-self g c =
+    let gone = now_at c.self.inside.batches c.remove.new.self c.args.number None c.remove.ensures.updates.0 in
+    pending_gone c.self.inside.line c.forget.new.self c.self.inside.batches c.remove.new.self c.args.number c.self.invariant c.forget.ensures.waiting gone
+
+pub returns : goal.returns
+returns g c =
+    let gone = now_at c.self.inside.batches c.remove.new.self c.args.number None c.remove.ensures.updates.0 in
+    let after = by_gone c.args.number None (get nat_cmp c.self.inside.batches) (get nat_cmp c.remove.new.self) c.self.inside.line.waiting c.self.invariant.tagged gone in
+    record { gone = ap (by (get nat_cmp c.remove.new.self)) c.forget.ensures.waiting ∙ after ∙ ap (without_batch c.args.number) c.self.view_is }
