@@ -1,0 +1,12 @@
+pub mod OneLogOnly
+pub mod Decides
+pub mod Numbers
+pub mod Maps
+pub mod Refusals
+pub mod Lawful
+pub mod Frames
+pub mod RunFrames
+pub mod StepFrames
+pub mod MachineFrames
+pub mod LastsAlways
+pub mod Quiet

@@ -1,0 +1,103 @@
+-- Looks, and what comes next.
+use Rattle.std.specs.Prelude.{ℕ, Bool, false, ◌&&◌, ◌||◌, nat_eq, nat_lt, List, [], ◌∷◌, Option, Some, None, if◌then◌else◌, is_some}
+use Rattle.rt_model.specs.Lists.{at, drop_number, join}
+use Rattle.rt_model.specs.Tree.{Types}
+use Rattle.rt_model.specs.State.{Posted, Mark, Woken, Scope, State, is_live, height_of}
+
+-- what the scheduler takes: a scope to rerun, a task to poll, the effects of a scope
+pub data Work : Type 0 where
+  RerunScope : (scope : ℕ) → Work
+  PollTask : (task : ℕ) → Work
+  RunEffects : (scope : ℕ) → Work
+
+-- the first of the least ones, by a test for what comes earlier
+abbrev pub least_from : (ℕ → ℕ → Bool) → ℕ → List ℕ → ℕ
+least_from earlier s [] = s
+least_from earlier s (t ∷ ts) = least_from earlier (if earlier t s then t else s) ts
+
+abbrev pub least : (ℕ → ℕ → Bool) → List ℕ → Option ℕ
+least earlier [] = None
+least earlier (s ∷ ss) = Some (least_from earlier s ss)
+
+module _ {K : Types} where
+  abbrev pub look_on : List Posted → State K → State K
+  look_on [] w = w
+  look_on (Mark s ∷ ps) w = look_on ps (if is_live w s then record w { seen = join w.seen s } else w)
+  look_on (Woken t ∷ ps) w = look_on ps (if is_some (at w.tasks t) then record w { queued = join w.queued t } else w)
+
+  -- all that is posted becomes seen or queued, once each
+  abbrev pub look : State K → State K
+  look w = look_on w.posted (record w { posted = [] })
+
+  -- scopes come by height and then by number
+  abbrev pub is_before : List (ℕ × Scope K) → ℕ → ℕ → Bool
+  is_before scopes s t =
+      nat_lt (height_of scopes s) (height_of scopes t) || (nat_eq (height_of scopes s) (height_of scopes t) && nat_lt s t)
+
+  abbrev pub scope_of_task : State K → ℕ → ℕ
+  scope_of_task w t = elim (at w.tasks t) [ None ↦ 0 | Some x ↦ x.scope ]
+
+  abbrev pub is_active : State K → ℕ → Bool
+  is_active w t = elim (at w.tasks t) [ None ↦ false | Some x ↦ x.active ]
+
+  -- the first queued task of the least order
+  abbrev pub first_task : State K → Option ℕ
+  first_task w = least (λ t u. is_before w.scopes (scope_of_task w t) (scope_of_task w u)) w.queued
+
+  abbrev pub first_seen : State K → Option ℕ
+  first_seen w = least (λ s t. is_before w.scopes s t) w.seen
+
+  -- the lesser of the two, the task on equal order
+  abbrev pub chosen : State K → Option ℕ → Option ℕ → Option Work
+  chosen w None None = None
+  chosen w (Some t) None = Some (PollTask t)
+  chosen w None (Some s) = Some (RerunScope s)
+  chosen w (Some t) (Some s) = if is_before w.scopes s (scope_of_task w t) then Some (RerunScope s) else Some (PollTask t)
+
+  abbrev pub found : State K → Option Work
+  found w = chosen w (first_task w) (first_seen w)
+
+  -- the task that comes up, where it is paused
+  abbrev pub paused : State K → Option Work → Option ℕ
+  paused w None = None
+  paused w (Some (RerunScope s)) = None
+  paused w (Some (RunEffects s)) = None
+  paused w (Some (PollTask t)) = if is_active w t then None else Some t
+
+  abbrev pub drop_then : (State K → State K) → State K → Option ℕ → State K
+  drop_then go w None = w
+  drop_then go w (Some t) = go (record w { queued = drop_number w.queued t })
+
+  -- paused tasks that come up are dropped, at most as many as the list is long
+  abbrev pub drops : List ℕ → State K → State K
+  drops [] w = w
+  drops (q ∷ qs) w = drop_then (λ v. drops qs v) w (paused w (found w))
+
+  abbrev pub looked : State K → Option Work → State K
+  looked w (Some x) = w
+  looked w None = let v = look w in drops v.queued v
+
+  -- the state after the drops, and after the look that follows where nothing is left
+  abbrev pub at_rest : State K → State K
+  at_rest w = let v = drops w.queued w in looked v (found v)
+
+  abbrev pub with_effects : List (ℕ × Scope K) → List ℕ
+  with_effects [] = []
+  with_effects (e ∷ es) =
+      if (e.1).mounted then elim (e.1).effects [ [] ↦ with_effects es | x ∷ xs ↦ e.0 ∷ with_effects es ] else with_effects es
+
+  abbrev pub or_effects : State K → Option Work → Option Work
+  or_effects w (Some x) = Some x
+  or_effects w None =
+      elim (least (λ s t. is_before w.scopes s t) (with_effects w.scopes)) [ None ↦ None | Some s ↦ Some (RunEffects s) ]
+
+  -- what comes next, of a state at rest: the least seen scope or queued task, else the effects of the least mounted scope
+  abbrev pub next_at_rest : State K → Option Work
+  next_at_rest w = or_effects w (found w)
+
+  abbrev pub next : State K → Option Work
+  next w = next_at_rest (at_rest w)
+
+  -- something is owed
+  abbrev pub owes : State K → Bool
+  owes w = is_some (next w)

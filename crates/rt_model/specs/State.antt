@@ -1,0 +1,295 @@
+-- The state of a runtime: scopes, cells, reactive contexts, tasks, and what is owed.
+use Rattle.std.specs.Prelude.{ℕ, zero, suc, Bool, true, false, ◌&&◌, nat_eq, List, [], ◌∷◌, Option, Some, None, if◌then◌else◌, is_some}
+use Rattle.std.specs.List.{list_any}
+use Rattle.rt_model.specs.Lists.{at, put}
+use Rattle.rt_model.specs.Tree.{Types, CapturedError, VComponent, is_suspense_boundary, is_error_boundary, Tree, Element, Place, Kind}
+use Rattle.rt_model.specs.World.{Source, Target, Counter, Firsts, Hook, Values, World}
+
+-- a suspense boundary has the sides of its children and of its fallback, any other scope has one side
+pub data SideName : Type 0 where
+  MainSide : SideName
+  ChildrenSide : SideName
+  FallbackSide : SideName
+
+abbrev pub same_side : SideName → SideName → Bool
+same_side MainSide MainSide = true
+same_side ChildrenSide ChildrenSide = true
+same_side FallbackSide FallbackSide = true
+same_side _ _ = false
+
+-- what is posted: a mark of a scope, a wake of a task
+pub data Posted : Type 0 where
+  Mark : (scope : ℕ) → Posted
+  Woken : (task : ℕ) → Posted
+
+-- who may poll a task in a suspended render
+pub data TaskKind : Type 0 where
+  ClientOnly : TaskKind
+  Isomorphic : TaskKind
+  SuspendedTask : TaskKind
+
+-- why a run ended early
+pub data Fault : Type 0 where
+  OutOfTurns : (units : ℕ) → Fault
+  TooDeep : (height : ℕ) → Fault
+  IdsExhausted : (what : Counter) → Fault
+  HookChanged : (scope index kept asked : ℕ) → Fault
+  NoSuchTask : (scope task : ℕ) → Fault
+  BadNode : (scope : ℕ) → Fault
+
+-- a step in the work of a suspense boundary's run
+pub data RowStep : Type 0 where
+  PatchChildren : RowStep
+  MadeChildren : RowStep
+  RunFallback : RowStep
+  ShowFallback : RowStep
+  ShowChildren : RowStep
+  DropFallback : RowStep
+  Resolve : RowStep
+
+module _ (K : Types) where
+  pub record Side : Type 0 where
+    -- the kept output
+    pub output : Option (Tree K)
+    -- the number of each place of a node
+    pub numbers : List (Place × Kind × ℕ)
+    -- the child scope of each component slot
+    pub children : List (Place × ℕ)
+
+  pub record Scope : Type 0 where
+    pub component : VComponent K
+    pub parent : Option ℕ
+    pub height : ℕ
+    -- the side of the parent that it was made on
+    pub below : SideName
+    pub main_side : Side
+    pub children_side : Side
+    pub fallback_side : Side
+    pub renders : ℕ
+    pub hooks : List (Hook K)
+    -- what it provides, by kind
+    pub contexts : List (ℕ × K.Value)
+    -- of the last run: its world, its reads, those aside, its answer
+    pub given : Option (World K)
+    pub reads : List Source
+    pub aside : List Source
+    pub answer : Option (Element K)
+    pub mounted : Bool
+    pub effects : List K.Effect
+    -- of an error boundary: the error that it caught
+    pub error : Option CapturedError
+    -- of a suspense boundary: the side that shows, none while it is being made
+    pub shows : Option SideName
+    -- its holders in order of joining: each a task with its origin
+    pub holders : List (ℕ × ℕ)
+    pub frozen : Bool
+    -- what is called when it turns to its children, with the scope of each
+    pub callbacks : List (ℕ × K.Effect)
+
+  pub record CellRow : Type 0 where
+    pub owner : ℕ
+    pub value : K.Value
+
+  pub record ContextRow : Type 0 where
+    pub scope : ℕ
+    pub target : Target
+    pub sources : List Source
+
+  pub record TaskRow : Type 0 where
+    pub scope : ℕ
+    -- the task that was polled when it was spawned
+    pub parent : Option ℕ
+    pub state : K.TaskState
+    pub active : Bool
+    pub kind : TaskKind
+
+  -- each part by number, the lists ascending; next numbers of all counters
+  pub record State : Type 0 where
+    pub scopes : List (ℕ × Scope)
+    pub cells : List (ℕ × CellRow)
+    pub contexts : List (ℕ × ContextRow)
+    pub tasks : List (ℕ × TaskRow)
+    pub posted : List Posted
+    pub seen : List ℕ
+    pub queued : List ℕ
+    -- the boundaries that turned to their children, and the scopes that a suspended render passed over
+    pub resolved : List ℕ
+    pub skipped : List ℕ
+    pub next_scope : ℕ
+    pub next : Firsts
+
+  -- open work: a number to draw, a step of a boundary, a child to feed, to make or to drop
+  pub data Item : Type 0 where
+    Draw : (scope : ℕ) → (side : SideName) → (place : Place) → (kind : Kind) → Item
+    Row : (boundary : ℕ) → (step : RowStep) → Item
+    Feed : (scope : ℕ) → (side : SideName) → (place : Place) → (component : VComponent K) → Item
+    Make : (scope : ℕ) → (side : SideName) → (place : Place) → (component : VComponent K) → Item
+    Drop : (child : ℕ) → (scope : ℕ) → (side : SideName) → Item
+
+abbrev pub is_side : Option SideName → SideName → Bool
+is_side None b = false
+is_side (Some a) b = same_side a b
+
+module _ (K : Types) where
+  -- a change ends with a state and the work that it leads to, or is cut by a fault: what it did before stands
+  pub data Outcome : Type 0 where
+    Done : (state : State K) → (work : List (Item K)) → Outcome
+    Cut : (state : State K) → (fault : Fault) → Outcome
+
+module _ {K : Types} where
+  -- a change without work, and then another one
+  abbrev pub onward : Outcome K → (State K → Outcome K) → Outcome K
+  onward (Done w work) f = f w
+  onward (Cut w fault) f = Cut w fault
+
+  abbrev pub empty_side : Side K
+  empty_side = record { output = None; numbers = []; children = [] }
+
+  abbrev pub side_of : Scope K → SideName → Side K
+  side_of s MainSide = s.main_side
+  side_of s ChildrenSide = s.children_side
+  side_of s FallbackSide = s.fallback_side
+
+  abbrev pub with_side : Scope K → SideName → Side K → Scope K
+  with_side s MainSide a = record s { main_side = a }
+  with_side s ChildrenSide a = record s { children_side = a }
+  with_side s FallbackSide a = record s { fallback_side = a }
+
+  abbrev pub new_scope : VComponent K → Option ℕ → ℕ → SideName → Scope K
+  new_scope c parent height below =
+      record {
+        component = c;
+        parent = parent;
+        height = height;
+        below = below;
+        main_side = empty_side;
+        children_side = empty_side;
+        fallback_side = empty_side;
+        renders = 0;
+        hooks = [];
+        contexts = [];
+        given = None;
+        reads = [];
+        aside = [];
+        answer = None;
+        mounted = false;
+        effects = [];
+        error = None;
+        shows = if is_suspense_boundary c then None else Some MainSide;
+        holders = [];
+        frozen = false;
+        callbacks = [];
+      }
+
+  abbrev pub is_live : State K → ℕ → Bool
+  is_live w s = is_some (at w.scopes s)
+
+  abbrev pub changed_scope : State K → ℕ → (Scope K → Scope K) → Option (Scope K) → State K
+  changed_scope w s f None = w
+  changed_scope w s f (Some x) = record w { scopes = put w.scopes s (f x) }
+
+  -- a change of one scope's record, where it is live
+  abbrev pub change : State K → ℕ → (Scope K → Scope K) → State K
+  change w s f = changed_scope w s f (at w.scopes s)
+
+  abbrev pub parent_of : List (ℕ × Scope K) → ℕ → Option ℕ
+  parent_of scopes s = elim (at scopes s) [ None ↦ None | Some x ↦ x.parent ]
+
+  abbrev pub height_of : List (ℕ × Scope K) → ℕ → ℕ
+  height_of scopes s = elim (at scopes s) [ None ↦ 0 | Some x ↦ x.height ]
+
+  -- the first scope from s upwards of which the test holds; a climb takes at most as many steps as the height
+  abbrev pub climb_at : (Scope K → Bool) → (ℕ → Option ℕ) → ℕ → Option (Scope K) → Option ℕ
+  climb_at test go s None = None
+  climb_at test go s (Some x) = if test x then Some s else elim x.parent [ None ↦ None | Some p ↦ go p ]
+
+  abbrev pub climb : (Scope K → Bool) → List (ℕ × Scope K) → ℕ → ℕ → Option ℕ
+  climb test scopes zero s = climb_at test (λ p. None) s (at scopes s)
+  climb test scopes (suc n) s = climb_at test (λ p. climb test scopes n p) s (at scopes s)
+
+  abbrev pub upwards : (Scope K → Bool) → State K → ℕ → Option ℕ
+  upwards test w s = climb test w.scopes (height_of w.scopes s) s
+
+  -- the nearest error boundary, and the boundary that the location of a scope names
+  abbrev pub error_context : State K → ℕ → Option ℕ
+  error_context w s = upwards (λ x. is_error_boundary x.component) w s
+
+  abbrev pub suspense_context : State K → ℕ → Option ℕ
+  suspense_context w s = upwards (λ x. is_suspense_boundary x.component) w s
+
+  abbrev pub is_boundary : List (ℕ × Scope K) → ℕ → Bool
+  is_boundary scopes s = elim (at scopes s) [ None ↦ false | Some x ↦ is_suspense_boundary x.component ]
+
+  -- the suspense boundary above a scope, with the side that the scope is below
+  abbrev pub location_at : List (ℕ × Scope K) → (ℕ → Option (ℕ × SideName)) → SideName → Option ℕ → Option (ℕ × SideName)
+  location_at scopes go below None = None
+  location_at scopes go below (Some p) = if is_boundary scopes p then Some (p, below) else go p
+
+  abbrev pub location_from : List (ℕ × Scope K) → ℕ → ℕ → Option (ℕ × SideName)
+  location_from scopes zero s = None
+  location_from scopes (suc n) s =
+      elim (at scopes s) [ None ↦ None | Some x ↦ location_at scopes (λ p. location_from scopes n p) x.below x.parent ]
+
+  -- where a scope stands: a boundary stands on its own, so it has no location among another's children
+  abbrev pub location : State K → ℕ → Option (ℕ × SideName)
+  location w s = location_from w.scopes (height_of w.scopes s) s
+
+  abbrev pub shown_at : List (ℕ × Scope K) → (ℕ → Bool) → SideName → Option ℕ → Bool
+  shown_at scopes go below None = true
+  shown_at scopes go below (Some p) = elim (at scopes p) [ None ↦ false | Some y ↦ is_side y.shows below && go p ]
+
+  abbrev pub shown_from : List (ℕ × Scope K) → ℕ → ℕ → Bool
+  shown_from scopes zero s = true
+  shown_from scopes (suc n) s =
+      elim (at scopes s) [ None ↦ false | Some x ↦ shown_at scopes (λ p. shown_from scopes n p) x.below x.parent ]
+
+  -- each scope above shows the side that the way to s is below
+  abbrev pub is_shown : State K → ℕ → Bool
+  is_shown w s = is_live w s && shown_from w.scopes (height_of w.scopes s) s
+
+  abbrev pub is_held : Scope K → Bool
+  is_held x = elim x.holders [ [] ↦ false | h ∷ hs ↦ true ]
+
+  abbrev pub holds : Scope K → ℕ → Bool
+  holds x t = list_any (λ h. nat_eq h.0 t) x.holders
+
+  abbrev pub hooks_of : State K → ℕ → List (Hook K)
+  hooks_of w s = elim (at w.scopes s) [ None ↦ [] | Some x ↦ x.hooks ]
+
+  abbrev pub renders_of : State K → ℕ → ℕ
+  renders_of w s = elim (at w.scopes s) [ None ↦ 0 | Some x ↦ x.renders ]
+
+  -- the present value of each source, none where it is gone
+  abbrev pub values_of : State K → Values K
+  values_of w =
+      record {
+        cell = λ n. elim (at w.cells n) [ None ↦ None | Some c ↦ Some c.value ];
+        error = λ s. elim (at w.scopes s) [ None ↦ None | Some x ↦ x.error ];
+        context = λ k s. elim (at w.scopes s) [ None ↦ None | Some x ↦ at x.contexts k ];
+      }
+
+  abbrev pub parents_of : List (ℕ × Scope K) → List (ℕ × Option ℕ)
+  parents_of [] = []
+  parents_of (e ∷ es) = (e.0, (e.1).parent) ∷ parents_of es
+
+  abbrev pub boundaries_of : List (ℕ × Scope K) → List ℕ
+  boundaries_of [] = []
+  boundaries_of (e ∷ es) = if is_error_boundary (e.1).component then e.0 ∷ boundaries_of es else boundaries_of es
+
+  -- what a call in scope s may see
+  abbrev pub world_of : State K → ℕ → Option ℕ → Bool → World K
+  world_of w s task rendering =
+      record {
+        given =
+            record {
+              scope = s;
+              parents = parents_of w.scopes;
+              boundaries = boundaries_of w.scopes;
+              renders = renders_of w s;
+              hooks = hooks_of w s;
+              next = w.next;
+              task = task;
+              rendering = rendering;
+            };
+        values = values_of w;
+      }

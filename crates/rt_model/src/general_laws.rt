@@ -1,0 +1,27 @@
+//! Laws of the definitions, for every application.
+
+ghost use Rattle.rt_model.specs.World.{Application};
+ghost use Rattle.rt_model.specs.OneLog.{types, OneLog};
+ghost use Rattle.rt_model.specs.Laws.{ProgramsAreLawful};
+ghost use Rattle.rt_model.specs.Lasting.{LawfulLogsLast};
+ghost use Rattle.rt_model.specs.Still.{SameCausesNothing};
+
+/// For one list of inputs at most one log of each length is accepted.
+pub fn one_log<C, P, V, H, T, E, L>()
+    ensures { (app : Application (types C P V H T E L)) → OneLog app }
+{}
+
+/// An application whose calls are programs in data obeys the laws, where its tests decide and it memoizes only what means the same.
+pub fn programs_are_lawful<C, P, V, H, T, E, L>()
+    ensures { ProgramsAreLawful (types C P V H T E L) }
+{}
+
+/// Along an accepted log no number is drawn twice, no entry names a scope that was removed, no ended task is polled, and heights rise by one from parent to child.
+pub fn lawful_logs_last<C, P, V, H, T, E, L>()
+    ensures { (app : Application (types C P V H T E L)) → LawfulLogsLast app }
+{}
+
+/// Between a state and itself no edit is caused, where no attribute slot of a kept output has a name twice.
+pub fn same_causes_nothing<C, P, V, H, T, E, L>()
+    ensures { (app : Application (types C P V H T E L)) → SameCausesNothing app }
+{}
