@@ -1,0 +1,85 @@
+//! What a call of an application leaves.
+ghost use Rattle.std.specs.Prelude.{◌≡◌};
+
+use crate::app::rows::{Hook, Rows};
+use crate::app::world::Firsts;
+use rt_cells::{Cells, List, ScopeId, Source, Task};
+use rt_tree::{Element, Parts};
+use std::marker::Model;
+use std::snapshot::Snapshot;
+
+/// What a call asks for. It is done once the call has returned.
+#[derive(Drop)]
+pub enum Command<P: Parts> {
+    /// One more hook of the caller's scope.
+    KeepHook(Hook<P>),
+}
+
+/// Why a call on a `Cx` was refused.
+#[derive(Clone, Copy, Debug, PartialEq, Eq)]
+pub enum CxFault {
+    OutOfMemory,
+}
+
+/// What a call of an application leaves. Only `Cx::finish` makes one.
+#[derive(Drop)]
+pub struct Turn<P: Parts, T> {
+    pub(crate) rows: Snapshot<Rows<P>>,
+    pub(crate) cells: Snapshot<Cells<P::Value>>,
+    pub(crate) first: Firsts,
+    pub(crate) task: Option<Task>,
+    pub(crate) rendering: bool,
+    pub(crate) scope: ScopeId,
+    pub(crate) parts: TurnParts<P, T>,
+}
+
+/// What a body leaves.
+pub type BodyTurn<P> = Turn<P, Element<P>>;
+
+/// The parts of a turn.
+#[derive(Drop)]
+pub struct TurnParts<P: Parts, T> {
+    pub answer: T,
+    /// What was read, in order.
+    pub reads: List<Source>,
+    /// What is to be done, in order.
+    pub commands: List<Command<P>>,
+    /// The next number of each counter after the call.
+    pub next: Firsts,
+    /// The first refusal of a call on the `Cx`.
+    pub fault: Option<CxFault>,
+}
+
+impl<P: Parts, T> Model for Turn<P, T> {
+    ghost use Rattle.rt_vdom.specs.Turn.{Left};
+    ghost use Rattle.rt_vdom.specs.declared.app.turn.Command.{Command};
+
+    ghost Value = { Left P P.Component P.Props P.Value P.Handler P.TaskState P.Effect P.Payload T };
+
+    ghost view = { λ t. record {
+      world = record { scope = t.scope; rows = t.rows.value; cells = t.cells.value.cells; next = t.first; task = t.task; rendering = t.rendering };
+      meaning = record { answer = t.parts.answer; reads = t.parts.reads; commands = t.parts.commands; next = t.parts.next; fault = t.parts.fault };
+    } };
+}
+
+impl<P: Parts, T> Turn<P, T> {
+    /// Takes the turn apart.
+    pub fn parts(self) -> TurnParts<P, T>
+        ensures answer { result.answer ≡ self.meaning.answer }
+        ensures reads { result.reads ≡ self.meaning.reads }
+        ensures commands { result.commands ≡ self.meaning.commands }
+        ensures next { result.next ≡ self.meaning.next }
+        ensures fault { result.fault ≡ self.meaning.fault }
+    {
+        let Turn {
+            rows: _,
+            cells: _,
+            first: _,
+            task: _,
+            rendering: _,
+            scope: _,
+            parts,
+        } = self;
+        parts
+    }
+}
