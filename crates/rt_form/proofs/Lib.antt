@@ -1,0 +1,5 @@
+pub mod Levels
+pub mod Steps
+pub mod Texts
+pub mod Soundness
+pub mod Completeness
