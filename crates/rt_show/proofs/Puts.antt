@@ -1,0 +1,160 @@
+-- Texts that are put one after the other.
+use Rattle.std.proofs.Common.{◌≡◌, ℕ, ◌+◌, ◌<◌, ◌≤◌, suc, List, [], ◌∷◌, ◌++◌, length, take, drop, map, get_or, Option, Some, None, Result, Ok, Err, IsErrOf, refl, ap, sym, ◌∙◌, append_assoc, append-nil, subst, take-append-drop, zero, zero-add, add-zero, arith}
+use Rattle.std.proofs.lemmas.List.{take_all, get_or-map, length-map}
+use Rattle.std.proofs.Math.Seq.{take-suc}
+use Rattle.rt_print.specs.Lines.{line_of, lines_of}
+use Rattle.rt_print.specs.Reports.{report_line_of, report_lines_from}
+use Rattle.rt_print.specs.Texts.{joined}
+use Rattle.rt_vdom.specs.declared.Report.{Report}
+use Rattle.rt_tree.specs.declared.Edit.{Edit}
+use Rattle.rt_streams.specs.Writes.{grown, AddsFront, Writes}
+use Rattle.rt_streams.specs.declared.out.OutError.{OutError}
+
+grown_by_none : (old : Option (List ℕ)) → old ≡ grown old []
+grown_by_none None = refl
+grown_by_none (Some bytes) = ap Some (sym (append-nil bytes))
+
+pub grown_twice : (old : Option (List ℕ)) (xs ys : List ℕ) → grown (grown old xs) ys ≡ grown old (xs ++ ys)
+grown_twice None xs ys = refl
+grown_twice (Some es) xs ys = ap Some (append_assoc es xs ys)
+
+-- nothing is put where no call is made
+pub writes_none : (old : Option (List ℕ)) (faults : ℕ) → Writes [] old old faults faults (Ok tt)
+writes_none old faults = record {
+  ok = grown_by_none old;
+  front = record { front = []; rest = []; whole = refl; added = grown_by_none old };
+  later = omega arith;
+  cause = λ h. absurd (cc);
+}
+
+-- one text and then another
+pub writes_both : (a b : List ℕ) (old mid new : Option (List ℕ)) (before between after : ℕ) (result : Result (Unit {0}) OutError) →
+    Writes a old mid before between (Ok tt) → Writes b mid new between after result → Writes (a ++ b) old new before after result
+writes_both a b old mid new before between after (Ok u) first second = record {
+  ok = second.ok ∙ ap (λ o. grown o b) first.ok ∙ grown_twice old a b;
+  front = record {
+    front = a ++ second.front.front;
+    rest = second.front.rest;
+    whole = ap (λ text. a ++ text) second.front.whole ∙ sym (append_assoc a second.front.front second.front.rest);
+    added = second.front.added ∙ ap (λ o. grown o second.front.front) first.ok ∙ grown_twice old a second.front.front;
+  };
+  later = omega arith;
+  cause = λ failed. absurd (cc);
+}
+writes_both a b old mid new before between after (Err error) first second = record {
+  ok = tt;
+  front = record {
+    front = a ++ second.front.front;
+    rest = second.front.rest;
+    whole = ap (λ text. a ++ text) second.front.whole ∙ sym (append_assoc a second.front.front second.front.rest);
+    added = second.front.added ∙ ap (λ o. grown o second.front.front) first.ok ∙ grown_twice old a second.front.front;
+  };
+  later = omega arith;
+  cause = λ failed. omega (arith, second.cause failed);
+}
+
+-- where the first text ends in an error, the second isn't begun
+pub writes_first : (a b : List ℕ) (old new : Option (List ℕ)) (before after : ℕ) (error : OutError) →
+    Writes a old new before after (Err error) → Writes (a ++ b) old new before after (Err error)
+writes_first a b old new before after error first = record {
+  ok = tt;
+  front = record {
+    front = first.front.front;
+    rest = first.front.rest ++ b;
+    whole = ap (λ text. text ++ b) first.front.whole ∙ append_assoc first.front.front first.front.rest b;
+    added = first.front.added;
+  };
+  later = first.later;
+  cause = first.cause;
+}
+
+joined_append : (xs ys : List (List ℕ)) → joined (xs ++ ys) ≡ joined xs ++ joined ys
+joined_append [] ys = refl
+joined_append (x ∷ xs) ys = ap (λ text. x ++ text) (joined_append xs ys) ∙ sym (append_assoc x (joined xs) (joined ys))
+
+-- one more line of some
+joined_take : (lines : List (List ℕ)) (at : ℕ) (line : List ℕ) → at < length lines → line ≡ get_or lines at line →
+    joined (take (at + 1) lines) ≡ joined (take at lines) ++ line
+joined_take lines at line within is =
+    let one : at + 1 ≡ suc at = omega arith in
+    ap (λ count. joined (take count lines)) one ∙ ap joined (take-suc lines at line within)
+    ∙ joined_append (take at lines) (get_or lines at line ∷ [])
+    ∙ ap (λ text. joined (take at lines) ++ text) (append-nil (get_or lines at line) ∙ sym is)
+
+-- the lines before one, it, and the lines after it
+joined_cut : (lines : List (List ℕ)) (at : ℕ) (line : List ℕ) → at < length lines → line ≡ get_or lines at line →
+    joined lines ≡ (joined (take at lines) ++ line) ++ joined (drop (at + 1) lines)
+joined_cut lines at line within is =
+    ap joined (sym (take-append-drop (at + 1) lines)) ∙ joined_append (take (at + 1) lines) (drop (at + 1) lines)
+    ∙ ap (λ text. text ++ joined (drop (at + 1) lines)) (joined_take lines at line within is)
+
+-- one more line was put
+pub line_put : (lines : List (List ℕ)) (at : ℕ) (line : List ℕ) (old mid new : Option (List ℕ)) (before between after : ℕ) → at < length lines → line ≡ get_or lines at line →
+    Writes (joined (take at lines)) old mid before between (Ok tt) → Writes line mid new between after (Ok tt) → Writes (joined (take (at + 1) lines)) old new before after (Ok tt)
+line_put lines at line old mid new before between after within is first second =
+    subst (λ (text : List ℕ). Writes text old new before after (Ok tt)) (sym (joined_take lines at line within is))
+    (writes_both (joined (take at lines)) line old mid new before between after (Ok tt) first second)
+
+-- one more line was not put, and then none
+pub line_failed : (lines : List (List ℕ)) (at : ℕ) (line : List ℕ) (old mid new : Option (List ℕ)) (before between after : ℕ) (error : OutError) → at < length lines → line ≡ get_or lines at line →
+    Writes (joined (take at lines)) old mid before between (Ok tt) → Writes line mid new between after (Err error) → Writes (joined lines) old new before after (Err error)
+line_failed lines at line old mid new before between after error within is first second =
+    subst (λ (text : List ℕ). Writes text old new before after (Err error)) (sym (joined_cut lines at line within is))
+    (writes_first (joined (take at lines) ++ line) (joined (drop (at + 1) lines)) old new before after error
+    (writes_both (joined (take at lines)) line old mid new before between after (Err error) first second))
+
+-- all lines were put
+lines_put : (lines : List (List ℕ)) (at : ℕ) (old new : Option (List ℕ)) (before after : ℕ) → length lines ≤ at →
+    Writes (joined (take at lines)) old new before after (Ok tt) → Writes (joined lines) old new before after (Ok tt)
+lines_put lines at old new before after all put =
+    subst (λ (text : List ℕ). Writes text old new before after (Ok tt)) (ap joined (take_all at lines all)) put
+
+-- the line of an edit among all lines
+line_at : (edits : List Edit) (at : ℕ) (edit : Edit) → at < length edits → edit ≡ get_or edits at edit → line_of edit ≡ get_or (lines_of edits) at (line_of edit)
+line_at edits at edit within is = ap line_of is ∙ sym (get_or-map line_of edits at edit (line_of edit) within)
+
+pub edit_put : (edits : List Edit) (at : ℕ) (edit : Edit) (old mid new : Option (List ℕ)) (before between after : ℕ) → at < length edits → edit ≡ get_or edits at edit →
+    Writes (joined (take at (lines_of edits))) old mid before between (Ok tt) → Writes (line_of edit) mid new between after (Ok tt) →
+    Writes (joined (take (at + 1) (lines_of edits))) old new before after (Ok tt)
+edit_put edits at edit old mid new before between after within is first second =
+    line_put (lines_of edits) at (line_of edit) old mid new before between after (rw length-map within) (line_at edits at edit within is) first second
+
+pub edit_failed : (edits : List Edit) (at : ℕ) (edit : Edit) (old mid new : Option (List ℕ)) (before between after : ℕ) (error : OutError) → at < length edits → edit ≡ get_or edits at edit →
+    Writes (joined (take at (lines_of edits))) old mid before between (Ok tt) → Writes (line_of edit) mid new between after (Err error) →
+    Writes (joined (lines_of edits)) old new before after (Err error)
+edit_failed edits at edit old mid new before between after error within is first second =
+    line_failed (lines_of edits) at (line_of edit) old mid new before between after error (rw length-map within) (line_at edits at edit within is) first second
+
+reports_length : (number : ℕ) (reports : List Report) → length (report_lines_from number reports) ≡ length reports
+reports_length number [] = refl
+reports_length number (report ∷ reports) = ap suc (reports_length (number + 1) reports)
+
+-- the line of a report among all lines
+report_at : (number : ℕ) (reports : List Report) (at : ℕ) (report : Report) → at < length reports → report ≡ get_or reports at report →
+    report_line_of (number + at) report ≡ get_or (report_lines_from number reports) at (report_line_of (number + at) report)
+report_at number [] at report within is = absurd (omega arith)
+report_at number (first ∷ reports) zero report within is = ap (λ count. report_line_of count report) (add-zero number) ∙ ap (report_line_of number) is
+report_at number (first ∷ reports) (suc at) report within is =
+    let later : (number + 1) + at ≡ number + suc at = omega arith in
+    subst (λ (count : ℕ). report_line_of count report ≡ get_or (report_lines_from (number + 1) reports) at (report_line_of count report)) later
+    (report_at (number + 1) reports at report (omega arith) is)
+
+report_from : (reports : List Report) (at : ℕ) (report : Report) → at < length reports → report ≡ get_or reports at report →
+    report_line_of at report ≡ get_or (report_lines_from 0 reports) at (report_line_of at report)
+report_from reports at report within is = rw (zero-add at) at (report_at 0 reports at report within is)
+
+pub report_put : (reports : List Report) (at : ℕ) (report : Report) (old mid new : Option (List ℕ)) (before between after : ℕ) → at < length reports → report ≡ get_or reports at report →
+    Writes (joined (take at (report_lines_from 0 reports))) old mid before between (Ok tt) → Writes (report_line_of at report) mid new between after (Ok tt) →
+    Writes (joined (take (at + 1) (report_lines_from 0 reports))) old new before after (Ok tt)
+report_put reports at report old mid new before between after within is first second =
+    line_put (report_lines_from 0 reports) at (report_line_of at report) old mid new before between after (rw (reports_length 0 reports) within) (report_from reports at report within is) first second
+
+pub report_failed : (reports : List Report) (at : ℕ) (report : Report) (old mid new : Option (List ℕ)) (before between after : ℕ) (error : OutError) → at < length reports → report ≡ get_or reports at report →
+    Writes (joined (take at (report_lines_from 0 reports))) old mid before between (Ok tt) → Writes (report_line_of at report) mid new between after (Err error) →
+    Writes (joined (report_lines_from 0 reports)) old new before after (Err error)
+report_failed reports at report old mid new before between after error within is first second =
+    line_failed (report_lines_from 0 reports) at (report_line_of at report) old mid new before between after error (rw (reports_length 0 reports) within) (report_from reports at report within is) first second
+
+pub reports_put : (reports : List Report) (at : ℕ) (old new : Option (List ℕ)) (before after : ℕ) → length reports ≤ at →
+    Writes (joined (take at (report_lines_from 0 reports))) old new before after (Ok tt) → Writes (joined (report_lines_from 0 reports)) old new before after (Ok tt)
+reports_put reports at old new before after all put = lines_put (report_lines_from 0 reports) at old new before after (rw (reports_length 0 reports) all) put

@@ -1,0 +1,9 @@
+-- The lines so far have been put.
+use Rattle.std.proofs.Common.{take, Ok}
+use Rattle.rt_print.specs.Reports.{report_lines_from}
+use Rattle.rt_print.specs.Texts.{joined}
+use Rattle.rt_streams.specs.Writes.{Writes}
+use Rattle.rt_show.proofs.writing.put_reports.Given as goal
+
+abbrev pub invariant-loop-number : goal.invariant-loop-number
+invariant-loop-number g l = Writes (joined (take l.number (report_lines_from 0 l.reports))) (g.O.Out.written l.fn.out) (g.O.Out.written l.out) (g.O.Out.faults l.fn.out) (g.O.Out.faults l.out) (Ok tt)

@@ -1,0 +1,79 @@
+//! Putting what the program prints, each line by one call of the out.
+ghost use Rattle.std.specs.Prelude.{◌++◌};
+ghost use Rattle.rt_print.specs.Lines.{line_of, lines_of};
+ghost use Rattle.rt_print.specs.Reports.{report_line_of, report_lines_from};
+ghost use Rattle.rt_print.specs.Texts.{joined, text_of};
+ghost use Rattle.rt_streams.specs.Writes.{Writes};
+
+use rt_cells::Text;
+use rt_print::{edit_line, report_line};
+use rt_streams::{Out, OutError};
+use rt_tree::Edit;
+use rt_vdom::Report;
+use std::alloc::Global;
+
+fn put_edit<O: Out>(alloc: Global, edit: &Edit, out: &mut O) -> Result<(), OutError>
+    ensures writes { Writes (line_of edit.now) (O.written out.old) (O.written out.new) (O.faults out.old) (O.faults out.new) result }
+{
+    let line = edit_line(alloc, edit)?;
+    out.put(line.as_bytes())
+}
+
+pub fn put_edits<O: Out>(alloc: Global, edits: &[Edit], out: &mut O) -> Result<(), OutError>
+    ensures writes { Writes (joined (lines_of edits.now)) (O.written out.old) (O.written out.new) (O.faults out.old) (O.faults out.new) result }
+{
+    for edit in edits {
+        put_edit(alloc, edit, out)?;
+    }
+    Ok(())
+}
+
+fn put_report<O: Out>(
+    alloc: Global,
+    number: u64,
+    report: &Report,
+    out: &mut O,
+) -> Result<(), OutError>
+    ensures writes { Writes (report_line_of number report.now) (O.written out.old) (O.written out.new) (O.faults out.old) (O.faults out.new) result }
+{
+    let line = report_line(alloc, number, report)?;
+    out.put(line.as_bytes())
+}
+
+pub fn put_reports<O: Out>(alloc: Global, reports: &[Report], out: &mut O) -> Result<(), OutError>
+    ensures writes { Writes (joined (report_lines_from 0 reports.now)) (O.written out.old) (O.written out.new) (O.faults out.old) (O.faults out.new) result }
+{
+    for (number, report) in reports.iter().enumerate() {
+        put_report(alloc, number as u64, report, out)?;
+    }
+    Ok(())
+}
+
+/// Puts the lines of edits, and then those of reports.
+#[tactic(auto, using(crate::proofs::Puts::writes_first))]
+pub fn put_run<O: Out>(
+    alloc: Global,
+    edits: &[Edit],
+    reports: &[Report],
+    out: &mut O,
+) -> Result<(), OutError>
+    ensures writes { Writes (text_of edits.now reports.now) (O.written out.old) (O.written out.new) (O.faults out.old) (O.faults out.new) result }
+{
+    put_edits(alloc, edits, out)?;
+    put_reports(alloc, reports, out)
+}
+
+/// Puts the lines of edits, those of reports, and one line more.
+#[tactic(auto, using(crate::proofs::Puts::writes_first))]
+pub fn put_ended_run<O: Out>(
+    alloc: Global,
+    edits: &[Edit],
+    reports: &[Report],
+    line: &Text,
+    out: &mut O,
+) -> Result<(), OutError>
+    ensures writes { Writes (text_of edits.now reports.now ++ line.now) (O.written out.old) (O.written out.new) (O.faults out.old) (O.faults out.new) result }
+{
+    put_run(alloc, edits, reports, out)?;
+    out.put(line.as_bytes())
+}
