@@ -10,3 +10,11 @@ pub mod StepFrames
 pub mod MachineFrames
 pub mod LastsAlways
 pub mod Quiet
+pub mod StillFits
+pub mod StillDraws
+pub mod StillViews
+pub mod StillRuns
+pub mod StillFaults
+pub mod StillRefused
+pub mod StillBuilt
+pub mod StillBuilds

@@ -29,3 +29,4 @@ pub mod OneLog
 pub mod RenderRows
 pub mod Lasting
 pub mod Still
+pub mod StillBuild

@@ -5,6 +5,7 @@
 
 mod general_laws;
 mod more_rows;
+mod still_build;
 mod worked_rows;
 
 pub use general_laws::{lawful_logs_last, one_log, programs_are_lawful, same_causes_nothing};
@@ -12,6 +13,10 @@ pub use more_rows::{
     attributes_move, context_wakes_task, events_bubble, hook_changes_kind, hooks_round_a_run,
     name_stands_twice, suspended_renders, suspends_on_an_ended_task, too_deep_a_make,
     units_are_spent,
+};
+pub use still_build::{
+    builds_still, fault_is_invalid, one_fault, refused_call_ends, spent_numbers_end, still_test,
+    unfit_tree_ends,
 };
 pub use worked_rows::{
     cleans_up_last_made_first, context_is_tracked, context_through_a_fragment,
