@@ -3,3 +3,4 @@ pub mod Steps
 pub mod Texts
 pub mod Soundness
 pub mod Completeness
+pub mod OneComponent

@@ -1,19 +1,21 @@
--- A body meets the laws of an application.
-use Rattle.std.proofs.Common.{ℕ, [], Ok, None, refl, ap, sym}
-use Rattle.std.proofs.Math.Nat.{le_refl}
-use Rattle.rt_vdom.specs.Laws.{ReadsDecide, IsNumbered}
-use Rattle.rt_vdom.specs.declared.app.world.Firsts.{Firsts}
-use Rattle.rt_script.specs.Trees.{tree_at}
-use Rattle.rt_script.specs.Body.{Sight, Shown, body}
+-- A body meets the laws of an application, as every program in data does.
+use Rattle.std.specs.Prelude.{ℕ}
+use Rattle.rt_model.specs.Laws.{ReadsDecide, Numbered, Refuses}
+use Rattle.rt_model.proofs.Decides.{body_decides}
+use Rattle.rt_model.proofs.Numbers.{body_numbers}
+use Rattle.rt_model.proofs.Refusals.{body_refuses}
+use Rattle.rt_script.specs.Body.{program, body}
 use Rattle.rt_script.specs.declared.script.Script.{Script}
 use Rattle.rt_script.specs.declared.value.Props.{Props}
 
--- all that a world decides is the next numbers
+-- what was given and what was read decide what a body means
 pub reads_decide : (script : Script) (place : ℕ) (props : Props) → ReadsDecide (body script place props)
-reads_decide script place props v w given reads =
-    let left : Firsts → Shown = λ next. record { answer = Ok (tree_at script.application place); reads = []; commands = []; next = next; fault = None } in
-    ap left (sym given.next)
+reads_decide script place props = body_decides (program script place props)
 
--- no number is drawn
-pub is_numbered : (script : Script) (place : ℕ) (props : Props) (world : Sight) → IsNumbered world (body script place props world)
-is_numbered script place props world = record { tasks = refl; cells = refl; contexts = refl; elements = refl; errors = le_refl world.next.errors }
+-- the numbers that a body draws are its world's next ones
+pub is_numbered : (script : Script) (place : ℕ) (props : Props) → Numbered (body script place props)
+is_numbered script place props = body_numbers (program script place props)
+
+-- a refusal that a body met is one of its world
+pub refuses : (script : Script) (place : ℕ) (props : Props) → Refuses (body script place props)
+refuses script place props = body_refuses (program script place props)

@@ -3,7 +3,9 @@ ghost use Rattle.std.specs.Prelude.{◌≡◌, [], IfOk, slice_get};
 ghost use Rattle.rt_vdom.specs.Turn.{begun, HadMemory};
 ghost use Rattle.rt_script.specs.Trees.{tree_at};
 ghost use Rattle.rt_script.specs.Body.{body};
-ghost use Rattle.rt_script.specs.Laws.{reads_decide, is_numbered};
+ghost use Rattle.rt_script.specs.Laws.{reads_decide, is_numbered, refuses};
+ghost use Rattle.rt_vdom.specs.Calls.{meaning_of, world_of};
+ghost use Rattle.rt_vdom.specs.Mirror.{element_of};
 
 use crate::nothing::Nothing;
 use crate::tree::{Tree, placeholder, tree};
@@ -60,6 +62,8 @@ impl App for Script {
 
     ghost numbered = { is_numbered };
 
+    ghost refuses = { refuses };
+
     fn root(&self, _alloc: Global) -> Result<u64, OutOfMemory> {
         Ok(self.application.root)
     }
@@ -79,8 +83,9 @@ impl App for Script {
     ) -> Result<BodyTurn<Script>, OutOfMemory>
         requires fresh { cx ≡ begun cx.world }
         ensures shows { IfOk result (λ turn. turn.world ≡ cx.entry.world) }
-        ensures means { IfOk result (λ turn. HadMemory turn.meaning
-            → turn.meaning ≡ body self.now component.now props.now cx.entry.world) }
+        ensures means { IfOk result (λ turn. HadMemory turn.meaning →
+            meaning_of element_of turn.meaning
+            ≡ body self.now component.now props.now (world_of cx.entry.world)) }
     {
         let tree = self.tree_at(alloc, *component)?;
         Ok(cx.finish(Ok(tree)))

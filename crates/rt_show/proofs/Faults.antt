@@ -1,10 +1,10 @@
 -- A run that a fault ended, of which a front was put.
-use Rattle.std.proofs.Common.{◌≡◌, ℕ, List, Option, Err, refl, inl, inr}
+use Rattle.std.proofs.Common.{ℕ, List, Option, Err, refl, inr}
 use Rattle.rt_form.specs.declared.syntax.Application.{Application}
 use Rattle.rt_streams.specs.Writes.{Writes}
 use Rattle.rt_streams.specs.declared.out.OutError.{OutError}
 use Rattle.rt_streams.specs.declared.out.OutError.TheVariants as errors
-use Rattle.rt_show.specs.Runs.{IsText, IsFaultText, PrintsFront}
+use Rattle.rt_show.specs.Runs.{IsText}
 use Rattle.rt_show.specs.Stops.{Runs, stop_of}
 
 -- a text of a run that was not put whole stops the run where the out says

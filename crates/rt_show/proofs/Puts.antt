@@ -1,5 +1,5 @@
 -- Texts that are put one after the other.
-use Rattle.std.proofs.Common.{◌≡◌, ℕ, ◌+◌, ◌<◌, ◌≤◌, suc, List, [], ◌∷◌, ◌++◌, length, take, drop, map, get_or, Option, Some, None, Result, Ok, Err, IsErrOf, refl, ap, sym, ◌∙◌, append_assoc, append-nil, subst, take-append-drop, zero, zero-add, add-zero, arith}
+use Rattle.std.proofs.Common.{◌≡◌, ℕ, ◌+◌, ◌<◌, ◌≤◌, suc, List, [], ◌∷◌, ◌++◌, length, take, drop, get_or, Option, Some, None, Result, Ok, Err, refl, ap, sym, ◌∙◌, append_assoc, append-nil, subst, take-append-drop, zero, zero-add, add-zero, arith}
 use Rattle.std.proofs.lemmas.List.{take_all, get_or-map, length-map}
 use Rattle.std.proofs.Math.Seq.{take-suc}
 use Rattle.rt_print.specs.Lines.{line_of, lines_of}
@@ -7,7 +7,7 @@ use Rattle.rt_print.specs.Reports.{report_line_of, report_lines_from}
 use Rattle.rt_print.specs.Texts.{joined}
 use Rattle.rt_vdom.specs.declared.Report.{Report}
 use Rattle.rt_tree.specs.declared.Edit.{Edit}
-use Rattle.rt_streams.specs.Writes.{grown, AddsFront, Writes}
+use Rattle.rt_streams.specs.Writes.{grown, Writes}
 use Rattle.rt_streams.specs.declared.out.OutError.{OutError}
 
 grown_by_none : (old : Option (List ℕ)) → old ≡ grown old []

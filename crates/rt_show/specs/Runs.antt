@@ -1,42 +1,61 @@
 -- What a run of a source's application is, and what is printed of it.
-use Rattle.std.specs.Prelude.{◌≡◌, ◌⊎◌, ℕ, List, [], ◌++◌, Option, Some, None}
+use Rattle.std.specs.Prelude.{◌≡◌, ◌⊎◌, ℕ, true, List, [], ◌++◌, Option, Some, None, Ok}
 use Rattle.rt_form.specs.Source.{source_of}
 use Rattle.rt_form.specs.declared.syntax.Application.{Application}
+use Rattle.rt_model.specs.Causes.{Limits, IsValid}
+use Rattle.rt_model.specs.Headline.{CameTo}
+use Rattle.rt_model.specs.State as model
+use Rattle.rt_model.specs.World as meant
 use Rattle.rt_print.specs.Faults.{fault_line_of}
 use Rattle.rt_print.specs.Texts.{text_of}
-use Rattle.rt_script.specs.Body.{body}
+use Rattle.rt_script.specs.Body.{ScriptTypes, body}
+use Rattle.rt_script.specs.Trees.{tree_at}
 use Rattle.rt_script.specs.declared.script.Script.{Script}
-use Rattle.rt_script.specs.declared.value.Value.{Value}
 use Rattle.rt_script.specs.declared.value.Props.{Props}
-use Rattle.rt_script.specs.declared.nothing.Nothing.{Nothing}
 use Rattle.rt_streams.specs.Reads.{IsWhole, IsLonger}
 use Rattle.rt_streams.specs.Writes.{AddsFront}
 use Rattle.rt_tree.specs.declared.edit.Edit.{Edit}
-use Rattle.rt_vdom.specs.Causes.{Cause, IsValid}
-use Rattle.rt_vdom.specs.First.{application}
-use Rattle.rt_vdom.specs.Headline.{IsBuilt}
-use Rattle.rt_vdom.specs.State.{Application as Meant}
+use Rattle.rt_vdom.specs.Mirror.{element_of}
+use Rattle.rt_vdom.specs.Outcomes.{fault_of}
+use Rattle.rt_vdom.specs.Promised.{Rest, filled, is_still, WasBuilt}
 use Rattle.rt_vdom.specs.declared.fault.Fault.{Fault}
 use Rattle.rt_vdom.specs.declared.report.Report.{Report}
 
--- what the bodies of an application mean
-abbrev pub meant_by : Application → Meant Script ℕ Props Value Nothing Nothing Nothing Value
-meant_by app = application app.root (body (record { application = app }))
+-- a body of the application
+abbrev pub script_of : Application → Script
+script_of app = record { application = app }
+
+-- what an application means, whatever the calls are that the trait of an application leaves out so far
+abbrev pub meant_by : Application → Rest ScriptTypes → meant.Application ScriptTypes
+meant_by app rest = filled app.root (body (script_of app)) rest
 
 -- the root component is given nothing
 abbrev pub no_props : Props
 no_props = record { values = [] }
 
+-- how far a run goes that no word limits
+abbrev pub unworded : Limits
+unworded = record { units = 10000; height = 128; drain = 1024 }
+
 -- a run of an application never comes to a fault
 abbrev pub NeverFaults : Application → Type 0
-NeverFaults app = IsValid (meant_by app) no_props
+NeverFaults app = (rest : Rest ScriptTypes) → IsValid (meant_by app rest) no_props [] unworded
+
+-- a run of an application comes to a fault of the model, before which no edit was taken
+abbrev pub ComesTo : Application → Rest ScriptTypes → Option model.Fault → Type 0
+ComesTo app rest None = ⊥
+ComesTo app rest (Some fault) = CameTo (meant_by app rest) no_props [] unworded (Some []) [] fault
+
+-- the root component shows a tree that stands still
+abbrev pub ShowsStill : Application → Type 0
+ShowsStill app = is_still (element_of (Ok (tree_at app app.root))) ≡ true
 
 -- the text of a run that was done: its edits and its reports
 pub record IsDoneText (app : Application) (text : List ℕ) : Type 0 where
   pub edits : List Edit
   pub reports : List Report
   -- all that is promised of a session holds of them
-  pub run : IsBuilt (meant_by app) no_props (Some []) (Some edits) reports
+  pub run : WasBuilt app.root (body (script_of app)) no_props (Some []) (Some edits) reports
   -- no run of the application comes to a fault
   pub valid : NeverFaults app
   pub printed : text ≡ text_of edits reports
@@ -48,7 +67,7 @@ pub record IsFaultText (app : Application) (text : List ℕ) : Type 0 where
   pub fault : Fault
   pub line : List ℕ
   -- a run of the application comes to that fault
-  pub cause : Cause (meant_by app) no_props 0 0 fault
+  pub cause : (rest : Rest ScriptTypes) → ComesTo app rest (fault_of fault)
   -- the build writes nothing and reports nothing where it is refused
   pub no_edits : edits ≡ []
   pub no_reports : reports ≡ []

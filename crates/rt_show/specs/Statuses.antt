@@ -3,9 +3,10 @@ use Rattle.std.specs.Prelude.{◌≡◌, ◌≢◌, ◌↔◌, ◌⊎◌, ℕ, �
 use Rattle.rt_form.specs.Source.{source_of}
 use Rattle.rt_form.specs.declared.syntax.Application.{Application}
 use Rattle.rt_streams.specs.Writes.{grown, AddsFront}
-use Rattle.rt_vdom.specs.Causes.{EndsIn}
-use Rattle.rt_vdom.specs.declared.fault.Fault.{Fault}
-use Rattle.rt_show.specs.Runs.{meant_by, no_props, IsDoneText, IsFaultText, IsText, NeverFaults, Describes, IsRefused}
+use Rattle.rt_model.specs.State as model
+use Rattle.rt_script.specs.Body.{ScriptTypes}
+use Rattle.rt_vdom.specs.Promised.{Rest}
+use Rattle.rt_show.specs.Runs.{ComesTo, IsDoneText, IsFaultText, IsText, NeverFaults, Describes, IsRefused}
 use Rattle.rt_show.specs.declared.reason.Stop.{Stop}
 use Rattle.rt_show.specs.declared.reason.Stop.TheVariants as stops
 
@@ -71,7 +72,8 @@ pub record Shows (words : List (List ℕ)) (left after old new : Option (List �
   -- 4: a run of the source's application came to a fault, which was printed after what went before it
   pub faulted : status ≡ 4 → PrintsFault left after old new
   -- wherever some run of an application that is told comes to a fault, it isn't 0, 2 or 3
-  pub faults : words ≡ [] → (bytes : List ℕ) → left ≡ Some bytes → (app : Application) → source_of bytes ≡ Some app → (fault : Fault) → EndsIn (meant_by app) no_props fault → 4 ≤ status
+  pub faults : words ≡ [] → (bytes : List ℕ) → left ≡ Some bytes → (app : Application) → source_of bytes ≡ Some app →
+      (rest : Rest ScriptTypes) (fault : model.Fault) → ComesTo app rest (Some fault) → 4 ≤ status
   -- 5: a read failed
   pub unread : status ≡ 5 → source_before < source_after
   -- 6: a put failed

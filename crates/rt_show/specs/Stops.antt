@@ -1,5 +1,5 @@
 -- Where the program stops, step by step.
-use Rattle.std.specs.Prelude.{◌≡◌, ◌≢◌, ◌⊎◌, ℕ, ◌<◌, List, [], Option, Result, Ok, Err}
+use Rattle.std.specs.Prelude.{◌≡◌, ◌⊎◌, ℕ, ◌<◌, List, Option, Result, Ok, Err}
 use Rattle.rt_form.specs.declared.syntax.Application.{Application}
 use Rattle.rt_streams.specs.Writes.{grown}
 use Rattle.rt_streams.specs.declared.out.OutError.{OutError}

@@ -1,5 +1,6 @@
 //! The whole program over a source and an out.
 ghost use Rattle.std.specs.Prelude.{◌≡◌, ◌≤◌};
+ghost use Rattle.rt_show.specs.Runs.{ShowsStill};
 ghost use Rattle.rt_show.specs.Stops.{Reads, Runs};
 ghost use Rattle.rt_show.specs.Statuses.{Comes, Shows};
 
@@ -23,7 +24,8 @@ const LIMITS: Limits = Limits {
 };
 
 fn read_application<S: Source>(alloc: Global, source: &mut S) -> Result<Application, Stop>
-    ensures reads { Reads (S.left source.old) (S.left source.new) (S.faults source.old) (S.faults source.new) result }
+    ensures reads { Reads (S.left source.old) (S.left source.new)
+        (S.faults source.old) (S.faults source.new) result }
     ensures later { S.faults source.old ≤ S.faults source.new }
 {
     let bytes = match read_all(alloc, source) {
@@ -41,7 +43,8 @@ fn read_application<S: Source>(alloc: Global, source: &mut S) -> Result<Applicat
 
 // Runs an application and prints what became of it.
 fn run<O: Out>(alloc: Global, application: Application, out: &mut O) -> Result<(), Stop>
-    ensures runs { Runs application (O.written out.old) (O.written out.new) (O.faults out.old) (O.faults out.new) result }
+    ensures runs { ShowsStill application → Runs application
+        (O.written out.old) (O.written out.new) (O.faults out.old) (O.faults out.new) result }
     ensures later { O.faults out.old ≤ O.faults out.new }
 {
     let script = Script { application };
@@ -68,7 +71,8 @@ fn shown<S: Source, O: Out>(
     source: &mut S,
     out: &mut O,
 ) -> Result<(), Stop>
-    ensures comes { Comes words.now (S.left source.old) (S.left source.new) (O.written out.old) (O.written out.new)
+    ensures comes { Comes words.now (S.left source.old) (S.left source.new)
+        (O.written out.old) (O.written out.new)
         (S.faults source.old) (S.faults source.new) (O.faults out.old) (O.faults out.new) result }
 {
     if !words.is_empty() {
@@ -81,7 +85,8 @@ fn shown<S: Source, O: Out>(
 /// Runs the application that a source describes, and writes its edits and reports. The answer is
 /// the status.
 pub fn show<S: Source, O: Out>(alloc: Global, words: &[Text], source: &mut S, out: &mut O) -> u8
-    ensures shows { Shows words.now (S.left source.old) (S.left source.new) (O.written out.old) (O.written out.new)
+    ensures shows { Shows words.now (S.left source.old) (S.left source.new)
+        (O.written out.old) (O.written out.new)
         (S.faults source.old) (S.faults source.new) (O.faults out.old) (O.faults out.new) result }
 {
     match shown(alloc, words, source, out) {

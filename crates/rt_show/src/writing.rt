@@ -13,14 +13,16 @@ use rt_vdom::Report;
 use std::alloc::Global;
 
 fn put_edit<O: Out>(alloc: Global, edit: &Edit, out: &mut O) -> Result<(), OutError>
-    ensures writes { Writes (line_of edit.now) (O.written out.old) (O.written out.new) (O.faults out.old) (O.faults out.new) result }
+    ensures writes { Writes (line_of edit.now)
+        (O.written out.old) (O.written out.new) (O.faults out.old) (O.faults out.new) result }
 {
     let line = edit_line(alloc, edit)?;
     out.put(line.as_bytes())
 }
 
 pub fn put_edits<O: Out>(alloc: Global, edits: &[Edit], out: &mut O) -> Result<(), OutError>
-    ensures writes { Writes (joined (lines_of edits.now)) (O.written out.old) (O.written out.new) (O.faults out.old) (O.faults out.new) result }
+    ensures writes { Writes (joined (lines_of edits.now))
+        (O.written out.old) (O.written out.new) (O.faults out.old) (O.faults out.new) result }
 {
     for edit in edits {
         put_edit(alloc, edit, out)?;
@@ -34,14 +36,16 @@ fn put_report<O: Out>(
     report: &Report,
     out: &mut O,
 ) -> Result<(), OutError>
-    ensures writes { Writes (report_line_of number report.now) (O.written out.old) (O.written out.new) (O.faults out.old) (O.faults out.new) result }
+    ensures writes { Writes (report_line_of number report.now)
+        (O.written out.old) (O.written out.new) (O.faults out.old) (O.faults out.new) result }
 {
     let line = report_line(alloc, number, report)?;
     out.put(line.as_bytes())
 }
 
 pub fn put_reports<O: Out>(alloc: Global, reports: &[Report], out: &mut O) -> Result<(), OutError>
-    ensures writes { Writes (joined (report_lines_from 0 reports.now)) (O.written out.old) (O.written out.new) (O.faults out.old) (O.faults out.new) result }
+    ensures writes { Writes (joined (report_lines_from 0 reports.now))
+        (O.written out.old) (O.written out.new) (O.faults out.old) (O.faults out.new) result }
 {
     for (number, report) in reports.iter().enumerate() {
         put_report(alloc, number as u64, report, out)?;
@@ -57,7 +61,8 @@ pub fn put_run<O: Out>(
     reports: &[Report],
     out: &mut O,
 ) -> Result<(), OutError>
-    ensures writes { Writes (text_of edits.now reports.now) (O.written out.old) (O.written out.new) (O.faults out.old) (O.faults out.new) result }
+    ensures writes { Writes (text_of edits.now reports.now)
+        (O.written out.old) (O.written out.new) (O.faults out.old) (O.faults out.new) result }
 {
     put_edits(alloc, edits, out)?;
     put_reports(alloc, reports, out)
@@ -72,7 +77,8 @@ pub fn put_ended_run<O: Out>(
     line: &Text,
     out: &mut O,
 ) -> Result<(), OutError>
-    ensures writes { Writes (text_of edits.now reports.now ++ line.now) (O.written out.old) (O.written out.new) (O.faults out.old) (O.faults out.new) result }
+    ensures writes { Writes (text_of edits.now reports.now ++ line.now)
+        (O.written out.old) (O.written out.new) (O.faults out.old) (O.faults out.new) result }
 {
     put_run(alloc, edits, reports, out)?;
     out.put(line.as_bytes())

@@ -1,129 +1,158 @@
--- The build: the four runs, and the state after them.
-use Rattle.std.proofs.Common.{ℕ, ◌+◌, ◌≤◌, ◌<◌, true, false, List, [], ◌∷◌, ◌≡◌, refl, sym, ap, ◌∙◌, arith}
-use Rattle.std.specs.Prelude.{Some, None, if◌then◌else◌}
-use Rattle.std.specs.List.{range_with_len}
-use Rattle.std.proofs.lemmas.List.{append-nil}
+-- What a session promises, from what its parts answered and what the model says of such a build.
+use Rattle.std.proofs.Common.{ℕ, true, ◌+◌, ◌≤◌, ◌<◌, ◌^◌, List, [], ◌∷◌, ◌≡◌, ◌⊎◌, inl, inr, refl, sym, ap, ◌∙◌, subst, map, arith}
+use Rattle.std.specs.Prelude.{Option, Some, None}
+use Rattle.rt_tree.specs.Sinks.{grown}
+use Rattle.rt_tree.specs.declared.doc_node.DocNode.{DocNode}
+use Rattle.rt_tree.specs.declared.edit.Edit.{Edit}
+use Rattle.rt_tree.specs.declared.edit.Edit.TheVariants as edits
+use Rattle.rt_tree.specs.declared.template.TemplateNode.{TemplateNode}
 use Rattle.rt_tree.specs.declared.vnode.VNode.{VNode}
-use Rattle.rt_vdom.specs.Tree.{size, slots, numbered, Output, output, no_component, tree_in, App, tree_of}
-use Rattle.rt_vdom.specs.State.{change, Show, Application, Scope, State, Run}
-use Rattle.rt_vdom.specs.Answers.{named, world, kept_of, fault_of, Answered, answered_by}
-use Rattle.rt_vdom.specs.Step.{the_end, agenda, settle, kept, judged, turned, with_kid, new_scope}
-use Rattle.rt_vdom.specs.Replay.{start, step, accepts_all, owes}
-use Rattle.rt_vdom.specs.View.{view}
-use Rattle.rt_vdom.specs.Current.{AllCurrent}
-use Rattle.rt_vdom.specs.First.{first_world, first_call, Answers, AnswersNoTree}
-use Rattle.rt_vdom.specs.Report.{build_log}
-use Rattle.rt_vdom.specs.declared.report.Entry.TheVariants.{Build, Made}
-use Rattle.rt_vdom.specs.declared.fault.Fault.TheVariants as faults
-use Rattle.rt_vdom.specs.declared.fault.Counter.TheVariants as counters
-use Rattle.rt_vdom.proofs.Draws.{IsNumbering, settle-agenda, settle-end}
-use Rattle.rt_vdom.proofs.Views.{shown-range}
+use Rattle.rt_model.specs.Causes as causes
+use Rattle.rt_model.specs.Document as doc
+use Rattle.rt_model.specs.Headline.{Headline, CameTo}
+use Rattle.rt_model.specs.OneLog.{types}
+use Rattle.rt_model.specs.State as state
+use Rattle.rt_model.specs.StillBuild as still
+use Rattle.rt_model.specs.StillBuild.{AnswersStill, node_count, first_world, still_edits}
+use Rattle.rt_model.specs.Tree.{Types, rendered}
+use Rattle.rt_model.specs.World.{Command, Application, last_number}
+use Rattle.rt_model.proofs.StillBuilds.{builds_still}
+use Rattle.rt_model.proofs.StillBuilt.{spent_numbers_end}
+use Rattle.rt_model.proofs.StillFaults.{fault_is_invalid}
+use Rattle.rt_model.proofs.StillFits.{still_test}
+use Rattle.rt_model.proofs.StillRefused.{unfit_tree_ends}
+use Rattle.rt_vdom.specs.Calls.{BodyMeaning}
+use Rattle.rt_vdom.specs.Drawn.{RunsOut}
+use Rattle.rt_vdom.specs.First.{Answers, AnswersUnfit, RefusesFirst}
+use Rattle.rt_vdom.specs.Mirror.{template_of, nodes_of, edit_of}
+use Rattle.rt_vdom.specs.Numbered.{numbered}
+use Rattle.rt_vdom.specs.Outcomes.{report_of, limits_of}
+use Rattle.rt_vdom.specs.Promised.{Rest, filled, AnswersMore, WasBuilt, CameFrom, NeverFaults, Completes, SinkRefuses, IsValid, asks_nothing}
+use Rattle.rt_vdom.specs.Report.{build_report}
+use Rattle.rt_vdom.specs.declared.fault.Counter.TheVariants.{Scopes, Tasks, Cells, Contexts, Elements, Errors, Renders}
+use Rattle.rt_vdom.specs.declared.fault.Fault.{Fault}
+use Rattle.rt_vdom.specs.declared.fault.Fault.TheVariants.{OutOfMemory, SinkFault, IdsExhausted, BadNode}
+use Rattle.rt_vdom.specs.declared.limits.Limits.{Limits}
+use Rattle.rt_vdom.specs.declared.report.Report.{Report}
+use Rattle.rt_vdom.proofs.Forests.{forest-numbered}
+use Rattle.rt_vdom.proofs.Meets.{all-stand-as}
+use Rattle.rt_vdom.proofs.StillMirror.{still-mirror}
+use Rattle.rt_vdom.proofs.StillPasses.{still-passes}
 
-module _ {P Component Props Value Handler TaskState Effect Payload : Type 0} (app : Application P Component Props Value Handler TaskState Effect Payload) (props : Props) where
-  abbrev pub run0 : Run P Component Props Value Handler TaskState Effect Payload
-  run0 = start app props
+-- the one edit of the build, of these nodes
+abbrev pub append : List DocNode → Edit
+append nodes = edits.AppendChildren (record { 0 = 0 }) nodes
 
-  abbrev pub run1 : Run P Component Props Value Handler TaskState Effect Payload
-  run1 = step app run0 Build
+-- limits that reach the root component
+abbrev low : causes.Limits
+low = record { units = 0; height = 3; drain = 0 }
 
-  abbrev pub run2 : Run P Component Props Value Handler TaskState Effect Payload
-  run2 = step app run1 (Made (named 1))
+three : 3 ≤ 3
+three = omega arith
 
-  abbrev pub run3 : Run P Component Props Value Handler TaskState Effect Payload
-  run3 = step app run2 (Made (named 2))
+-- a call that asks for nothing keeps hooks at most
+quiet : {K : Types} (commands : List (Command K)) → asks_nothing commands ≡ true → still.keeps_hooks commands ≡ true
+quiet [] h = refl
+quiet (c ∷ cs) h = cc
 
-  abbrev pub run4 : Run P Component Props Value Handler TaskState Effect Payload
-  run4 = step app run3 (Made (named 3))
+module _ {P C Q V H T E L : Type 0} (root : C) (body : C → Q → BodyMeaning C Q V H T E L) (props : Q) (tree : VNode P C Q V H T E L) where
+  -- the root component's body answered a tree, and its call drew no element's number
+  pub record IsFirst : Type 0 where
+    pub answers : Answers (body root props first_world) tree
+    pub elements : (body root props first_world).next.elements ≡ 1
 
-  -- the state in which the root component's body is called
-  abbrev pub ready : State P Component Props Value Handler TaskState Effect Payload
-  ready = with_kid run3.state 2 (App app.root props)
+  abbrev pub nodes : ℕ
+  nodes = node_count (nodes_of tree.template.roots)
 
-  abbrev pub root_scope : Scope P Component Props Value Handler TaskState Effect Payload
-  root_scope = new_scope (App app.root props) (Some 2) 3
+  still-answer : (rest : Rest (types C Q V H T E L)) → IsFirst → AnswersStill (filled root body rest) props (template_of tree.template)
+  still-answer rest first =
+      let a = first.answers in
+      record {
+        fault = a.fault;
+        answer = a.answer ∙ ap rendered (still-mirror tree a.still a.passes);
+        still = all-stand-as tree.template.roots ∙ a.still;
+        passes = still_test (types C Q V H T E L) (template_of tree.template) (all-stand-as tree.template.roots ∙ a.still) ∙ still-passes tree a.still a.passes;
+        commands = quiet (body root props first_world).commands a.commands;
+        elements = first.elements;
+      }
 
-  -- what the call of the root component's body leaves
-  abbrev pub call : Answered P Component Props Value Handler TaskState Effect Payload
-  call = answered_by (first_call app props)
+  took : IsFirst → map edit_of (append (numbered (nodes_of tree.template.roots) 1) ∷ []) ≡ still_edits (template_of tree.template)
+  took first = ap (λ f. doc.AppendChildren 0 f ∷ []) (forest-numbered (nodes_of tree.template.roots) 1 (all-stand-as tree.template.roots ∙ first.answers.still))
 
-  pub sees : world ready 3 ≡ first_world
-  sees = refl
+  -- the build was done
+  pub was-built : IsFirst → nodes + 1 ≤ last_number → (before after : Option (List Edit)) (reports : List Report)
+      → after ≡ grown before (append (numbered (nodes_of tree.template.roots) 1) ∷ []) → reports ≡ build_report ∷ [] → WasBuilt root body props before after reports
+  was-built first within before after reports written one = λ rest.
+      let app : Application (types C Q V H T E L) = filled root body rest in
+      let all : List Edit = append (numbered (nodes_of tree.template.roots) 1) ∷ [] in
+      record {
+        edits = all;
+        written = written;
+        headline =
+            subst (λ rs. Headline app props [] (Some (map edit_of all)) (map report_of rs)) (sym one)
+            (builds_still app props low (template_of tree.template) (Some (map edit_of all)) (still-answer rest first) within three (took first)).0;
+      }
 
-  pub accepted : accepts_all app run0 build_log ≡ Some run4
-  accepted = refl
+  -- no fault ends it
+  pub never-faults : IsFirst → nodes + 1 ≤ last_number → (limits : Limits) → 3 ≤ limits.height → NeverFaults root body props limits
+  never-faults first within limits height = λ rest.
+      (builds_still (filled root body rest) props (limits_of limits) (template_of tree.template) None (still-answer rest first) within height tt).1
 
-  pub run4-judged : run4 ≡ judged ready 3 root_scope call call.fault call.answer (Show 1 ∷ [])
-  run4-judged = refl
+  -- why the numbers ran out
+  pub came-of-numbers : IsFirst → (before after : ℕ) (fault : Fault) → RunsOut 1 nodes fault → (limits : Limits) → 3 ≤ limits.height → CameFrom root body props limits before after fault
+  came-of-numbers first before after OutOfMemory h limits height = λ rest. tt
+  came-of-numbers first before after SinkFault h limits height = absurd h
+  came-of-numbers first before after (IdsExhausted Elements) h limits height = λ rest.
+      let past : last_number < nodes + 1 = omega (arith, h) in
+      spent_numbers_end (filled root body rest) props (limits_of limits) (template_of tree.template) (Some []) (still-answer rest first) past height refl
+  came-of-numbers first before after (IdsExhausted Scopes) h limits height = absurd h
+  came-of-numbers first before after (IdsExhausted Tasks) h limits height = absurd h
+  came-of-numbers first before after (IdsExhausted Cells) h limits height = absurd h
+  came-of-numbers first before after (IdsExhausted Contexts) h limits height = absurd h
+  came-of-numbers first before after (IdsExhausted Errors) h limits height = absurd h
+  came-of-numbers first before after (IdsExhausted Renders) h limits height = absurd h
+  came-of-numbers first before after (BadNode scope) h limits height = absurd h
 
-  -- the state after the call, where some numbers are drawn
-  abbrev pub numbering : Output Component Props → List ℕ → ℕ → State P Component Props Value Handler TaskState Effect Payload
-  numbering tree numbers n =
-      let w = kept ready 3 root_scope call tree in
-      record w { scopes = change (λ scope. record scope { side = record scope.side { numbers = numbers } }) w.scopes 3; next = record w.next { elements = n } }
+module _ {C Q V H T E L : Type 0} (root : C) (body : C → Q → BodyMeaning C Q V H T E L) (props : Q) where
+  came-bad : (limits : Limits) → 3 ≤ limits.height → (rest : Rest (types C Q V H T E L)) → AnswersMore (body root props first_world) ⊎ AnswersUnfit (body root props first_world)
+      → CameTo (filled root body rest) props [] (limits_of limits) (Some []) [] (state.BadNode 3) ⊎ AnswersMore (body root props first_world)
+  came-bad limits height rest (inl more) = inr more
+  came-bad limits height rest (inr u) =
+      inl (unfit_tree_ends (filled root body rest) props (limits_of limits) u.tree (Some []) (record { fault = u.fault; answer = u.answer; fails = u.fails }) height refl)
 
-  pub numbering_law : (tree : Output Component Props) → IsNumbering 3 (numbering tree)
-  numbering_law tree = record { stands = λ numbers n. refl; draws = λ numbers n. refl }
+  -- why the first call gave no tree
+  pub came-of-first : (before after : ℕ) (fault : Fault) → RefusesFirst (body root props first_world) fault → (limits : Limits) → 3 ≤ limits.height → CameFrom root body props limits before after fault
+  came-of-first before after OutOfMemory h limits height = λ rest. tt
+  came-of-first before after SinkFault h limits height = absurd h
+  came-of-first before after (IdsExhausted what) h limits height = absurd h
+  came-of-first before after (BadNode scope) h limits height = λ rest.
+      subst (λ s. CameTo (filled root body rest) props [] (limits_of limits) (Some []) [] (state.BadNode s.0) ⊎ AnswersMore (body root props first_world)) (sym h.0) (came-bad limits height rest h.1)
 
-  pub begins : (tree : Output Component Props) → kept ready 3 root_scope call tree ≡ numbering tree [] call.next.elements
-  begins tree = refl
+  -- why the sink refused
+  pub came-of-sink : (before after : ℕ) (fault : Fault) → SinkRefuses before after fault → (limits : Limits) → CameFrom root body props limits before after fault
+  came-of-sink before after OutOfMemory h limits = λ rest. tt
+  came-of-sink before after SinkFault h limits = λ rest. h
+  came-of-sink before after (IdsExhausted what) h limits = absurd h
+  came-of-sink before after (BadNode scope) h limits = absurd h
 
-  -- the state at the end of the build
-  abbrev pub built : Output Component Props → List ℕ → ℕ → State P Component Props Value Handler TaskState Effect Payload
-  built tree numbers n = turned (numbering tree numbers n) 1
+  either : (limits : Limits) (rest : Rest (types C Q V H T E L)) (fault : state.Fault) → IsValid (filled root body rest) props limits
+      → CameTo (filled root body rest) props [] (limits_of limits) (Some []) [] fault ⊎ AnswersMore (body root props first_world) → AnswersMore (body root props first_world)
+  either limits rest fault valid (inl came) = absurd (fault_is_invalid (filled root body rest) props [] (limits_of limits) (Some []) fault came valid)
+  either limits rest fault valid (inr more) = more
 
-  -- the run where the call met no refusal and a tree is kept of its answer
-  pub run4-settles : (tree : Output Component Props) → call.fault ≡ None → call.answer ≡ Some tree
-      → run4 ≡ settle (numbering tree [] call.next.elements) (agenda 3 (tree_in tree) 0 (Show 1 ∷ []))
-  run4-settles tree no_fault answer =
-      ap (λ f. judged ready 3 root_scope call f call.answer (Show 1 ∷ [])) no_fault ∙
-      ap (λ a. judged ready 3 root_scope call None a (Show 1 ∷ [])) answer
+  -- where no log comes to a fault, one came from outside
+  pub completes : (limits : Limits) (before after : ℕ) (fault : Fault) → CameFrom root body props limits before after fault → Completes root body props limits fault
+  completes limits before after OutOfMemory cause = λ rest valid. tt
+  completes limits before after SinkFault cause = λ rest valid. tt
+  completes limits before after (IdsExhausted what) cause = λ rest valid.
+      fault_is_invalid (filled root body rest) props [] (limits_of limits) (Some []) _ (cause rest) valid
+  completes limits before after (BadNode scope) cause = λ rest valid. either limits rest _ valid (cause rest)
 
-  -- the run where the numbers suffice
-  pub run4-built : (tree : Output Component Props) → call.fault ≡ None → call.answer ≡ Some tree → slots (tree_in tree) ≡ 0 → call.next.elements ≡ 1 → 1 + size (tree_in tree) ≤ the_end
-      → run4 ≡ record { state = built tree (range_with_len 1 (size (tree_in tree))) (1 + size (tree_in tree)); work = []; begun = true; dead = None }
-  run4-built tree no_fault answer none first within =
-      run4-settles tree no_fault answer ∙
-      ap (λ n. settle (numbering tree [] n) (agenda 3 (tree_in tree) 0 (Show 1 ∷ []))) first ∙
-      settle-agenda 3 (numbering tree) (tree_in tree) 0 [] 1 (Show 1 ∷ []) (numbering_law tree) none within
+-- the numbers that were drawn, in words of the tree's own roots
+pub roots-within : (roots read : List TemplateNode) (first last : ℕ) → read ≡ roots → first ≡ 1 → last ≡ first + node_count (nodes_of read) → last < 2 ^ 64 → node_count (nodes_of roots) + 1 ≤ last_number
+roots-within roots read first last same one drawn within =
+    let e : node_count (nodes_of read) ≡ node_count (nodes_of roots) = ap (λ ts. node_count (nodes_of ts)) same in
+    omega arith
 
-  -- the run where they don't
-  pub run4-ends : (tree : Output Component Props) → call.fault ≡ None → call.answer ≡ Some tree → slots (tree_in tree) ≡ 0 → call.next.elements ≡ 1 → the_end < 1 + size (tree_in tree)
-      → run4.dead ≡ Some (faults.IdsExhausted counters.Elements)
-  run4-ends tree no_fault answer none first past =
-      ap (λ r. r.dead) (run4-settles tree no_fault answer) ∙
-      ap (λ n. (settle (numbering tree [] n) (agenda 3 (tree_in tree) 0 (Show 1 ∷ []))).dead) first ∙
-      settle-end 3 (numbering tree) (tree_in tree) 0 [] 1 (Show 1 ∷ []) (numbering_law tree) none (omega arith) past
-
-  -- the run where no tree is kept of the answer
-  pub run4-cut : AnswersNoTree app props → run4.dead ≡ Some (faults.BadNode (named 3))
-  run4-cut h =
-      ap (λ f. (judged ready 3 root_scope call f call.answer (Show 1 ∷ [])).dead) (ap fault_of h.fault) ∙
-      ap (λ a. (judged ready 3 root_scope call None a (Show 1 ∷ [])).dead) h.answer
-
-  abbrev pub tree_kept : VNode P Component Props Value Handler TaskState Effect Payload → Output Component Props
-  tree_kept tree = output (tree_of tree.template.roots) no_component
-
-  pub answer-kept : (tree : VNode P Component Props Value Handler TaskState Effect Payload) → Answers app props tree → call.answer ≡ Some (tree_kept tree)
-  answer-kept tree h =
-      ap kept_of h.answer ∙ ap (λ b. if b then Some (tree_kept tree) else None) h.passes
-
-  -- what is seen at the end
-  pub view-built : (tree : Output Component Props) → slots (tree_in tree) ≡ 0 → (n : ℕ)
-      → view (built tree (range_with_len 1 (size (tree_in tree))) n) ≡ numbered (tree_in tree) 1
-  view-built tree none n =
-      append-nil _ ∙ append-nil _ ∙ append-nil _ ∙ shown-range (λ j. []) 1 (tree_in tree) none
-
-  pub owes-built : (tree : Output Component Props) (numbers : List ℕ) (n : ℕ) → owes (built tree numbers n) ≡ false
-  owes-built tree numbers n = refl
-
-  pub current-built : (tree : Output Component Props) (numbers : List ℕ) (n : ℕ) → call.answer ≡ Some tree → AllCurrent app (built tree numbers n)
-  current-built tree numbers n answer = (
-    record { answer = refl; reads = refl; kept = refl; shows = refl },
-    (
-      record { answer = refl; reads = refl; kept = refl; shows = refl },
-      (
-        record { answer = refl; reads = refl; kept = refl; shows = refl },
-        (record { answer = refl; reads = refl; kept = sym answer; shows = refl }, tt),
-      ),
-    ),
-  )
+pub roots-numbered : (roots read : List TemplateNode) (first : ℕ) (built : List DocNode) → read ≡ roots → first ≡ 1 → built ≡ numbered (nodes_of read) first → built ≡ numbered (nodes_of roots) 1
+roots-numbered roots read first built same one is = is ∙ ap (λ ts. numbered (nodes_of ts) first) same ∙ ap (numbered (nodes_of roots)) one

@@ -1,6 +1,12 @@
-pub mod Draws
-pub mod Views
+pub mod Forests
+pub mod Stands
+pub mod Meets
+pub mod Levels
+pub mod Depths
+pub mod TemplateTest
+pub mod TreeOut
+pub mod StillPasses
+pub mod StillMirror
+pub mod StillAgrees
+pub mod FirstCall
 pub mod Builds
-pub mod Numbers
-pub mod Valid
-pub mod Owed

@@ -1,25 +1,26 @@
--- The first call of the root component's body.
-use Rattle.std.specs.Prelude.{◌≡◌, ℕ, Bool, true, false, List, [], ◌∷◌, Option, Some, None, Result, Ok}
+-- The first call of the root component's body: what it sees, and what is taken of its answer.
+use Rattle.std.specs.Prelude.{◌≡◌, ◌⊎◌, ℕ, Bool, true, false, List, [], ◌∷◌, Option, Some, None, Result, Ok, Err, ◌&&◌}
 use Rattle.rt_cells.specs.declared.names.ScopeId.{ScopeId}
-use Rattle.rt_tree.specs.declared.vnode.VNode.{VNode}
+use Rattle.rt_tree.specs.NodeTest.{fits}
 use Rattle.rt_tree.specs.declared.error.RenderError.{RenderError}
+use Rattle.rt_tree.specs.declared.vnode.VNode.{VNode}
+use Rattle.rt_model.specs.OneLog.{types}
+use Rattle.rt_model.specs.Fits as model
+use Rattle.rt_model.specs.Tree.{Types, Tree, rendered, Element}
+use Rattle.rt_model.specs.World.{Meaning}
+use Rattle.rt_vdom.specs.Mirror.{tree_of}
+use Rattle.rt_vdom.specs.Promised.{asks_nothing, AnswersMore}
+use Rattle.rt_vdom.specs.Still.{all_stand_still}
 use Rattle.rt_vdom.specs.World.{CallWorld}
-use Rattle.rt_vdom.specs.Turn.{Meaning}
-use Rattle.rt_vdom.specs.State.{Application}
-use Rattle.rt_vdom.specs.Answers.{named, kept_of}
-use Rattle.rt_vdom.specs.Still.{passes}
 use Rattle.rt_vdom.specs.declared.app.rows.ScopeRow.{ScopeRow}
 use Rattle.rt_vdom.specs.declared.fault.Fault.{Fault}
 use Rattle.rt_vdom.specs.declared.fault.Fault.TheVariants.{OutOfMemory, SinkFault, IdsExhausted, BadNode}
 
-module _ {P Component Props Value Handler TaskState Effect Payload : Type 0} where
-  -- an application by the meanings of its trait
-  abbrev pub application : Component
-      → (Component → Props → CallWorld P Component Props Value Handler TaskState Effect Payload
-      → Meaning P Component Props Value Handler TaskState Effect Payload (Result (VNode P Component Props Value Handler TaskState Effect Payload) RenderError))
-      → Application P Component Props Value Handler TaskState Effect Payload
-  application root body = record { root = root; body = body }
+-- a number as a scope's name
+abbrev pub named : ℕ → ScopeId
+named n = record { 0 = n }
 
+module _ {P Component Props Value Handler TaskState Effect Payload : Type 0} where
   -- the row of a scope that keeps no hook, context or error
   abbrev pub bare_row : Option ScopeId → ℕ → Bool → ScopeRow P Component Props Value Handler TaskState Effect Payload
   bare_row parent renders boundary = record { parent = parent; renders = renders; hooks = []; contexts = []; boundary = boundary; error = None }
@@ -34,8 +35,8 @@ module _ {P Component Props Value Handler TaskState Effect Payload : Type 0} whe
       ∷ []
 
   -- what the first call of the root component's body can look at
-  abbrev pub first_world : CallWorld P Component Props Value Handler TaskState Effect Payload
-  first_world = record {
+  abbrev pub first_sight : CallWorld P Component Props Value Handler TaskState Effect Payload
+  first_sight = record {
     scope = named 3;
     rows = first_rows;
     cells = [];
@@ -44,25 +45,36 @@ module _ {P Component Props Value Handler TaskState Effect Payload : Type 0} whe
     rendering = true;
   }
 
-  -- what the first call of the root component's body leaves
-  abbrev pub first_call : Application P Component Props Value Handler TaskState Effect Payload → Props
-      → Meaning P Component Props Value Handler TaskState Effect Payload (Result (VNode P Component Props Value Handler TaskState Effect Payload) RenderError)
-  first_call app props = app.body app.root props first_world
+  -- the call met no refusal, asked for nothing, and answered this tree, which stands still and passes the node test
+  pub record Answers (call : Meaning (types Component Props Value Handler TaskState Effect Payload) (Element (types Component Props Value Handler TaskState Effect Payload)))
+      (tree : VNode P Component Props Value Handler TaskState Effect Payload) : Type 0 where
+    pub fault : call.fault ≡ None
+    pub answer : call.answer ≡ rendered (tree_of tree)
+    pub commands : asks_nothing call.commands ≡ true
+    pub still : all_stand_still tree.template.roots ≡ true
+    pub passes : fits tree ≡ true
 
-  -- the first call met no refusal and answered this tree, which passes
-  pub record Answers (app : Application P Component Props Value Handler TaskState Effect Payload) (props : Props) (tree : VNode P Component Props Value Handler TaskState Effect Payload) : Type 0 where
-    pub fault : (first_call app props).fault ≡ None
-    pub answer : (first_call app props).answer ≡ Ok tree
-    pub passes : passes tree ≡ true
+  -- the answer is a tree that stands still, of a call that is quiet: one that asked for nothing
+  abbrev pub is_taken : Result (VNode P Component Props Value Handler TaskState Effect Payload) RenderError → Bool → Bool
+  is_taken (Ok tree) quiet = all_stand_still tree.template.roots && quiet
+  is_taken (Err error) quiet = false
 
-  -- the first call met no refusal, and no tree is kept of its answer
-  pub record AnswersNoTree (app : Application P Component Props Value Handler TaskState Effect Payload) (props : Props) : Type 0 where
-    pub fault : (first_call app props).fault ≡ None
-    pub answer : kept_of (first_call app props).answer ≡ None
+  -- the answer is such a tree, which fails the node test
+  abbrev pub FailsTest : Result (VNode P Component Props Value Handler TaskState Effect Payload) RenderError → Bool → Type 0
+  FailsTest (Ok tree) quiet = (all_stand_still tree.template.roots && quiet ≡ true) × (fits tree ≡ false)
+  FailsTest (Err error) quiet = ⊥
 
-  -- why the first call gave no tree
-  abbrev pub RefusesFirst : Application P Component Props Value Handler TaskState Effect Payload → Props → Fault → Type 0
-  RefusesFirst app props OutOfMemory = Unit {0}
-  RefusesFirst app props SinkFault = ⊥
-  RefusesFirst app props (IdsExhausted what) = ⊥
-  RefusesFirst app props (BadNode scope) = (scope ≡ named 3) × AnswersNoTree app props
+module _ {K : Types} where
+  -- the call met no refusal, and answered a tree that fails the node test
+  pub record AnswersUnfit (call : Meaning K (Element K)) : Type 0 where
+    pub tree : Tree K
+    pub fault : call.fault ≡ None
+    pub answer : call.answer ≡ rendered tree
+    pub fails : model.fits tree ≡ false
+
+  -- why no tree was taken: the answer is more than this stage takes, or it fails the node test
+  abbrev pub RefusesFirst : Meaning K (Element K) → Fault → Type 0
+  RefusesFirst call OutOfMemory = Unit {0}
+  RefusesFirst call SinkFault = ⊥
+  RefusesFirst call (IdsExhausted what) = ⊥
+  RefusesFirst call (BadNode scope) = (scope ≡ named 3) × (AnswersMore call ⊎ AnswersUnfit call)

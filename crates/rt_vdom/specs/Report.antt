@@ -1,6 +1,6 @@
 -- The report of the build.
 use Rattle.std.specs.Prelude.{true, List, [], ◌∷◌}
-use Rattle.rt_vdom.specs.Answers.{named}
+use Rattle.rt_vdom.specs.First.{named}
 use Rattle.rt_vdom.specs.declared.report.Entry.{Entry}
 use Rattle.rt_vdom.specs.declared.report.Entry.TheVariants.{Build, Made}
 use Rattle.rt_vdom.specs.declared.report.Report.{Report}

@@ -1,7 +1,5 @@
 -- Trees that stand still: static elements without attributes, and static texts.
 use Rattle.std.specs.Prelude.{Bool, true, false, ◌&&◌, List, [], ◌∷◌, map}
-use Rattle.rt_tree.specs.NodeTest.{fits}
-use Rattle.rt_tree.specs.declared.vnode.VNode.{VNode}
 use Rattle.rt_tree.specs.declared.template.TemplateNode.{TemplateNode}
 use Rattle.rt_tree.specs.declared.template.TemplateNode.TheOpen.{TemplateNode-F}
 use Rattle.rt_tree.specs.declared.template.TemplateNode.TheFolds.{fold-TemplateNode}
@@ -29,8 +27,3 @@ stands_still = fold-TemplateNode Bool still_step
 -- whether a template with these roots stands still
 abbrev pub all_stand_still : List TemplateNode → Bool
 all_stand_still roots = all_true (map stands_still roots)
-
-module _ {P Component Props Value Handler TaskState Effect Payload : Type 0} where
-  -- whether a tree passes the node test and stands still
-  abbrev pub passes : VNode P Component Props Value Handler TaskState Effect Payload → Bool
-  passes tree = fits tree && all_stand_still tree.template.roots

@@ -1,7 +1,10 @@
 //! The document's nodes of a template, numbered as they are met depth first.
 ghost use Rattle.std.specs.Prelude.{◌≡◌, ◌+◌, ◌^◌, ◌<◌, ◌++◌, IfOk, IfErr, OnOk};
-ghost use Rattle.rt_vdom.specs.Tree.{End, size, numbered, grown, tree_of};
+ghost use Rattle.rt_model.specs.StillBuild.{node_count};
+ghost use Rattle.rt_model.specs.Tree.{no_nodes};
 ghost use Rattle.rt_vdom.specs.Drawn.{RunsOut};
+ghost use Rattle.rt_vdom.specs.Mirror.{node_before, nodes_of};
+ghost use Rattle.rt_vdom.specs.Numbered.{numbered};
 ghost use Rattle.rt_vdom.specs.Still.{stands_still, all_stand_still};
 
 use crate::fault::{Counter, Fault};
@@ -54,7 +57,7 @@ fn draw(ids: &mut Serials) -> Result<ElementId, Fault>
     }
 }
 
-/// The document's nodes of these nodes of a template, one after another.
+/// The document's nodes of these nodes of a template, one after another; a slot has a placeholder.
 #[cycle(built)]
 pub(crate) fn build_all(
     alloc: Global,
@@ -62,10 +65,10 @@ pub(crate) fn build_all(
     ids: &mut Serials,
 ) -> Result<List<DocNode>, Fault>
     requires within { ids.old < 2 ^ 64 }
-    ensures built { IfOk result (λ built. built ≡ numbered (tree_of nodes.now) ids.old) }
-    ensures drawn { OnOk result (ids.new ≡ ids.old + size (tree_of nodes.now)) }
+    ensures built { IfOk result (λ built. built ≡ numbered (nodes_of nodes.now) ids.old) }
+    ensures drawn { OnOk result (ids.new ≡ ids.old + node_count (nodes_of nodes.now)) }
     ensures within { OnOk result (ids.new < 2 ^ 64) }
-    ensures end { IfErr result (RunsOut ids.old (size (tree_of nodes.now))) }
+    ensures end { IfErr result (RunsOut ids.old (node_count (nodes_of nodes.now))) }
 {
     let mut built = List::new(alloc);
     for node in nodes {
@@ -83,10 +86,11 @@ fn build(
     built: &mut List<DocNode>,
 ) -> Result<(), Fault>
     requires within { ids.old < 2 ^ 64 }
-    ensures built { OnOk result (built.new ≡ built.old ++ numbered (grown node.now End) ids.old) }
-    ensures drawn { OnOk result (ids.new ≡ ids.old + size (grown node.now End)) }
+    ensures built { OnOk result (built.new
+        ≡ built.old ++ numbered (node_before node.now no_nodes) ids.old) }
+    ensures drawn { OnOk result (ids.new ≡ ids.old + node_count (node_before node.now no_nodes)) }
     ensures within { OnOk result (ids.new < 2 ^ 64) }
-    ensures end { IfErr result (RunsOut ids.old (size (grown node.now End))) }
+    ensures end { IfErr result (RunsOut ids.old (node_count (node_before node.now no_nodes))) }
 {
     match node {
         TemplateNode::Element {
@@ -111,7 +115,11 @@ fn build(
             let kind = DocKind::Text(text.copy(alloc)?);
             built.push(DocNode { id, kind })?;
         }
-        TemplateNode::Dynamic { .. } => {}
+        TemplateNode::Dynamic { .. } => {
+            let id = draw(ids)?;
+            let kind = DocKind::Placeholder;
+            built.push(DocNode { id, kind })?;
+        }
     }
     Ok(())
 }

@@ -1,9 +1,12 @@
 //! The first call of the root component's body.
-ghost use Rattle.std.specs.Prelude.{◌≡◌, IfOk, IfErr, true};
+ghost use Rattle.std.specs.Prelude.{◌≡◌, ◌⊎◌, ◌&&◌, IfOk, IfErr, true, false};
+ghost use Rattle.rt_tree.specs.NodeTest.{fits};
+ghost use Rattle.rt_model.specs.StillBuild.{first_world};
+ghost use Rattle.rt_vdom.specs.Calls.{meaning_of};
+ghost use Rattle.rt_vdom.specs.First.{bare_row, first_rows, is_taken, FailsTest, Answers, RefusesFirst};
+ghost use Rattle.rt_vdom.specs.Mirror.{element_of};
+ghost use Rattle.rt_vdom.specs.Still.{all_stand_still};
 ghost use Rattle.rt_vdom.specs.Turn.{HadMemory};
-ghost use Rattle.rt_vdom.specs.Still.{passes};
-ghost use Rattle.rt_vdom.specs.Answers.{kept_of};
-ghost use Rattle.rt_vdom.specs.First.{application, bare_row, first_rows, first_world, first_call, Answers, RefusesFirst};
 
 use crate::app::{App, BodyCx, BodyTurn, Calls, CxFault, Firsts, Rows, ScopeRow, World};
 use crate::build::all_stand_still;
@@ -51,8 +54,8 @@ fn first_rows<P: Parts>(alloc: Global) -> Result<Rows<P>, OutOfMemory>
 
 /// Calls the root component's body for the first time.
 fn call_root<A: App>(alloc: Global, app: &A, props: &A::Props) -> Result<BodyTurn<A>, OutOfMemory>
-    ensures { IfOk result (λ turn. HadMemory turn.meaning →
-        turn.meaning ≡ first_call (application (A.root_component app.now) (A.body app.now)) props.now) }
+    ensures { IfOk result (λ turn. HadMemory turn.meaning → meaning_of element_of turn.meaning
+        ≡ A.body app.now (A.root_component app.now) props.now first_world) }
 {
     let component = app.root(alloc)?;
     let rows = first_rows(alloc)?;
@@ -76,32 +79,29 @@ fn call_root<A: App>(alloc: Global, app: &A, props: &A::Props) -> Result<BodyTur
     app.render(alloc, &component, props, cx)
 }
 
-/// Whether a tree passes the node test and stands still.
-fn passes<P: Parts>(tree: &VNode<P>) -> bool
-    ensures { result ≡ passes tree.now }
+/// The tree of an answer, where it stands still and passes the node test, of a call that is quiet:
+/// one that asked for nothing.
+fn tree_of_answer<P: Parts>(answer: Element<P>, quiet: bool) -> Result<VNode<P>, Fault>
+    ensures tree { IfOk result (λ tree. (answer ≡ Ok tree)
+        × (all_stand_still tree.template.roots && quiet ≡ true) × (fits tree ≡ true)) }
+    ensures refused { IfErr result (λ fault. (fault ≡ Fault.BadNode ScopeId.APP)
+        × ((is_taken answer quiet ≡ false) ⊎ FailsTest answer quiet)) }
 {
-    fits(tree) && all_stand_still(tree.template.roots.as_slice())
-}
-
-/// The tree of the root component's answer, where it can be shown.
-fn tree_of_answer<P: Parts>(answer: Element<P>) -> Result<VNode<P>, Fault>
-    ensures tree { IfOk result (λ tree. (answer ≡ Ok tree) × (passes tree ≡ true)) }
-    ensures refused { IfErr result (λ fault.
-        (fault ≡ Fault.BadNode ScopeId.APP) × (kept_of answer ≡ None)) }
-{
+    let bad = Fault::BadNode {
+        scope: ScopeId::APP,
+    };
     match answer {
         Ok(tree) => {
-            if passes(&tree) {
-                Ok(tree)
-            } else {
-                Err(Fault::BadNode {
-                    scope: ScopeId::APP,
-                })
+            let taken = all_stand_still(tree.template.roots.as_slice()) && quiet;
+            if !taken {
+                return Err(bad);
             }
+            if !fits(&tree) {
+                return Err(bad);
+            }
+            Ok(tree)
         }
-        Err(_) => Err(Fault::BadNode {
-            scope: ScopeId::APP,
-        }),
+        Err(_) => Err(bad),
     }
 }
 
@@ -112,13 +112,13 @@ pub(crate) fn first_tree<A: App>(
     props: &A::Props,
 ) -> Result<VNode<A>, Fault>
     ensures tree { IfOk result (Answers
-        (application (A.root_component app.now) (A.body app.now)) props.now) }
+        (A.body app.now (A.root_component app.now) props.now first_world)) }
     ensures refused { IfErr result (RefusesFirst
-        (application (A.root_component app.now) (A.body app.now)) props.now) }
+        (A.body app.now (A.root_component app.now) props.now first_world)) }
 {
     let parts = call_root(alloc, app, props)?.parts();
     match parts.fault {
         Some(CxFault::OutOfMemory) => Err(Fault::OutOfMemory),
-        None => tree_of_answer(parts.answer),
+        None => tree_of_answer(parts.answer, parts.commands.is_empty()),
     }
 }

@@ -2,9 +2,7 @@
 ghost use Rattle.std.specs.Prelude.{◌≡◌, ◌≤◌, [], ◌∷◌, IfOk, IfErr, OnOk, OnErr, is_ok, if◌then◌else◌};
 ghost use Rattle.rt_tree.specs.Sinks.{grown};
 ghost use Rattle.rt_tree.specs.declared.edit.Edit.TheVariants as edits;
-ghost use Rattle.rt_vdom.specs.Causes.{Cause, IsValid, IsFromOutside, SinkRefuses};
-ghost use Rattle.rt_vdom.specs.First.{application};
-ghost use Rattle.rt_vdom.specs.Headline.{IsBuilt};
+ghost use Rattle.rt_vdom.specs.Promised.{WasBuilt, CameFrom, NeverFaults, Completes, SinkRefuses};
 ghost use Rattle.rt_vdom.specs.Report.{build_report};
 
 use crate::app::App;
@@ -68,14 +66,14 @@ fn build<A: App, M: WriteMutations>(
     props: &A::Props,
     sink: &mut M,
 ) -> Result<List<Report>, Fault>
-    ensures built { IfOk result (IsBuilt
-        (application (A.root_component app.now) (A.body app.now)) props.now
+    ensures built { IfOk result (WasBuilt
+        (A.root_component app.now) (A.body app.now) props.now
         (M.taken sink.old) (M.taken sink.new)) }
-    ensures valid { OnOk result (IsValid
-        (application (A.root_component app.now) (A.body app.now)) props.now) }
-    ensures cause { IfErr result (Cause
-        (application (A.root_component app.now) (A.body app.now)) props.now
-        (M.faults sink.old) (M.faults sink.new)) }
+    ensures valid { OnOk result ((limits : Limits) → 3 ≤ limits.height →
+        NeverFaults (A.root_component app.now) (A.body app.now) props.now limits) }
+    ensures cause { IfErr result (λ fault. (limits : Limits) → 3 ≤ limits.height →
+        CameFrom (A.root_component app.now) (A.body app.now) props.now limits
+        (M.faults sink.old) (M.faults sink.new) fault) }
     ensures untaken { OnErr result (M.taken sink.new ≡ M.taken sink.old) }
     ensures later { M.faults sink.old ≤ M.faults sink.new }
 {
@@ -89,8 +87,9 @@ fn build<A: App, M: WriteMutations>(
 
 /// Builds the application's root component with its props, and writes the edits to the sink.
 ///
-/// The build takes trees of static elements without attributes and of static texts; any other answer
-/// of the root component's body is the fault `BadNode`. No input is taken yet.
+/// The build takes trees of static elements without attributes and of static texts, of a call that
+/// asks for nothing; any other answer of the root component's body is the fault `BadNode`. No input is
+/// taken yet.
 pub fn session<A: App, M: WriteMutations>(
     alloc: Global,
     app: A,
@@ -102,18 +101,18 @@ pub fn session<A: App, M: WriteMutations>(
     requires no_inputs { inputs ≡ [] }
     requires height { 3 ≤ limits.height }
 
-    ensures built { IfOk result (IsBuilt
-        (application (A.root_component app) (A.body app)) root_props
+    ensures built { IfOk result (WasBuilt
+        (A.root_component app) (A.body app) root_props
         (M.taken sink.old) (M.taken sink.new)) }
 
     // A fault other than want of memory and the sink's comes exactly where the run ends in it.
-    ensures cause { IfErr result (λ refused. Cause
-        (application (A.root_component app) (A.body app)) root_props
+    ensures cause { IfErr result (λ refused. CameFrom
+        (A.root_component app) (A.body app) root_props limits
         (M.faults sink.old) (M.faults sink.new) refused.fault) }
-    ensures valid { OnOk result (IsValid
-        (application (A.root_component app) (A.body app)) root_props) }
-    ensures complete { IsValid (application (A.root_component app) (A.body app)) root_props →
-        IfErr result (λ refused. IsFromOutside refused.fault) }
+    ensures valid { OnOk result (NeverFaults
+        (A.root_component app) (A.body app) root_props limits) }
+    ensures complete { IfErr result (λ refused. Completes
+        (A.root_component app) (A.body app) root_props limits refused.fault) }
 
     // No report is finished before the build is, and a build that is refused writes nothing.
     ensures refused { IfErr result (λ refused.

@@ -2,7 +2,9 @@
 ghost use Rattle.std.specs.Prelude.{◌≡◌, ◌∷◌, [], IfOk, codes};
 ghost use Rattle.rt_tree.specs.declared.template.TemplateNode.TheVariants as nodes;
 ghost use Rattle.rt_vdom.specs.Turn.{begun, HadMemory};
-ghost use Rattle.rt_vdom.specs.Sample.{answer_of, body, body_reads_decide, body_numbered};
+ghost use Rattle.rt_vdom.specs.Calls.{meaning_of, world_of};
+ghost use Rattle.rt_vdom.specs.Mirror.{element_of};
+ghost use Rattle.rt_vdom.specs.Sample.{answer_of, body, body_reads_decide, body_numbered, body_refuses};
 
 use crate::app::{App, BodyCx, BodyTurn};
 use crate::{Entry, Fault, Limits, Report, SessionFault, session};
@@ -75,8 +77,22 @@ fn greeting(alloc: Global) -> Result<VNode<Sample>, OutOfMemory>
     })
 }
 
+fn rootless(alloc: Global) -> VNode<Sample>
+    ensures { Ok result ≡ answer_of 2 }
+{
+    VNode {
+        template: Template {
+            roots: List::new(alloc),
+            node_paths: List::new(alloc),
+            attr_paths: List::new(alloc),
+        },
+        dynamic_nodes: List::new(alloc),
+        dynamic_attrs: List::new(alloc),
+    }
+}
+
 fn hollow(alloc: Global) -> Result<VNode<Sample>, OutOfMemory>
-    ensures { IfOk result (λ tree. Ok tree ≡ answer_of 2) }
+    ensures { IfOk result (λ tree. Ok tree ≡ answer_of 3) }
 {
     Ok(VNode {
         template: Template {
@@ -101,6 +117,9 @@ fn answer(alloc: Global, props: u64) -> Result<Element<Sample>, OutOfMemory>
             task: Task(1),
         })));
     }
+    if props == 2 {
+        return Ok(Ok(rootless(alloc)));
+    }
     Ok(Ok(hollow(alloc)?))
 }
 
@@ -114,6 +133,8 @@ impl App for Sample {
     ghost reads_decide = { body_reads_decide };
 
     ghost numbered = { body_numbered };
+
+    ghost refuses = { body_refuses };
 
     fn root(&self, _alloc: Global) -> Result<u64, OutOfMemory> {
         Ok(7)
@@ -132,7 +153,9 @@ impl App for Sample {
     ) -> Result<BodyTurn<Sample>, OutOfMemory>
         requires fresh { cx ≡ begun cx.world }
         ensures shows { IfOk result (λ turn. turn.world ≡ cx.entry.world) }
-        ensures means { IfOk result (λ turn. HadMemory turn.meaning → turn.meaning ≡ body self.now component.now props.now cx.entry.world) }
+        ensures means { IfOk result (λ turn. HadMemory turn.meaning →
+            meaning_of element_of turn.meaning
+            ≡ body self.now component.now props.now (world_of cx.entry.world)) }
     {
         let answer = answer(alloc, *props)?;
         Ok(cx.finish(answer))
@@ -213,7 +236,8 @@ fn an_answer_that_cannot_be_shown_is_a_bad_node(rt: HostRuntime) {
     });
     let mut sink = Mutations::default_list(rt.alloc());
     assert_eq!(rt; fault_of(rt.alloc(), 1, &mut sink), bad, "a suspension");
-    assert_eq!(rt; fault_of(rt.alloc(), 2, &mut sink), bad, "a slot");
+    assert_eq!(rt; fault_of(rt.alloc(), 2, &mut sink), bad, "no root");
+    assert_eq!(rt; fault_of(rt.alloc(), 3, &mut sink), bad, "a slot");
     assert!(rt; sink.edits().is_empty());
 }
 

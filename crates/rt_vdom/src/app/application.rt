@@ -1,5 +1,7 @@
 //! An application.
 ghost use Rattle.std.specs.Prelude.{◌≡◌, IfOk};
+ghost use Rattle.rt_vdom.specs.Calls.{meaning_of, world_of};
+ghost use Rattle.rt_vdom.specs.Mirror.{element_of};
 ghost use Rattle.rt_vdom.specs.Turn.{begun, HadMemory};
 
 use crate::app::cx::BodyCx;
@@ -10,12 +12,8 @@ use std::alloc::Global;
 
 /// An application: its root component, and what its components' bodies answer.
 pub trait App: Parts {
-    ghost use Rattle.std.specs.Prelude.{Result};
-    ghost use Rattle.rt_tree.specs.declared.vnode.VNode.{VNode};
-    ghost use Rattle.rt_tree.specs.declared.error.RenderError.{RenderError};
-    ghost use Rattle.rt_vdom.specs.World.{CallWorld};
-    ghost use Rattle.rt_vdom.specs.Turn.{Meaning};
-    ghost use Rattle.rt_vdom.specs.Laws.{ReadsDecide, IsNumbered};
+    ghost use Rattle.rt_model.specs.Laws.{ReadsDecide, Numbered, Refuses};
+    ghost use Rattle.rt_vdom.specs.Calls.{BodyMeaning};
 
     /// The root component.
     ghost root_component: { Self → Self.Component };
@@ -26,9 +24,7 @@ pub trait App: Parts {
     /// What the body of a component with its props means in a world: its answer, what it reads and
     /// asks for, the next numbers after it, and the first refusal that it met.
     ghost body: { Self → Self.Component → Self.Props
-        → CallWorld Self Self.Component Self.Props Self.Value Self.Handler Self.TaskState Self.Effect Self.Payload
-        → Meaning Self Self.Component Self.Props Self.Value Self.Handler Self.TaskState Self.Effect Self.Payload
-        (Result (VNode Self Self.Component Self.Props Self.Value Self.Handler Self.TaskState Self.Effect Self.Payload) RenderError) };
+        → BodyMeaning Self.Component Self.Props Self.Value Self.Handler Self.TaskState Self.Effect Self.Payload };
 
     /// The root component.
     fn root(&self, alloc: Global) -> Result<Self::Component, OutOfMemory>
@@ -52,13 +48,15 @@ pub trait App: Parts {
         ensures shows { IfOk result (λ turn. turn.world ≡ cx.entry.world) }
 
         ensures means { IfOk result (λ turn. HadMemory turn.meaning →
-            turn.meaning ≡ body self.now component.now props.now cx.entry.world) };
+            meaning_of element_of turn.meaning
+            ≡ body self.now component.now props.now (world_of cx.entry.world)) };
 
     /// Worlds in which the same was given, and what was read has the same values, give the same.
     ghost reads_decide: { (app : Self) (component : Self.Component) (props : Self.Props) → ReadsDecide (body app component props) };
 
     /// The numbers that a call draws are the next ones of its world.
-    ghost numbered: { (app : Self) (component : Self.Component) (props : Self.Props)
-        (world : CallWorld Self Self.Component Self.Props Self.Value Self.Handler Self.TaskState Self.Effect Self.Payload)
-        → IsNumbered world (body app component props world) };
+    ghost numbered: { (app : Self) (component : Self.Component) (props : Self.Props) → Numbered (body app component props) };
+
+    /// A refusal that a call met is one of its world.
+    ghost refuses: { (app : Self) (component : Self.Component) (props : Self.Props) → Refuses (body app component props) };
 }
