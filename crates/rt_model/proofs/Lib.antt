@@ -10,6 +10,7 @@ pub mod StepFrames
 pub mod MachineFrames
 pub mod LastsAlways
 pub mod Quiet
+pub mod WellNumbered
 pub mod StillFits
 pub mod StillDraws
 pub mod StillViews
