@@ -11,6 +11,10 @@ pub mod MachineFrames
 pub mod LastsAlways
 pub mod Quiet
 pub mod WellNumbered
+pub mod SamePlaces
+pub mod Places
+pub mod ViewCounts
+pub mod ViewOnce
 pub mod StillFits
 pub mod StillDraws
 pub mod StillViews
