@@ -23,3 +23,14 @@ pub mod StillFaults
 pub mod StillRefused
 pub mod StillBuilt
 pub mod StillBuilds
+pub mod Among
+pub mod SideFrames
+pub mod SideRuns
+pub mod Parts
+pub mod Stands
+pub mod Turns
+pub mod Agendas
+pub mod SideChanges
+pub mod NumbersRun
+pub mod Begun
+pub mod NumbersStand
