@@ -7,7 +7,8 @@ use Rattle.rt_model.specs.State.{SideName, Item, Draw, Feed, Make}
 use Rattle.rt_model.specs.Run.{has_node, component_in, kept_numbers, is_fed, kept_children, serves}
 use Rattle.rt_model.specs.Heard.{number_at}
 use Rattle.rt_model.proofs.Maps.{by_test, pick_true, pick_false}
-use Rattle.rt_model.proofs.Among.{Among, or_else_true, place_sound, place_same, kind_sound, kind_same}
+use Rattle.rt_model.proofs.Among.{Among, or_else_true, place_same, kind_same}
+use Rattle.rt_model.proofs.SamePlaces.{same_place-true, same_kind-true}
 use Rattle.rt_model.proofs.StillFits.{and-left, and-right}
 
 abbrev Numbers : Type 0
@@ -18,10 +19,10 @@ abbrev is_here : Place × Kind × ℕ → Place → Kind → Bool
 is_here e p k = same_kind e.1 k && same_place e.0 p
 
 here_kind : (e : Place × Kind × ℕ) (p : Place) (k : Kind) → is_here e p k ≡ true → e.1 ≡ k
-here_kind e p k h = kind_sound e.1 k (and-left (same_kind e.1 k) (same_place e.0 p) h)
+here_kind e p k h = same_kind-true e.1 k (and-left (same_kind e.1 k) (same_place e.0 p) h)
 
 here_place : (e : Place × Kind × ℕ) (p : Place) (k : Kind) → is_here e p k ≡ true → e.0 ≡ p
-here_place e p k h = place_sound e.0 p (and-right (same_kind e.1 k) (same_place e.0 p) h)
+here_place e p k h = same_place-true e.0 p (and-right (same_kind e.1 k) (same_place e.0 p) h)
 
 here_itself : (p : Place) (k : Kind) → same_kind k k && same_place p p ≡ true
 here_itself p k = ap (λ (b : Bool). b && same_place p p) (kind_same k) ∙ place_same p
@@ -87,8 +88,8 @@ module _ {K : Types} where
       elim (or_else_true (same_kind l k && same_place q p) (has_node ss p k) h) [
         | inl g ↦
             inl
-            (ap (λ (z : Place). node_at z l) (place_sound q p (and-right (same_kind l k) (same_place q p) g))
-            ∙ ap (λ (z : Kind). node_at p z) (kind_sound l k (and-left (same_kind l k) (same_place q p) g)))
+            (ap (λ (z : Place). node_at z l) (same_place-true q p (and-right (same_kind l k) (same_place q p) g))
+            ∙ ap (λ (z : Kind). node_at p z) (same_kind-true l k (and-left (same_kind l k) (same_place q p) g)))
         | inr g ↦ inr (node_found ss p k g)
       ]
 

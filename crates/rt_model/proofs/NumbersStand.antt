@@ -19,7 +19,8 @@ use Rattle.rt_model.proofs.OneLogOnly.{fork}
 use Rattle.rt_model.proofs.StillFits.{and-left, and-right}
 use Rattle.rt_model.proofs.MachineFrames.{step_follows}
 use Rattle.rt_model.proofs.LastsAlways.{inj_entry, inj_machine, live_of, due_is, start_rooted, only_root}
-use Rattle.rt_model.proofs.Among.{Among, among_contained, place_sound}
+use Rattle.rt_model.proofs.Among.{Among, among_contained}
+use Rattle.rt_model.proofs.SamePlaces.{same_place-true}
 use Rattle.rt_model.proofs.Parts.{PartFits}
 use Rattle.rt_model.proofs.SideRuns.{rest_stay, called_stay}
 use Rattle.rt_model.proofs.Stands.{Stands}
@@ -256,7 +257,7 @@ child_among : (cs : List (Place × ℕ)) (p : Place) (t : ℕ) → child_at cs p
 child_among [] p t h = cc
 child_among (e ∷ cs) p t h =
     by_test (same_place e.0 p)
-    (λ q. inl (here e.0 e.1 (place_sound e.0 p q) (found (sym (pick_true (Some e.1) (child_at cs p) q) ∙ h))))
+    (λ q. inl (here e.0 e.1 (same_place-true e.0 p q) (found (sym (pick_true (Some e.1) (child_at cs p) q) ∙ h))))
     (λ q. inr (child_among cs p t (sym (pick_false (Some e.1) (child_at cs p) q) ∙ h)))
   where
     here : (q : Place) (n : ℕ) → q ≡ p → n ≡ t → ◌≡◌ {A = Place × ℕ} (q, n) (p, t)
