@@ -1,5 +1,5 @@
 -- What lets no number stand twice in the view: each number stands at one place, each node of an output has one, each child stands in one slot.
-use Rattle.std.specs.Prelude.{ℕ, ◌+◌, ◌<◌, true, List, [], Option, Some, Contains, ◌≡◌}
+use Rattle.std.specs.Prelude.{ℕ, ◌+◌, ◌<◌, true, [], Some, Contains, ◌≡◌}
 use Rattle.rt_model.specs.Lists.{at}
 use Rattle.rt_model.specs.Tree.{Types, Tree, Place, Kind, node_at, spots}
 use Rattle.rt_model.specs.Fits.{fits_at}
