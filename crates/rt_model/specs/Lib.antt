@@ -29,4 +29,5 @@ pub mod OneLog
 pub mod RenderRows
 pub mod Lasting
 pub mod Still
+pub mod Once
 pub mod StillBuild

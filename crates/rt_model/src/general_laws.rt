@@ -5,6 +5,7 @@ ghost use Rattle.rt_model.specs.OneLog.{types, OneLog};
 ghost use Rattle.rt_model.specs.Laws.{ProgramsAreLawful};
 ghost use Rattle.rt_model.specs.Lasting.{LawfulLogsLast};
 ghost use Rattle.rt_model.specs.Still.{SameCausesNothing};
+ghost use Rattle.rt_model.specs.Once.{ShownOnce};
 
 /// For one list of inputs at most one log of each length is accepted.
 pub fn one_log<C, P, V, H, T, E, L>()
@@ -24,4 +25,9 @@ pub fn lawful_logs_last<C, P, V, H, T, E, L>()
 /// Between a state and itself no edit is caused, where no attribute slot of a kept output has a name twice.
 pub fn same_causes_nothing<C, P, V, H, T, E, L>()
     ensures { (app : Application (types C P V H T E L)) → SameCausesNothing app }
+{}
+
+/// After an accepted log of a lawful application what shows has no number twice, and none is 0.
+pub fn shown_once<C, P, V, H, T, E, L>()
+    ensures { (app : Application (types C P V H T E L)) → ShownOnce app }
 {}
