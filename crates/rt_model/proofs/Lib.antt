@@ -34,3 +34,4 @@ pub mod SideChanges
 pub mod NumbersRun
 pub mod Begun
 pub mod NumbersStand
+pub mod FitsSingle

@@ -39,7 +39,7 @@ attributes-true (x ∷ xs) (y ∷ ys) h =
     λ t. first t ∷ rest t
 attributes-true _ _ h = cc
 
-paths-true : (xs ys : List (List ℕ)) → same_list same_numbers xs ys ≡ true → xs ≡ ys
+pub paths-true : (xs ys : List (List ℕ)) → same_list same_numbers xs ys ≡ true → xs ≡ ys
 paths-true [] [] h = refl
 paths-true (x ∷ xs) (y ∷ ys) h =
     let first : x ≡ y = numbers-true x y (and-left _ (same_list same_numbers xs ys) h) in

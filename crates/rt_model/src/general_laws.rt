@@ -4,7 +4,7 @@ ghost use Rattle.rt_model.specs.World.{Application};
 ghost use Rattle.rt_model.specs.OneLog.{types, OneLog};
 ghost use Rattle.rt_model.specs.Laws.{ProgramsAreLawful};
 ghost use Rattle.rt_model.specs.Lasting.{LawfulLogsLast};
-ghost use Rattle.rt_model.specs.Still.{SameCausesNothing};
+ghost use Rattle.rt_model.specs.Still.{SameCausesNothing, RestCausesNothing};
 ghost use Rattle.rt_model.specs.Once.{ShownOnce};
 
 /// For one list of inputs at most one log of each length is accepted.
@@ -30,4 +30,9 @@ pub fn same_causes_nothing<C, P, V, H, T, E, L>()
 /// After an accepted log of a lawful application what shows has no number twice, and none is 0.
 pub fn shown_once<C, P, V, H, T, E, L>()
     ensures { (app : Application (types C P V H T E L)) → ShownOnce app }
+{}
+
+/// Between a state that an accepted log of a lawful application reaches and itself no edit is caused.
+pub fn rest_causes_nothing<C, P, V, H, T, E, L>()
+    ensures { (app : Application (types C P V H T E L)) → RestCausesNothing app }
 {}

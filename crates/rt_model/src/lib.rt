@@ -9,7 +9,8 @@ mod still_build;
 mod worked_rows;
 
 pub use general_laws::{
-    lawful_logs_last, one_log, programs_are_lawful, same_causes_nothing, shown_once,
+    lawful_logs_last, one_log, programs_are_lawful, rest_causes_nothing, same_causes_nothing,
+    shown_once,
 };
 pub use more_rows::{
     attributes_move, context_wakes_task, events_bubble, hook_changes_kind, hooks_round_a_run,
