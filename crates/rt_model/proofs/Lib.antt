@@ -23,3 +23,5 @@ pub mod StillFaults
 pub mod StillRefused
 pub mod StillBuilt
 pub mod StillBuilds
+pub mod SameTrees
+pub mod CurrentDecided

@@ -19,6 +19,7 @@ pub mod View
 pub mod Caused
 pub mod Told
 pub mod Current
+pub mod CurrentTest
 pub mod Causes
 pub mod Merge
 pub mod Headline

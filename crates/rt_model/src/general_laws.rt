@@ -5,6 +5,7 @@ ghost use Rattle.rt_model.specs.OneLog.{types, OneLog};
 ghost use Rattle.rt_model.specs.Laws.{ProgramsAreLawful};
 ghost use Rattle.rt_model.specs.Lasting.{LawfulLogsLast};
 ghost use Rattle.rt_model.specs.Still.{SameCausesNothing};
+ghost use Rattle.rt_model.specs.CurrentTest.{TestDecidesCurrent};
 
 /// For one list of inputs at most one log of each length is accepted.
 pub fn one_log<C, P, V, H, T, E, L>()
@@ -24,4 +25,9 @@ pub fn lawful_logs_last<C, P, V, H, T, E, L>()
 /// Between a state and itself no edit is caused, where no attribute slot of a kept output has a name twice.
 pub fn same_causes_nothing<C, P, V, H, T, E, L>()
     ensures { (app : Application (types C P V H T E L)) → SameCausesNothing app }
+{}
+
+/// The test that every scope is current says so exactly where it holds, where the application's tests decide.
+pub fn test_decides_current<C, P, V, H, T, E, L>()
+    ensures { (app : Application (types C P V H T E L)) → TestDecidesCurrent app }
 {}

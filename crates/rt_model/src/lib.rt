@@ -8,7 +8,9 @@ mod more_rows;
 mod still_build;
 mod worked_rows;
 
-pub use general_laws::{lawful_logs_last, one_log, programs_are_lawful, same_causes_nothing};
+pub use general_laws::{
+    lawful_logs_last, one_log, programs_are_lawful, same_causes_nothing, test_decides_current,
+};
 pub use more_rows::{
     attributes_move, context_wakes_task, events_bubble, hook_changes_kind, hooks_round_a_run,
     name_stands_twice, suspended_renders, suspends_on_an_ended_task, too_deep_a_make,
