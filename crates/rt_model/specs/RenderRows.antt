@@ -9,7 +9,8 @@ use Rattle.rt_model.specs.Replay.{Entry, Build, Rerun, Poll, Made, Kept, Taken, 
 use Rattle.rt_model.specs.Rendering.{renders_on, resolved_by_height, nothing_resolved}
 use Rattle.rt_model.specs.Document.{AppendChildren}
 use Rattle.rt_model.specs.Small.{Val, Num, Name, Job, Idle, Fetch, R, Body, number_of, app_of, use_cell, use_task, shows, words, RowOf}
-use Rattle.rt_model.specs.Rows.{loads, text}
+use Rattle.rt_model.specs.Pieces.{text}
+use Rattle.rt_model.specs.SuspenseRows.{loads}
 
 abbrev pub shows_fallback : State R → ℕ → Bool
 shows_fallback w b = elim (at w.scopes b) [ None ↦ false | Some x ↦ is_side x.shows FallbackSide ]
