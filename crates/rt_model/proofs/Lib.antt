@@ -25,3 +25,4 @@ pub mod StillBuilt
 pub mod StillBuilds
 pub mod SameTrees
 pub mod CurrentDecided
+pub mod SmallLawful

@@ -11,7 +11,8 @@ use Rattle.rt_model.proofs.Maps.{eq_same}
 use Rattle.rt_model.proofs.StillFits.{and-left, and-right}
 use Rattle.rt_model.proofs.SamePlaces.{same_place-true}
 
-both : {a b : Bool} → a ≡ true → b ≡ true → (a && b) ≡ true
+-- two tests that hold hold together
+pub both : {a b : Bool} → a ≡ true → b ≡ true → (a && b) ≡ true
 both p q = rw (p, q) refl
 
 module _ {A : Type 0} (same : A → A → Bool) where
@@ -56,7 +57,8 @@ numbers-same : (p : List ℕ) → same_numbers p p ≡ true
 numbers-same [] = refl
 numbers-same (x ∷ xs) = both (eq_same x) (numbers-same xs)
 
-numbers : Tests (List ℕ) same_numbers
+-- equal texts and paths are those that the test finds equal
+pub numbers : Tests (List ℕ) same_numbers
 numbers = (numbers-true, numbers-same)
 
 attribute-same : (a : TemplateAttribute) → same_attribute a a ≡ true

@@ -4,6 +4,7 @@ use Rattle.rt_model.specs.Lists.{Text, same_numbers, same_option, same_list}
 use Rattle.rt_model.specs.Tree.{Types, TemplateNodes, no_nodes, element_node, text_node, slot_node, template_with, Tree, block, Slots, no_slots, more_slots, Slot, component_slot, Own, placeholder_tree, Element, rendered, failed, suspended}
 use Rattle.rt_model.specs.World.{Counter, Scopes, Tasks, Cells, Contexts, Elements, Errors, Renders, TaskStep, pending, ready, Nothing, nothing, Application}
 use Rattle.rt_model.specs.Program.{Program, done, current_scope, read, new_cell, write, spawn, wake, captured, clear_errors, provide, hook_is_new, use_hook, Programs, application_of}
+use Rattle.rt_model.specs.Laws.{IsLawful}
 use Rattle.rt_model.specs.Replay.{Entry, Build, Made, Input, Machine, start}
 use Rattle.rt_model.specs.State.{Fault, OutOfTurns, TooDeep, IdsExhausted, HookChanged, NoSuchTask, BadNode}
 use Rattle.rt_model.specs.Document.{Edit, Empty, same_edit}
@@ -49,6 +50,17 @@ pub data Doing : Type 0 where
   More : (cell : ℕ) → Doing
   Give : (kind : ℕ) (value : Val) → Doing
   Forgive : Doing
+
+-- listeners and effects that do the same
+abbrev pub same_doing : Doing → Doing → Bool
+same_doing Nought Nought = true
+same_doing (Rouse t) (Rouse u) = nat_eq t u
+same_doing (Put c v) (Put d u) = nat_eq c d && same_val v u
+same_doing (Add c t) (Add d u) = nat_eq c d && same_numbers t u
+same_doing (More c) (More d) = nat_eq c d
+same_doing (Give k v) (Give j u) = nat_eq k j && same_val v u
+same_doing Forgive Forgive = true
+same_doing _ _ = false
 
 abbrev pub R : Types
 R = record { Component = Name; Props = List Val; Value = Val; Handler = Doing; TaskState = Job; Effect = Doing; Payload = Nothing }
@@ -100,13 +112,18 @@ app_of body =
       same_component = same_name;
       same_props = λ p q. same_list same_val p q;
       same_value = same_val;
-      same_handler = λ a b. true;
+      same_handler = same_doing;
       memoize = λ c p q. same_list same_val p q;
       body = body;
       poll = polls;
       effect = λ e. does e (done nothing);
       handle = λ h event. does h (done event);
     }
+
+-- the small applications obey the laws, whatever their bodies and polls
+abbrev pub SmallAreLawful : Type 0
+SmallAreLawful =
+    (body : Name → List Val → Body) (poll : Job → Program R (TaskStep R)) → IsLawful R (application_of (record (app_of body) { poll = poll }))
 
 -- a body that gives up where a call was refused
 abbrev pub gives_up : Body

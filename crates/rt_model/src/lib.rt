@@ -25,5 +25,6 @@ pub use worked_rows::{
     ended_task_isnt_polled, error_caught_and_cleared, events_grow_a_list, first_error_stays,
     fragment_empties_and_fills, kept_child_reruns, nearer_provider, one_task_holds_two_boundaries,
     parent_feeds_child, reads_of_the_last_run_alone, removes_deepest_first, shown_boundary_turns,
-    static_tree, suspense, task_before_the_next_batch, two_tasks_hold_one_boundary,
+    small_are_lawful, static_tree, suspense, task_before_the_next_batch,
+    two_tasks_hold_one_boundary,
 };

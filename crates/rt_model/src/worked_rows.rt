@@ -7,6 +7,12 @@ ghost use Rattle.rt_model.specs.TaskRows.{EndedTaskIsntPolled, TaskBeforeTheNext
 ghost use Rattle.rt_model.specs.ErrorRows.{ErrorCaughtAndCleared, FirstErrorStays};
 ghost use Rattle.rt_model.specs.SuspenseRows.{Suspense, OneTaskHoldsTwoBoundaries, TwoTasksHoldOneBoundary, ShownBoundaryTurns};
 ghost use Rattle.rt_model.specs.ProviderRows.{ContextThroughAFragment, ContextIsTracked, NearerProvider};
+ghost use Rattle.rt_model.specs.Small.{SmallAreLawful};
+
+/// The applications of the rows obey the laws, whatever their bodies and polls.
+pub fn small_are_lawful()
+    ensures { SmallAreLawful }
+{}
 
 /// A static element with a text.
 pub fn static_tree()
