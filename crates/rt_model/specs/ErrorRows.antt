@@ -13,17 +13,21 @@ abbrev pub digit_of : Val → Option ℕ
 digit_of (Str (c ∷ [])) = Some (c - 48)
 digit_of _ = None
 
+-- a button with a number that is kept as a hook, and the cell's text
 abbrev pub counter_of : Text → Val → Body
 counter_of now n = shows (with_slots (plain_node (codes "button") (slot_node 0 no_nodes) no_nodes) (text_slot (text_of n ++ codes "x" ++ now) ∷ []))
 
+-- a body that fails where there is no digit
 abbrev pub counter : Text → Option ℕ → Body
 counter now None = fails (codes "bad multiplier")
 counter now (Some n) = use_hook 1 (Num n) (λ kept. counter_of now (val_or kept))
 
+-- the text of an error, empty where there is none
 abbrev pub error_text : Option CapturedError → Text
 error_text None = []
 error_text (Some e) = e.text
 
+-- the handler's tree: the error's text and a button that clears it
 abbrev pub oops : ℕ → Text → Tree R
 oops s words =
     block
@@ -35,6 +39,7 @@ oops s words =
     ((on s (codes "onclick") Forgive ∷ []) ∷ [])
     (slots (text_slot (codes "Oops: " ++ words) ∷ []))
 
+-- an application with a handler round a child that may fail
 abbrev pub catches : Name → List Val → Body
 catches Kid props = read (number_in props 0) (λ v. counter (shown v) (digit_of (val_or v)))
 catches Load props = error (λ e. current_scope (λ s. shows (oops s (error_text e))))
@@ -43,6 +48,7 @@ catches _ props =
     (Str (codes "2"))
     (λ m. shows (one_slot (component_slot (ErrorBoundary (rendered (one_slot (use_of Kid (Num m ∷ [])))) (Some (Load, []))))))
 
+-- the row: the error is caught, its handler shows, and clearing it makes the child anew
 abbrev pub ErrorCaughtAndCleared : Type 0
 ErrorCaughtAndCleared =
     RowOf
@@ -81,9 +87,11 @@ both_fail _ props =
     (component_slot
     (ErrorBoundary (rendered (two_slots (use_of Kid (Str (codes "a") ∷ [])) (use_of Kid (Str (codes "b") ∷ [])))) None)))
 
+-- the default handler's attribute
 abbrev pub red : DocAttribute
 red = record { name = codes "color"; namespace = Some (codes "style"); value = codes "red" }
 
+-- the row: of two errors the first one is shown
 abbrev pub FirstErrorStays : Type 0
 FirstErrorStays =
     RowOf

@@ -15,12 +15,15 @@ abbrev pub raises_again : ℕ → ℕ → Body
 raises_again c zero = read c (λ v. shows (one_slot (text_slot (shown v))))
 raises_again c (suc b) = read c (λ v. write c (one_more v) (shows (one_slot (text_slot (shown v)))))
 
+-- an application that owes one more rerun after each rerun
 abbrev pub never_at_rest : Name → List Val → Body
 never_at_rest name props = use_cell (Num 0) (λ b. use_cell (Num 0) (λ c. read b (λ v. raises_again c (number_of v))))
 
+-- limits of five units
 abbrev pub five_units : Limits
 five_units = record { units = 5; height = 128; drain = 1024 }
 
+-- the row: five reruns come, and the sixth is refused
 abbrev pub UnitsAreSpent : Type 0
 UnitsAreSpent =
     FaultOf
@@ -41,9 +44,11 @@ UnitsAreSpent =
     (OutOfTurns 5)
     (SetNodeText 1 (codes "1") ∷ SetNodeText 1 (codes "2") ∷ SetNodeText 1 (codes "3") ∷ SetNodeText 1 (codes "4") ∷ [])
 
+-- limits of a height of four
 abbrev pub height_four : Limits
 height_four = record { units = 10000; height = 4; drain = 1024 }
 
+-- the row: a scope of height five is refused, and nothing is written
 abbrev pub TooDeepAMake : Type 0
 TooDeepAMake =
     FaultOf
@@ -61,9 +66,11 @@ abbrev pub second_hook : ℕ → Body
 second_hook zero = use_hook 2 (Str (codes "t")) (λ v. shows (one_slot (text_slot (shown v))))
 second_hook (suc n) = use_hook 1 (Num 1) (λ x. use_hook 2 (Str (codes "t")) (λ v. shows (one_slot (text_slot (shown v)))))
 
+-- an application whose hooks change with its cell
 abbrev pub changes_hook : Name → List Val → Body
 changes_hook name props = use_cell (Num 0) (λ b. read b (λ v. second_hook (number_of v)))
 
+-- the row: the rerun is refused at the hook, and nothing is written
 abbrev pub HookChangesKind : Type 0
 HookChangesKind =
     FaultOf
@@ -88,6 +95,7 @@ HookChangesKind =
 abbrev pub always_suspends : Name → List Val → Body
 always_suspends name props = use_cell (Num 0) (λ d. use_task (Fetch d 1) (λ t. read d (λ v. suspends t)))
 
+-- the row: the task is gone when the body suspends on it once more
 abbrev pub SuspendsOnAnEndedTask : Type 0
 SuspendsOnAnEndedTask =
     FaultOf
@@ -108,9 +116,11 @@ twice_named s =
     ((on s (codes "onclick") Nought ∷ []) ∷ [])
     no_slots
 
+-- an application that answers that tree
 abbrev pub bad_tree : Name → List Val → Body
 bad_tree name props = current_scope (λ s. shows (twice_named s))
 
+-- the row: the tree fails the node test
 abbrev pub NameStandsTwice : Type 0
 NameStandsTwice =
     FaultOf

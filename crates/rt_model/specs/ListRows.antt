@@ -11,16 +11,20 @@ use Rattle.rt_model.specs.Pieces.{element, argument, beside, list_item, on, butt
 abbrev pub number_item : ℕ → Tree R
 number_item n = with_slots (plain_node (codes "li") (slot_node 0 no_nodes) no_nodes) (text_slot (text_of (Num n)) ∷ [])
 
+-- so many items, numbered from n on
 abbrev pub number_items : ℕ → ℕ → Trees R
 number_items n zero = no_trees
 number_items n (suc more) = more_trees (number_item n) (number_items (suc n) more)
 
+-- a list round a slot
 abbrev pub listing : Slot R → Tree R
 listing items = with_slots (plain_node (codes "ul") (slot_node 0 no_nodes) no_nodes) (items ∷ [])
 
+-- an application that shows a list of as many items as its cell says
 abbrev pub lists : Name → List Val → Body
 lists name props = use_cell (Num 3) (λ n. read n (λ v. shows (listing (fragment_slot (number_items 0 (number_of v))))))
 
+-- the row: three items, none, two
 abbrev pub FragmentEmptiesAndFills : Type 0
 FragmentEmptiesAndFills =
     RowOf
@@ -46,10 +50,12 @@ FragmentEmptiesAndFills =
     []
     )
 
+-- so many child components, numbered from n on
 abbrev pub item_slots : ℕ → ℕ → Trees R
 item_slots n zero = no_trees
 item_slots n (suc more) = more_trees (one_slot (use_of Kid (Num n ∷ []))) (item_slots (suc n) more)
 
+-- the button and the list
 abbrev pub button_and_list : ℕ → ℕ → ℕ → Tree R
 button_and_list s n count =
     block
@@ -58,13 +64,16 @@ button_and_list s n count =
     ((on s (codes "onclick") (More n) ∷ []) ∷ [])
     (slots (fragment_slot (item_slots 0 count) ∷ []))
 
+-- an item with its number
 abbrev pub labelled : Val → Tree R
 labelled v = with_slots (plain_node (codes "li") (slot_node 0 no_nodes) no_nodes) (text_slot (codes "item " ++ text_of v) ∷ [])
 
+-- an application whose button adds an item
 abbrev pub to_do : Name → List Val → Body
 to_do Kid props = shows (labelled (argument props 0))
 to_do _ props = use_cell (Num 0) (λ n. read n (λ v. current_scope (λ s. shows (button_and_list s n (number_of v)))))
 
+-- the row: each click raises the cell, and one item joins the end
 abbrev pub EventsGrowAList : Type 0
 EventsGrowAList =
     RowOf

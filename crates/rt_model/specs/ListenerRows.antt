@@ -30,12 +30,15 @@ letters s c now =
     ((on s (codes "onclick") (Add c (codes "o")) ∷ []) ∷ (on s (codes "onclick") (Add c (codes "i")) ∷ []) ∷ (on s (codes "on") (Add c (codes "e")) ∷ []) ∷ [])
     (slots (text_slot now ∷ []))
 
+-- an application that shows the letters that its listeners wrote
 abbrev pub hears : Name → List Val → Body
 hears name props = use_cell (Str []) (λ c. read c (λ v. current_scope (λ s. shows (letters s c (shown v)))))
 
+-- an element of a document with listeners
 abbrev pub heard_here : List Text → ℕ → Text → Forest → Forest → Forest
 heard_here names id tag children rest = Node id (DocElement tag None [] names) children rest
 
+-- the row: which listeners hear five events, and in what order
 abbrev pub EventsBubble : Type 0
 EventsBubble =
     RowOf
@@ -77,14 +80,17 @@ EventsBubble =
 abbrev pub worth : Text → Text → Attribute R
 worth name value = record { name = name; namespace = None; value = text_value value }
 
+-- what the first slot gives
 abbrev pub first_given : ℕ → ℕ → List (Attribute R)
 first_given s zero = worth (codes "a") (codes "1") ∷ worth (codes "b") (codes "2") ∷ []
 first_given s (suc n) = on s (codes "onclick") Nought ∷ []
 
+-- what the second slot gives
 abbrev pub second_given : ℕ → List (Attribute R)
 second_given zero = worth (codes "c") (codes "3") ∷ []
 second_given (suc n) = worth (codes "c") (codes "4") ∷ worth (codes "a") (codes "1") ∷ []
 
+-- an element with the two slots
 abbrev pub dressed : ℕ → ℕ → Tree R
 dressed s n =
     block
@@ -92,12 +98,15 @@ dressed s n =
     (first_given s n ∷ second_given n ∷ [])
     no_slots
 
+-- an application whose cell changes what the slots give
 abbrev pub dresses : Name → List Val → Body
 dresses name props = use_cell (Num 0) (λ c. read c (λ v. current_scope (λ s. shows (dressed s (number_of v)))))
 
+-- an attribute of a document, without a namespace
 abbrev pub in_document : Text → Text → DocAttribute
 in_document name value = record { name = name; namespace = None; value = value }
 
+-- the row: what a slot no longer gives goes first, then what is new comes
 abbrev pub AttributesMove : Type 0
 AttributesMove =
     RowOf
@@ -123,10 +132,12 @@ AttributesMove =
 abbrev pub hooked_body : ℕ → ℕ → Body
 hooked_body a b = use_effect before_render_kind (More a) (λ x. use_effect after_render_kind (More b) (λ y. shows (words (codes "h"))))
 
+-- an application with such hooks
 abbrev pub counts_hooks : Name → List Val → Body
 counts_hooks Kid props = generation (λ n. use_effect after_render_kind Nought (λ y. shows (one_slot (text_slot (text_of (Num n))))))
 counts_hooks _ props = use_cell (Num 0) (λ a. use_cell (Num 0) (λ b. use_cell (Num 0) (λ c. read c (λ v. hooked_body a b))))
 
+-- the row: the hooks write round the rerun, and no body reads what they wrote
 abbrev pub HooksRoundARun : Type 0
 HooksRoundARun =
     RowOf

@@ -12,6 +12,7 @@ use Rattle.rt_model.specs.Small.{Val, Str, Doing, R, Body, text_of, val_or, numb
 abbrev pub element : ℕ → Text → Forest → Forest
 element id tag children = Node id (DocElement tag None [] []) children Empty
 
+-- a text of a document
 abbrev pub text : ℕ → Text → Forest
 text id words = leaf id (DocText words)
 
@@ -19,6 +20,7 @@ text id words = leaf id (DocText words)
 abbrev pub argument : List Val → ℕ → Val
 argument props n = elim (nth props n) [ None ↦ Str [] | Some v ↦ v ]
 
+-- an argument that is a number
 abbrev pub number_in : List Val → ℕ → ℕ
 number_in props n = number_of (Some (argument props n))
 
@@ -26,6 +28,7 @@ number_in props n = number_of (Some (argument props n))
 abbrev pub shown : Option Val → Text
 shown v = text_of (val_or v)
 
+-- a body that shows a cell
 abbrev pub text_of_cell : ℕ → Body
 text_of_cell c = read c (λ v. shows (one_slot (text_slot (shown v))))
 
@@ -33,6 +36,7 @@ text_of_cell c = read c (λ v. shows (one_slot (text_slot (shown v))))
 abbrev pub beside : Forest → Forest → Forest
 beside a b = join_rows a b
 
+-- a list item of a document with a text in it
 abbrev pub list_item : ℕ → ℕ → Text → Forest
 list_item id inner words = element id (codes "li") (text inner words)
 
@@ -40,8 +44,10 @@ list_item id inner words = element id (codes "li") (text inner words)
 abbrev pub on : ℕ → Text → Doing → Attribute R
 on origin name doing = record { name = name; namespace = None; value = listener origin doing }
 
+-- a button of a document, with a text in it, that listens to clicks
 abbrev pub button : ℕ → ℕ → Text → Forest
 button id inner words = Node id (DocElement (codes "button") None [] (codes "onclick" ∷ [])) (text inner words) Empty
 
+-- a click on an element, which bubbles
 abbrev pub click : ℕ → Input R
 click id = EventAt (codes "click") nothing id true

@@ -11,11 +11,13 @@ use Rattle.rt_model.specs.Pieces.{element, text, shown, beside, on, click}
 abbrev pub greets : Option Val → Body
 greets v = shows (with_slots (plain_node (codes "div") (slot_node 0 no_nodes) no_nodes) (text_slot (codes "hello " ++ shown v) ∷ []))
 
+-- an application that provides a context to a child under a fragment
 abbrev pub through_fragment : Name → List Val → Body
 through_fragment Kid props = consume_context None 0 (λ v. greets v)
 through_fragment _ props =
     provide false 0 (Str (codes "world")) (shows (one_slot (component_slot (Fragment (rendered (one_slot (use_of Kid [])))))))
 
+-- the row: the child shows what the root component provided
 abbrev pub ContextThroughAFragment : Type 0
 ContextThroughAFragment =
     RowOf
@@ -39,6 +41,7 @@ tracks Mid props = shows (one_slot (use_of Kid []))
 tracks Kid props = consume_context None 0 (λ v. shows (one_slot (text_slot (shown v))))
 tracks _ props = use_cell (Str (codes "a")) (λ c. read c (λ v. provide false 0 (val_or v) (shows (one_slot (use_of Mid [])))))
 
+-- the row: another value reruns the body that looked it up, an equal one doesn't
 abbrev pub ContextIsTracked : Type 0
 ContextIsTracked =
     RowOf
@@ -72,11 +75,13 @@ click_and_child s =
     ((on s (codes "onclick") (Give 0 (Str (codes "m"))) ∷ []) ∷ [])
     (slots (use_of Kid [] ∷ []))
 
+-- an application in which the scope between begins to provide at a click
 abbrev pub nearer : Name → List Val → Body
 nearer Mid props = current_scope (λ s. shows (click_and_child s))
 nearer Kid props = consume_context None 0 (λ v. shows (one_slot (text_slot (shown v))))
 nearer _ props = provide false 0 (Str (codes "a")) (shows (one_slot (use_of Mid [])))
 
+-- the row: the body that looked past that scope reruns and finds the nearer value
 abbrev pub NearerProvider : Type 0
 NearerProvider =
     RowOf

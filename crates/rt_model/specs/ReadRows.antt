@@ -11,6 +11,7 @@ use Rattle.rt_model.specs.Pieces.{element, text, argument, number_in, shown, tex
 abbrev pub hello : Name → List Val → Body
 hello name props = shows (only (plain_node (codes "div") (text_node (codes "hello world") no_nodes) no_nodes))
 
+-- the row: the build makes three scopes, and one append gives the whole document
 abbrev pub StaticTree : Type 0
 StaticTree =
     RowOf
@@ -33,12 +34,15 @@ abbrev pub either_text : ℕ → ℕ → Body
 either_text n zero = shows (one_slot (text_slot (codes "0")))
 either_text n (suc b) = text_of_cell n
 
+-- the text of the second cell where the first one isn't 0, else the text 0
 abbrev pub second_where_first : ℕ → ℕ → Body
 second_where_first b n = read b (λ v. either_text n (number_of v))
 
+-- an application that reads by condition
 abbrev pub reads_by_condition : Name → List Val → Body
 reads_by_condition name props = use_cell (Num 0) (λ b. use_cell (Num 0) (λ n. second_where_first b n))
 
+-- the row: a write reruns the body only where the last run read the cell
 abbrev pub ReadsOfTheLastRunAlone : Type 0
 ReadsOfTheLastRunAlone =
     RowOf
@@ -80,10 +84,12 @@ ReadsOfTheLastRunAlone =
 abbrev pub cell_and_argument : ℕ → Val → Body
 cell_and_argument c v = read c (λ now. shows (one_slot (text_slot (shown now ++ codes "/" ++ text_of v))))
 
+-- an application whose parent reads the cell and hands on its value
 abbrev pub parent_feeds : Name → List Val → Body
 parent_feeds Kid props = cell_and_argument (number_in props 0) (argument props 1)
 parent_feeds _ props = use_cell (Num 1) (λ c. read c (λ v. shows (two_slots (text_slot (shown v)) (use_of Kid (Num c ∷ val_or v ∷ [])))))
 
+-- the row: one write reruns the parent, and the child runs once, fed by it
 abbrev pub ParentFeedsChild : Type 0
 ParentFeedsChild =
     RowOf
@@ -110,6 +116,7 @@ abbrev pub parent_keeps : Name → List Val → Body
 parent_keeps Kid props = text_of_cell (number_in props 0)
 parent_keeps _ props = use_cell (Num 1) (λ c. read c (λ v. shows (two_slots (text_slot (shown v)) (use_of Kid (Num c ∷ [])))))
 
+-- the row: the parent keeps its child, whose own mark then reruns it
 abbrev pub KeptChildReruns : Type 0
 KeptChildReruns =
     RowOf

@@ -14,11 +14,13 @@ abbrev pub mid_where : ℕ → ℕ → Slot R
 mid_where c zero = placeholder_slot
 mid_where c (suc n) = use_of Mid (Num c ∷ [])
 
+-- an application with a child and a grandchild, whose root and grandchild read the cell
 abbrev pub nested : Name → List Val → Body
 nested Mid props = shows (one_slot (use_of Kid props))
 nested Kid props = text_of_cell (number_in props 0)
 nested _ props = use_cell (Num 1) (λ c. read c (λ v. shows (one_slot (mid_where c (number_of v)))))
 
+-- the row: the grandchild goes before the child, and their marks go with them
 abbrev pub RemovesDeepestFirst : Type 0
 RemovesDeepestFirst =
     RowOf
@@ -44,6 +46,7 @@ RemovesDeepestFirst =
 abbrev pub puts : ℕ → Text → Doing
 puts s t = Put s (Str t)
 
+-- a body that leaves three clean-ups, each of which writes a letter
 abbrev pub three_clean_ups : ℕ → Body
 three_clean_ups s =
     use_effect
@@ -51,10 +54,12 @@ three_clean_ups s =
     (puts s (codes "A"))
     (λ a. use_effect clean_up_kind (puts s (codes "B")) (λ b. use_effect clean_up_kind (puts s (codes "C")) (λ c. shows (words (codes "old")))))
 
+-- the child with clean-ups, or the other one
 abbrev pub old_or_new : ℕ → ℕ → Slot R
 old_or_new s zero = use_of Kid []
 old_or_new s (suc k) = use_of Mid (Num s ∷ [])
 
+-- an application that puts one child in the place of another
 abbrev pub cleans_up : Name → List Val → Body
 cleans_up Mid props = three_clean_ups (number_in props 0)
 cleans_up Kid props = shows (words (codes "new"))
@@ -63,6 +68,7 @@ cleans_up _ props =
     (Str (codes "-"))
     (λ s. use_cell (Num 1) (λ k. read s (λ t. read k (λ v. shows (two_slots (text_slot (shown t)) (old_or_new s (number_of v)))))))
 
+-- the row: the clean-up that was made first writes last, so its letter stays
 abbrev pub CleansUpLastMadeFirst : Type 0
 CleansUpLastMadeFirst =
     RowOf

@@ -13,17 +13,21 @@ abbrev pub unless_fetched : ℕ → Text → ℕ → Body
 unless_fetched t words zero = suspends t
 unless_fetched t words (suc n) = shows (only (text_node words no_nodes))
 
+-- a body that fetches by a task of its own
 abbrev pub article : Body
 article = use_cell (Num 0) (λ d. use_task (Fetch d 2) (λ t. read d (λ v. unless_fetched t (codes "Article") (number_of v))))
 
+-- a suspense boundary with a fallback
 abbrev pub held_apart : Tree R → Slot R
 held_apart children = component_slot (SuspenseBoundary (rendered children) (Some (Load, [])))
 
+-- an application with one such body under a boundary
 abbrev pub loads : Name → List Val → Body
 loads Kid props = article
 loads Load props = shows (words (codes "Loading..."))
 loads _ props = shows (one_slot (held_apart (one_slot (use_of Kid []))))
 
+-- the row: the fallback shows until the task ends, and then the children
 abbrev pub Suspense : Type 0
 Suspense =
     RowOf
@@ -54,6 +58,7 @@ holds_both _ props =
     (Num 0)
     (λ d. use_task (Fetch d 2) (λ t. shows (two_slots (held_apart (one_slot (use_of Kid (Num d ∷ Num t ∷ [])))) (held_apart (one_slot (use_of Kid (Num d ∷ Num t ∷ [])))))))
 
+-- the row: both boundaries turn when the task ends
 abbrev pub OneTaskHoldsTwoBoundaries : Type 0
 OneTaskHoldsTwoBoundaries =
     RowOf
@@ -81,6 +86,7 @@ two_articles Kid props = article
 two_articles Load props = shows (words (codes "Loading..."))
 two_articles _ props = shows (one_slot (held_apart (two_slots (use_of Kid []) (use_of Kid []))))
 
+-- the row: the boundary turns when the second task ends
 abbrev pub TwoTasksHoldOneBoundary : Type 0
 TwoTasksHoldOneBoundary =
     RowOf
@@ -112,11 +118,13 @@ suspends_at_two t zero = shows (one_slot (text_slot (codes "0")))
 suspends_at_two t (suc zero) = shows (one_slot (text_slot (codes "1")))
 suspends_at_two t (suc (suc n)) = suspends t
 
+-- an application whose child suspends later
 abbrev pub turns : Name → List Val → Body
 turns Kid props = use_cell (Num 0) (λ d. use_task (Fetch d 2) (λ t. read d (λ v. suspends_at_two t (number_of v))))
 turns Load props = shows (words (codes "Loading..."))
 turns _ props = shows (one_slot (held_apart (one_slot (use_of Kid []))))
 
+-- the row: a boundary that showed its children turns to its fallback and back
 abbrev pub ShownBoundaryTurns : Type 0
 ShownBoundaryTurns =
     RowOf

@@ -11,6 +11,7 @@ use Rattle.rt_model.specs.Pieces.{text}
 abbrev pub idle_cancelled : Name → List Val → Body
 idle_cancelled name props = use_task (Idle 1) (λ t. remove_future t (queue_effect Nought (shows (words (codes "x")))))
 
+-- the row: the task is never polled, and the effect runs
 abbrev pub EndedTaskIsntPolled : Type 0
 EndedTaskIsntPolled =
     RowOf
@@ -33,6 +34,7 @@ abbrev pub wakes : Name → List Val → Body
 wakes Kid props = queue_effect Nought (shows (words (codes "k")))
 wakes _ props = use_task (Idle 2) (λ t. queue_effect (Rouse t) (shows (one_slot (use_of Kid []))))
 
+-- the row: the task that the first effect wakes is polled before the second effect
 abbrev pub TaskBeforeTheNextBatch : Type 0
 TaskBeforeTheNextBatch =
     RowOf
