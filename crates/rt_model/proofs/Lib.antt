@@ -26,3 +26,5 @@ pub mod StillBuilds
 pub mod SameTrees
 pub mod CurrentDecided
 pub mod SmallLawful
+pub mod SameEdits
+pub mod RowsSay

@@ -16,7 +16,8 @@ pub both : {a b : Bool} → a ≡ true → b ≡ true → (a && b) ≡ true
 both p q = rw (p, q) refl
 
 module _ {A : Type 0} (same : A → A → Bool) where
-  option-true : ((a b : A) → same a b ≡ true → a ≡ b) → (o p : Option A) → same_option same o p ≡ true → o ≡ p
+  -- options that the test finds equal are equal, where it is right of values
+  pub option-true : ((a b : A) → same a b ≡ true → a ≡ b) → (o p : Option A) → same_option same o p ≡ true → o ≡ p
   option-true test None None h = refl
   option-true test (Some a) (Some b) h = ap Some (test a b h)
   option-true test _ _ h = cc
@@ -25,7 +26,8 @@ module _ {A : Type 0} (same : A → A → Bool) where
   option-same test None = refl
   option-same test (Some a) = test a
 
-  list-true : ((a b : A) → same a b ≡ true → a ≡ b) → (xs ys : List A) → same_list same xs ys ≡ true → xs ≡ ys
+  -- and so are lists
+  pub list-true : ((a b : A) → same a b ≡ true → a ≡ b) → (xs ys : List A) → same_list same xs ys ≡ true → xs ≡ ys
   list-true test [] [] h = refl
   list-true test (x ∷ xs) (y ∷ ys) h =
       let first : x ≡ y = test x y (and-left _ (same_list same xs ys) h) in

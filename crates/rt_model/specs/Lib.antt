@@ -35,6 +35,7 @@ pub mod ProviderRows
 pub mod FaultRows
 pub mod ListenerRows
 pub mod RenderRows
+pub mod RowsHold
 pub mod OneLog
 pub mod Lasting
 pub mod Still

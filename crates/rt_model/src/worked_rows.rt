@@ -8,10 +8,16 @@ ghost use Rattle.rt_model.specs.ErrorRows.{ErrorCaughtAndCleared, FirstErrorStay
 ghost use Rattle.rt_model.specs.SuspenseRows.{Suspense, OneTaskHoldsTwoBoundaries, TwoTasksHoldOneBoundary, ShownBoundaryTurns};
 ghost use Rattle.rt_model.specs.ProviderRows.{ContextThroughAFragment, ContextIsTracked, NearerProvider};
 ghost use Rattle.rt_model.specs.Small.{SmallAreLawful};
+ghost use Rattle.rt_model.specs.RowsHold.{RowsHold};
 
 /// The applications of the rows obey the laws, whatever their bodies and polls.
 pub fn small_are_lawful()
     ensures { SmallAreLawful }
+{}
+
+/// A row that computes keeps the headline's sentences, for any bodies and polls.
+pub fn rows_hold()
+    ensures { RowsHold }
 {}
 
 /// A static element with a text.
