@@ -35,3 +35,8 @@ pub mod NumbersRun
 pub mod Begun
 pub mod NumbersStand
 pub mod FitsSingle
+pub mod SameTrees
+pub mod CurrentDecided
+pub mod SmallLawful
+pub mod SameEdits
+pub mod RowsSay

@@ -24,20 +24,24 @@ module _ {K : Types} where
     pub Single : Tree K → Type 0
     Single (block template given slots) = ((k : ℕ) → once_each (attributes_in given k) ≡ true) × SingleSlots slots
 
+    -- nor one of what its node slots hold
     pub SingleSlots : Slots K → Type 0
     SingleSlots no_slots = Unit {0}
     SingleSlots (more_slots v rest) = SingleSlot v × SingleSlots rest
 
+    -- nor one of what stands in a slot
     pub SingleSlot : Slot K → Type 0
     SingleSlot (text_slot text) = Unit {0}
     SingleSlot placeholder_slot = Unit {0}
     SingleSlot (component_slot c) = Unit {0}
     SingleSlot (fragment_slot items) = SingleTrees items
 
+    -- nor one of a fragment's items
     pub SingleTrees : Trees K → Type 0
     SingleTrees no_trees = Unit {0}
     SingleTrees (more_trees t ts) = Single t × SingleTrees ts
 
+  -- nor one of an output, if there is one
   abbrev pub SingleOutput : Option (Tree K) → Type 0
   SingleOutput None = Unit {0}
   SingleOutput (Some tree) = Single tree

@@ -6,6 +6,7 @@ ghost use Rattle.rt_model.specs.Laws.{ProgramsAreLawful};
 ghost use Rattle.rt_model.specs.Lasting.{LawfulLogsLast};
 ghost use Rattle.rt_model.specs.Still.{SameCausesNothing, RestCausesNothing};
 ghost use Rattle.rt_model.specs.Once.{ShownOnce};
+ghost use Rattle.rt_model.specs.CurrentTest.{TestDecidesCurrent};
 
 /// For one list of inputs at most one log of each length is accepted.
 pub fn one_log<C, P, V, H, T, E, L>()
@@ -35,4 +36,9 @@ pub fn shown_once<C, P, V, H, T, E, L>()
 /// Between a state that an accepted log of a lawful application reaches and itself no edit is caused.
 pub fn rest_causes_nothing<C, P, V, H, T, E, L>()
     ensures { (app : Application (types C P V H T E L)) → RestCausesNothing app }
+{}
+
+/// The test that every scope is current says so exactly where it holds, where the application's tests decide.
+pub fn test_decides_current<C, P, V, H, T, E, L>()
+    ensures { (app : Application (types C P V H T E L)) → TestDecidesCurrent app }
 {}
