@@ -24,7 +24,7 @@ use Rattle.rt_model.proofs.OneLogOnly.{same_entry-true, fork}
 absurd_bool : {P : Type 0} → false ≡ true → P
 absurd_bool h = cc
 
-inj_entry : {d e : Entry} → Some d ≡ Some e → d ≡ e
+pub inj_entry : {d e : Entry} → Some d ≡ Some e → d ≡ e
 inj_entry h = cc
 
 weaker : (n k : ℕ) (log : List Entry) → n ≤ k → MadeFrom k log → MadeFrom n log
@@ -40,7 +40,7 @@ weaker n k (Fed s ∷ log) l h = weaker n k log l h
 weaker n k (Kept s ∷ log) l h = weaker n k log l h
 weaker n k (Removed s ∷ log) l h = weaker n k log l h
 
-inj_machine : {K : Types} {m u : Machine K} → Some m ≡ Some u → m ≡ u
+pub inj_machine : {K : Types} {m u : Machine K} → Some m ≡ Some u → m ≡ u
 inj_machine h = cc
 
 module _ {K : Types} where
@@ -48,7 +48,7 @@ module _ {K : Types} where
   live_at w d e true q h = (h, ap (λ (x : Entry). names_live w x) (sym (inj_entry h)) ∙ q)
   live_at w d e false q h = cc
 
-  live_of : (w : State K) (o : Option Entry) (e : Entry) → if_live w o ≡ Some e → (o ≡ Some e) × (names_live w e ≡ true)
+  pub live_of : (w : State K) (o : Option Entry) (e : Entry) → if_live w o ≡ Some e → (o ≡ Some e) × (names_live w e ≡ true)
   live_of w None e h = cc
   live_of w (Some d) e h = live_at w d e (names_live w d) refl h
 
@@ -130,7 +130,7 @@ module _ {K : Types} where
   ended_scope m r rest (Cut w fault) n h = h
 
 module _ {K : Types} (app : Application K) where
-  due_is : (o : Option Entry) (e : Entry) → is_due app o e ≡ true → o ≡ Some e
+  pub due_is : (o : Option Entry) (e : Entry) → is_due app o e ≡ true → o ≡ Some e
   due_is None e h = cc
   due_is (Some d) e h = ap Some (same_entry-true d e h)
 
@@ -251,13 +251,13 @@ module _ {K : Types} (app : Application K) where
   settled_alive m h = alive_at m m.dead refl h
 
 module _ {K : Types} (app : Application K) where
-  only_root : (props : K.Props) (inputs : List (Input K)) (s : ℕ) (x : Scope K) → at (start app props inputs).state.scopes s ≡ Some x → (s ≡ 0) × (Some (new_scope (Root app.root props) None 0 MainSide) ≡ Some x)
+  pub only_root : (props : K.Props) (inputs : List (Input K)) (s : ℕ) (x : Scope K) → at (start app props inputs).state.scopes s ≡ Some x → (s ≡ 0) × (Some (new_scope (Root app.root props) None 0 MainSide) ≡ Some x)
   only_root props inputs s x e =
       by_test (nat_eq 0 s)
       (λ q. (sym (eqb-true 0 s q), sym (at_here 0 (new_scope (Root app.root props) None 0 MainSide) [] s q) ∙ e))
       (λ q. none_some (at_there 0 (new_scope (Root app.root props) None 0 MainSide) [] s q) e)
 
-  start_rooted : (props : K.Props) (inputs : List (Input K)) → IsRooted (start app props inputs).state
+  pub start_rooted : (props : K.Props) (inputs : List (Input K)) → IsRooted (start app props inputs).state
   start_rooted props inputs =
       record {
         drawn = λ s l. let other : nat_eq 0 s ≡ false = grind (arith, l) in at_there 0 (new_scope (Root app.root props) None 0 MainSide) [] s other;

@@ -198,7 +198,7 @@ module _ {K : Types} (app : Application K) (lawful : IsLawful K app) where
   caught_numbered children None w (Some e) = plain_numbered w (Error w.given.scope ∷ []) (rendered (error_tree e.text))
   caught_numbered children (Some h) w (Some e) = lawful.bodies_number h.0 h.1 w
 
-  body_numbered : (c : VComponent K) (w : World K) → IsNumbered w.given.next (body_of app c w).commands (body_of app c w).next
+  pub body_numbered : (c : VComponent K) (w : World K) → IsNumbered w.given.next (body_of app c w).commands (body_of app c w).next
   body_numbered (Own component props) w = lawful.bodies_number component props w
   body_numbered (Root component props) w = plain_numbered w [] (rendered (root_tree component props))
   body_numbered (Fragment children) w = plain_numbered w [] children

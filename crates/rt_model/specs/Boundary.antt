@@ -13,6 +13,7 @@ module _ {K : Types} where
   tree_or_placeholder (failed error) = placeholder_tree
   tree_or_placeholder (suspended origin task) = placeholder_tree
 
+  -- the tree of a suspense boundary's children
   abbrev pub children_of : VComponent K → Tree K
   children_of (SuspenseBoundary children fallback) = tree_or_placeholder children
   children_of (Own component props) = placeholder_tree
@@ -30,6 +31,7 @@ module _ {K : Types} where
   live_child w None = []
   live_child w (Some t) = if is_live w t then t ∷ [] else []
 
+  -- the child scopes of these spots, in tree order
   abbrev pub children_among : State K → List (Place × ℕ) → List (Spot K) → List ℕ
   children_among w children [] = []
   children_among w children (node_at p k ∷ ss) = children_among w children ss
@@ -39,11 +41,13 @@ module _ {K : Types} where
   abbrev pub side_scopes : State K → Side K → List ℕ
   side_scopes w side = children_among w side.children (spots_of side.output)
 
+  -- each child of a side is dropped
   abbrev pub drop_items : ℕ → SideName → List ℕ → List (Item K)
   drop_items b side [] = []
   drop_items b side (t ∷ ts) = Drop t b side ∷ drop_items b side ts
 
 module _ {K : Types} (app : Application K) where
+  -- the render count rises, or stays
   abbrev pub counted_render : State K → ℕ → Bool → Outcome K
   counted_render w b true = raised w b
   counted_render w b false = Done w []
@@ -60,6 +64,7 @@ module _ {K : Types} (app : Application K) where
   called_back w [] = Done w []
   called_back w (e ∷ es) = (if is_live w e.0 then onward (acted app w e.0 e.1 false) (λ v. called_back v es) else called_back w es)
 
+  -- what one step of a boundary's run does
   abbrev pub row_step : State K → ℕ → Scope K → RowStep → Outcome K
   row_step w b x PatchChildren = start_agenda app w b ChildrenSide (children_of x.component)
   row_step w b x MadeChildren =

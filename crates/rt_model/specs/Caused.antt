@@ -16,9 +16,11 @@ pub record Written : Type 0 where
   pub edits : List Edit
   pub stopped : Bool
 
+-- these edits, without a stop
 abbrev pub writes : List Edit → Written
 writes edits = record { edits = edits; stopped = false }
 
+-- the refused place is reached, and nothing is written
 abbrev pub halts : Written
 halts = record { edits = []; stopped = true }
 
@@ -32,10 +34,12 @@ is_front [] q = true
 is_front (a ∷ steps) [] = false
 is_front (a ∷ steps) (b ∷ others) = same_step a b && is_front steps others
 
+-- the refused place, if there is one, is this one or within it
 abbrev pub is_around : Place → Option Place → Bool
 is_around p None = false
 is_around p (Some q) = is_front p q
 
+-- the refused place, if there is one, is this one
 abbrev pub is_place : Place → Option Place → Bool
 is_place p None = false
 is_place p (Some q) = same_place p q
@@ -44,6 +48,7 @@ is_place p (Some q) = same_place p q
 abbrev pub built_whole : Option Place → Place → List Edit → Written
 built_whole stop p edits = if is_around p stop then halts else writes edits
 
+-- each node of a row is removed
 abbrev pub removals : Forest → List Edit
 removals Empty = []
 removals (Node id content children rest) = RemoveNode id ∷ removals rest
@@ -53,6 +58,7 @@ abbrev pub replaced_by : Forest → Forest → List Edit
 replaced_by Empty new = []
 replaced_by (Node id content children rest) new = ReplaceNodeWith id new ∷ removals rest
 
+-- the number of a row's last node, or the one that came before the row
 abbrev pub last_of : ℕ → Forest → ℕ
 last_of n Empty = n
 last_of n (Node id content children rest) = last_of id rest
@@ -71,6 +77,7 @@ element_pass of number [] = []
 element_pass of number (fixed name namespace value ∷ rest) = element_pass of number rest
 element_pass of number (from_slot k ∷ rest) = of k number ++ element_pass of number rest
 
+-- through the attribute slots of a row of nodes, depth first
 abbrev pub attribute_pass : (ℕ → ℕ → List Edit) → (List ℕ → ℕ → ℕ) → List ℕ → ℕ → TemplateNodes → List Edit
 attribute_pass of number up i no_nodes = []
 attribute_pass of number up i (element_node tag namespace attributes children rest) =
@@ -80,11 +87,13 @@ attribute_pass of number up i (element_node tag namespace attributes children re
 attribute_pass of number up i (text_node text rest) = attribute_pass of number up (i + 1) rest
 attribute_pass of number up i (slot_node k rest) = attribute_pass of number up (i + 1) rest
 
+-- the place of a child scope
 abbrev pub place_of_child : List (Place × ℕ) → ℕ → Option Place
 place_of_child [] t = None
 place_of_child (e ∷ es) t = if nat_eq e.1 t then Some e.0 else place_of_child es t
 
 module _ {K : Types} where
+  -- two attributes have one name and namespace
   abbrev pub is_key : Attribute K → Attribute K → Bool
   is_key a b = same_numbers a.name b.name && same_option same_numbers a.namespace b.namespace
 
@@ -94,15 +103,18 @@ module _ {K : Types} where
   text_if later no_value = later
   text_if later (listener origin handler) = later
 
+  -- that text among all that a slot gives
   abbrev pub text_under : Attribute K → List (Attribute K) → Option Text
   text_under a [] = None
   text_under a (b ∷ rest) = if is_key b a then text_if (text_under a rest) b.value else text_under a rest
 
+  -- the value is a listener
   abbrev pub listens : AttributeValue K → Bool
   listens (listener origin handler) = true
   listens (text_value text) = false
   listens no_value = false
 
+  -- a slot gives a listener under the name of an attribute
   abbrev pub listens_under : Attribute K → List (Attribute K) → Bool
   listens_under a [] = false
   listens_under a (b ∷ rest) = (is_key b a && listens b.value) || listens_under a rest
@@ -113,6 +125,7 @@ module _ {K : Types} where
   one_left number new a no_value = []
   one_left number new a (listener origin handler) = if listens_under a new then [] else RemoveEventListener number a.name ∷ []
 
+  -- what a slot no longer gives, in the old order
   abbrev pub left : List (Attribute K) → List (Attribute K) → ℕ → List Edit
   left [] new number = []
   left (a ∷ rest) new number = one_left number new a a.value ++ left rest new number
@@ -124,6 +137,7 @@ module _ {K : Types} where
   one_come number old a no_value = []
   one_come number old a (listener origin handler) = if listens_under a old then [] else CreateEventListener number a.name ∷ []
 
+  -- what a slot gives anew, in the new order
   abbrev pub come : List (Attribute K) → List (Attribute K) → ℕ → List Edit
   come [] old number = []
   come (a ∷ rest) old number = one_come number old a a.value ++ come rest old number
@@ -140,28 +154,38 @@ module _ (K : Types) where
   -- one side of a scope in the two states, the nodes of its child scopes there, what they write,
   -- the place that was refused there, and the scopes on the way to the refusal
   pub record Both : Type 0 where
+    -- the side before the unit
     pub old : Side K
+    -- the side after it
     pub new : Side K
+    -- the nodes of a child scope before
     pub old_child : ℕ → Forest
+    -- the nodes of a child scope after
     pub new_child : ℕ → Forest
+    -- what a child scope writes
     pub under : ℕ → Written
+    -- the refused place, or the way to it
     pub stop : Option Place
+    -- whether a scope is on the way to the refusal
     pub on_way : ℕ → Bool
 
 -- each scope on the way to a refusal, with the side and the place that is served there; no place where all are passed
 abbrev pub Way : Type 0
 Way = List (ℕ × (Option SideName × Option Place))
 
+-- the place on this side that is refused or leads to the refusal
 abbrev pub stop_on : SideName → Option (Option SideName × Option Place) → Option Place
 stop_on side None = None
 stop_on side (Some (None, place)) = None
 stop_on side (Some (Some other, place)) = if same_side other side then place else None
 
 module _ {K : Types} where
+  -- the way goes on at the parent, where there is one
   abbrev pub way_from : State K → (ℕ → ℕ → SideName → Way) → ℕ → Option (Scope K) → Way
   way_from v go s None = []
   way_from v go s (Some x) = elim x.parent [ None ↦ [] | Some p ↦ go p s x.below ]
 
+  -- where a scope stands in its parent's tree
   abbrev pub place_in_parent : State K → ℕ → SideName → ℕ → Option Place
   place_in_parent v p side s = elim (at v.scopes p) [ None ↦ None | Some x ↦ place_of_child (side_of x side).children s ]
 
@@ -183,19 +207,23 @@ module _ {K : Types} where
   way_to v (Some (Drop t s side)) = way_up v (length v.scopes) s (Some side) None
 
 module _ {K : Types} (app : Application K) where
+  -- one of these items is the refused place or holds it
   abbrev pub any_around : Place → ℕ → Option Place → Trees K → Bool
   any_around place i stop no_trees = false
   any_around place i stop (more_trees t ts) = is_around (place ++ item i ∷ []) stop || any_around place (i + 1) stop ts
 
+  -- what a matched child scope writes; nothing where it was to be fed and was refused
   abbrev pub child_written : Both K → Place → Option ℕ → Written
   child_written b place None = writes []
   child_written b place (Some t) = if is_place place b.stop && not (b.on_way t) then halts else b.under t
 
+  -- a slot's old nodes give way to its new ones
   abbrev pub slot_replaced : Both K → Place → Slot K → Slot K → Written
   slot_replaced b place new old =
       built_whole b.stop place (replaced_by (slot_view b.old b.old_child old place) (slot_view b.new b.new_child new place))
 
   abbrev mutual
+    -- what a matched tree writes: its attributes, then its slots; an unmatched one is replaced
     pub tree_written : Both K → Place → Tree K → Tree K → Written
     tree_written b above (block template given slots) old =
         if same_template template (template_of old)
@@ -209,11 +237,13 @@ module _ {K : Types} (app : Application K) where
         above
         (replaced_by (tree_view b.old b.old_child above old) (tree_view b.new b.new_child above (block template given slots)))
 
+    -- what the slot with a number writes
     pub slots_written : Both K → Slots K → Slots K → ℕ → Place → Written
     slots_written b no_slots old k place = writes []
     slots_written b (more_slots v rest) old zero place = slot_written b place v (first_slot old)
     slots_written b (more_slots v rest) old (suc k) place = slots_written b rest (rest_slots old) k place
 
+    -- what a slot writes, by what stood in it and what stands there now
     pub slot_written : Both K → Place → Slot K → Slot K → Written
     slot_written b place (text_slot t) (text_slot u) =
         if same_numbers u t then writes [] else writes (SetNodeText (number_at b.old.numbers place a_text) t ∷ [])
@@ -239,10 +269,12 @@ module _ {K : Types} (app : Application K) where
         (tree_written b (place ++ item i ∷ []) y x)
         (items_written b place (i + 1) (last_of last (tree_view b.new b.new_child (place ++ item i ∷ []) y)) ys xs)
 
+  -- what an output writes where there was one before
   abbrev pub outputs_written : Both K → Option (Tree K) → Option (Tree K) → Written
   outputs_written b (Some new) (Some old) = tree_written b [] new old
   outputs_written b _ _ = writes []
 
+  -- what a side of a scope writes
   abbrev pub side_written : State K → State K → Way → (ℕ → Written) → ℕ → Scope K → Scope K → SideName → Written
   side_written w v way under s old new side =
       outputs_written

@@ -20,11 +20,13 @@ abbrev pub depth_refused : Limits → Option ℕ → Option Fault
 depth_refused limits None = None
 depth_refused limits (Some height) = if nat_lt limits.height height then Some (TooDeep height) else None
 
+-- the first cause that there is
 abbrev pub first_of : Option Fault → Option Fault → Option Fault
 first_of None later = later
 first_of (Some fault) later = Some fault
 
 module _ {K : Types} where
+  -- the item that is served next
   abbrev pub first_item : List (Item K) → Option (Item K)
   first_item [] = None
   first_item (i ∷ rest) = Some i
@@ -38,6 +40,7 @@ module _ {K : Types} where
   height_at w (Feed s side p c ∷ rest) = None
   height_at w (Drop t s side ∷ rest) = None
 
+  -- the height of a make that comes next
   abbrev pub next_height : Machine K → Option ℕ
   next_height m = height_at m.state m.work
 
@@ -50,6 +53,7 @@ module _ {K : Types} where
   refusal limits m = first_of m.dead (first_of (depth_refused limits (next_height m)) (turns_refused limits m))
 
 module _ {K : Types} (app : Application K) where
+  -- an entry is accepted where no refusal came before it
   abbrev pub accepts_within : Limits → Machine K → Entry → Option (Machine K)
   accepts_within limits m e = elim (refusal limits m) [ None ↦ accepts app m e | Some fault ↦ None ]
 
@@ -66,6 +70,7 @@ module _ {K : Types} (app : Application K) where
 
   -- a run comes to this fault
   pub record ComesTo (limits : Limits) (from : Machine K) (log : List Entry) (fault : Fault) : Type 0 where
+    -- the replay up to there
     pub machine : Machine K
     pub goes_on : replay_within limits (Some from) log ≡ Some machine
     pub cause : refusal limits machine ≡ Some fault
@@ -75,6 +80,7 @@ module _ {K : Types} (app : Application K) where
   edits_at_depth t None = t.edits
   edits_at_depth t (Some fault) = t.edits ++ caused_until app t.before t.machine.state (first_item t.machine.work) t.first
 
+  -- the edits of a report that a refusal ended
   abbrev pub edits_at_refusal : Limits → Telling K → List Edit
   edits_at_refusal limits t =
       elim t.machine.dead [ None ↦ edits_at_depth t (depth_refused limits (next_height t.machine)) | Some fault ↦ t.edits ]

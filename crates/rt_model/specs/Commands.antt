@@ -6,6 +6,7 @@ use Rattle.rt_model.specs.Tree.{Types, CapturedError}
 use Rattle.rt_model.specs.World.{Source, Cell, Error, Context, same_source, Target, ScopeTarget, TaskTarget, Command, KeepHook, NewCell, Write, DropCell, NewContext, Reset, ReadInto, Spawn, RemoveFuture, Wake, SetActive, QueueEffect, Provide, Update, Throw, ClearErrors, Resolved, Freeze, Application}
 use Rattle.rt_model.specs.State.{Posted, Mark, Woken, ClientOnly, Isomorphic, Scope, CellRow, ContextRow, TaskRow, State, is_live, change, error_context, suspense_context, holds}
 
+-- equal marks, equal wakes
 abbrev pub same_posted : Posted → Posted → Bool
 same_posted (Mark a) (Mark b) = nat_eq a b
 same_posted (Woken a) (Woken b) = nat_eq a b
@@ -15,9 +16,11 @@ same_posted _ _ = false
 abbrev pub drop_posted : List Posted → Posted → List Posted
 drop_posted ps p = kept_by (λ x. not (same_posted x p)) ps
 
+-- a source is among these
 abbrev pub names_source : List Source → Source → Bool
 names_source xs x = list_any (λ y. same_source y x) xs
 
+-- a source joins the others, once
 abbrev pub one_more_source : List Source → Source → List Source
 one_more_source xs x = if names_source xs x then xs else xs ++ x ∷ []
 
@@ -27,14 +30,17 @@ module _ {K : Types} where
   post w (Mark s) = if is_live w s then record w { posted = w.posted ++ Mark s ∷ [] } else w
   post w (Woken t) = if is_some (at w.tasks t) then record w { posted = w.posted ++ Woken t ∷ [] } else w
 
+  -- what a reactive context targets is marked or woken
   abbrev pub post_target : State K → Target → State K
   post_target w (ScopeTarget s) = post w (Mark s)
   post_target w (TaskTarget t) = post w (Woken t)
 
+  -- the marks of the scopes whose last run read a source
   abbrev pub readers : Source → List (ℕ × Scope K) → List Posted
   readers x [] = []
   readers x (e ∷ es) = if names_source (e.1).reads x then Mark e.0 ∷ readers x es else readers x es
 
+  -- the targets of the reactive contexts in which a source was read are posted
   abbrev pub tell_contexts : Source → List (ℕ × ContextRow K) → State K → State K
   tell_contexts x [] w = w
   tell_contexts x (e ∷ es) w = tell_contexts x es (if names_source (e.1).sources x then post_target w (e.1).target else w)
@@ -43,10 +49,12 @@ module _ {K : Types} where
   abbrev pub tell : State K → Source → State K
   tell w x = tell_contexts x w.contexts (record w { posted = w.posted ++ readers x w.scopes })
 
+  -- the boundaries without a task among their holders
   abbrev pub released : List (ℕ × Scope K) → ℕ → List (ℕ × Scope K)
   released [] t = []
   released (e ∷ es) t = (e.0, record (e.1) { holders = kept_by (λ h. not (nat_eq h.0 t)) (e.1).holders }) ∷ released es t
 
+  -- the marks of the boundaries that a task holds
   abbrev pub holding : List (ℕ × Scope K) → ℕ → List Posted
   holding [] t = []
   holding (e ∷ es) t = if holds e.1 t then Mark e.0 ∷ holding es t else holding es t
@@ -68,13 +76,16 @@ module _ {K : Types} where
       }
       else w
 
+  -- a cell that was found has another value, and its readers are marked
   abbrev pub written_at : State K → ℕ → K.Value → Option (CellRow K) → State K
   written_at w n v None = w
   written_at w n v (Some old) = tell (record w { cells = put w.cells n (record old { value = v }) }) (Cell n)
 
+  -- a write: nothing changes where the cell is gone
   abbrev pub write_cell : State K → ℕ → K.Value → State K
   write_cell w n v = written_at w n v (at w.cells n)
 
+  -- a cell goes, and its readers are marked
   abbrev pub drop_cell_row : State K → ℕ → State K
   drop_cell_row w n = if is_some (at w.cells n) then tell (record w { cells = without w.cells n }) (Cell n) else w
 
@@ -83,10 +94,12 @@ module _ {K : Types} where
   caught_at w e b (Some old) = w
   caught_at w e b None = tell (change w b (λ x. record x { error = Some e })) (Error b)
 
+  -- an error comes to a boundary, where there is one
   abbrev pub thrown_to : State K → CapturedError → Option ℕ → State K
   thrown_to w e None = w
   thrown_to w e (Some b) = elim (at w.scopes b) [ None ↦ w | Some x ↦ caught_at w e b x.error ]
 
+  -- an error comes to the nearest error boundary from a scope upwards
   abbrev pub throw_error : State K → ℕ → CapturedError → State K
   throw_error w s e = thrown_to w e (error_context w s)
 
@@ -95,6 +108,7 @@ module _ {K : Types} where
   cleared_at w None = w
   cleared_at w (Some b) = tell (change w b (λ x. record x { error = None })) (Error b)
 
+  -- the slot of the nearest error boundary from a scope upwards is emptied
   abbrev pub clear_error : State K → ℕ → State K
   clear_error w s = cleared_at w (error_context w s)
 
@@ -106,6 +120,7 @@ module _ {K : Types} where
       then post (record w { tasks = put w.tasks t (record x { active = active }) }) (Woken t)
       else record w { tasks = put w.tasks t (record x { active = active }) })
 
+  -- a new task, active and woken, where its scope is live
   abbrev pub spawned : State K → Option ℕ → ℕ → ℕ → K.TaskState → Bool → State K
   spawned w polled scope t a isomorphic =
       if is_live w scope
@@ -122,14 +137,17 @@ module _ {K : Types} where
       (Woken t)
       else w
 
+  -- a callback waits for the boundary's next turn to its children
   abbrev pub registered : State K → ℕ → K.Effect → Option ℕ → State K
   registered w s e None = w
   registered w s e (Some b) = change w b (λ x. record x { callbacks = x.callbacks ++ (s, e) ∷ [] })
 
+  -- a boundary is frozen, so that a suspended render passes over what is below it
   abbrev pub frozen_at : State K → Option ℕ → State K
   frozen_at w None = w
   frozen_at w (Some b) = change w b (λ x. record x { frozen = true })
 
+  -- a change of a reactive context, where it stands
   abbrev pub change_context : State K → ℕ → (ContextRow K → ContextRow K) → State K
   change_context w n f = elim (at w.contexts n) [ None ↦ w | Some x ↦ record w { contexts = put w.contexts n (f x) } ]
 
@@ -142,6 +160,7 @@ module _ {K : Types} where
         then change w s (λ x. record x { contexts = put x.contexts k v })
         else tell (change w s (λ x. record x { contexts = put x.contexts k v })) (Context k s))
 
+    -- a live scope provides a value of a kind
     abbrev pub provide_context : State K → ℕ → ℕ → K.Value → State K
     provide_context w s k v = elim (at w.scopes s) [ None ↦ w | Some x ↦ provided_at w s k v (at x.contexts k) ]
 

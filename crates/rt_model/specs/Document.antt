@@ -19,6 +19,7 @@ pub data Forest : Type 0 where
   Empty : Forest
   Node : (id : ℕ) (content : Content) (children rest : Forest) → Forest
 
+-- the eight edits; a node is named by its number, and 0 is the document's own row
 pub data Edit : Type 0 where
   AppendChildren : (id : ℕ) (nodes : Forest) → Edit
   ReplaceNodeWith : (id : ℕ) (nodes : Forest) → Edit
@@ -29,6 +30,7 @@ pub data Edit : Type 0 where
   CreateEventListener : (id : ℕ) (name : Text) → Edit
   RemoveEventListener : (id : ℕ) (name : Text) → Edit
 
+-- why an edit is refused
 pub data DocFault : Type 0 where
   UnknownId : DocFault
   WrongKind : DocFault
@@ -39,6 +41,7 @@ abbrev pub join_rows : Forest → Forest → Forest
 join_rows Empty g = g
 join_rows (Node id content children rest) g = Node id content children (join_rows rest g)
 
+-- one node without children
 abbrev pub leaf : ℕ → Content → Forest
 leaf id content = Node id content Empty Empty
 
@@ -49,9 +52,11 @@ earlier_namespace None (Some b) = true
 earlier_namespace (Some a) None = false
 earlier_namespace (Some a) (Some b) = earlier_text a b
 
+-- an attribute has this name and namespace
 abbrev pub same_key : DocAttribute → Text → Option Text → Bool
 same_key a name namespace = same_numbers a.name name && same_option same_numbers a.namespace namespace
 
+-- the order of attributes: by namespace, then by name
 abbrev pub earlier_key : DocAttribute → DocAttribute → Bool
 earlier_key a b =
     earlier_namespace a.namespace b.namespace || (same_option same_numbers a.namespace b.namespace && earlier_text a.name b.name)
@@ -62,27 +67,33 @@ with_attribute [] a = a ∷ []
 with_attribute (b ∷ rest) a =
     if same_key b a.name a.namespace then a ∷ rest else (if earlier_key a b then a ∷ b ∷ rest else b ∷ with_attribute rest a)
 
+-- the attribute with this name and namespace goes
 abbrev pub without_attribute : List DocAttribute → Text → Option Text → List DocAttribute
 without_attribute [] name namespace = []
 without_attribute (b ∷ rest) name namespace = if same_key b name namespace then rest else b ∷ without_attribute rest name namespace
 
+-- an attribute is set, or goes where the value is none
 abbrev pub set_attribute : List DocAttribute → Text → Option Text → Option Text → List DocAttribute
 set_attribute attributes name namespace None = without_attribute attributes name namespace
 set_attribute attributes name namespace (Some value) =
     with_attribute attributes (record { name = name; namespace = namespace; value = value })
 
+-- a listener's name takes its place in the order, once
 abbrev pub with_listener : List Text → Text → List Text
 with_listener [] n = n ∷ []
 with_listener (m ∷ ms) n = if same_numbers m n then m ∷ ms else (if earlier_text n m then n ∷ m ∷ ms else m ∷ with_listener ms n)
 
+-- a listener's name goes
 abbrev pub without_listener : List Text → Text → List Text
 without_listener [] n = []
 without_listener (m ∷ ms) n = if same_numbers m n then ms else m ∷ without_listener ms n
 
+-- a name is among these
 abbrev pub has_text : List Text → Text → Bool
 has_text [] n = false
 has_text (m ∷ ms) n = same_numbers m n || has_text ms n
 
+-- a node with this number stands in the forest
 abbrev pub is_in : ℕ → Forest → Bool
 is_in i Empty = false
 is_in i (Node id content children rest) = nat_eq id i || (is_in i children || is_in i rest)
@@ -95,15 +106,18 @@ changed i f (Node id content children rest) =
     then f id content children rest
     else (if is_in i children then Node id content (changed i f children) rest else Node id content children (changed i f rest))
 
+-- what was found first
 abbrev pub either_content : Option Content → Option Content → Option Content
 either_content None other = other
 either_content (Some content) other = Some content
 
+-- what the node with this number is
 abbrev pub content_of : ℕ → Forest → Option Content
 content_of i Empty = None
 content_of i (Node id content children rest) =
     if nat_eq id i then Some content else either_content (content_of i children) (content_of i rest)
 
+-- how often a number stands in the forest
 abbrev pub count_of : ℕ → Forest → ℕ
 count_of i Empty = 0
 count_of i (Node id content children rest) = (if nat_eq id i then 1 else 0) + (count_of i children + count_of i rest)
@@ -112,11 +126,13 @@ count_of i (Node id content children rest) = (if nat_eq id i then 1 else 0) + (c
 abbrev pub is_taken : Forest → Forest → ℕ → Bool
 is_taken document carried id = nat_eq id 0 || (is_in id document || nat_lt 1 (count_of id carried))
 
+-- a carried forest has a number that may not come in
 abbrev pub clashes : Forest → Forest → Forest → Bool
 clashes document carried Empty = false
 clashes document carried (Node id content children rest) =
     is_taken document carried id || (clashes document carried children || clashes document carried rest)
 
+-- the document with a carried forest, where none of its numbers clashes
 abbrev pub if_fresh : Forest → Forest → Forest → Result Forest DocFault
 if_fresh document nodes after = if clashes document nodes nodes then Err RepeatedId else Ok after
 
@@ -131,6 +147,7 @@ on_element (DocElement tag namespace attributes listeners) f = f tag namespace a
 on_element (DocText text) f = Err WrongKind
 on_element DocPlaceholder f = Err WrongKind
 
+-- only a text
 abbrev pub on_text : Content → Result Forest DocFault → Result Forest DocFault
 on_text (DocElement tag namespace attributes listeners) r = Err WrongKind
 on_text (DocText text) r = r
@@ -172,6 +189,7 @@ apply (RemoveEventListener id name) d =
     (content_of id d)
     (λ c. on_element c (λ tag ns attributes ls. if has_text ls name then Ok (changed id (with_content (DocElement tag ns attributes (without_listener ls name))) d) else Err WrongKind))
 
+-- the next edit, unless one has faulted
 abbrev pub and_then : Result Forest DocFault → (Forest → Result Forest DocFault) → Result Forest DocFault
 and_then (Ok d) f = f d
 and_then (Err e) f = Err e
@@ -183,9 +201,11 @@ document_after (e ∷ es) d = and_then (apply e d) (λ after. document_after es 
 
 -- equal documents and edits, as tests
 
+-- equal attributes of a document
 abbrev pub same_doc_attribute : DocAttribute → DocAttribute → Bool
 same_doc_attribute a b = same_key a b.name b.namespace && same_numbers a.value b.value
 
+-- equal contents of nodes
 abbrev pub same_content : Content → Content → Bool
 same_content (DocElement t n a l) (DocElement u m b k) =
     same_numbers t u && same_option same_numbers n m && same_list same_doc_attribute a b && same_list same_numbers l k
@@ -193,11 +213,13 @@ same_content (DocText t) (DocText u) = same_numbers t u
 same_content DocPlaceholder DocPlaceholder = true
 same_content _ _ = false
 
+-- equal forests
 abbrev pub same_forest : Forest → Forest → Bool
 same_forest Empty Empty = true
 same_forest (Node i c k r) (Node j d l q) = nat_eq i j && same_content c d && same_forest k l && same_forest r q
 same_forest _ _ = false
 
+-- equal edits
 abbrev pub same_edit : Edit → Edit → Bool
 same_edit (AppendChildren i f) (AppendChildren j g) = nat_eq i j && same_forest f g
 same_edit (ReplaceNodeWith i f) (ReplaceNodeWith j g) = nat_eq i j && same_forest f g

@@ -15,6 +15,7 @@ row_length (element_node tag namespace attributes children rest) = row_length re
 row_length (text_node text rest) = row_length rest + 1
 row_length (slot_node k rest) = row_length rest + 1
 
+-- how many node slots a tree gives
 abbrev pub slot_count : {K : Types} → Slots K → ℕ
 slot_count no_slots = 0
 slot_count (more_slots v rest) = slot_count rest + 1
@@ -23,6 +24,7 @@ slot_count (more_slots v rest) = slot_count rest + 1
 abbrev pub same_name : Text × Option Text → Text × Option Text → Bool
 same_name a b = same_numbers a.0 b.0 && same_option same_numbers a.1 b.1
 
+-- a name is among others
 abbrev pub is_named : Text × Option Text → List (Text × Option Text) → Bool
 is_named a [] = false
 is_named a (b ∷ bs) = same_name a b || is_named a bs
@@ -48,6 +50,7 @@ template_fits t =
     same_list same_numbers (paths_of (attribute_slots [] 0 t.roots)) t.attribute_paths
 
 module _ {K : Types} where
+  -- the names of the attributes that a slot gives
   abbrev pub given_names : List (Attribute K) → List (Text × Option Text)
   given_names [] = []
   given_names (a ∷ rest) = (a.name, a.namespace) ∷ given_names rest
@@ -64,10 +67,12 @@ module _ {K : Types} where
   is_plain (text_value text) namespace = true
   is_plain no_value namespace = true
 
+  -- no listener that a slot gives has a namespace
   abbrev pub plain_listeners : List (Attribute K) → Bool
   plain_listeners [] = true
   plain_listeners (a ∷ rest) = is_plain a.value a.namespace && plain_listeners rest
 
+  -- no listener of any slot has a namespace
   abbrev pub all_plain : List (List (Attribute K)) → Bool
   all_plain [] = true
   all_plain (a ∷ slots) = plain_listeners a && all_plain slots
@@ -102,17 +107,20 @@ module _ {K : Types} where
         &&
         nodes_fit attributes (λ k below. slots_fit slots k below) level template.roots
 
+    -- the test of the slot with a number
     pub slots_fit : Slots K → ℕ → ℕ → Bool
     slots_fit no_slots k level = true
     slots_fit (more_slots v rest) zero level = slot_fits v level
     slots_fit (more_slots v rest) (suc k) level = slots_fit rest k level
 
+    -- the test of what stands in a slot
     pub slot_fits : Slot K → ℕ → Bool
     slot_fits (text_slot text) level = true
     slot_fits placeholder_slot level = true
     slot_fits (component_slot component) level = component_fits component level
     slot_fits (fragment_slot items) level = items_fit items level
 
+    -- the test of a fragment's items
     pub items_fit : Trees K → ℕ → Bool
     items_fit no_trees level = true
     items_fit (more_trees t ts) level = fits_at t level && items_fit ts level
@@ -125,10 +133,12 @@ module _ {K : Types} where
     component_fits (ErrorBoundary children handler) level = element_fits children level
     component_fits (SuspenseBoundary children fallback) level = element_fits children level
 
+    -- the test of a body's answer
     pub element_fits : Element K → ℕ → Bool
     element_fits (rendered tree) level = fits_at tree level
     element_fits (failed error) level = true
     element_fits (suspended origin task) level = true
 
+  -- the node test of a tree
   abbrev pub fits : Tree K → Bool
   fits tree = fits_at tree 1

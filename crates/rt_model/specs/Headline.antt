@@ -12,13 +12,20 @@ use Rattle.rt_model.specs.Told.{Told, Telling, is_unit, is_body, count_entries, 
 use Rattle.rt_model.specs.Current.{AllCurrent}
 use Rattle.rt_model.specs.Causes.{Limits, refusal, replay_within, edits_at_refusal}
 
+-- what a session tells of the build or of one input
 pub record Report : Type 0 where
+  -- its entries
   pub log : List Entry
+  -- how many units there were
   pub units : ℕ
+  -- how many bodies ran
   pub bodies : ℕ
+  -- how many edits were written
   pub edits : ℕ
+  -- no listener prevented the event's default
   pub default_enabled : Bool
 
+-- the log of each report
 abbrev pub logs_of : List Report → List (List Entry)
 logs_of [] = []
 logs_of (r ∷ rs) = r.log ∷ logs_of rs
@@ -29,6 +36,7 @@ is_opening Build = true
 is_opening (Taken k) = true
 is_opening _ = false
 
+-- a log of the build or of one input, begun by this entry
 abbrev pub OpensWith : Entry → List Entry → Type 0
 OpensWith first [] = ⊥
 OpensWith first (e ∷ log) = (e ≡ first) × (count_entries is_opening log ≡ 0)
@@ -57,6 +65,7 @@ module _ {K : Types} where
     pub edits : report.edits ≡ length told.edits
     pub default_enabled : report.default_enabled ≡ told.machine.default_enabled
 
+  -- each report counts right
   abbrev pub AllCount : List Report → List (Told K) → Type 0
   AllCount [] [] = Unit {0}
   AllCount (report ∷ reports) (told ∷ rest) = Counts report told × AllCount reports rest
@@ -76,9 +85,11 @@ module _ {K : Types} where
       ×
       AllByRecursion (λ (h : ℕ × ℕ). is_some (at w.tasks h.0) ≡ true) x.holders
 
+  -- of every live boundary: its fallback shows just while it is held
   abbrev pub AllHeldShown : State K → Type 0
   AllHeldShown w = AllByRecursion (λ (e : ℕ × Scope K). HeldIsShown w e.1) w.scopes
 
+  -- the replay after the last report
   abbrev pub last_machine : Machine K → List (Told K) → Machine K
   last_machine m [] = m
   last_machine m (told ∷ rest) = last_machine told.machine rest
@@ -87,6 +98,7 @@ module _ {K : Types} where
 pub record Holds {K : Types} (app : Application K) (props : K.Props) (inputs : List (Input K)) (reports : List Report) (told : List (Told K)) : Type 0 where
   -- replay accepts the joined logs; told is the edits of each report and the state after it
   pub accepted : tell_reports app (start app props inputs) (logs_of reports) ≡ Some told
+  -- each report counts right
   pub counted : AllCount reports told
   -- after each report nothing is at work and nothing is owed
   pub nothing_owed : AllByRecursion (λ (r : Told K). is_settled r.machine ≡ true) told
@@ -94,22 +106,32 @@ pub record Holds {K : Types} (app : Application K) (props : K.Props) (inputs : L
   pub shown : DocumentIs (Ok Empty) told
   -- every kept output is current
   pub current : AllByRecursion (λ (r : Told K). AllCurrent app r.machine.state) told
+  -- a boundary shows its fallback exactly while it is held by live tasks
   pub held : AllByRecursion (λ (r : Told K). AllHeldShown r.machine.state) told
 
 -- the headline: a session's answer, its reports, and the edits that the sink took
 pub record Headline {K : Types} (app : Application K) (props : K.Props) (inputs : List (Input K)) (taken : Option (List Edit)) (reports : List Report) : Type 0 where
+  -- the edits of each report and the state after it
   pub told : List (Told K)
   pub holds : Holds app props inputs reports told
+  -- a report for the build and one for each input
   pub one_each : OneEach inputs (logs_of reports)
+  -- the sink took just these edits
   pub edits : TookOf taken (joined (edits_of told))
 
 -- a session that came to a fault: what its finished reports say, how it went on to the refusal, and the edits up to there
 pub record CameTo {K : Types} (app : Application K) (props : K.Props) (inputs : List (Input K)) (limits : Limits) (taken : Option (List Edit)) (reports : List Report) (fault : Fault) : Type 0 where
   pub told : List (Told K)
   pub holds : Holds app props inputs reports told
+  -- the entries since the last report
   pub log : List Entry
+  -- the replay at the end of the log, with the edits so far
   pub last : Telling K
+  -- replay accepts the log
   pub goes_on : tell_log app (Some (telling (last_machine (start app props inputs) told))) log ≡ Some last
+  -- no refusal came earlier
   pub within : replay_within app limits (Some (last_machine (start app props inputs) told)) log ≡ Some last.machine
+  -- the refusal is this fault
   pub cause : refusal limits last.machine ≡ Some fault
+  -- the sink took the edits of the reports and those up to the refusal
   pub edits : TookOf taken (joined (edits_of told) ++ edits_at_refusal app limits last)

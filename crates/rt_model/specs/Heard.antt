@@ -18,6 +18,7 @@ matches (a ∷ b ∷ rest) event = same_numbers rest event
 
 -- a listener: the scope that it belongs to and its handler
 pub record Listener (K : Types) : Type 0 where
+  -- it is called in this scope
   pub origin : ℕ
   pub handler : K.Handler
 
@@ -27,14 +28,17 @@ module _ (K : Types) where
   Climb = List (List (List (Attribute K)))
 
 module _ {K : Types} where
+  -- what was found first
   abbrev pub or_later : Option (Climb K) → Option (Climb K) → Option (Climb K)
   or_later None later = later
   or_later (Some found) later = Some found
 
+  -- the attribute slots of an element stand around what was found in it
   abbrev pub below_element : List (List (Attribute K)) → Option (Climb K) → Option (Climb K)
   below_element slots None = None
   below_element slots (Some found) = Some (found ++ slots ∷ [])
 
+  -- what the attribute slots of an element give
   abbrev pub slots_on : List (List (Attribute K)) → List TemplateAttribute → List (List (Attribute K))
   slots_on given [] = []
   slots_on given (fixed name namespace value ∷ rest) = slots_on given rest
@@ -44,6 +48,7 @@ module _ {K : Types} where
   abbrev pub leaf_climb : ℕ → ℕ → Option (Climb K)
   leaf_climb number n = if nat_eq n number then Some ([] ∷ []) else None
 
+  -- the climb from a number among a template's nodes
   abbrev pub find_nodes : List (Place × Kind × ℕ) → ℕ → Template → Place → List (List (Attribute K)) → (ℕ → Place → Option (Climb K)) → List ℕ → ℕ → TemplateNodes → Option (Climb K)
   find_nodes numbers number whole above given slot up i no_nodes = None
   find_nodes numbers number whole above given slot up i (element_node tag namespace attributes children rest) =
@@ -59,20 +64,24 @@ module _ {K : Types} where
   find_nodes numbers number whole above given slot up i (slot_node k rest) =
       or_later (slot k (place_in whole above up i)) (find_nodes numbers number whole above given slot up (i + 1) rest)
 
+  -- the climb from a number below a child scope
   abbrev pub find_child : (ℕ → Option (Climb K)) → Option ℕ → Option (Climb K)
   find_child inner None = None
   find_child inner (Some t) = inner t
 
   abbrev mutual
+    -- the climb from a number in a tree
     pub find_tree : Side K → ℕ → (ℕ → Option (Climb K)) → Place → Tree K → Option (Climb K)
     find_tree side number inner above (block template given slots) =
         find_nodes side.numbers number template above given (λ k place. find_slots side number inner slots k place) [] 0 template.roots
 
+    -- the climb from a number in the slot with a number
     pub find_slots : Side K → ℕ → (ℕ → Option (Climb K)) → Slots K → ℕ → Place → Option (Climb K)
     find_slots side number inner no_slots k place = None
     find_slots side number inner (more_slots v rest) zero place = find_slot side number inner v place
     find_slots side number inner (more_slots v rest) (suc k) place = find_slots side number inner rest k place
 
+    -- the climb from a number in what stands in a slot
     pub find_slot : Side K → ℕ → (ℕ → Option (Climb K)) → Slot K → Place → Option (Climb K)
     find_slot side number inner (text_slot text) place = leaf_climb number (number_at side.numbers place a_text)
     find_slot side number inner placeholder_slot place = leaf_climb number (number_at side.numbers place a_placeholder)
@@ -80,14 +89,17 @@ module _ {K : Types} where
     find_slot side number inner (fragment_slot no_trees) place = leaf_climb number (number_at side.numbers place an_empty_fragment)
     find_slot side number inner (fragment_slot (more_trees t ts)) place = find_items side number inner 0 place (more_trees t ts)
 
+    -- the climb from a number in a fragment's items
     pub find_items : Side K → ℕ → (ℕ → Option (Climb K)) → ℕ → Place → Trees K → Option (Climb K)
     find_items side number inner i place no_trees = None
     find_items side number inner i place (more_trees t ts) =
         or_later (find_tree side number inner (place ++ item i ∷ []) t) (find_items side number inner (i + 1) place ts)
 
+  -- the climb from a number on a side
   abbrev pub find_side : ℕ → (ℕ → Option (Climb K)) → Side K → Option (Climb K)
   find_side number inner side = elim side.output [ None ↦ None | Some tree ↦ find_tree side number inner [] tree ]
 
+  -- the climb from a number in what a scope shows
   abbrev pub find_output : ℕ → (ℕ → Option (Climb K)) → Option (Scope K) → Option (Climb K)
   find_output number inner None = None
   find_output number inner (Some x) = elim x.shows [ None ↦ None | Some name ↦ find_side number inner (side_of x name) ]
@@ -113,12 +125,13 @@ module _ {K : Types} where
   first_matching event [] = []
   first_matching event (a ∷ rest) = if matches a.name event then listener_of a.value else first_matching event rest
 
-  -- the slot's first matching listener
+  -- an attribute's value is a listener
   abbrev pub is_listener : AttributeValue K → Bool
   is_listener (listener origin handler) = true
   is_listener (text_value text) = false
   is_listener no_value = false
 
+  -- the slot's first matching listener
   abbrev pub first_listener : Text → List (Attribute K) → List (Listener K)
   first_listener event [] = []
   first_listener event (a ∷ rest) = if matches a.name event && is_listener a.value then listener_of a.value else first_listener event rest
@@ -128,22 +141,27 @@ module _ {K : Types} where
   slots_backwards of [] = []
   slots_backwards of (a ∷ slots) = slots_backwards of slots ++ of a
 
+  -- the listeners of the elements further out, all that match
   abbrev pub climbing : Text → Climb K → List (Listener K)
   climbing event [] = []
   climbing event (slots ∷ above) = slots_backwards (λ a. all_matching event a) slots ++ climbing event above
 
+  -- the listeners of an event that bubbles, innermost first
   abbrev pub bubbling : Text → Climb K → List (Listener K)
   bubbling event [] = []
   bubbling event (slots ∷ above) = slots_backwards (λ a. first_matching event a) slots ++ climbing event above
 
+  -- the first listener of each slot of an element, in the slots' order
   abbrev pub in_order : Text → List (List (Attribute K)) → List (Listener K)
   in_order event [] = []
   in_order event (a ∷ slots) = first_listener event a ++ in_order event slots
 
+  -- the listeners of an event that doesn't bubble: those of its element
   abbrev pub at_target : Text → Climb K → List (Listener K)
   at_target event [] = []
   at_target event (slots ∷ above) = in_order event slots
 
+  -- the listeners of an element that was found, by whether the event bubbles
   abbrev pub heard_on : Text → Bool → Option (Climb K) → List (Listener K)
   heard_on event bubbles None = []
   heard_on event true (Some found) = bubbling event found

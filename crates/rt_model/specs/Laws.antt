@@ -18,6 +18,7 @@ module _ {K : Types} where
   SameAt v w (Error s) = v.values.error s ≡ w.values.error s
   SameAt v w (Context k s) = v.values.context k s ≡ w.values.context k s
 
+  -- the two worlds give these sources the same values
   abbrev pub Agree : World K → World K → List Source → Type 0
   Agree v w sources = AllByRecursion (λ x. SameAt v w x) sources
 
@@ -31,10 +32,12 @@ module _ {K : Types} where
   new_cell (NewCell n v) = n ∷ []
   new_cell _ = []
 
+  -- the number that a command gives to a new reactive context
   abbrev pub new_context : Command K → List ℕ
   new_context (NewContext n t) = n ∷ []
   new_context _ = []
 
+  -- the number that a command gives to a new task
   abbrev pub new_task : Command K → List ℕ
   new_task (Spawn n a f i) = n ∷ []
   new_task _ = []
@@ -49,7 +52,9 @@ module _ {K : Types} where
     pub cells : CountUp first.cells (drawn new_cell commands) next.cells
     pub contexts : CountUp first.contexts (drawn new_context commands) next.contexts
     pub tasks : CountUp first.tasks (drawn new_task commands) next.tasks
+    -- no call draws the number of a node
     pub elements : next.elements ≡ first.elements
+    -- serial numbers of errors may be drawn for errors that no command names
     pub errors : first.errors ≤ next.errors
 
   -- new numbers are the world's next ones, in order
@@ -75,6 +80,7 @@ module _ {K : Types} where
       ×
       ((h : Hook K) × (nth w.given.hooks index ≡ Some h) × (kind_of h ≡ kept) × (nat_eq kept asked ≡ false))
 
+  -- the fault of a call, where there is one, is a refusal of its world
   abbrev pub IsFault : World K → Firsts → Option CallFault → Type 0
   IsFault w next None = Unit {0}
   IsFault w next (Some f) = IsRefusal w next f

@@ -16,5 +16,7 @@ IsPosted n _ _ = ⊥
 
 -- of each poster its posts, whole and in order, and no other message
 pub record IsMerge (messages : List Message) (posts : List (List Post)) : Type 0 where
+  -- each poster's messages are its posts
   pub each : (p : ℕ) (list : List Post) → nth posts p ≡ Some list → IsPosted 0 (of_poster p messages) list
+  -- every message is a poster's
   pub no_other : AllByRecursion (λ (m : Message). m.poster < length posts) messages

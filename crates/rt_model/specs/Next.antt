@@ -15,11 +15,13 @@ abbrev pub least_from : (ℕ → ℕ → Bool) → ℕ → List ℕ → ℕ
 least_from earlier s [] = s
 least_from earlier s (t ∷ ts) = least_from earlier (if earlier t s then t else s) ts
 
+-- the first of the least ones of a list
 abbrev pub least : (ℕ → ℕ → Bool) → List ℕ → Option ℕ
 least earlier [] = None
 least earlier (s ∷ ss) = Some (least_from earlier s ss)
 
 module _ {K : Types} where
+  -- what was posted is taken one by one; marks and wakes of what is gone are passed over
   abbrev pub look_on : List Posted → State K → State K
   look_on [] w = w
   look_on (Mark s ∷ ps) w = look_on ps (if is_live w s then record w { seen = join w.seen s } else w)
@@ -34,9 +36,11 @@ module _ {K : Types} where
   is_before scopes s t =
       nat_lt (height_of scopes s) (height_of scopes t) || (nat_eq (height_of scopes s) (height_of scopes t) && nat_lt s t)
 
+  -- the scope whose order a task has
   abbrev pub scope_of_task : State K → ℕ → ℕ
   scope_of_task w t = elim (at w.tasks t) [ None ↦ 0 | Some x ↦ x.scope ]
 
+  -- a task isn't paused
   abbrev pub is_active : State K → ℕ → Bool
   is_active w t = elim (at w.tasks t) [ None ↦ false | Some x ↦ x.active ]
 
@@ -44,6 +48,7 @@ module _ {K : Types} where
   abbrev pub first_task : State K → Option ℕ
   first_task w = least (λ t u. is_before w.scopes (scope_of_task w t) (scope_of_task w u)) w.queued
 
+  -- the seen scope of the least order
   abbrev pub first_seen : State K → Option ℕ
   first_seen w = least (λ s t. is_before w.scopes s t) w.seen
 
@@ -54,6 +59,7 @@ module _ {K : Types} where
   chosen w None (Some s) = Some (RerunScope s)
   chosen w (Some t) (Some s) = if is_before w.scopes s (scope_of_task w t) then Some (RerunScope s) else Some (PollTask t)
 
+  -- the scope or task that comes up
   abbrev pub found : State K → Option Work
   found w = chosen w (first_task w) (first_seen w)
 
@@ -64,6 +70,7 @@ module _ {K : Types} where
   paused w (Some (RunEffects s)) = None
   paused w (Some (PollTask t)) = if is_active w t then None else Some t
 
+  -- a paused task leaves the queue, and the search goes on
   abbrev pub drop_then : (State K → State K) → State K → Option ℕ → State K
   drop_then go w None = w
   drop_then go w (Some t) = go (record w { queued = drop_number w.queued t })
@@ -73,6 +80,7 @@ module _ {K : Types} where
   drops [] w = w
   drops (q ∷ qs) w = drop_then (λ v. drops qs v) w (paused w (found w))
 
+  -- a look, where nothing came up
   abbrev pub looked : State K → Option Work → State K
   looked w (Some x) = w
   looked w None = let v = look w in drops v.queued v
@@ -81,11 +89,13 @@ module _ {K : Types} where
   abbrev pub at_rest : State K → State K
   at_rest w = let v = drops w.queued w in looked v (found v)
 
+  -- the mounted scopes that have queued effects
   abbrev pub with_effects : List (ℕ × Scope K) → List ℕ
   with_effects [] = []
   with_effects (e ∷ es) =
       if (e.1).mounted then elim (e.1).effects [ [] ↦ with_effects es | x ∷ xs ↦ e.0 ∷ with_effects es ] else with_effects es
 
+  -- where nothing else comes up, the effects of the mounted scope of the least order
   abbrev pub or_effects : State K → Option Work → Option Work
   or_effects w (Some x) = Some x
   or_effects w None =
@@ -95,6 +105,7 @@ module _ {K : Types} where
   abbrev pub next_at_rest : State K → Option Work
   next_at_rest w = or_effects w (found w)
 
+  -- what comes next
   abbrev pub next : State K → Option Work
   next w = next_at_rest (at_rest w)
 

@@ -48,6 +48,7 @@ pub data Program (K : Types) (A : Type 0) : Type 0 where
 
 -- a call at work
 pub record Call (K : Types) : Type 0 where
+  -- whether it is a body, whose reads are recorded
   pub in_body : Bool
   -- the index of the next hook
   pub index : ℕ
@@ -77,6 +78,7 @@ abbrev pub own_context : {V : Type 0} → List (ℕ × ℕ × V) → ℕ → ℕ
 own_context [] k s = None
 own_context (e ∷ es) k s = if nat_eq e.0 k && nat_eq e.1 s then Some e.2 else own_context es k s
 
+-- the reactive contexts that stay entered once the last one is left
 abbrev pub left_behind : List ℕ → List ℕ
 left_behind [] = []
 left_behind (n ∷ ns) = ns
@@ -87,9 +89,11 @@ pub record Found (K : Types) : Type 0 where
   pub call : Call K
 
 module _ {K : Types} where
+  -- one more command
   abbrev pub says : Call K → Command K → Call K
   says c m = record c { commands = c.commands ++ m ∷ [] }
 
+  -- a call that was refused goes on with its fault noted
   abbrev pub faults : Call K → CallFault → Call K
   faults c f = record c { fault = first_fault c.fault f }
 
@@ -99,6 +103,7 @@ module _ {K : Types} where
   noted_at c x [] false = record c { aside = x ∷ c.aside }
   noted_at c x (n ∷ ns) body = record c { aside = x ∷ c.aside; commands = c.commands ++ ReadInto n x ∷ [] }
 
+  -- a read is noted where the call stands
   abbrev pub noted : Call K → Source → Call K
   noted c x = noted_at c x c.into c.in_body
 
@@ -112,13 +117,16 @@ module _ {K : Types} where
   boundary_above g zero s = None
   boundary_above g (suc n) s = if has g.boundaries s then Some s else elim (parent_in g.parents s) [ None ↦ None | Some p ↦ boundary_above g n p ]
 
+  -- the nearest error boundary of the calling scope
   abbrev pub nearest_boundary : Given K → Option ℕ
   nearest_boundary g = boundary_above g (length g.parents) g.scope
 
+  -- the error that a boundary's slot holds
   abbrev pub error_in : World K → Option ℕ → Option CapturedError
   error_in w None = None
   error_in w (Some b) = w.values.error b
 
+  -- the read of that slot is noted
   abbrev pub noted_error : Call K → Option ℕ → Call K
   noted_error c None = c
   noted_error c (Some b) = noted c (Error b)
@@ -129,9 +137,11 @@ module _ {K : Types} where
   found_at w k s c further None (Some v) = record { value = Some v; call = noted c (Context k s) }
   found_at w k s c further None None = further (noted c (Context k s))
 
+  -- the look-up ends with nothing found
   abbrev pub no_further : Call K → Found K
   no_further c = record { value = None; call = c }
 
+  -- the look-up goes on at the parent, where there is one
   abbrev pub further_up : (ℕ → Call K → Found K) → Option ℕ → Call K → Found K
   further_up go None c = no_further c
   further_up go (Some p) c = go p c
@@ -149,16 +159,20 @@ module _ {K : Types} where
       (own_context c.provided k s)
       (w.values.context k s)
 
+  -- the scope that a look-up begins at: the one that is named, else the caller's
   abbrev pub own_scope_or : World K → Option ℕ → ℕ
   own_scope_or w None = w.given.scope
   own_scope_or w (Some s) = s
 
+  -- the look-up of a kind through the scopes above
   abbrev pub look_up : World K → Option ℕ → ℕ → Call K → Found K
   look_up w from k c = looked_up w k (length w.given.parents + 1) (own_scope_or w from) c
 
+  -- the look-up of a kind in the calling scope alone
   abbrev pub look_here : World K → ℕ → Call K → Found K
   look_here w k c = found_at w k w.given.scope c no_further (own_context c.provided k w.given.scope) (w.values.context k w.given.scope)
 
+  -- a context is provided, by the calling scope or by the root
   abbrev pub provides : World K → Call K → Bool → ℕ → K.Value → Call K
   provides w c root k v =
       record c {
@@ -166,13 +180,16 @@ module _ {K : Types} where
         commands = c.commands ++ Provide root k v ∷ [];
       }
 
+  -- the next hook has the next index
   abbrev pub past_hook : Call K → Call K
   past_hook c = record c { index = c.index + 1 }
 
+  -- the kind under which a hook is kept
   abbrev pub kind_of : Hook K → ℕ
   kind_of (HookValue k v) = k
   kind_of (HookEffect k e) = k
 
+  -- the value that a hook keeps
   abbrev pub held_in : Hook K → Option K.Value
   held_in (HookValue k v) = Some v
   held_in (HookEffect k e) = None
@@ -183,14 +200,17 @@ module _ {K : Types} where
   hooked w c k new (Some h) =
       if nat_eq (kind_of h) k then past_hook c else past_hook (faults c (OtherHook w.given.scope c.index (kind_of h) k))
 
+  -- what a body is given for the hook at its index: nothing where another kind stands
   abbrev pub hook_value : ℕ → K.Value → Option (Hook K) → Option K.Value
   hook_value k v None = Some v
   hook_value k v (Some h) = if nat_eq (kind_of h) k then held_in h else None
 
+  -- whether an effect was new or stood there with its kind
   abbrev pub hook_stands : ℕ → Option (Hook K) → Bool
   hook_stands k None = true
   hook_stands k (Some h) = nat_eq (kind_of h) k
 
+  -- a cell is made with its first value
   abbrev pub drew_cell : Call K → K.Value → Call K
   drew_cell c v =
       record c {
@@ -199,17 +219,21 @@ module _ {K : Types} where
         commands = c.commands ++ NewCell c.next.cells v ∷ [];
       }
 
+  -- a reactive context is made
   abbrev pub drew_context : Call K → Target → Call K
   drew_context c t =
       record c { next = record (c.next) { contexts = c.next.contexts + 1 }; commands = c.commands ++ NewContext c.next.contexts t ∷ [] }
 
+  -- a task is spawned
   abbrev pub drew_task : Call K → K.TaskState → Bool → Bool → Call K
   drew_task c a forever isomorphic =
       record c { next = record (c.next) { tasks = c.next.tasks + 1 }; commands = c.commands ++ Spawn c.next.tasks a forever isomorphic ∷ [] }
 
+  -- an error's serial number is drawn
   abbrev pub drew_error : Call K → Call K
   drew_error c = record c { next = record (c.next) { errors = c.next.errors + 1 } }
 
+  -- the meaning of a call that is done
   abbrev pub ended : {A : Type 0} → Call K → A → Meaning K A
   ended c a =
       record { answer = a; reads = c.reads; aside = c.aside; commands = c.commands; next = c.next; fault = c.fault }
@@ -279,6 +303,7 @@ module _ {K : Types} where
   abbrev pub body_means : {A : Type 0} → Program K A → World K → Meaning K A
   body_means p w = exec w p (begun true w.given.next)
 
+  -- what a program means as a call that is no body
   abbrev pub call_means : {A : Type 0} → Program K A → World K → Meaning K A
   call_means p w = exec w p (begun false w.given.next)
 
@@ -295,6 +320,7 @@ pub record Programs (K : Types) : Type 0 where
   pub effect : K.Effect → Program K Nothing
   pub handle : K.Handler → Event K → Program K (Event K)
 
+-- the application whose calls mean what their programs do
 abbrev pub application_of : {K : Types} → Programs K → Application K
 application_of a =
     record {

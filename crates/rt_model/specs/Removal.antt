@@ -15,10 +15,12 @@ kinds_in s (Context k t ∷ xs) kinds = kinds_in s xs (if nat_eq t s then insert
 kinds_in s (Cell n ∷ xs) kinds = kinds_in s xs kinds
 kinds_in s (Error t ∷ xs) kinds = kinds_in s xs kinds
 
+-- these cells as sources
 abbrev pub cell_sources : List ℕ → List Source
 cell_sources [] = []
 cell_sources (n ∷ ns) = Cell n ∷ cell_sources ns
 
+-- what a scope provides of these kinds, as sources
 abbrev pub context_sources : ℕ → List ℕ → List Source
 context_sources s [] = []
 context_sources s (k ∷ ks) = Context k s ∷ context_sources s ks
@@ -34,17 +36,21 @@ module _ {K : Types} where
   first_leaf w zero s = s
   first_leaf w (suc n) s = elim (children_below w (at w.scopes s)) [ [] ↦ s | t ∷ ts ↦ first_leaf w n t ]
 
+  -- the scope that a removal takes first
   abbrev pub next_removed : State K → ℕ → ℕ
   next_removed w s = first_leaf w (length w.scopes) s
 
+  -- the tasks of a scope
   abbrev pub tasks_in : ℕ → List (ℕ × TaskRow K) → List ℕ
   tasks_in s [] = []
   tasks_in s (e ∷ es) = if nat_eq (e.1).scope s then e.0 ∷ tasks_in s es else tasks_in s es
 
+  -- the cells of a scope
   abbrev pub cells_in : ℕ → List (ℕ × CellRow K) → List ℕ
   cells_in s [] = []
   cells_in s (e ∷ es) = if nat_eq (e.1).owner s then e.0 ∷ cells_in s es else cells_in s es
 
+  -- these tasks end, one after another
   abbrev pub end_all : State K → List ℕ → State K
   end_all w [] = w
   end_all w (t ∷ ts) = end_all (end w t) ts
@@ -55,14 +61,17 @@ module _ {K : Types} where
   clean_ups (HookValue k v ∷ hs) es = clean_ups hs es
   clean_ups (HookEffect k e ∷ hs) es = clean_ups hs (if nat_eq k clean_up_kind then e ∷ es else es)
 
+  -- the readers of these sources are marked, source by source
   abbrev pub tell_all : State K → List Source → State K
   tell_all w [] = w
   tell_all w (x ∷ xs) = tell_all (tell w x) xs
 
+  -- of what a scope provides, the kinds that bodies have read, ascending
   abbrev pub kinds_of_scopes : ℕ → List (ℕ × Scope K) → List ℕ → List ℕ
   kinds_of_scopes s [] kinds = kinds
   kinds_of_scopes s (e ∷ es) kinds = kinds_of_scopes s es (kinds_in s (e.1).reads kinds)
 
+  -- of what a scope provides, the kinds that were read in reactive contexts too
   abbrev pub kinds_of_contexts : ℕ → List (ℕ × ContextRow K) → List ℕ → List ℕ
   kinds_of_contexts s [] kinds = kinds
   kinds_of_contexts s (e ∷ es) kinds = kinds_of_contexts s es (kinds_in s (e.1).sources kinds)
@@ -86,6 +95,7 @@ module _ {K : Types} where
   abbrev pub told_of_sources : State K → ℕ → State K
   told_of_sources w s = tell_all w (read_contexts w s)
 
+  -- a scope and what it owns are gone, and the readers of that are marked
   abbrev pub gone : State K → ℕ → State K
   gone w s = told_of_sources (tell_all (without_scope w s) (cell_sources (cells_in s w.cells))) s
 
@@ -99,6 +109,7 @@ module _ {K : Types} (app : Application K) where
   cleaned_by go w waiting m =
       elim m.fault [ None ↦ go (with_next w m.next) (waiting ++ m.commands) | Some f ↦ Cut (with_next w m.next) (fault_of f) ]
 
+  -- the clean-ups that are left are called in turn
   abbrev pub cleaned : ℕ → List K.Effect → State K → List (Command K) → Outcome K
   cleaned s [] w waiting = Done (commands app (gone w s) s None waiting) []
   cleaned s (e ∷ es) w waiting = cleaned_by (λ v cs. cleaned s es v cs) w waiting (app.effect e (world_of w s None true))

@@ -9,8 +9,10 @@ use Rattle.rt_model.specs.Replay.{Entry, Build, Rerun, Poll, Made, Kept, Taken, 
 use Rattle.rt_model.specs.Rendering.{renders_on, resolved_by_height, nothing_resolved}
 use Rattle.rt_model.specs.Document.{AppendChildren}
 use Rattle.rt_model.specs.Small.{Val, Num, Name, Job, Idle, Fetch, R, Body, number_of, app_of, use_cell, use_task, shows, words, RowOf}
-use Rattle.rt_model.specs.Rows.{loads, text}
+use Rattle.rt_model.specs.Pieces.{text}
+use Rattle.rt_model.specs.SuspenseRows.{loads}
 
+-- a boundary shows its fallback
 abbrev pub shows_fallback : State R → ℕ → Bool
 shows_fallback w b = elim (at w.scopes b) [ None ↦ false | Some x ↦ is_side x.shows FallbackSide ]
 
@@ -24,9 +26,11 @@ rendered_as (Some m) resolved skipped hidden =
     &&
     (if hidden then shows_fallback m.state 4 else not (shows_fallback m.state 4))
 
+-- the application of one body that suspends under a boundary
 abbrev pub App : Application R
 App = application_of (app_of loads)
 
+-- a suspended render with this log
 abbrev pub after_render : Option (Machine R) → List Entry → Option (Machine R)
 after_render m log = renders_on App m log
 
@@ -35,18 +39,23 @@ abbrev pub between : (State R → State R) → Option (Machine R) → Option (Ma
 between f None = None
 between f (Some m) = Some (record m { state = f (nothing_resolved m.state) })
 
+-- the build
 abbrev pub built : Option (Machine R)
 built = replay_on App (Some (start App [] [])) (Build ∷ Made 1 ∷ Made 2 ∷ Made 3 ∷ Made 4 ∷ Made 5 ∷ [])
 
+-- the first render: the fallback shows, and the task is polled
 abbrev pub first_render : Option (Machine R)
 first_render = after_render built (Rerun 4 ∷ Kept 5 ∷ Poll 1 ∷ [])
 
+-- the second render: the task ends, and the children show
 abbrev pub second_render : Option (Machine R)
 second_render = after_render (between (λ w. post w (Woken 1)) first_render) (Poll 1 ∷ Rerun 4 ∷ Kept 5 ∷ Rerun 5 ∷ [])
 
+-- the boundary is frozen, and its child is marked
 abbrev pub frozen_and_marked : State R → State R
 frozen_and_marked w = let v = commands App w 4 None (Freeze ∷ []) in record v { seen = join v.seen 5 }
 
+-- the third render: nothing may be taken
 abbrev pub third_render : Option (Machine R)
 third_render = after_render (between frozen_and_marked second_render) []
 
@@ -60,24 +69,30 @@ abbrev pub then_second : ℕ → Program R (TaskStep R) → Program R (TaskStep 
 then_second zero rest = leave rest
 then_second (suc n) rest = read 2 (λ v. leave rest)
 
+-- a poll that computes anew
 abbrev pub computes : ℕ → Program R (TaskStep R)
 computes c = reset_and_run_in c (read 1 (λ v. then_second (number_of v) (done (pending (Idle c)))))
 
+-- the first computation, in the context that was made
 abbrev pub with_context : Option ℕ → Program R (TaskStep R)
 with_context None = done ready
 with_context (Some c) = computes c
 
+-- a context that wakes this very task
 abbrev pub for_task : Option ℕ → Program R (TaskStep R)
 for_task None = done ready
 for_task (Some t) = new_context (TaskTarget t) (λ c. with_context c)
 
+-- the task's polls: the first one makes the context
 abbrev pub memo_poll : Job → Program R (TaskStep R)
 memo_poll (Fetch c n) = current_task (λ t. for_task t)
 memo_poll (Idle c) = computes c
 
+-- a body with two cells and the task
 abbrev pub memo_body : Name → List Val → Body
 memo_body name props = use_cell (Num 0) (λ b. use_cell (Num 0) (λ n. use_task (Fetch 0 0) (λ t. shows (words (codes "x")))))
 
+-- an application whose task is a memo
 abbrev pub memo : Programs R
 memo = record (app_of memo_body) { poll = memo_poll }
 

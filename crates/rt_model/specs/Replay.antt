@@ -12,6 +12,7 @@ use Rattle.rt_model.specs.Boundary.{boundary_step}
 use Rattle.rt_model.specs.Removal.{next_removed, removed}
 use Rattle.rt_model.specs.Heard.{Listener, heard}
 
+-- what a log is made of: the build, what is taken in, units, and what their agendas lead to
 pub data Entry : Type 0 where
   Build : Entry
   Taken : (input : ℕ) → Entry
@@ -33,9 +34,11 @@ pub data Post : Type 0 where
 -- a message: its poster, its number among that poster's posts, and what it asks for
 pub record Message : Type 0 where
   pub poster : ℕ
+  -- from 0 on
   pub sequence : ℕ
   pub what : Post
 
+-- what comes from outside: an event, a wake, a write, a mark, the posted messages
 pub data Input (K : Types) : Type 0 where
   EventAt : (name : Text) (payload : K.Payload) (element : ℕ) (bubbles : Bool) → Input K
   WakeOf : (task : ℕ) → Input K
@@ -45,12 +48,15 @@ pub data Input (K : Types) : Type 0 where
 
 -- the state of a replay: the work that is open, first item first, stands beside the state
 pub record Machine (K : Types) : Type 0 where
+  -- the scopes, cells, tasks and what is owed
   pub state : State K
   pub work : List (Item K)
   -- the listeners that wait, and the event on its way
   pub listeners : List (Listener K)
   pub event : Option (Event K)
+  -- whether that event bubbles
   pub bubbles : Bool
+  -- the build has begun
   pub built : Bool
   -- the build or a unit is at work
   pub unit : Bool
@@ -65,6 +71,7 @@ pub record Machine (K : Types) : Type 0 where
   pub dead : Option Fault
   pub refused : Option (Item K)
 
+-- equal entries
 abbrev pub same_entry : Entry → Entry → Bool
 same_entry Build Build = true
 same_entry (Taken a) (Taken b) = nat_eq a b
@@ -109,6 +116,7 @@ module _ {K : Types} where
   draws (Make s side p c ∷ rest) m = record m { work = Make s side p c ∷ rest }
   draws (Drop t s side ∷ rest) m = record m { work = Drop t s side ∷ rest }
 
+  -- how many such steps the open work can still lead to
   abbrev pub rows_left : List (Item K) → ℕ
   rows_left [] = 0
   rows_left (Row b step ∷ rest) = step_weight step + rows_left rest
@@ -130,6 +138,7 @@ module _ {K : Types} where
   names_live w (Removed s) = is_live w s
   names_live w (Poll t) = is_some (at w.tasks t)
 
+  -- an entry, where what it names is live
   abbrev pub if_live : State K → Option Entry → Option Entry
   if_live w None = None
   if_live w (Some e) = if names_live w e then Some e else None
@@ -139,14 +148,17 @@ module _ {K : Types} where
   mounted w [] = []
   mounted w (e ∷ es) = (e.0, record (e.1) { mounted = (e.1).mounted || is_shown w e.0 }) ∷ mounted w es
 
+  -- every shown scope is mounted
   abbrev pub mounted_state : State K → State K
   mounted_state w = record w { scopes = mounted w w.scopes }
 
+  -- the build or a unit ends where no work is left
   abbrev pub closed_at : Machine K → List (Item K) → Bool → Machine K
   closed_at m [] true = record m { unit = false; state = mounted_state m.state }
   closed_at m [] false = m
   closed_at m (i ∷ rest) unit = m
 
+  -- the build or a unit ends, unless a fault ended the run
   abbrev pub closed : Machine K → Machine K
   closed m = elim m.dead [ None ↦ closed_at m m.work m.unit | Some fault ↦ m ]
 
@@ -159,11 +171,13 @@ module _ {K : Types} where
   post_all [] w = w
   post_all (e ∷ es) w = post_all es (post w (Mark e.0))
 
+  -- what one message asks for
   abbrev pub post_message : State K → Post → State K
   post_message w (MarkScope s) = post w (Mark s)
   post_message w (WakeTask t) = post w (Woken t)
   post_message w AllDirty = post_all w.scopes w
 
+  -- what messages ask for, in order
   abbrev pub post_messages : State K → List Message → State K
   post_messages w [] = w
   post_messages w (message ∷ rest) = post_messages (post_message w message.what) rest
@@ -173,9 +187,11 @@ module _ {K : Types} where
   looked_where_quiet m [] = record m { state = look m.state }
   looked_where_quiet m (l ∷ ls) = m
 
+  -- a look, unless a listener waits
   abbrev pub then_looked : Machine K → Machine K
   then_looked m = looked_where_quiet m (waiting m)
 
+  -- what an input does
   abbrev pub taken_in : Machine K → Input K → Machine K
   taken_in m (EventAt name payload element bubbles) =
       record m {
@@ -188,11 +204,13 @@ module _ {K : Types} where
   taken_in m (MarkOf s) = record m { state = post m.state (Mark s) }
   taken_in m (Drain messages) = record m { state = post_messages m.state messages }
 
+  -- the next input is taken in
   abbrev pub take_next : Machine K → List (Input K) → Machine K
   take_next m [] = m
   take_next m (input ∷ rest) =
       then_looked (taken_in (record m { inputs = rest; taken = m.taken + 1; units = 0; default_enabled = true; listeners = [] }) input)
 
+  -- a unit begins
   abbrev pub one_more_unit : Machine K → Machine K
   one_more_unit m = record m { unit = true; units = m.units + 1 }
 
@@ -200,6 +218,7 @@ module _ {K : Types} where
   abbrev pub with_child : SideName → Place → ℕ → Scope K → Scope K
   with_child side p t x = with_side x side (record (side_of x side) { children = (side_of x side).children ++ (p, t) ∷ [] })
 
+  -- the new scope joins the others, and its parent knows it at its place
   abbrev pub with_new_scope : State K → ℕ → SideName → Place → VComponent K → Scope K → State K
   with_new_scope w s side p c x =
       record w {
@@ -224,22 +243,26 @@ module _ {K : Types} where
         next = firsts;
       }
 
-  -- no work is left and no listener waits
+  -- no listener waits
   abbrev pub no_listener : List (Listener K) → Bool
   no_listener [] = true
   no_listener (l ∷ ls) = false
 
+  -- no item is open
   abbrev pub no_work : List (Item K) → Bool
   no_work [] = true
   no_work (i ∷ rest) = false
 
+  -- nothing is at work, and no fault ended the run
   abbrev pub is_quiet : Machine K → Bool
   is_quiet m = not (is_some m.dead) && no_work m.work && no_listener (waiting m)
 
+  -- a replay, where nothing is at work
   abbrev pub if_quiet : Option (Machine K) → Option (Machine K)
   if_quiet None = None
   if_quiet (Some m) = if is_quiet m then Some m else None
 
+  -- the child scope that a feed goes to
   abbrev pub fed_child : State K → ℕ → SideName → Place → Option ℕ
   fed_child w s side p = elim (at w.scopes s) [ None ↦ None | Some x ↦ child_at (side_of x side).children p ]
 
@@ -257,9 +280,11 @@ module _ {K : Types} (app : Application K) where
   row_first go m (Make s side p c ∷ rest) = m
   row_first go m (Drop t s side ∷ rest) = m
 
+  -- one step of a boundary's run, unless a fault ended the run
   abbrev pub row_next : (Machine K → Machine K) → Machine K → Machine K
   row_next go m = elim m.dead [ None ↦ row_first go m m.work | Some fault ↦ m ]
 
+  -- silent items are served until one comes that an entry has to name, at most n steps of boundaries among them
   abbrev pub served : ℕ → Machine K → Machine K
   served zero m = elim m.dead [ None ↦ draws m.work m | Some fault ↦ m ]
   served (suc n) m = elim m.dead [ None ↦ row_next (λ u. served n u) (draws m.work m) | Some fault ↦ m ]
@@ -270,13 +295,16 @@ module _ {K : Types} (app : Application K) where
 
   -- what is due
 
+  -- a child that is handed a component keeps its output
   abbrev pub keeps : State K → ℕ → VComponent K → Bool
   keeps w t c = elim (at w.scopes t) [ None ↦ false | Some x ↦ keeps_output app x.component c ]
 
+  -- a child is fed, or kept where the component means the same
   abbrev pub due_feed : State K → VComponent K → Option ℕ → Option Entry
   due_feed w c None = None
   due_feed w c (Some t) = Some (if keeps w t c then Kept t else Fed t)
 
+  -- what is owed, else the next input
   abbrev pub due_work : Machine K → Option Work → List (Input K) → Option Entry
   due_work m (Some (RerunScope s)) inputs = Some (Rerun s)
   due_work m (Some (PollTask t)) inputs = Some (Poll t)
@@ -284,10 +312,12 @@ module _ {K : Types} (app : Application K) where
   due_work m None [] = None
   due_work m None (input ∷ rest) = Some (Taken (m.taken + 1))
 
+  -- a listener that waits, else what is owed
   abbrev pub due_heard : Machine K → List (Listener K) → Option Entry
   due_heard m [] = due_work m (next_at_rest (at_rest m.state)) m.inputs
   due_heard m (l ∷ ls) = Some (Heard l.origin)
 
+  -- the open work's first item, else a listener
   abbrev pub due_item : Machine K → List (Item K) → Option Entry
   due_item m [] = due_heard m (waiting m)
   due_item m (Draw s side p k ∷ rest) = None
@@ -296,6 +326,7 @@ module _ {K : Types} (app : Application K) where
   due_item m (Feed s side p c ∷ rest) = due_feed m.state c (fed_child m.state s side p)
   due_item m (Drop t s side ∷ rest) = Some (Removed (next_removed m.state t))
 
+  -- the build first; after a fault nothing
   abbrev pub due_any : Machine K → Option Entry
   due_any m = elim m.dead [ None ↦ (if m.built then due_item m m.work else Some Build) | Some fault ↦ None ]
 
@@ -305,13 +336,16 @@ module _ {K : Types} (app : Application K) where
 
   -- what an entry does
 
+  -- a scope is made under its parent, and run
   abbrev pub made_in : State K → ℕ → SideName → Place → VComponent K → Scope K → Outcome K
   made_in w s side p c x =
       (if at_end w.next_scope then Cut w (IdsExhausted Scopes) else run app (with_new_scope w s side p c x) w.next_scope)
 
+  -- a scope is made, where its parent is live
   abbrev pub made : State K → ℕ → SideName → Place → VComponent K → Outcome K
   made w s side p c = elim (at w.scopes s) [ None ↦ Done w [] | Some x ↦ made_in w s side p c x ]
 
+  -- a scope is handed a component
   abbrev pub with_props : State K → ℕ → VComponent K → State K
   with_props w t c = change w t (λ x. record x { component = c })
 
@@ -320,6 +354,7 @@ module _ {K : Types} (app : Application K) where
   polled_to w t x m (pending a) = look (commands app (record w { tasks = put w.tasks t (record x { state = a }) }) x.scope (Some t) m.commands)
   polled_to w t x m ready = look (end (commands app w x.scope (Some t) m.commands) t)
 
+  -- a poll's commands and answer, or its fault
   abbrev pub polled_by : State K → ℕ → TaskRow K → Meaning K (TaskStep K) → Outcome K
   polled_by w t x m =
       elim m.fault [
@@ -327,10 +362,12 @@ module _ {K : Types} (app : Application K) where
         | Some f ↦ Cut (with_next w m.next) (fault_of f)
       ]
 
+  -- the poll of a task that was found
   abbrev pub polled_at : State K → ℕ → Option (TaskRow K) → Outcome K
   polled_at w t None = Done w []
   polled_at w t (Some x) = polled_by w t x (app.poll x.state (world_of w x.scope (Some t) false))
 
+  -- a task is polled: its wakes are spent
   abbrev pub polled : State K → ℕ → Outcome K
   polled w t = polled_at (unqueued w t) t (at w.tasks t)
 
@@ -339,9 +376,11 @@ module _ {K : Types} (app : Application K) where
   batch w s [] = Done (look w) []
   batch w s (e ∷ es) = onward (acted app w s e false) (λ v. batch v s es)
 
+  -- the effects that a scope has queued
   abbrev pub effects_of : State K → ℕ → List K.Effect
   effects_of w s = elim (at w.scopes s) [ None ↦ [] | Some x ↦ x.effects ]
 
+  -- the effects of a scope are taken, all that stood, and done in order
   abbrev pub effects_run : State K → ℕ → Outcome K
   effects_run w s = batch (change w s (λ x. record x { effects = [] })) s (effects_of w s)
 
@@ -349,6 +388,7 @@ module _ {K : Types} (app : Application K) where
   abbrev pub further : Machine K → Event K → List (Listener K) → List (Listener K)
   further m event ls = if m.bubbles && not event.propagates then [] else ls
 
+  -- what a listener's call leaves: its commands, the event, who hears it further
   abbrev pub heard_by : Machine K → Listener K → List (Listener K) → Meaning K (Event K) → Machine K
   heard_by m l ls meaning =
       elim meaning.fault [
@@ -363,24 +403,30 @@ module _ {K : Types} (app : Application K) where
         | Some f ↦ record m { state = with_next m.state meaning.next; listeners = ls; dead = Some (fault_of f); refused = None }
       ]
 
+  -- a listener is called with the event on its way
   abbrev pub heard_event : Machine K → Listener K → List (Listener K) → Option (Event K) → Machine K
   heard_event m l ls None = m
   heard_event m l ls (Some event) = heard_by m l ls (app.handle l.handler event (world_of m.state l.origin None false))
 
+  -- the first listener that waits is called
   abbrev pub heard_first : Machine K → List (Listener K) → Machine K
   heard_first m [] = m
   heard_first m (l ∷ ls) = heard_event m l ls m.event
 
+  -- the state as the test for what is next left it
   abbrev pub rested : Machine K → Machine K
   rested m = record m { state = at_rest m.state }
 
+  -- a scope is run as a unit
   abbrev pub rerun : Machine K → ℕ → Machine K
   rerun m s = ended_by (one_more_unit m) None [] (run app m.state s)
 
+  -- one scope of a removal goes; the item stays until its own child went
   abbrev pub dropped : Machine K → ℕ → ℕ → Item K → List (Item K) → Machine K
   dropped m t child this rest =
       (if nat_eq t child then ended_by m (Some this) rest (removed app m.state t) else ended_by m (Some this) (this ∷ rest) (removed app m.state t))
 
+  -- what an entry does, by the item that it serves
   abbrev pub change_by : Machine K → List (Item K) → Entry → Machine K
   change_by m (Make s side p c ∷ rest) (Made t) = ended_by m (Some (Make s side p c)) rest (made m.state s side p c)
   change_by m (Feed s side p c ∷ rest) (Kept t) = record m { state = with_props m.state t c; work = rest }
@@ -398,6 +444,7 @@ module _ {K : Types} (app : Application K) where
   abbrev pub step : Machine K → Entry → Machine K
   step m e = settled (change_by m m.work e)
 
+  -- an entry is the one that is due
   abbrev pub is_due : Option Entry → Entry → Bool
   is_due None e = false
   is_due (Some d) e = same_entry d e
@@ -406,11 +453,13 @@ module _ {K : Types} (app : Application K) where
   abbrev pub accepts : Machine K → Entry → Option (Machine K)
   accepts m e = if is_due (due m) e then Some (step m e) else None
 
+  -- a log from a replay on, each entry accepted in turn
   abbrev pub replay_on : Option (Machine K) → List Entry → Option (Machine K)
   replay_on None log = None
   replay_on (Some m) [] = Some m
   replay_on (Some m) (e ∷ log) = replay_on (accepts m e) log
 
+  -- a replay at its start, whose numbers begin at these
   abbrev pub start_from : K.Props → Firsts → List (Input K) → Machine K
   start_from props firsts inputs =
       record {
@@ -429,6 +478,7 @@ module _ {K : Types} (app : Application K) where
         refused = None;
       }
 
+  -- a replay at its start
   abbrev pub start : K.Props → List (Input K) → Machine K
   start props inputs = start_from props ones inputs
 

@@ -8,10 +8,12 @@ use Rattle.rt_model.specs.Values.{is_same_component}
 use Rattle.rt_model.specs.State.{SideName, MainSide, ChildrenSide, FallbackSide, Mark, SuspendedTask, Fault, IdsExhausted, HookChanged, NoSuchTask, BadNode, RowStep, PatchChildren, MadeChildren, RunFallback, ShowFallback, ShowChildren, DropFallback, Resolve, Side, Scope, TaskRow, State, Item, Draw, Row, Feed, Make, Drop, Outcome, Done, Cut, onward, side_of, with_side, change, location, is_held, holds, hooks_of, renders_of, world_of}
 use Rattle.rt_model.specs.Commands.{drop_posted, post, commands, throw_error}
 
+-- a call's fault as the fault that ends a run
 abbrev pub fault_of : CallFault → Fault
 fault_of (CounterAtEnd what) = IdsExhausted what
 fault_of (OtherHook scope index kept asked) = HookChanged scope index kept asked
 
+-- the child scope at a place
 abbrev pub child_at : List (Place × ℕ) → Place → Option ℕ
 child_at [] p = None
 child_at (e ∷ es) p = if same_place e.0 p then Some e.1 else child_at es p
@@ -50,9 +52,11 @@ module _ {K : Types} where
   abbrev pub plain : World K → List Source → Element K → Meaning K (Element K)
   plain w reads answer = record { answer = answer; reads = reads; aside = []; commands = []; next = w.given.next; fault = None }
 
+  -- the body read one more source
   abbrev pub also_read : Source → Meaning K (Element K) → Meaning K (Element K)
   also_read x m = record m { reads = x ∷ m.reads }
 
+  -- the numbers that are drawn next, as a call left them
   abbrev pub with_next : State K → Firsts → State K
   with_next w next = record w { next = next }
 
@@ -70,20 +74,24 @@ module _ {K : Types} where
       s
       (λ x. record x { given = Some world; reads = m.reads; aside = m.aside; answer = Some m.answer })
 
+  -- an effect is kept under this kind
   abbrev pub is_kind : ℕ → Hook K → Bool
   is_kind kind (HookValue k v) = false
   is_kind kind (HookEffect k e) = nat_eq k kind
 
+  -- a document node of this kind stands at this place
   abbrev pub has_node : List (Spot K) → Place → Kind → Bool
   has_node [] p k = false
   has_node (node_at q l ∷ ss) p k = (same_kind l k && same_place q p) || has_node ss p k
   has_node (component_at q c ∷ ss) p k = has_node ss p k
 
+  -- the component at a place
   abbrev pub component_in : List (Spot K) → Place → Option (VComponent K)
   component_in [] p = None
   component_in (node_at q l ∷ ss) p = component_in ss p
   component_in (component_at q c ∷ ss) p = if same_place q p then Some c else component_in ss p
 
+  -- the spots of an output, if there is one
   abbrev pub spots_of : Option (Tree K) → List (Spot K)
   spots_of None = []
   spots_of (Some tree) = spots [] tree
@@ -109,6 +117,7 @@ module _ {K : Types} where
         | Some x ↦ if holds x t then w else post (change w b (λ y. record y { holders = y.holders ++ (t, origin) ∷ [] })) (Mark b)
       ]
 
+  -- a scope suspends on a task, which has to be live
   abbrev pub suspends_on : State K → ℕ → ℕ → ℕ → Option (TaskRow K) → Outcome K
   suspends_on w s origin t None = Cut w (NoSuchTask s t)
   suspends_on w s origin t (Some x) = Done (joins (record w { tasks = put w.tasks t (record x { kind = SuspendedTask }) }) origin t (location w s)) []
@@ -118,6 +127,7 @@ module _ {K : Types} where
   unmarked w s =
       record w { posted = drop_posted w.posted (Mark s); seen = drop_number w.seen s; skipped = drop_number w.skipped s }
 
+  -- a scope has rendered something
   abbrev pub has_output : State K → ℕ → Bool
   has_output w s = elim (at w.scopes s) [ None ↦ true | Some x ↦ is_some x.main_side.output ]
 
@@ -137,6 +147,7 @@ runs_fallback (RunFallback ∷ steps) = true
 runs_fallback (step ∷ steps) = runs_fallback steps
 
 module _ {K : Types} where
+  -- the steps of a boundary's run as open work
   abbrev pub row_items : ℕ → List RowStep → List (Item K)
   row_items b [] = []
   row_items b (step ∷ steps) = Row b step ∷ row_items b steps
@@ -162,6 +173,7 @@ module _ {K : Types} (app : Application K) where
   acted_by w s m =
       elim m.fault [ None ↦ Done (commands app (with_next w m.next) s None m.commands) [] | Some f ↦ Cut (with_next w m.next) (fault_of f) ]
 
+  -- an effect is done in a scope
   abbrev pub acted : State K → ℕ → K.Effect → Bool → Outcome K
   acted w s e rendering = acted_by w s (app.effect e (world_of w s None rendering))
 
@@ -170,11 +182,13 @@ module _ {K : Types} (app : Application K) where
   hook_called w s (HookValue k v) = Done w []
   hook_called w s (HookEffect k e) = acted w s e true
 
+  -- the hooks of one kind among these
   abbrev pub hooks_called : ℕ → State K → ℕ → List (Hook K) → Outcome K
   hooks_called kind w s [] = Done w []
   hooks_called kind w s (h ∷ hs) =
       (if is_kind kind h then onward (hook_called w s h) (λ v. hooks_called kind v s hs) else hooks_called kind w s hs)
 
+  -- the hooks that come after a render
   abbrev pub after_hooks : State K → ℕ → Outcome K
   after_hooks w s = hooks_called after_render_kind w s (hooks_of w s)
 
@@ -189,9 +203,11 @@ module _ {K : Types} (app : Application K) where
             else Cut (kept_call w s world m) (BadNode s)
       ]
 
+  -- a component's body is called in a world
   abbrev pub call_in : State K → ℕ → VComponent K → (State K → Element K → Outcome K) → World K → Outcome K
   call_in w s c then_on world = answered_with w s world then_on (body_of c world)
 
+  -- a component's body is called in the present world
   abbrev pub call_body : State K → ℕ → VComponent K → (State K → Element K → Outcome K) → Outcome K
   call_body w s c then_on = call_in w s c then_on (world_of w s None true)
 
@@ -200,6 +216,7 @@ module _ {K : Types} (app : Application K) where
   is_fed (Some c) (Some d) = is_same_component app c d
   is_fed _ _ = false
 
+  -- the child scopes that the new tree feeds
   abbrev pub kept_children : List (Spot K) → List (Spot K) → List (Place × ℕ) → List (Place × ℕ)
   kept_children old new [] = []
   kept_children old new (e ∷ es) =
@@ -217,6 +234,7 @@ module _ {K : Types} (app : Application K) where
   drop_at s side None = []
   drop_at s side (Some t) = Drop t s side ∷ []
 
+  -- the drops of the children that the new tree doesn't feed
   abbrev pub drops_of : ℕ → SideName → List (Spot K) → List (Place × ℕ) → List (Spot K) → List (Item K)
   drops_of s side new children [] = []
   drops_of s side new children (node_at p k ∷ old) = drops_of s side new children old
@@ -225,6 +243,7 @@ module _ {K : Types} (app : Application K) where
       then drops_of s side new children old
       else drop_at s side (child_at children p) ++ drops_of s side new children old)
 
+  -- a side has its new output, and keeps the numbers and children that match
   abbrev pub patched : State K → ℕ → SideName → Tree K → List (Spot K) → List (Spot K) → Side K → Scope K → Outcome K
   patched w s side tree old new was x =
       Done
@@ -264,6 +283,7 @@ module _ {K : Types} (app : Application K) where
   new_output w s (failed e) = if has_output w s then Done w [] else start_agenda w s MainSide placeholder_tree
   new_output w s (suspended origin t) = if has_output w s then Done w [] else start_agenda w s MainSide placeholder_tree
 
+  -- what follows a body's answer: the answer settles, hooks are called, the output changes
   abbrev pub after_answer : State K → ℕ → Element K → Outcome K
   after_answer w s answer = onward (onward (settled_answer w s answer) (λ v. after_hooks v s)) (λ v. new_output v s answer)
 
@@ -272,6 +292,7 @@ module _ {K : Types} (app : Application K) where
   boundary_run w b steps =
       (if runs_fallback steps then Done w (row_items b steps) else onward (after_hooks w b) (λ v. Done v (row_items b steps)))
 
+  -- a run, by the kind of the component
   abbrev pub run_as : State K → ℕ → Scope K → VComponent K → Outcome K
   run_as w s x (SuspenseBoundary children fallback) = boundary_run w s (row_of x.shows (is_held x))
   run_as w s x (Own component props) = call_body w s (Own component props) (λ v answer. after_answer v s answer)

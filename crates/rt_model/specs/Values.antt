@@ -4,16 +4,19 @@ use Rattle.rt_model.specs.Lists.{same_numbers, same_option, same_list}
 use Rattle.rt_model.specs.Tree.{Types, same_template, CapturedError, AttributeValue, text_value, no_value, listener, Attribute, Tree, block, Slots, no_slots, more_slots, Slot, text_slot, placeholder_slot, component_slot, fragment_slot, Trees, no_trees, more_trees, VComponent, Own, Root, Fragment, ErrorBoundary, SuspenseBoundary, Element, rendered, failed, suspended}
 use Rattle.rt_model.specs.World.{Application}
 
+-- equal errors: their serial number and text
 abbrev pub same_error : CapturedError → CapturedError → Bool
 same_error a b = nat_eq a.serial b.serial && same_numbers a.text b.text
 
 module _ {K : Types} (app : Application K) where
+  -- equal values of attributes
   abbrev pub same_attribute_value : AttributeValue K → AttributeValue K → Bool
   same_attribute_value (text_value t) (text_value u) = same_numbers t u
   same_attribute_value no_value no_value = true
   same_attribute_value (listener s h) (listener t i) = nat_eq s t && app.same_handler h i
   same_attribute_value _ _ = false
 
+  -- equal attributes
   abbrev pub same_given : Attribute K → Attribute K → Bool
   same_given a b = same_numbers a.name b.name && same_option same_numbers a.namespace b.namespace && same_attribute_value a.value b.value
 
@@ -22,14 +25,17 @@ module _ {K : Types} (app : Application K) where
   same_call a b = app.same_component a.0 b.0 && app.same_props a.1 b.1
 
   abbrev mutual
+    -- equal trees
     pub same_tree : Tree K → Tree K → Bool
     same_tree (block t a ss) (block u b us) = same_template t u && same_list (same_list (λ x y. same_given x y)) a b && same_slots ss us
 
+    -- equal slots, each with the one of its number
     pub same_slots : Slots K → Slots K → Bool
     same_slots no_slots no_slots = true
     same_slots (more_slots v ss) (more_slots u us) = same_slot v u && same_slots ss us
     same_slots _ _ = false
 
+    -- equal contents of a slot
     pub same_slot : Slot K → Slot K → Bool
     same_slot (text_slot t) (text_slot u) = same_numbers t u
     same_slot placeholder_slot placeholder_slot = true
@@ -37,11 +43,13 @@ module _ {K : Types} (app : Application K) where
     same_slot (fragment_slot ts) (fragment_slot us) = same_trees ts us
     same_slot _ _ = false
 
+    -- equal items of fragments
     pub same_trees : Trees K → Trees K → Bool
     same_trees no_trees no_trees = true
     same_trees (more_trees t ts) (more_trees u us) = same_tree t u && same_trees ts us
     same_trees _ _ = false
 
+    -- equal components with equal props
     pub same_by_value : VComponent K → VComponent K → Bool
     same_by_value (Own a p) (Own b q) = same_call (a, p) (b, q)
     same_by_value (Root a p) (Root b q) = same_call (a, p) (b, q)
@@ -50,6 +58,7 @@ module _ {K : Types} (app : Application K) where
     same_by_value (SuspenseBoundary t f) (SuspenseBoundary u g) = same_element t u && same_option (λ x y. same_call x y) f g
     same_by_value _ _ = false
 
+    -- equal answers of bodies
     pub same_element : Element K → Element K → Bool
     same_element (rendered t) (rendered u) = same_tree t u
     same_element (failed e) (failed f) = same_error e f

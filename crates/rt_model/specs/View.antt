@@ -7,6 +7,7 @@ use Rattle.rt_model.specs.Run.{child_at}
 use Rattle.rt_model.specs.Document.{DocAttribute, DocElement, DocText, DocPlaceholder, Forest, Empty, Node, join_rows, leaf, with_attribute, with_listener}
 use Rattle.rt_model.specs.Heard.{number_at}
 
+-- what the child scope at a place shows
 abbrev pub child_view : (ℕ → Forest) → Option ℕ → Forest
 child_view inner None = Empty
 child_view inner (Some t) = inner t
@@ -18,15 +19,18 @@ module _ {K : Types} where
   one_attribute all a no_value = all
   one_attribute all a (listener origin handler) = all
 
+  -- a listener adds its name
   abbrev pub one_listener : List Text → Attribute K → AttributeValue K → List Text
   one_listener all a (listener origin handler) = with_listener all a.name
   one_listener all a (text_value text) = all
   one_listener all a no_value = all
 
+  -- what a slot gives joins an element's attributes
   abbrev pub given_attributes : List DocAttribute → List (Attribute K) → List DocAttribute
   given_attributes all [] = all
   given_attributes all (a ∷ rest) = given_attributes (one_attribute all a a.value) rest
 
+  -- the listeners that a slot gives join those of an element
   abbrev pub given_listeners : List Text → List (Attribute K) → List Text
   given_listeners all [] = all
   given_listeners all (a ∷ rest) = given_listeners (one_listener all a a.value) rest
@@ -38,6 +42,7 @@ module _ {K : Types} where
       element_attributes given (with_attribute all (record { name = name; namespace = namespace; value = value })) rest
   element_attributes given all (from_slot k ∷ rest) = element_attributes given (given_attributes all (attributes_in given k)) rest
 
+  -- the names that an element listens to
   abbrev pub element_listeners : List (List (Attribute K)) → List Text → List TemplateAttribute → List Text
   element_listeners given all [] = all
   element_listeners given all (fixed name namespace value ∷ rest) = element_listeners given all rest
@@ -62,15 +67,18 @@ module _ {K : Types} where
       join_rows (slot k (place_in whole above up i)) (nodes_view numbers whole above given slot up (i + 1) rest)
 
   abbrev mutual
+    -- what a tree shows
     pub tree_view : Side K → (ℕ → Forest) → Place → Tree K → Forest
     tree_view side inner above (block template given slots) =
         nodes_view side.numbers template above given (λ k place. slots_view side inner slots k place) [] 0 template.roots
 
+    -- what the slot with a number shows
     pub slots_view : Side K → (ℕ → Forest) → Slots K → ℕ → Place → Forest
     slots_view side inner no_slots k place = Empty
     slots_view side inner (more_slots v rest) zero place = slot_view side inner v place
     slots_view side inner (more_slots v rest) (suc k) place = slots_view side inner rest k place
 
+    -- what stands in a slot
     pub slot_view : Side K → (ℕ → Forest) → Slot K → Place → Forest
     slot_view side inner (text_slot text) place = leaf (number_at side.numbers place a_text) (DocText text)
     slot_view side inner placeholder_slot place = leaf (number_at side.numbers place a_placeholder) DocPlaceholder
@@ -78,11 +86,13 @@ module _ {K : Types} where
     slot_view side inner (fragment_slot no_trees) place = leaf (number_at side.numbers place an_empty_fragment) DocPlaceholder
     slot_view side inner (fragment_slot (more_trees t ts)) place = items_view side inner 0 place (more_trees t ts)
 
+    -- what a fragment's items show
     pub items_view : Side K → (ℕ → Forest) → ℕ → Place → Trees K → Forest
     items_view side inner i place no_trees = Empty
     items_view side inner i place (more_trees t ts) =
         join_rows (tree_view side inner (place ++ item i ∷ []) t) (items_view side inner (i + 1) place ts)
 
+  -- what a side shows
   abbrev pub side_view : (ℕ → Forest) → Side K → Forest
   side_view inner side = elim side.output [ None ↦ Empty | Some tree ↦ tree_view side inner [] tree ]
 

@@ -4,7 +4,9 @@ ghost use Rattle.rt_model.specs.World.{Application};
 ghost use Rattle.rt_model.specs.OneLog.{types, OneLog};
 ghost use Rattle.rt_model.specs.Laws.{ProgramsAreLawful};
 ghost use Rattle.rt_model.specs.Lasting.{LawfulLogsLast};
-ghost use Rattle.rt_model.specs.Still.{SameCausesNothing};
+ghost use Rattle.rt_model.specs.Still.{SameCausesNothing, RestCausesNothing};
+ghost use Rattle.rt_model.specs.Once.{ShownOnce};
+ghost use Rattle.rt_model.specs.CurrentTest.{TestDecidesCurrent};
 
 /// For one list of inputs at most one log of each length is accepted.
 pub fn one_log<C, P, V, H, T, E, L>()
@@ -24,4 +26,19 @@ pub fn lawful_logs_last<C, P, V, H, T, E, L>()
 /// Between a state and itself no edit is caused, where no attribute slot of a kept output has a name twice.
 pub fn same_causes_nothing<C, P, V, H, T, E, L>()
     ensures { (app : Application (types C P V H T E L)) → SameCausesNothing app }
+{}
+
+/// After an accepted log of a lawful application what shows has no number twice, and none is 0.
+pub fn shown_once<C, P, V, H, T, E, L>()
+    ensures { (app : Application (types C P V H T E L)) → ShownOnce app }
+{}
+
+/// Between a state that an accepted log of a lawful application reaches and itself no edit is caused.
+pub fn rest_causes_nothing<C, P, V, H, T, E, L>()
+    ensures { (app : Application (types C P V H T E L)) → RestCausesNothing app }
+{}
+
+/// The test that every scope is current says so exactly where it holds, where the application's tests decide.
+pub fn test_decides_current<C, P, V, H, T, E, L>()
+    ensures { (app : Application (types C P V H T E L)) → TestDecidesCurrent app }
 {}

@@ -1,7 +1,14 @@
 //! Worked rows that end in a fault, rows of events, attributes and hooks, and rows of rendering while suspended.
 
 ghost use Rattle.rt_model.specs.RenderRows.{SuspendedRenders, ContextWakesTask};
-ghost use Rattle.rt_model.specs.MoreRows.{UnitsAreSpent, TooDeepAMake, HookChangesKind, SuspendsOnAnEndedTask, NameStandsTwice, EventsBubble, AttributesMove, HooksRoundARun};
+ghost use Rattle.rt_model.specs.FaultRows.{UnitsAreSpent, TooDeepAMake, HookChangesKind, SuspendsOnAnEndedTask, NameStandsTwice};
+ghost use Rattle.rt_model.specs.ListenerRows.{EventsBubble, AttributesMove, HooksRoundARun};
+ghost use Rattle.rt_model.specs.RowsHold.{FaultRowsHold};
+
+/// A row that ends in a fault keeps the headline's sentences up to there, and the fault is the refusal's.
+pub fn fault_rows_hold()
+    ensures { FaultRowsHold }
+{}
 
 /// Where a body marks itself at each run the units are spent, and one more is owed.
 pub fn units_are_spent()

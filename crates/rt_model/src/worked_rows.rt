@@ -1,6 +1,24 @@
 //! Worked rows: each function claims that its row's logs are accepted, with the row's edits and documents.
 
-ghost use Rattle.rt_model.specs.Rows.{StaticTree, ReadsOfTheLastRunAlone, ParentFeedsChild, KeptChildReruns, RemovesDeepestFirst, CleansUpLastMadeFirst, FragmentEmptiesAndFills, EventsGrowAList, EndedTaskIsntPolled, TaskBeforeTheNextBatch, ErrorCaughtAndCleared, FirstErrorStays, Suspense, OneTaskHoldsTwoBoundaries, TwoTasksHoldOneBoundary, ShownBoundaryTurns, ContextThroughAFragment, ContextIsTracked, NearerProvider};
+ghost use Rattle.rt_model.specs.ReadRows.{StaticTree, ReadsOfTheLastRunAlone, ParentFeedsChild, KeptChildReruns};
+ghost use Rattle.rt_model.specs.RemovalRows.{RemovesDeepestFirst, CleansUpLastMadeFirst};
+ghost use Rattle.rt_model.specs.ListRows.{FragmentEmptiesAndFills, EventsGrowAList};
+ghost use Rattle.rt_model.specs.TaskRows.{EndedTaskIsntPolled, TaskBeforeTheNextBatch};
+ghost use Rattle.rt_model.specs.ErrorRows.{ErrorCaughtAndCleared, FirstErrorStays};
+ghost use Rattle.rt_model.specs.SuspenseRows.{Suspense, OneTaskHoldsTwoBoundaries, TwoTasksHoldOneBoundary, ShownBoundaryTurns};
+ghost use Rattle.rt_model.specs.ProviderRows.{ContextThroughAFragment, ContextIsTracked, NearerProvider};
+ghost use Rattle.rt_model.specs.Small.{SmallAreLawful};
+ghost use Rattle.rt_model.specs.RowsHold.{RowsHold};
+
+/// The applications of the rows obey the laws, whatever their bodies and polls.
+pub fn small_are_lawful()
+    ensures { SmallAreLawful }
+{}
+
+/// A row that computes keeps the headline's sentences, for any bodies and polls.
+pub fn rows_hold()
+    ensures { RowsHold }
+{}
 
 /// A static element with a text.
 pub fn static_tree()
