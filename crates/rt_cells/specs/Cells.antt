@@ -1,4 +1,5 @@
--- Tracked cells, who reads what, and reactive contexts: what a contract sees of all three, and what each call makes of it.
+-- Tracked cells, who reads what, and reactive contexts: what a contract sees of all three, and
+-- what each call makes of it.
 use Rattle.std.specs.Prelude.{ℕ, ◌+◌, ◌++◌, ◌∷◌, [], List, None, Some}
 use Rattle.rt_cells.specs.declared.names.ScopeId.{ScopeId}
 use Rattle.rt_cells.specs.declared.numbered.Held.{Held}
@@ -17,18 +18,27 @@ pub record State (V : Type 0) : Type 0 where
   pub next_cell : ℕ
   -- the readers that have sources, each with these, ascending and distinct
   pub reads : List (Reader × List Source)
-  -- the live reactive contexts by number, each with the scope that it was made for and whom it tells
+  -- the live reactive contexts by number, each with the scope it was made for and whom it tells
   pub contexts : List (ℕ × Held Target)
   pub next_context : ℕ
 
 module _ {V : Type 0} where
   -- Nothing is kept, and the counters stand at these numbers.
   abbrev pub started : ℕ → ℕ → State V
-  started first_cell first_context = record { cells = []; next_cell = first_cell; reads = []; contexts = []; next_context = first_context }
+  started first_cell first_context = record {
+    cells = [];
+    next_cell = first_cell;
+    reads = [];
+    contexts = [];
+    next_context = first_context;
+  }
 
   -- A new cell of the scope, under the next number.
   abbrev pub cell_made : ScopeId → V → State V → State V
-  cell_made owner value state = record state { cells = entered state.next_cell (record { owner = owner; value = value }) state.cells; next_cell = state.next_cell + 1 }
+  cell_made owner value state = record state {
+    cells = entered state.next_cell (record { owner = owner; value = value }) state.cells;
+    next_cell = state.next_cell + 1;
+  }
 
   -- Another value in the cell, where it is kept.
   abbrev pub cell_written : ℕ → V → State V → State V
@@ -40,17 +50,19 @@ module _ {V : Type 0} where
 
   -- The reader has just the sources that are named.
   abbrev pub reads_set : Reader → List Source → State V → State V
-  reads_set reader sources state = record state { reads = with_reads reader (in_order source_cmp sources) state.reads }
+  reads_set reader sources state =
+      record state { reads = with_reads reader (in_order source_cmp sources) state.reads }
 
   -- The reader has one more source.
   abbrev pub read_added : Reader → Source → State V → State V
-  read_added reader source state = reads_set reader (reads_of reader state.reads ++ source ∷ []) state
+  read_added reader source state =
+      reads_set reader (reads_of reader state.reads ++ source ∷ []) state
 
   -- The reader has no sources.
   abbrev pub reader_dropped : Reader → State V → State V
   reader_dropped reader state = record state { reads = without_reader reader state.reads }
 
-  -- A new reactive context, which was made for the scope and tells the target, under the next number; it has no sources.
+  -- A new context of the scope, which tells the target, under the next number and without sources.
   abbrev pub context_made : ScopeId → Target → State V → State V
   context_made scope target state = record state {
     contexts = entered state.next_context (record { owner = scope; value = target }) state.contexts;
@@ -60,8 +72,12 @@ module _ {V : Type 0} where
 
   -- A change that is made where the reactive context is live, and else nothing.
   abbrev pub where_live : ℕ → (State V → State V) → State V → State V
-  where_live context change state = elim (held_at context state.contexts) [ None ↦ state | Some _ ↦ change state ]
+  where_live context change state =
+      elim (held_at context state.contexts) [ None ↦ state | Some _ ↦ change state ]
 
   -- The reactive contexts that were made for the scope are gone, with their sources.
   abbrev pub contexts_dropped : ScopeId → State V → State V
-  contexts_dropped scope state = record state { contexts = without_scope scope state.contexts; reads = without_contexts (numbers_of scope state.contexts) state.reads }
+  contexts_dropped scope state = record state {
+    contexts = without_scope scope state.contexts;
+    reads = without_contexts (numbers_of scope state.contexts) state.reads;
+  }

@@ -41,7 +41,8 @@ module _ {X : Type 0} where
   written number value held =
       elim (held_at number held) [
         | None ↦ held
-        | Some thing ↦ set_value (is_at (nat_cmp number)) held (record { owner = thing.owner; value = value })
+        | Some thing ↦
+            set_value (is_at (nat_cmp number)) held (record { owner = thing.owner; value = value })
       ]
 
   -- Whether a thing was made for the scope.

@@ -20,8 +20,10 @@ passes test (Some x) = test x
 abbrev pub was_made_for : {X : Type 0} → ScopeId → Option (Held X) → Bool
 was_made_for scope kept = passes (λ thing. is_eq (scope_cmp scope thing.owner)) kept
 
--- The pairs are the scopes of the things with their numbers, the numbers ascend, and each lies below the next.
-pub record IsIndexed {X : Type 0} (held : List (ℕ × Held X)) (owners : List (ScopeId × ℕ)) (next : ℕ) : Type 0 where
-  pub tied : (owned : ScopeId × ℕ) → list_any (is_at (owner_cmp owned)) owners ≡ was_made_for owned.0 (held_at owned.1 held)
+-- The pairs are the things' scopes with their numbers; these ascend, and each is below the next.
+pub record IsIndexed {X : Type 0}
+    (held : List (ℕ × Held X)) (owners : List (ScopeId × ℕ)) (next : ℕ) : Type 0 where
+  pub tied : (owned : ScopeId × ℕ)
+      → list_any (is_at (owner_cmp owned)) owners ≡ was_made_for owned.0 (held_at owned.1 held)
   pub ascending : IsStrictlySortedBy nat_cmp (keys_of held)
   pub below : (number : ℕ) → IsSome (held_at number held) → number < next

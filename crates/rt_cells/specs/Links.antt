@@ -25,14 +25,20 @@ stands_at place sources = list_any (λ source. is_eq (place_cmp (place_of source
 
 -- Whether the link is one of the reader to one of the sources.
 abbrev pub is_linked : Reader → List Source → Place × Reader → Bool
-is_linked reader sources link = list_any (λ source. is_at (link_cmp (place_of source, reader)) link) sources
+is_linked reader sources link =
+    list_any (λ source. is_at (link_cmp (place_of source, reader)) link) sources
 
 -- Whether the link is one of the reader to one of the sources that isn't kept.
 abbrev pub is_let_go : Reader → List Source → List Source → Place × Reader → Bool
-is_let_go reader kept sources link = list_any (λ source. not (has source kept) && is_at (link_cmp (place_of source, reader)) link) sources
+is_let_go reader kept sources link = list_any
+    (λ source. not (has source kept) && is_at (link_cmp (place_of source, reader)) link) sources
 
--- The pairs are each reader with the places of its sources; readers ascend, and so do the sources of each.
-pub record IsLinked (reads : List (Reader × List Source)) (links : List (Place × Reader)) : Type 0 where
-  pub tied : (link : Place × Reader) → list_any (is_at (link_cmp link)) links ≡ passes (stands_at link.0) (sources_at link.1 reads)
-  pub ascending : IsStrictlySortedBy reader_cmp (keys_of reads)
-  pub sorted : (reader : Reader) → IfSome (sources_at reader reads) (IsStrictlySortedBy source_cmp)
+-- The pairs are each reader with its sources' places; readers ascend, and the sources of each.
+pub record IsLinked (reads : List (Reader × List Source)) (links : List (Place × Reader)) : Type 0
+  where
+    pub tied : (link : Place × Reader)
+        → list_any (is_at (link_cmp link)) links
+        ≡ passes (stands_at link.0) (sources_at link.1 reads)
+    pub ascending : IsStrictlySortedBy reader_cmp (keys_of reads)
+    pub sorted : (reader : Reader)
+        → IfSome (sources_at reader reads) (IsStrictlySortedBy source_cmp)

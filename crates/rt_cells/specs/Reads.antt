@@ -40,14 +40,16 @@ abbrev pub without_reader : Reader → List (Reader × List Source) → List (Re
 without_reader reader reads = remove_entry (is_at (reader_cmp reader)) reads
 
 -- The reader has just these sources: who has none isn't kept.
-abbrev pub with_reads : Reader → List Source → List (Reader × List Source) → List (Reader × List Source)
+abbrev pub with_reads :
+    Reader → List Source → List (Reader × List Source) → List (Reader × List Source)
 with_reads reader [] reads = without_reader reader reads
 with_reads reader (source ∷ sources) reads = insert_entry reader_cmp reads reader (source ∷ sources)
 
 -- The reactive contexts of these numbers have no sources.
 abbrev pub without_contexts : List ℕ → List (Reader × List Source) → List (Reader × List Source)
 without_contexts [] reads = reads
-without_contexts (number ∷ numbers) reads = without_contexts numbers (without_reader (reader.Context number) reads)
+without_contexts (number ∷ numbers) reads =
+    without_contexts numbers (without_reader (reader.Context number) reads)
 
 -- Whether the source is what the scope provides of some kind.
 abbrev pub is_context_of : ScopeId → Source → Bool
@@ -56,4 +58,5 @@ is_context_of scope _ = false
 
 -- The sources of every kind of a scope that some reader has, ascending.
 abbrev pub context_sources : ScopeId → List (Reader × List Source) → List Source
-context_sources scope reads = in_order source_cmp (filter (is_context_of scope) (flat_map (λ read. read.1) reads))
+context_sources scope reads =
+    in_order source_cmp (filter (is_context_of scope) (flat_map (λ read. read.1) reads))

@@ -12,8 +12,10 @@ pub record Members : Type 0 where
 
 -- The context is one of them, where the set takes any.
 abbrev pub joined : ReactiveContext → Members → Members
-joined context set = cond set.listens (record set { members = insert_key context_cmp set.members context }) set
+joined context set =
+    cond set.listens (record set { members = insert_key context_cmp set.members context }) set
 
 -- The context is none of them.
 abbrev pub parted : ReactiveContext → Members → Members
-parted context set = record set { members = filter (λ member. not (same_context member context)) set.members }
+parted context set =
+    record set { members = filter (λ member. not (same_context member context)) set.members }

@@ -76,7 +76,8 @@ impl<V> Cells<V> {
         sources: &[Source],
     ) -> Result<(), OutOfMemory>
         ensures ok { OnOk result (self.new ≡ reads_set reader sources.now self.old) }
-        ensures set { OnOk result (reads_of reader self.new.reads ≡ in_order source_cmp sources.now) }
+        ensures set { OnOk result
+            (reads_of reader self.new.reads ≡ in_order source_cmp sources.now) }
         ensures err { OnErr result (self.new ≡ self.old) }
     {
         self.reads.set(alloc, reader, sources)
@@ -90,7 +91,8 @@ impl<V> Cells<V> {
         source: Source,
     ) -> Result<(), OutOfMemory>
         ensures ok { OnOk result (self.new ≡ read_added reader source self.old) }
-        ensures added { OnOk result (reads_of reader self.new.reads ≡ in_order source_cmp (reads_of reader self.old.reads ++ source ∷ [])) }
+        ensures added { OnOk result (reads_of reader self.new.reads
+            ≡ in_order source_cmp (reads_of reader self.old.reads ++ source ∷ [])) }
         ensures err { OnErr result (self.new ≡ self.old) }
     {
         self.reads.add(alloc, reader, source)
@@ -112,13 +114,14 @@ impl<V> Cells<V> {
         self.reads.readers_of(alloc, source)
     }
 
-    /// The contexts of the scope, of whatever kind, that some reader has looked up, ascending by kind.
+    /// The contexts of the scope that some reader has looked up, of whatever kind, ascending.
     pub fn context_sources(
         &self,
         alloc: Global,
         scope: ScopeId,
     ) -> Result<List<Source>, OutOfMemory>
         ensures sources { IfOk result (λ sources. sources ≡ context_sources scope self.now.reads) }
+        ensures ascending { IfOk result (IsStrictlySortedBy source_cmp) }
     {
         self.reads.contexts_of(alloc, scope)
     }
@@ -148,10 +151,12 @@ impl<V> Cells<V> {
     pub(crate) fn new_context(&mut self, scope: ScopeId, target: Target) -> Result<u64, CellsFault>
         ensures drawn { IfOk result (λ number. number ≡ self.old.next_context) }
         ensures ok { OnOk result (self.new ≡ context_made scope target self.old) }
-        ensures fresh { held_at self.old.next_context self.old.contexts ≡ None }
-        ensures kept { OnOk result (held_at self.old.next_context self.new.contexts ≡ Some (record { owner = scope; value = target })) }
-        ensures silent { OnOk result (reads_of (Reader.Context self.old.next_context) self.new.reads ≡ []) }
-        ensures at_end { (result ≡ Err CellsFault.IdsExhausted) ↔ (self.old.next_context ≡ 2 ^ 64 - 1) }
+        ensures kept { OnOk result (held_at self.old.next_context self.new.contexts
+            ≡ Some (record { owner = scope; value = target })) }
+        ensures silent { OnOk result
+            (reads_of (Reader.Context self.old.next_context) self.new.reads ≡ []) }
+        ensures at_end { (result ≡ Err CellsFault.IdsExhausted)
+            ↔ (self.old.next_context ≡ 2 ^ 64 - 1) }
         ensures err { OnErr result (self.new ≡ self.old) }
     {
         let number = self.contexts.insert(scope, target)?;
@@ -180,8 +185,10 @@ impl<V: Drop> Cells<V> {
         ensures drawn { IfOk result (λ cell. cell ≡ self.old.next_cell) }
         ensures ok { OnOk result (self.new ≡ cell_made owner value self.old) }
         ensures fresh { held_at self.old.next_cell self.old.cells ≡ None }
-        ensures kept { OnOk result (held_at self.old.next_cell self.new.cells ≡ Some (record { owner = owner; value = value })) }
-        ensures at_end { (result ≡ Err CellsFault.IdsExhausted) ↔ (self.old.next_cell ≡ 2 ^ 64 - 1) }
+        ensures kept { OnOk result (held_at self.old.next_cell self.new.cells
+            ≡ Some (record { owner = owner; value = value })) }
+        ensures at_end { (result ≡ Err CellsFault.IdsExhausted)
+            ↔ (self.old.next_cell ≡ 2 ^ 64 - 1) }
         ensures err { OnErr result (self.new ≡ self.old) }
     {
         self.cells.insert(owner, value)

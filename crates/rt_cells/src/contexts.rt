@@ -1,4 +1,5 @@
-//! Reactive contexts: each is made for a scope, subscribes to sources, and tells its target when one of these changes.
+//! Reactive contexts: each is made for a scope, subscribes to sources, and tells its target when
+//! one of these changes.
 //! A context that was removed with its scope stays a name that does nothing.
 ghost use Rattle.std.specs.Prelude.{◌≡◌, ◌↔◌, ◌-◌, ◌^◌, [], IfOk, OnOk, OnErr};
 ghost use Rattle.rt_cells.specs.declared.sources.Reader.TheVariants as reader;
@@ -22,8 +23,12 @@ impl ReactiveContext {
     ) -> Result<ReactiveContext, CellsFault>
         ensures drawn { IfOk result (λ context. context.0 ≡ cells.old.next_context) }
         ensures ok { OnOk result (cells.new ≡ context_made scope target cells.old) }
-        ensures silent { OnOk result (reads_of (reader.Context cells.old.next_context) cells.new.reads ≡ []) }
-        ensures at_end { (result ≡ Err CellsFault.IdsExhausted) ↔ (cells.old.next_context ≡ 2 ^ 64 - 1) }
+        ensures kept { OnOk result (held_at cells.old.next_context cells.new.contexts
+            ≡ Some (record { owner = scope; value = target })) }
+        ensures silent { OnOk result
+            (reads_of (reader.Context cells.old.next_context) cells.new.reads ≡ []) }
+        ensures at_end { (result ≡ Err CellsFault.IdsExhausted)
+            ↔ (cells.old.next_context ≡ 2 ^ 64 - 1) }
         ensures err { OnErr result (cells.new ≡ cells.old) }
     {
         let number = cells.new_context(scope, target)?;
@@ -34,8 +39,12 @@ impl ReactiveContext {
     pub fn new<V>(cells: &mut Cells<V>, scope: ScopeId) -> Result<ReactiveContext, CellsFault>
         ensures drawn { IfOk result (λ context. context.0 ≡ cells.old.next_context) }
         ensures ok { OnOk result (cells.new ≡ context_made scope (Target.Scope scope) cells.old) }
-        ensures silent { OnOk result (reads_of (reader.Context cells.old.next_context) cells.new.reads ≡ []) }
-        ensures at_end { (result ≡ Err CellsFault.IdsExhausted) ↔ (cells.old.next_context ≡ 2 ^ 64 - 1) }
+        ensures kept { OnOk result (held_at cells.old.next_context cells.new.contexts
+            ≡ Some (record { owner = scope; value = Target.Scope scope })) }
+        ensures silent { OnOk result
+            (reads_of (reader.Context cells.old.next_context) cells.new.reads ≡ []) }
+        ensures at_end { (result ≡ Err CellsFault.IdsExhausted)
+            ↔ (cells.old.next_context ≡ 2 ^ 64 - 1) }
         ensures err { OnErr result (cells.new ≡ cells.old) }
     {
         ReactiveContext::new_with_callback(cells, scope, Target::Scope(scope))
@@ -43,21 +52,23 @@ impl ReactiveContext {
 
     /// Leaves a live context without sources.
     pub fn clear_subscribers<V>(&self, cells: &mut Cells<V>)
-        ensures cleared { cells.new ≡ where_live self.now.0 (reader_dropped (reader.Context self.now.0)) cells.old }
+        ensures cleared { cells.new
+            ≡ where_live self.now.0 (reader_dropped (reader.Context self.now.0)) cells.old }
     {
         if cells.context_scope(self.0).is_some() {
             cells.drop_reader(Reader::Context(self.0));
         }
     }
 
-    /// Gives a live context one more source. A removed context is left as it is, and that is no refusal.
+    /// Gives a live context one more source. Of a removed context nothing changes, and that is Ok.
     pub fn subscribe<V>(
         &self,
         alloc: Global,
         cells: &mut Cells<V>,
         source: Source,
     ) -> Result<(), OutOfMemory>
-        ensures ok { OnOk result (cells.new ≡ where_live self.now.0 (read_added (reader.Context self.now.0) source) cells.old) }
+        ensures ok { OnOk result (cells.new
+            ≡ where_live self.now.0 (read_added (reader.Context self.now.0) source) cells.old) }
         ensures err { OnErr result (cells.new ≡ cells.old) }
     {
         if cells.context_scope(self.0).is_none() {

@@ -1,4 +1,5 @@
 //! Why a cell or a context can't be made.
+ghost use Rattle.std.specs.Prelude.{◌≡◌};
 
 use crate::memory::OutOfMemory;
 
@@ -12,6 +13,10 @@ pub enum CellsFault {
 }
 
 impl From<OutOfMemory> for CellsFault {
+    ghost use Rattle.rt_cells.specs.declared.faults.CellsFault.TheVariants.{OutOfMemory};
+
+    ghost from_gives = { λ _ fault. fault ≡ OutOfMemory };
+
     fn from(_error: OutOfMemory) -> CellsFault {
         CellsFault::OutOfMemory
     }

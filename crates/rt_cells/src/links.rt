@@ -37,10 +37,12 @@ pub fn enter(
     sources: &[Source],
 ) -> Result<(), OutOfMemory>
     ensures ok { OnOk result ((link : Place × Reader) →
-        contains link_cmp links.new link ≡ (contains link_cmp links.old link || is_linked reader sources.now link)) }
+        contains link_cmp links.new link
+        ≡ (contains link_cmp links.old link || is_linked reader sources.now link)) }
     ensures err { OnErr result ((link : Place × Reader) →
         (contains link_cmp links.new link ≡ contains link_cmp links.old link)
-        ⊎ (contains link_cmp links.new link ≡ (contains link_cmp links.old link || is_linked reader sources.now link))) }
+        ⊎ (contains link_cmp links.new link
+        ≡ (contains link_cmp links.old link || is_linked reader sources.now link))) }
 {
     for source in sources {
         links.insert((place_of(*source), reader))?;
@@ -57,7 +59,8 @@ pub fn leave(
 )
     requires ascending { IsStrictlySortedBy source_cmp kept.now }
     ensures left { (link : Place × Reader) →
-        contains link_cmp links.new link ≡ (contains link_cmp links.old link && not (is_let_go reader kept.now sources.now link)) }
+        contains link_cmp links.new link ≡ (contains link_cmp links.old link
+        && not (is_let_go reader kept.now sources.now link)) }
 {
     for source in sources {
         if !is_among(kept, *source) {
@@ -73,7 +76,8 @@ pub fn readers_at(
     place: Place,
 ) -> Result<Vec<Reader>, OutOfMemory>
     ensures front { IfOk result (λ readers. readers.items ≡ map (λ link. link.1)
-        (take_while (λ link. same_place place link.0) (keys_between link_cmp (Included (place, FIRST_READER)) Unbounded links.now))) }
+        (take_while (λ link. same_place place link.0)
+        (keys_between link_cmp (Included (place, FIRST_READER)) Unbounded links.now))) }
     ensures ordered { IsStrictlySortedBy link_cmp links.now.keys }
 {
     let readers = links
@@ -102,7 +106,8 @@ pub fn contexts_at(
 ) -> Result<Vec<Source>, OutOfMemory>
     ensures front { IfOk result (λ sources. sources.items ≡ map (λ link. source_at link.0)
         (take_while (λ link. is_context_of scope (source_at link.0))
-        (keys_between link_cmp (Included (place.Context scope 0, FIRST_READER)) Unbounded links.now))) }
+        (keys_between link_cmp (Included (place.Context scope 0, FIRST_READER)) Unbounded
+        links.now))) }
     ensures ordered { IsStrictlySortedBy link_cmp links.now.keys }
 {
     let sources = links

@@ -50,7 +50,8 @@ impl<T> Model for Numbered<T> {
 
     ghost view = { λ numbered. record { held = numbered.held.entries; next = numbered.next } };
 
-    ghost invariant = { λ numbered. IsIndexed numbered.held.entries numbered.owners.keys numbered.next };
+    ghost invariant = { λ numbered.
+        IsIndexed numbered.held.entries numbered.owners.keys numbered.next };
 }
 
 impl<T> Numbered<T> {
@@ -116,7 +117,8 @@ impl<T: Drop> Numbered<T> {
           next = self.old.next + 1;
         }) }
         ensures fresh { held_at self.old.next self.old.held ≡ None }
-        ensures kept { OnOk result (held_at self.old.next self.new.held ≡ Some (record { owner = owner; value = value })) }
+        ensures kept { OnOk result (held_at self.old.next self.new.held
+            ≡ Some (record { owner = owner; value = value })) }
         ensures at_end { (result ≡ Err CellsFault.IdsExhausted) ↔ (self.old.next ≡ 2 ^ 64 - 1) }
         ensures err { OnErr result (self.new ≡ self.old) }
     {
@@ -167,7 +169,8 @@ fn numbers_by(
     owner: ScopeId,
 ) -> Result<Vec<u64>, OutOfMemory>
     ensures front { IfOk result (λ numbers. numbers.items ≡ map (λ owned. owned.1)
-        (take_while (λ owned. same_scope owner owned.0) (keys_between owner_cmp (Included (owner, 0)) Unbounded owners.now))) }
+        (take_while (λ owned. same_scope owner owned.0)
+        (keys_between owner_cmp (Included (owner, 0)) Unbounded owners.now))) }
     ensures ordered { IsStrictlySortedBy owner_cmp owners.now.keys }
 {
     let numbers = owners

@@ -39,6 +39,7 @@ impl Model for Reads {
 /// The distinct sources, ascending.
 pub fn in_order(alloc: Global, sources: &[Source]) -> Result<List<Source>, OutOfMemory>
     ensures sources { IfOk result (λ ordered. ordered ≡ in_order source_cmp sources.now) }
+    ensures ascending { IfOk result (IsStrictlySortedBy source_cmp) }
 {
     let mut ordered = Vec::from_slice(alloc, sources)?;
     ordered.sort_unstable();
@@ -129,7 +130,8 @@ impl Reads {
         reader: Reader,
         sources: &[Source],
     ) -> Result<(), OutOfMemory>
-        ensures ok { OnOk result (self.new ≡ with_reads reader (in_order source_cmp sources.now) self.old) }
+        ensures ok { OnOk result
+            (self.new ≡ with_reads reader (in_order source_cmp sources.now) self.old) }
         ensures set { OnOk result (reads_of reader self.new ≡ in_order source_cmp sources.now) }
         ensures err { OnErr result (self.new ≡ self.old) }
     {
@@ -152,8 +154,10 @@ impl Reads {
 
     /// The reader has one more source, or as many as before where it has that one.
     pub fn add(&mut self, alloc: Global, reader: Reader, source: Source) -> Result<(), OutOfMemory>
-        ensures ok { OnOk result (self.new ≡ with_reads reader (in_order source_cmp (reads_of reader self.old ++ source ∷ [])) self.old) }
-        ensures added { OnOk result (reads_of reader self.new ≡ in_order source_cmp (reads_of reader self.old ++ source ∷ [])) }
+        ensures ok { OnOk result (self.new ≡ with_reads reader
+            (in_order source_cmp (reads_of reader self.old ++ source ∷ [])) self.old) }
+        ensures added { OnOk result (reads_of reader self.new
+            ≡ in_order source_cmp (reads_of reader self.old ++ source ∷ [])) }
         ensures err { OnErr result (self.new ≡ self.old) }
     {
         let mut sources = Vec::from_slice(alloc, self.of(reader))?;
@@ -164,6 +168,7 @@ impl Reads {
     /// What the scope provides, of each kind that some reader has, ascending by kind.
     pub fn contexts_of(&self, alloc: Global, scope: ScopeId) -> Result<List<Source>, OutOfMemory>
         ensures sources { IfOk result (λ sources. sources ≡ context_sources scope self.now) }
+        ensures ascending { IfOk result (IsStrictlySortedBy source_cmp) }
     {
         let sources = contexts_at(alloc, &self.links, scope)?;
         in_order(alloc, sources.as_slice())

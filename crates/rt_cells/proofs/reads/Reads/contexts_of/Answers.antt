@@ -13,4 +13,5 @@ returns c = record {
       (ap (in_order source_cmp) (c.as_slice.ensures.value ∙ c.in_ok-sources.ensures.front)
       ∙ contexts_found c.args.scope c.self.inside.sources.entries c.self.inside.links.keys c.self.invariant c.in_ok-sources.ensures.ordered)
       c.in_order.ensures.sources);
+  ascending = c.in_order.ensures.ascending;
 }
