@@ -19,12 +19,11 @@ invariant_of-self g c =
     let s = c.self.inside.scopes in
     let kept = c.self.invariant in
     let tagged = tagged_with_waiting c.args.order c.id.result.0 s.posted number kept.posted_tagged in
-    kept_scopes s c.self.inside.tasks c.post.new.self kept (ap (λ (r : Roster). r.entered) c.post.ensures.posted) (rw c.post.ensures.posted kept.ready_tagged) (rw c.post.ensures.posted tagged)
+    kept_scopes s c.self.inside.tasks c.post.new.self kept (rw c.post.ensures.posted refl) (rw c.post.ensures.posted kept.ready_tagged) (rw c.post.ensures.posted tagged)
 
 pub returns-clause-posted : goal.returns-clause-posted
 returns-clause-posted g c =
     let number : c.id.result.0 ≡ c.args.order.id.0 = ap (λ (i : ScopeId). i.0) c.id.ensures.id in
     let s = c.self.inside.scopes in
     let orders = orders_with_waiting c.args.order c.id.result.0 s.posted number c.self.invariant.posted_tagged in
-    let now : orders_of c.post.new.self.posted ≡ with_scope c.args.order (orders_of s.posted) = ap (λ (r : Roster). orders_of r.posted) c.post.ensures.posted ∙ orders in
     rw (← c.self.view_is) (rw (c.post.ensures.posted, orders) refl)
