@@ -1,11 +1,10 @@
 -- Batches of those that wait, when the effects of one scope change.
-use Rattle.std.proofs.Common.{◌≡◌, ℕ, Bool, true, false, cond, not, ◌||◌, List, [], ◌∷◌, ◌++◌, map, eqb, refl, ap, ◌∙◌, sym, subst, ◌⊎◌, inl, inr, ⊎_elim, arith, Option, Some, None}
-use Rattle.std.proofs.lemmas.Bool.{or_parts, or_cases, or_right, or_left, or_from, eqb-true, eq-eqb, ne_eqb, eqb-false, both_ways, cases_Bool}
-use Rattle.std.specs.Option.{is_some}
+use Rattle.std.proofs.Common.{◌≡◌, ℕ, Bool, true, false, cond, ◌||◌, List, [], ◌∷◌, ◌++◌, map, eqb, refl, ap, ◌∙◌, sym, ⊎_elim, Option, Some}
+use Rattle.std.proofs.lemmas.Bool.{or_parts, eqb-true, eq-eqb, ne_eqb, eqb-false, cases_Bool}
 use Rattle.std.specs.List.{filter}
 use Rattle.rt_sched.specs.Order.{order_before}
 use Rattle.rt_sched.specs.Lines.{waits, with_last, without_waiting}
-use Rattle.rt_sched.specs.Batches.{has_batch, with_later, with_batch, with_effect, without_batch}
+use Rattle.rt_sched.specs.Batches.{has_batch, with_later, with_batch, without_batch}
 use Rattle.rt_sched.specs.Pending.{AllTagged, effects_of}
 use Rattle.rt_sched.specs.declared.order.ScopeOrder.{ScopeOrder}
 

@@ -1,15 +1,13 @@
 -- The scopes' lists as orders, and the tasks' lists under entered scopes.
-use Rattle.std.proofs.Common.{◌≡◌, ℕ, Bool, true, false, cond, not, ◌||◌, ◌&&◌, List, [], ◌∷◌, map, eqb, refl, ap, ◌∙◌, sym, subst, ◌⊎◌, inl, inr, ⊎_elim, arith, Option, Some, None}
-use Rattle.std.proofs.lemmas.Grind.{common_steps}
-use Rattle.std.proofs.lemmas.Bool.{or_parts, or_cases, or_right, or_left, or_from, and_parts, and_from, eqb-true, eq-eqb, ne_eqb, eqb-false, both_ways, cases_Bool, false_from_ne_true}
+use Rattle.std.proofs.Common.{◌≡◌, ℕ, Bool, true, false, cond, not, ◌||◌, ◌&&◌, List, [], ◌∷◌, eqb, refl, ap, ◌∙◌, sym, subst, ⊎_elim, Some, None}
+use Rattle.std.proofs.lemmas.Bool.{or_cases, or_right, or_left, and_parts, and_from, eqb-true, eq-eqb, ne_eqb, eqb-false, both_ways, false_from_ne_true}
 use Rattle.std.specs.List.{filter}
-use Rattle.rt_cells.specs.declared.names.ScopeId.{ScopeId}
 use Rattle.rt_sched.specs.Order.{order_before, same_order}
-use Rattle.rt_sched.specs.Lines.{waits, with_last, with_waiting, without_waiting, order_in}
+use Rattle.rt_sched.specs.Lines.{waits, with_last, with_waiting, without_waiting, order_in, orders_of}
 use Rattle.rt_sched.specs.Rosters.{Roster, AllUnder, stands_under, all_waiting, without_under}
 use Rattle.rt_sched.specs.Pending.{AllTagged}
 use Rattle.rt_sched.specs.Queues.{has_scope, has_order, with_order, with_scope, without_scope, all_seen, without_tasks_of}
-use Rattle.rt_sched.specs.Kept.{AreKept, AllOfScopes, orders_of}
+use Rattle.rt_sched.specs.Kept.{AreKept, AllOfScopes}
 use Rattle.rt_sched.specs.declared.order.ScopeOrder.{ScopeOrder}
 use Rattle.rt_sched.proofs.PlaceLemmas.{same_order_is}
 use Rattle.rt_sched.proofs.BatchLemmas.{tagged_with_last, tagged_filter}

@@ -1,6 +1,7 @@
 pub mod BatchLemmas
 pub mod InOrder
 pub mod KeptLemmas
+pub mod Least
 pub mod LineLemmas
 pub mod PendingLemmas
 pub mod PlaceLemmas

@@ -1,10 +1,9 @@
 -- What a line is after a change of one seat and of the places.
-use Rattle.std.proofs.Common.{◌≡◌, ℕ, Bool, true, false, cond, ◌||◌, List, [], ◌∷◌, ◌<◌, ◌+◌, eqb, refl, ap, ◌∙◌, sym, subst, ◌⊎◌, inl, inr, ⊎_elim, arith, Option, Some, None}
+use Rattle.std.proofs.Common.{◌≡◌, ℕ, true, false, cond, List, [], ◌∷◌, ◌+◌, eqb, refl, ap, ◌∙◌, sym, subst, ⊎_elim, arith, Option, Some, None}
 use Rattle.std.proofs.lemmas.Bool.{or_cases, or_right, or_left, eqb-true, eq-eqb, ne_eqb, eqb-false, both_ways, cases_Bool}
 use Rattle.std.specs.Option.{option_map}
 use Rattle.rt_sched.specs.Places.{same_place, with_place, has_place, without_place}
-use Rattle.rt_sched.specs.Lines.{waits, who_waits, order_in, IsLine, AllArrivedBelow, AllOnce}
-use Rattle.rt_sched.specs.declared.order.ScopeOrder.{ScopeOrder}
+use Rattle.rt_sched.specs.Lines.{waits, who_waits, order_in, IsLine}
 use Rattle.rt_sched.specs.declared.place.Place.{Place}
 use Rattle.rt_sched.proofs.PlaceLemmas.{same_place_is, same_place_itself}
 use Rattle.rt_sched.proofs.InOrder.{in_order_with_place, in_order_without_place}

@@ -1,12 +1,12 @@
 -- The line of scopes with effects and their batches, when one batch changes.
-use Rattle.std.proofs.Common.{◌≡◌, ℕ, Bool, true, false, cond, ◌||◌, List, [], ◌∷◌, ◌++◌, eqb, refl, ap, ◌∙◌, sym, subst, ◌⊎◌, inl, inr, ⊎_elim, arith, Option, Some, None, Result, Ok, Err}
-use Rattle.std.proofs.lemmas.Bool.{eqb-true, eq-eqb, cases_Bool}
+use Rattle.std.proofs.Common.{◌≡◌, ℕ, Bool, true, false, cond, ◌||◌, List, eqb, refl, ap, ◌∙◌, sym, ⊎_elim, Option, Some, None, Result, Ok, Err}
+use Rattle.std.proofs.lemmas.Bool.{eqb-true, cases_Bool}
 use Rattle.std.specs.Option.{is_some}
 use Rattle.std.specs.Result.{OnOk}
 use Rattle.std.specs.Ordering.{nat_cmp, is_eq}
 use Rattle.std.specs.BTreeMap.{BTreeMap, get}
 use Rattle.rt_sched.specs.Lines.{Row, waits, with_last, without_waiting}
-use Rattle.rt_sched.specs.Pending.{ArePending, AllTagged, effects_of}
+use Rattle.rt_sched.specs.Pending.{ArePending}
 use Rattle.rt_sched.specs.declared.order.ScopeOrder.{ScopeOrder}
 use Rattle.rt_sched.proofs.BatchLemmas.{tagged_with_last, tagged_filter}
 use Rattle.rt_sched.proofs.RollLemmas.{waits_with_last, waits_without}

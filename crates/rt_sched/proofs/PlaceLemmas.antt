@@ -1,10 +1,10 @@
 -- The order of places is total.
-use Rattle.std.proofs.Common.{◌≡◌, ℕ, Bool, true, false, refl, ap, sym, ◌∙◌, arith}
+use Rattle.std.proofs.Common.{◌≡◌, ℕ, true, false, refl, ap, sym, ◌∙◌, arith}
 use Rattle.std.proofs.lemmas.Grind.{common_steps}
 use Rattle.std.proofs.lemmas.Bool.Decides.{nat_tests}
 use Rattle.std.proofs.lemmas.Bool.{false≢true}
 use Rattle.rt_cells.specs.declared.names.ScopeId.{ScopeId}
-use Rattle.rt_sched.specs.Order.{order_before, same_order}
+use Rattle.rt_sched.specs.Order.{same_order}
 use Rattle.rt_sched.specs.Places.{place_before, same_place}
 use Rattle.rt_sched.specs.declared.order.ScopeOrder.{ScopeOrder}
 use Rattle.rt_sched.specs.declared.place.Place.{Place}

@@ -1,7 +1,6 @@
 -- Three lines of one roll, when a number enters, waits, leaves or is looked at.
-use Rattle.std.proofs.Common.{◌≡◌, ℕ, Bool, true, false, cond, not, ◌||◌, ◌&&◌, List, [], ◌∷◌, ◌<◌, length, eqb, suc, refl, ap, ◌∙◌, sym, subst, ◌⊎◌, inl, inr, ⊎_elim, arith, Option, Some, None}
-use Rattle.std.proofs.lemmas.Grind.{common_steps}
-use Rattle.std.proofs.lemmas.Bool.{or_parts, or_cases, or_right, or_left, or_from, and_parts, eqb-true, eq-eqb, ne_eqb, eqb-false, both_ways, cases_Bool, false_from_ne_true}
+use Rattle.std.proofs.Common.{◌≡◌, ℕ, Bool, true, false, cond, not, ◌||◌, ◌&&◌, List, [], ◌∷◌, ◌<◌, length, eqb, suc, refl, ap, ◌∙◌, sym, subst, ⊎_elim, arith, Option, Some, None}
+use Rattle.std.proofs.lemmas.Bool.{or_parts, or_cases, or_right, or_left, or_from, and_parts, eqb-true, eq-eqb, ne_eqb, eqb-false, both_ways, false_from_ne_true}
 use Rattle.std.specs.List.{filter}
 use Rattle.std.specs.Option.{is_some}
 use Rattle.rt_sched.specs.Order.{order_before, same_order}
@@ -9,7 +8,7 @@ use Rattle.rt_sched.specs.Lines.{Row, has_number, Joins, Leaves, waits, with_las
 use Rattle.rt_sched.specs.Rosters.{AreLines, HasMembers, AllUnder, stands_under, all_waiting, without_under}
 use Rattle.rt_sched.specs.declared.order.ScopeOrder.{ScopeOrder}
 use Rattle.rt_sched.proofs.PlaceLemmas.{same_order_is}
-use Rattle.rt_sched.proofs.Waits.{order_in_absent, without_waiting_absent}
+use Rattle.rt_sched.proofs.Waits.{order_in_absent}
 
 or_swap : (a b c : Bool) → (a || (b || c)) ≡ (b || (a || c))
 or_swap true true c = refl

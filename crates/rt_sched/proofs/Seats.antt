@@ -1,5 +1,5 @@
 -- Where members stand, when one seat changes.
-use Rattle.std.proofs.Common.{◌≡◌, ℕ, Bool, true, false, cond, not, ◌||◌, List, [], ◌∷◌, eqb, refl, ap, ◌∙◌, sym, ◌⊎◌, inl, inr, ⊎_elim, arith, Option, Some, None}
+use Rattle.std.proofs.Common.{◌≡◌, ℕ, Bool, true, false, cond, not, ◌||◌, List, eqb, refl, ap, ◌∙◌, sym, ⊎_elim, arith, Option, Some, None}
 use Rattle.std.proofs.lemmas.Bool.{eqb-true, cases_Bool, both_ways}
 use Rattle.std.proofs.lemmas.Bool.Decides.{nat_tests}
 use Rattle.std.proofs.lemmas.Map.Made.{is_some-lookup}

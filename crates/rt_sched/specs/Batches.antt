@@ -1,10 +1,14 @@
 -- Batches of effects, one for each scope that has any, by order.
-use Rattle.std.specs.Prelude.{ℕ, Bool, false, ◌||◌, ◌==◌, not, List, [], ◌∷◌, ◌++◌, if◌then◌else◌}
+use Rattle.std.specs.Prelude.{ℕ, Bool, false, ◌||◌, ◌==◌, not, List, [], ◌∷◌, ◌++◌, map, if◌then◌else◌}
 use Rattle.std.specs.List.{filter}
 use Rattle.rt_sched.specs.Order.{order_before}
 use Rattle.rt_sched.specs.declared.order.ScopeOrder.{ScopeOrder}
 
 module _ {E : Type 0} where
+  -- the orders of the batches
+  abbrev pub batch_orders : List (ScopeOrder × List E) → List ScopeOrder
+  batch_orders bs = map (λ b. b.0) bs
+
   -- whether a scope has a batch
   abbrev pub has_batch : ℕ → List (ScopeOrder × List E) → Bool
   has_batch n [] = false

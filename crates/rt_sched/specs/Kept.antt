@@ -1,13 +1,9 @@
 -- How the queues are kept: a roll of scopes by their own numbers, and one of tasks under entered scopes.
-use Rattle.std.specs.Prelude.{◌≡◌, ℕ, List, [], ◌∷◌, map, Some}
+use Rattle.std.specs.Prelude.{◌≡◌, ℕ, List, [], ◌∷◌, Some}
 use Rattle.rt_sched.specs.Lines.{order_in}
 use Rattle.rt_sched.specs.Rosters.{Roster, AllUnder}
 use Rattle.rt_sched.specs.Pending.{AllTagged}
 use Rattle.rt_sched.specs.declared.order.ScopeOrder.{ScopeOrder}
-
--- the orders of those that wait
-abbrev pub orders_of : List (ScopeOrder × ℕ) → List ScopeOrder
-orders_of es = map (λ e. e.0) es
 
 -- each order is that of an entered scope
 abbrev pub AllOfScopes : List (ScopeOrder × ℕ) → List (ScopeOrder × ℕ) → Type 0

@@ -2,6 +2,7 @@ pub mod Order
 pub mod Dirty
 pub mod Batches
 pub mod Queues
+pub mod Due
 pub mod Places
 pub mod Tree
 pub mod Lines

@@ -60,6 +60,10 @@ abbrev pub first_order : List (ScopeOrder × ℕ) → Option ScopeOrder
 first_order [] = None
 first_order (e ∷ es) = Some e.0
 
+-- the orders of those that wait
+abbrev pub orders_of : List (ScopeOrder × ℕ) → List ScopeOrder
+orders_of es = map (λ e. e.0) es
+
 -- who stands at these places
 abbrev pub who_waits : List Place → List (ScopeOrder × ℕ)
 who_waits ps = map (λ p. (p.order, p.number)) ps

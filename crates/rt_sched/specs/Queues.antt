@@ -1,11 +1,9 @@
 -- What is entered, seen, queued and posted, and the batches of effects, each by order.
-use Rattle.std.specs.Prelude.{◌≡◌, ℕ, Bool, true, false, ◌||◌, ◌==◌, not, List, [], ◌∷◌, map, drop, Option, None, Some, if◌then◌else◌}
+use Rattle.std.specs.Prelude.{ℕ, Bool, true, false, ◌||◌, ◌==◌, not, List, [], ◌∷◌, Option, None, Some, if◌then◌else◌}
 use Rattle.std.specs.List.{filter}
 use Rattle.rt_cells.specs.declared.names.Task.{Task}
 use Rattle.rt_sched.specs.Order.{order_before, same_order}
-use Rattle.rt_sched.specs.Lines.{waits, with_waiting, without_waiting}
-use Rattle.rt_sched.specs.Rosters.{stands_under, all_waiting}
-use Rattle.rt_sched.specs.Batches.{with_effect, without_batch}
+use Rattle.rt_sched.specs.Rosters.{all_waiting}
 use Rattle.rt_sched.specs.declared.order.ScopeOrder.{ScopeOrder}
 use Rattle.rt_sched.specs.declared.work.Work.{Work}
 use Rattle.rt_sched.specs.declared.work.Work.TheVariants.{RerunScope, PollTask}

@@ -1,8 +1,8 @@
 -- Who is entered, who is ready and who is posted, each under an order.
-use Rattle.std.specs.Prelude.{◌≡◌, ℕ, Bool, true, false, ◌||◌, ◌&&◌, ◌==◌, not, List, [], ◌∷◌, Option, None, Some}
+use Rattle.std.specs.Prelude.{◌≡◌, ℕ, Bool, false, ◌||◌, ◌&&◌, ◌==◌, not, List, [], ◌∷◌, Some}
 use Rattle.std.specs.List.{filter}
-use Rattle.rt_sched.specs.Order.{order_before, same_order}
-use Rattle.rt_sched.specs.Lines.{Row, has_number, waits, with_waiting, without_waiting, order_in}
+use Rattle.rt_sched.specs.Order.{same_order}
+use Rattle.rt_sched.specs.Lines.{Row, has_number, waits, with_waiting, order_in}
 use Rattle.rt_sched.specs.declared.order.ScopeOrder.{ScopeOrder}
 
 -- the entered numbers with their orders, the ready ones and the posted ones, each list by order

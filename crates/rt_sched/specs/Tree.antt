@@ -1,7 +1,6 @@
 -- What a tree is seen as.
-use Rattle.std.specs.Prelude.{List, [], ◌∷◌, ◌++◌, Option, None, Some, Box}
+use Rattle.std.specs.Prelude.{ℕ, List, [], ◌∷◌, ◌++◌}
 use Rattle.rt_sched.specs.declared.place.Place.{Place}
-use Rattle.rt_sched.specs.declared.tree.Node.{Node}
 use Rattle.rt_sched.specs.declared.tree.Root.{Root}
 use Rattle.rt_sched.specs.declared.tree.Root.TheVariants.{Leaf, Fork}
 
@@ -9,3 +8,8 @@ use Rattle.rt_sched.specs.declared.tree.Root.TheVariants.{Leaf, Fork}
 abbrev pub places_of : Root → List Place
 places_of Leaf = []
 places_of (Fork node) = node.value.left ++ node.value.place ∷ node.value.right
+
+-- how many levels the topmost node counts
+abbrev pub height_of : Root → ℕ
+height_of Leaf = 0
+height_of (Fork node) = node.value.height

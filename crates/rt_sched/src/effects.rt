@@ -1,8 +1,9 @@
 //! Effects that wait for a quiet moment, in one batch for each scope.
-ghost use Rattle.std.specs.Prelude.{◌≡◌, ◌∷◌, [], ◌++◌, ◌==◌, ◌↔◌, if◌then◌else◌, true, IsTrue, MatchOption, OnOk, OnErr, Some, is_some};
+ghost use Rattle.std.specs.Prelude.{◌≡◌, ◌∷◌, [], ◌++◌, ◌==◌, ◌↔◌, if◌then◌else◌, true, IsTrue, MatchOption, IfSome, OnOk, OnErr, Some, is_some};
 ghost use Rattle.std.specs.Ordering.{nat_cmp};
 ghost use Rattle.std.specs.BTreeMap.{get};
-ghost use Rattle.rt_sched.specs.Batches.{with_effect, without_batch};
+ghost use Rattle.rt_sched.specs.Batches.{with_effect, without_batch, batch_orders};
+ghost use Rattle.rt_sched.specs.Due.{NoneEarlier};
 ghost use Rattle.rt_sched.specs.Pending.{effects_of};
 
 use crate::line::Line;
@@ -76,6 +77,7 @@ impl<E: Drop> Effects<E> {
     pub fn pop_first(&mut self) -> Option<Effect<E>>
         ensures first { MatchOption result ((self.old ≡ []) × (self.new ≡ []))
             (λ batch. self.old ≡ (batch.order, batch.effects) ∷ self.new) }
+        ensures least { IfSome result (λ batch. NoneEarlier batch.order (batch_orders self.old)) }
     {
         let (order, number) = self.line.pop_first()?;
         self.line.forget(number);

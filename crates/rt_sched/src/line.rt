@@ -4,7 +4,8 @@ ghost use Rattle.std.specs.Prelude.{◌≡◌, ◌∷◌, [], ◌^◌, ◌-◌, 
 ghost use Rattle.std.specs.Ordering.{nat_cmp};
 ghost use Rattle.std.specs.BTreeMap.{get, keys};
 ghost use Rattle.rt_sched.specs.Places.{IsInOrder};
-ghost use Rattle.rt_sched.specs.Lines.{Row, IsLine, standing, StandsAt, has_number, Joins, Leaves, waits, with_waiting, without_waiting, order_in, first_under, first_order, who_waits};
+ghost use Rattle.rt_sched.specs.Lines.{Row, IsLine, standing, StandsAt, has_number, Joins, Leaves, waits, with_waiting, without_waiting, order_in, orders_of, first_under, first_order, who_waits};
+ghost use Rattle.rt_sched.specs.Due.{NoneEarlier};
 
 use crate::order::ScopeOrder;
 use crate::place::Place;
@@ -117,6 +118,8 @@ impl Line {
         ensures members { self.new.members ≡ self.old.members }
         ensures first { MatchOption result ((self.old.waiting ≡ []) × (self.new.waiting ≡ []))
             (λ first. self.old.waiting ≡ first ∷ self.new.waiting) }
+        ensures least { IfSome result
+            (λ first. NoneEarlier first.0 (orders_of self.old.waiting)) }
         ensures member { IfSome result (λ first. IsTrue (has_number first.1 self.new.members)) }
         ensures once { IfSome result (λ first. waits first.1 self.new.waiting ≡ false) }
     {
@@ -130,6 +133,7 @@ impl Line {
     /// The order of the first that waits.
     pub fn first_order(&self) -> Option<ScopeOrder>
         ensures first { result ≡ first_order self.now.waiting }
+        ensures least { IfSome result (λ order. NoneEarlier order (orders_of self.now.waiting)) }
     {
         Some(self.tree.first()?.order)
     }

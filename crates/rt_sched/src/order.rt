@@ -1,5 +1,6 @@
 //! The order of work: nearer to the root first, and then the lower number.
 ghost use Rattle.std.specs.Prelude.{◌≡◌};
+ghost use Rattle.std.specs.Ordering.{is_lt};
 ghost use Rattle.rt_sched.specs.Order.{order_before};
 
 use rt_cells::ScopeId;
@@ -34,6 +35,8 @@ impl ScopeOrder {
     /// Whether work of this order comes first.
     pub fn is_before(&self, other: &ScopeOrder) -> bool
         ensures before { result ≡ order_before self.now other.now }
+        // as the derived order says it
+        ensures less { result ≡ is_lt (⟦<ScopeOrder as Ord>⟧.cmp self.now other.now) }
     {
         self.height < other.height || (self.height == other.height && self.id.0 < other.id.0)
     }

@@ -1,9 +1,10 @@
 //! The queues. Room for all that a scope or a task may ask for is taken when it is entered.
-ghost use Rattle.std.specs.Prelude.{◌≡◌, ◌≢◌, ◌∷◌, [], ◌↔◌, drop, IsTrue, MatchOption, IsOk, OnOk, OnErr};
+ghost use Rattle.std.specs.Prelude.{◌≡◌, ◌≢◌, ◌∷◌, [], ◌↔◌, drop, IsTrue, MatchOption, IfSome, IsNone, IsOk, OnOk, OnErr};
 ghost use Rattle.rt_sched.specs.Lines.{with_waiting, without_waiting};
 ghost use Rattle.rt_sched.specs.Rosters.{stands_under};
-ghost use Rattle.rt_sched.specs.Batches.{with_effect, without_batch};
+ghost use Rattle.rt_sched.specs.Batches.{with_effect, without_batch, batch_orders};
 ghost use Rattle.rt_sched.specs.Queues.{has_order, with_scope, without_scope, without_tasks_of, looked, next_work, seen_after, queued_after, scope_first, first_task};
+ghost use Rattle.rt_sched.specs.Due.{IsDue, IsFirstTask, NoneEarlier, Takes};
 ghost use Rattle.rt_sched.specs.Kept.{AreKept};
 
 use crate::effects::{Effect, Effects};
@@ -27,7 +28,8 @@ impl<E> Model for Queues<E> {
 
     ghost Value = { Waiting E };
 
-    ghost use Rattle.rt_sched.specs.Kept.{AreKept, orders_of};
+    ghost use Rattle.rt_sched.specs.Kept.{AreKept};
+    ghost use Rattle.rt_sched.specs.Lines.{orders_of};
 
     ghost view = { λ queues. record {
       scopes = orders_of queues.scopes.entered;
@@ -174,6 +176,9 @@ impl<E: Drop> Queues<E> {
     /// Takes out the first queued task of the least order.
     pub fn pop_task(&mut self) -> Option<Task>
         ensures first { result ≡ first_task self.old.queued }
+        ensures least { IfSome result
+            (λ task. (order : _) × IsFirstTask self.old.queued order task) }
+        ensures none { IsNone result ↔ (self.old.queued ≡ []) }
         ensures others { self.new ≡ record self.old { queued = drop 1 self.old.queued } }
     {
         let (_, number) = self.tasks.pop_first()?;
@@ -184,6 +189,8 @@ impl<E: Drop> Queues<E> {
     pub fn pop_effect(&mut self) -> Option<Effect<E>>
         ensures first { MatchOption result (self.old.effects ≡ [])
             (λ batch. self.old.effects ≡ (batch.order, batch.effects) ∷ self.new.effects) }
+        ensures least { IfSome result
+            (λ batch. NoneEarlier batch.order (batch_orders self.old.effects)) }
         ensures others { self.new ≡ record self.old { effects = drop 1 self.old.effects } }
     {
         self.effects.pop_first()
@@ -193,6 +200,9 @@ impl<E: Drop> Queues<E> {
     /// order.
     pub fn pop_work(&mut self) -> Option<Work>
         ensures work { result ≡ next_work self.old.seen self.old.queued }
+        ensures least { IfSome result (IsDue self.old.seen self.old.queued) }
+        ensures none { IsNone result ↔ ((self.old.seen ≡ []) × (self.old.queued ≡ [])) }
+        ensures taken { MatchOption result (self.new ≡ self.old) (Takes self.old self.new) }
         ensures others { self.new ≡ record self.old {
           seen = seen_after self.old.seen self.old.queued;
           queued = queued_after self.old.seen self.old.queued;

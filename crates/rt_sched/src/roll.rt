@@ -1,7 +1,8 @@
 //! Who is entered, and of these who is ready and who is posted. Room in all lines is taken when one
 //! is entered.
 ghost use Rattle.std.specs.Prelude.{◌≡◌, ◌∷◌, [], ◌↔◌, IsTrue, MatchOption, IfSome, OnOk, OnErr, Some, false};
-ghost use Rattle.rt_sched.specs.Lines.{Row, Joins, Leaves, has_number, waits, with_waiting, without_waiting, order_in, first_order};
+ghost use Rattle.rt_sched.specs.Lines.{Row, Joins, Leaves, has_number, waits, with_waiting, without_waiting, order_in, orders_of, first_order};
+ghost use Rattle.rt_sched.specs.Due.{NoneEarlier};
 ghost use Rattle.rt_sched.specs.Rosters.{Roster, AreLines, HasMembers, SameMembers, stands_under, all_waiting, without_under};
 
 use crate::line::Line;
@@ -103,6 +104,7 @@ impl Roll {
         ensures others { self.new ≡ record self.old { ready = self.new.ready } }
         ensures first { MatchOption result ((self.old.ready ≡ []) × (self.new.ready ≡ []))
             (λ first. self.old.ready ≡ first ∷ self.new.ready) }
+        ensures least { IfSome result (λ first. NoneEarlier first.0 (orders_of self.old.ready)) }
     {
         self.ready.pop_first()
     }
@@ -110,6 +112,7 @@ impl Roll {
     /// The order of the first that is ready.
     pub fn first_order(&self) -> Option<ScopeOrder>
         ensures first { result ≡ first_order self.now.ready }
+        ensures least { IfSome result (λ order. NoneEarlier order (orders_of self.now.ready)) }
     {
         self.ready.first_order()
     }

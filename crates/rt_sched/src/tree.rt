@@ -2,6 +2,7 @@
 //! takes memory.
 ghost use Rattle.std.specs.Prelude.{◌≡◌, ◌∷◌, ◌++◌, [], MatchOption, IfSome, IsTrue, ◌↔◌, is_some};
 ghost use Rattle.rt_sched.specs.Places.{IsInOrder, first_place, first_place_under, has_place, with_place, without_place};
+ghost use Rattle.rt_sched.specs.Tree.{height_of};
 
 use crate::order::ScopeOrder;
 use crate::place::Place;
@@ -35,7 +36,9 @@ pub struct Node {
 
 impl Node {
     /// A node that stands in no tree, for a member with this number.
-    pub fn vacant(number: u64) -> Node {
+    pub fn vacant(number: u64) -> Node
+        ensures number { result.place.number ≡ number }
+    {
         Node {
             left: Tree::new(),
             place: Place {
@@ -177,10 +180,14 @@ impl Tree {
             }
         }
     }
+}
 
-    // How many levels of nodes there are; no clause needs it.
-    fn height(&self) -> u8 {
-        match &self.root {
+impl Root {
+    // How many levels of nodes there are, by the topmost node's own count.
+    fn height(&self) -> u8
+        ensures counted { result ≡ height_of self.now }
+    {
+        match self {
             Root::Leaf => 0,
             Root::Fork(node) => node.height,
         }
@@ -191,7 +198,11 @@ impl Tree {
 fn fork(left: Tree, mut node: Box<Node>, right: Tree) -> Tree
     ensures places { result ≡ left ++ node.value.place ∷ right }
 {
-    node.height = left.height().max(right.height()).saturating_add(1);
+    node.height = left
+        .root
+        .height()
+        .max(right.root.height())
+        .saturating_add(1);
     node.left = left;
     node.right = right;
     Tree {
@@ -203,9 +214,9 @@ fn fork(left: Tree, mut node: Box<Node>, right: Tree) -> Tree
 fn balanced(left: Tree, node: Box<Node>, right: Tree) -> Tree
     ensures places { result ≡ left ++ node.value.place ∷ right }
 {
-    if left.height() > right.height().saturating_add(1) {
+    if left.root.height() > right.root.height().saturating_add(1) {
         lean_right(left, node, right)
-    } else if right.height() > left.height().saturating_add(1) {
+    } else if right.root.height() > left.root.height().saturating_add(1) {
         lean_left(left, node, right)
     } else {
         fork(left, node, right)
@@ -219,7 +230,7 @@ fn lean_right(left: Tree, node: Box<Node>, right: Tree) -> Tree
     let Some((outer, root, inner)) = left.take_apart() else {
         return fork(Tree::new(), node, right);
     };
-    if outer.height() >= inner.height() {
+    if outer.root.height() >= inner.root.height() {
         return fork(outer, root, fork(inner, node, right));
     }
     match inner.take_apart() {
@@ -237,7 +248,7 @@ fn lean_left(left: Tree, node: Box<Node>, right: Tree) -> Tree
     let Some((inner, root, outer)) = right.take_apart() else {
         return fork(left, node, Tree::new());
     };
-    if outer.height() >= inner.height() {
+    if outer.root.height() >= inner.root.height() {
         return fork(fork(left, node, inner), root, outer);
     }
     match inner.take_apart() {

@@ -4,23 +4,29 @@ use super::calls::{
     empty, enter_scope, enter_task, gives, gives_batch, gives_tasks, is_idle, look, mark, order,
     poll, post_mark, post_wake, queue_dirty, queue_effect, rerun, wake,
 };
-use crate::{DirtyTasks, Queues};
+use crate::{DirtyTasks, Queues, ScopeOrder};
 use rt_cells::{ScopeId, Task};
 use std::alloc::Global;
 use std::process::Abort;
 
-// Enters a scope with a task of its number.
-fn enter_both(rt: &impl Abort, alloc: Global, queues: &mut Queues<u64>, height: u32, number: u64) {
-    enter_scope(rt, alloc, queues, order(height, number));
-    enter_task(rt, alloc, queues, number, order(height, number));
+// Enters a scope with a task of this number.
+fn enter_both(
+    rt: &impl Abort,
+    alloc: Global,
+    queues: &mut Queues<u64>,
+    scope: ScopeOrder,
+    task: u64,
+) {
+    enter_scope(rt, alloc, queues, scope);
+    enter_task(rt, alloc, queues, task, scope);
 }
 
 #[test]
 fn nearer_scopes_come_first(rt: HostRuntime) {
     let mut queues = empty(rt.alloc());
-    enter_both(&rt, rt.alloc(), &mut queues, 2, 5);
-    enter_both(&rt, rt.alloc(), &mut queues, 1, 9);
-    enter_both(&rt, rt.alloc(), &mut queues, 2, 4);
+    enter_scope(&rt, rt.alloc(), &mut queues, order(2, 5));
+    enter_scope(&rt, rt.alloc(), &mut queues, order(1, 9));
+    enter_scope(&rt, rt.alloc(), &mut queues, order(2, 4));
     mark(&rt, &mut queues, order(2, 5));
     mark(&rt, &mut queues, order(1, 9));
     mark(&rt, &mut queues, order(2, 4));
@@ -30,27 +36,36 @@ fn nearer_scopes_come_first(rt: HostRuntime) {
 #[test]
 fn a_task_comes_before_its_scope(rt: HostRuntime) {
     let mut queues = empty(rt.alloc());
-    enter_both(&rt, rt.alloc(), &mut queues, 1, 4);
+    enter_both(&rt, rt.alloc(), &mut queues, order(1, 4), 1);
     mark(&rt, &mut queues, order(1, 4));
-    wake(&rt, &mut queues, 4, order(1, 4));
-    gives(&rt, &mut queues, &[poll(4), rerun(1, 4)]);
+    wake(&rt, &mut queues, 1, order(1, 4));
+    gives(&rt, &mut queues, &[poll(1), rerun(1, 4)]);
 }
 
 #[test]
 fn a_nearer_scope_comes_before_a_task(rt: HostRuntime) {
     let mut queues = empty(rt.alloc());
-    enter_both(&rt, rt.alloc(), &mut queues, 1, 4);
-    enter_both(&rt, rt.alloc(), &mut queues, 2, 5);
+    enter_scope(&rt, rt.alloc(), &mut queues, order(1, 4));
+    enter_both(&rt, rt.alloc(), &mut queues, order(2, 5), 1);
     mark(&rt, &mut queues, order(1, 4));
-    wake(&rt, &mut queues, 5, order(2, 5));
-    gives(&rt, &mut queues, &[rerun(1, 4), poll(5)]);
+    wake(&rt, &mut queues, 1, order(2, 5));
+    gives(&rt, &mut queues, &[rerun(1, 4), poll(1)]);
 }
 
 #[test]
-fn a_task_is_queued_once_and_in_order(rt: HostRuntime) {
+fn a_task_that_is_queued_twice_comes_once(rt: HostRuntime) {
     let mut queues = empty(rt.alloc());
-    enter_both(&rt, rt.alloc(), &mut queues, 1, 4);
-    enter_task(&rt, rt.alloc(), &mut queues, 1, order(1, 4));
+    enter_both(&rt, rt.alloc(), &mut queues, order(1, 4), 1);
+    wake(&rt, &mut queues, 1, order(1, 4));
+    wake(&rt, &mut queues, 1, order(1, 4));
+    gives_tasks(&rt, &mut queues, &[Task(1)]);
+}
+
+#[test]
+fn tasks_of_one_scope_come_in_turn(rt: HostRuntime) {
+    let mut queues = empty(rt.alloc());
+    enter_both(&rt, rt.alloc(), &mut queues, order(1, 4), 1);
+    enter_task(&rt, rt.alloc(), &mut queues, 4, order(1, 4));
     wake(&rt, &mut queues, 4, order(1, 4));
     wake(&rt, &mut queues, 1, order(1, 4));
     wake(&rt, &mut queues, 4, order(1, 4));
@@ -60,10 +75,11 @@ fn a_task_is_queued_once_and_in_order(rt: HostRuntime) {
 #[test]
 fn a_task_that_ends_leaves_the_effects(rt: HostRuntime) {
     let mut queues = empty(rt.alloc());
-    enter_both(&rt, rt.alloc(), &mut queues, 3, 3);
-    wake(&rt, &mut queues, 3, order(3, 3));
+    enter_both(&rt, rt.alloc(), &mut queues, order(3, 3), 1);
+    wake(&rt, &mut queues, 1, order(3, 3));
     queue_effect(&rt, rt.alloc(), &mut queues, order(3, 3), 7);
-    queues.forget_task(Task(3));
+    queues.forget_task(Task(1));
+    assert!(&rt; !queues.has_task(Task(1), order(3, 3)));
     gives_tasks(&rt, &mut queues, &[]);
     gives(&rt, &mut queues, &[]);
     gives_batch(&rt, &mut queues, order(3, 3), &[7]);
@@ -71,23 +87,33 @@ fn a_task_that_ends_leaves_the_effects(rt: HostRuntime) {
 }
 
 #[test]
-fn what_is_posted_waits_for_a_look(rt: HostRuntime) {
+fn a_posted_mark_waits_for_a_look(rt: HostRuntime) {
     let mut queues = empty(rt.alloc());
-    enter_both(&rt, rt.alloc(), &mut queues, 1, 4);
+    enter_scope(&rt, rt.alloc(), &mut queues, order(1, 4));
+    post_mark(&rt, &mut queues, order(1, 4));
+    gives(&rt, &mut queues, &[]);
+    look(&rt, &mut queues);
+    gives(&rt, &mut queues, &[rerun(1, 4)]);
+}
+
+#[test]
+fn what_is_posted_twice_is_kept_once(rt: HostRuntime) {
+    let mut queues = empty(rt.alloc());
+    enter_both(&rt, rt.alloc(), &mut queues, order(1, 4), 1);
     for _ in 0..2 {
         post_mark(&rt, &mut queues, order(1, 4));
-        post_wake(&rt, &mut queues, 4, order(1, 4));
+        post_wake(&rt, &mut queues, 1, order(1, 4));
     }
     gives(&rt, &mut queues, &[]);
     look(&rt, &mut queues);
-    gives(&rt, &mut queues, &[poll(4), rerun(1, 4)]);
+    gives(&rt, &mut queues, &[poll(1), rerun(1, 4)]);
     is_idle(&rt, &queues);
 }
 
 // All that a scope and its task may ask for.
 fn ask_for_all(rt: &impl Abort, alloc: Global, queues: &mut Queues<u64>, number: u64) {
     let scope = order(1, number);
-    enter_both(rt, alloc, queues, 1, number);
+    enter_both(rt, alloc, queues, scope, number);
     wake(rt, queues, number, scope);
     post_wake(rt, queues, number, scope);
     mark(rt, queues, scope);
@@ -101,6 +127,8 @@ fn a_scope_that_goes_takes_all_with_it(rt: HostRuntime) {
     ask_for_all(&rt, rt.alloc(), &mut queues, 4);
     ask_for_all(&rt, rt.alloc(), &mut queues, 5);
     queues.forget_scope(ScopeId(4));
+    assert!(&rt; !queues.has_scope(order(1, 4)));
+    assert!(&rt; !queues.has_task(Task(4), order(1, 4)));
     look(&rt, &mut queues);
     gives(&rt, &mut queues, &[poll(5), rerun(1, 5)]);
     gives_batch(&rt, &mut queues, order(1, 5), &[5]);

@@ -1,8 +1,8 @@
-use Rattle.std.proofs.Common.{◌≡◌, ℕ, true, List, [], ◌∷◌, ◌++◌, ◌≤◌, ◌+◌, length, refl, ap, sym, ◌∙◌, arith}
+use Rattle.std.proofs.Common.{◌≡◌, [], ◌∷◌, ◌++◌, ◌≤◌, length, refl, sym, ◌∙◌, arith}
 use Rattle.std.proofs.lemmas.Map.Entries.{length-keys_of}
 use Rattle.std.specs.BTreeMap.{keys}
 use Rattle.rt_sched.specs.Places.{with_place}
-use Rattle.rt_sched.specs.Lines.{standing, who_waits, has_number}
+use Rattle.rt_sched.specs.Lines.{standing}
 use Rattle.rt_sched.specs.declared.place.Place.{Place}
 use Rattle.rt_sched.proofs.Renumbered.{IsRenumbering, renumber_start, renumber_next, renumber_end, who_waits_next, who_waits_end, next_is_member, no_more_than_members, none_left}
 use Rattle.rt_sched.proofs.line.renumber.Goals as goal

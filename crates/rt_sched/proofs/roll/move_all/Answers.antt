@@ -1,7 +1,6 @@
-use Rattle.std.proofs.Common.{◌≡◌, ℕ, Bool, true, false, cond, eqb, List, [], ◌∷◌, ◌<◌, length, Option, Some, None, refl, ap, sym, ◌∙◌, subst, arith, rules}
-use Rattle.std.specs.Option.{is_some}
-use Rattle.rt_sched.specs.Lines.{Row, Joins, has_number, waits, with_last, with_waiting, without_waiting, order_in}
-use Rattle.rt_sched.specs.Rosters.{Roster, AreLines, AllUnder, stands_under, all_waiting, without_under}
+use Rattle.std.proofs.Common.{ap, sym, ◌∙◌}
+use Rattle.rt_sched.specs.Lines.{Row}
+use Rattle.rt_sched.specs.Rosters.{all_waiting}
 use Rattle.rt_sched.proofs.roll.move_all.Goals as goal
 
 pub loop-order-preserved : goal.loop-order-preserved

@@ -1,5 +1,4 @@
-use Rattle.std.proofs.Common.{◌≡◌, ℕ, length}
-use Rattle.rt_sched.specs.Lines.{has_number}
+use Rattle.std.proofs.Common.{◌≡◌, length}
 use Rattle.rt_sched.specs.Rosters.{all_waiting}
 use Rattle.rt_sched.proofs.roll.move_all.Given as goal
 

@@ -1,14 +1,13 @@
-use Rattle.std.proofs.Common.{◌≡◌, ℕ, Bool, true, false, cond, eqb, List, [], ◌∷◌, ◌++◌, Option, Some, None, refl, ap, sym, ◌∙◌, subst, arith}
+use Rattle.std.proofs.Common.{◌≡◌, ◌∷◌, None, refl, ap, sym, ◌∙◌}
 use Rattle.std.proofs.lemmas.Bool.{eq-eqb}
-use Rattle.std.specs.Option.{is_some}
 use Rattle.std.specs.Ordering.{nat_cmp}
 use Rattle.std.specs.BTreeMap.{get}
-use Rattle.rt_cells.specs.declared.names.ScopeId.{ScopeId}
-use Rattle.rt_sched.specs.Lines.{Row, waits, with_last, with_waiting, without_waiting}
-use Rattle.rt_sched.specs.Batches.{has_batch, with_later, with_batch, with_effect, without_batch}
-use Rattle.rt_sched.specs.Pending.{ArePending, AllTagged, effects_of, batches_of}
-use Rattle.rt_sched.proofs.BatchLemmas.{by, by_same, has_batch_by, by_absent, by_later, by_begun, by_gone, none_waits}
-use Rattle.rt_sched.proofs.PendingLemmas.{now_at, on_ok, pending_same, pending_begun, pending_gone, undone, none_from_some, some_later}
+use Rattle.rt_sched.specs.Lines.{without_waiting, orders_of}
+use Rattle.rt_sched.specs.Batches.{batch_orders}
+use Rattle.rt_sched.specs.Pending.{effects_of}
+use Rattle.rt_sched.proofs.BatchLemmas.{by, by_absent}
+use Rattle.rt_sched.proofs.PendingLemmas.{now_at, pending_gone}
+use Rattle.rt_sched.proofs.Least.{batch_orders_by}
 use Rattle.rt_sched.proofs.Waits.{without_waiting_absent}
 use Rattle.rt_sched.proofs.effects.Effects.pop_first.Goals as goal
 
@@ -25,10 +24,15 @@ returns g c =
     let n = c.in_ok-order.number in
     let f = get nat_cmp c.self.inside.batches in
     let h = get nat_cmp c.remove.new.self in
+    let ws = c.self.inside.line.waiting in
     let rest = c.pop_first.new.self.waiting in
     let gone = now_at c.self.inside.batches c.remove.new.self n None c.remove.ensures.updates.0 in
     let left : c.forget.new.self.waiting ≡ rest = c.forget.ensures.waiting ∙ without_waiting_absent n rest c.in_ok-order.ensures.once in
     let others : by h c.forget.new.self.waiting ≡ by f rest = ap (by h) left ∙ by_absent n f h None rest c.in_ok-order.ensures.once gone in
     let batch : effects_of (f n) ≡ c.in_ok-effects.effects = ap effects_of (sym c.in_ok-effects.ensures.value) in
     let all : by f ((c.in_ok-order.order, n) ∷ rest) ≡ (c.in_ok-order.order, c.in_ok-effects.effects) ∷ by h c.forget.new.self.waiting = rw (batch, others) refl in
-    record { first = sym c.self.view_is ∙ ap (by f) c.in_ok-order.ensures.first ∙ all }
+    let orders : batch_orders c.args.self.now ≡ orders_of ws = ap batch_orders (sym c.self.view_is) ∙ batch_orders_by f ws in
+    record {
+      first = sym c.self.view_is ∙ ap (by f) c.in_ok-order.ensures.first ∙ all;
+      least = rw orders c.in_ok-order.ensures.least;
+    }

@@ -1,12 +1,10 @@
-use Rattle.std.proofs.Common.{◌≡◌, ℕ, Bool, true, false, cond, eqb, List, [], ◌∷◌, Option, Some, None, refl, ap, sym, ◌∙◌, subst, arith}
-use Rattle.std.specs.Option.{is_some, option_map}
+use Rattle.std.proofs.Common.{◌≡◌, true, false, Some, ap, sym, ◌∙◌, subst}
+use Rattle.std.specs.Option.{is_some}
 use Rattle.std.specs.Ordering.{nat_cmp, is_eq}
 use Rattle.std.specs.BTreeMap.{get, keys}
 use Rattle.std.specs.Map.{lookup}
-use Rattle.rt_sched.specs.Places.{has_place}
-use Rattle.rt_sched.specs.Lines.{Row, standing, place_of, has_number, Joins, Leaves, waits, without_waiting, who_waits}
-use Rattle.rt_sched.specs.declared.place.Place.{Place}
-use Rattle.rt_sched.specs.declared.line.Seat.TheVariants.{Home, InLine}
+use Rattle.rt_sched.specs.Lines.{Row, standing, place_of, has_number, Joins}
+use Rattle.rt_sched.specs.declared.line.Seat.TheVariants.{Home}
 use Rattle.rt_sched.proofs.Seats.{is_member, stood_same, vacant, joins, joined}
 use Rattle.rt_sched.proofs.LineLemmas.{line_same}
 use Rattle.rt_sched.proofs.line.Line.enter.Goals as goal

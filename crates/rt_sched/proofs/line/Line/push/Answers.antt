@@ -1,4 +1,4 @@
-use Rattle.std.proofs.Common.{◌≡◌, ℕ, Bool, true, false, not, List, [], ◌∷◌, Option, Some, None, refl, ap, sym, ◌∙◌, subst, arith}
+use Rattle.std.proofs.Common.{◌≡◌, true, false, None, refl, ap, ◌∙◌, subst}
 use Rattle.std.specs.BTreeMap.{keys}
 use Rattle.rt_sched.specs.Places.{with_place}
 use Rattle.rt_sched.specs.Lines.{Row, standing, who_waits, has_number, waits, with_last}

@@ -1,4 +1,4 @@
-use Rattle.std.proofs.Common.{◌≡◌, ap, sym, ◌∙◌}
+use Rattle.std.proofs.Common.{◌≡◌, ap, ◌∙◌}
 use Rattle.rt_cells.specs.declared.names.ScopeId.{ScopeId}
 use Rattle.rt_sched.specs.Rosters.{stands_under}
 use Rattle.rt_sched.specs.Queues.{Waiting, has_order}

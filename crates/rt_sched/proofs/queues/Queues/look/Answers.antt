@@ -1,10 +1,6 @@
-use Rattle.std.proofs.Common.{◌≡◌, ℕ, Bool, true, false, List, [], ◌∷◌, Option, Some, None, refl, ap, sym, ◌∙◌, subst, arith}
-use Rattle.rt_cells.specs.declared.names.ScopeId.{ScopeId}
-use Rattle.rt_sched.specs.Lines.{waits, with_waiting, without_waiting, order_in}
-use Rattle.rt_sched.specs.Rosters.{Roster, stands_under, all_waiting, without_under}
-use Rattle.rt_sched.specs.Queues.{Waiting, has_order, with_scope, without_scope, all_seen, without_tasks_of}
-use Rattle.rt_sched.specs.Kept.{AreKept, orders_of}
-use Rattle.rt_sched.proofs.KeptLemmas.{orders_with_waiting, orders_without, orders_all, tagged_with_waiting, tagged_without, tagged_all, has_order_stands, entered_order, of_scopes_with_waiting, of_scopes_without, of_scopes_all, stands_of_scopes, tasks_under, no_tasks, kept_scopes, kept_tasks, kept_entered, kept_forgotten}
+use Rattle.std.proofs.Common.{refl}
+use Rattle.rt_sched.specs.Kept.{AreKept}
+use Rattle.rt_sched.proofs.KeptLemmas.{orders_all, tagged_all, of_scopes_all, kept_scopes, kept_tasks}
 use Rattle.rt_sched.proofs.queues.Queues.look.Goals as goal
 
 pub invariant_of-self : goal.invariant_of-self

@@ -1,10 +1,8 @@
-use Rattle.std.proofs.Common.{◌≡◌, ℕ, Bool, true, false, List, [], ◌∷◌, Option, Some, None, refl, ap, sym, ◌∙◌, subst, arith}
+use Rattle.std.proofs.Common.{◌≡◌, true, refl, ap}
 use Rattle.rt_cells.specs.declared.names.ScopeId.{ScopeId}
-use Rattle.rt_sched.specs.Lines.{waits, with_waiting, without_waiting, order_in}
-use Rattle.rt_sched.specs.Rosters.{Roster, stands_under, all_waiting, without_under}
-use Rattle.rt_sched.specs.Queues.{Waiting, has_order, with_scope, without_scope, all_seen, without_tasks_of}
-use Rattle.rt_sched.specs.Kept.{AreKept, orders_of}
-use Rattle.rt_sched.proofs.KeptLemmas.{orders_with_waiting, orders_without, orders_all, tagged_with_waiting, tagged_without, tagged_all, has_order_stands, entered_order, of_scopes_with_waiting, of_scopes_without, of_scopes_all, stands_of_scopes, tasks_under, no_tasks, kept_scopes, kept_tasks, kept_entered, kept_forgotten}
+use Rattle.rt_sched.specs.Lines.{orders_of}
+use Rattle.rt_sched.specs.Queues.{Waiting, has_order}
+use Rattle.rt_sched.proofs.KeptLemmas.{orders_with_waiting, tagged_with_waiting, has_order_stands, kept_scopes}
 use Rattle.rt_sched.proofs.queues.Queues.queue_scope.Goals as goal
 
 pub push-requires : goal.push-requires
@@ -20,12 +18,11 @@ invariant_of-self g c =
     let s = c.self.inside.scopes in
     let kept = c.self.invariant in
     let tagged = tagged_with_waiting c.args.order c.id.result.0 s.ready number kept.ready_tagged in
-    kept_scopes s c.self.inside.tasks c.push.new.self kept (ap (λ (r : Roster). r.entered) c.push.ensures.ready) (rw c.push.ensures.ready tagged) (rw c.push.ensures.ready kept.posted_tagged)
+    kept_scopes s c.self.inside.tasks c.push.new.self kept (rw c.push.ensures.ready refl) (rw c.push.ensures.ready tagged) (rw c.push.ensures.ready kept.posted_tagged)
 
 pub returns-clause-seen : goal.returns-clause-seen
 returns-clause-seen g c =
     let number : c.id.result.0 ≡ c.args.order.id.0 = ap (λ (i : ScopeId). i.0) c.id.ensures.id in
     let s = c.self.inside.scopes in
     let orders = orders_with_waiting c.args.order c.id.result.0 s.ready number c.self.invariant.ready_tagged in
-    let now : orders_of c.push.new.self.ready ≡ with_scope c.args.order (orders_of s.ready) = ap (λ (r : Roster). orders_of r.ready) c.push.ensures.ready ∙ orders in
     rw (← c.self.view_is) (rw (c.push.ensures.ready, orders) refl)

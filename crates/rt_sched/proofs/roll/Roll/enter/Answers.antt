@@ -1,7 +1,7 @@
-use Rattle.std.proofs.Common.{◌≡◌, ℕ, Bool, true, false, cond, eqb, List, [], ◌∷◌, ◌<◌, length, Option, Some, None, refl, ap, sym, ◌∙◌, subst, arith, rules}
+use Rattle.std.proofs.Common.{◌≡◌, true, false, refl, ap, sym, ◌∙◌}
 use Rattle.std.specs.Option.{is_some}
-use Rattle.rt_sched.specs.Lines.{Row, Joins, has_number, waits, with_last, with_waiting, without_waiting, order_in}
-use Rattle.rt_sched.specs.Rosters.{Roster, AreLines, AllUnder, stands_under, all_waiting, without_under}
+use Rattle.rt_sched.specs.Lines.{Row, Joins, waits, with_last, with_waiting, order_in}
+use Rattle.rt_sched.specs.Rosters.{Roster}
 use Rattle.rt_sched.proofs.RollLemmas.{lines_enter, order_in_waits, under_absent}
 use Rattle.rt_sched.proofs.roll.Roll.enter.Goals as goal
 

@@ -1,7 +1,5 @@
-use Rattle.std.proofs.Common.{◌≡◌, ℕ, Bool, true, false, cond, eqb, List, [], ◌∷◌, ◌<◌, length, Option, Some, None, refl, ap, sym, ◌∙◌, subst, arith, rules}
-use Rattle.std.specs.Option.{is_some}
-use Rattle.rt_sched.specs.Lines.{Row, Joins, has_number, waits, with_last, with_waiting, without_waiting, order_in}
-use Rattle.rt_sched.specs.Rosters.{Roster, AreLines, AllUnder, stands_under, all_waiting, without_under}
+use Rattle.std.proofs.Common.{◌≡◌, refl, sym, ◌∙◌}
+use Rattle.rt_sched.specs.Rosters.{without_under}
 use Rattle.rt_sched.proofs.RollLemmas.{first_under_waits, stands_order, stands_waits, none_is_under, without_step, fewer}
 use Rattle.rt_sched.proofs.roll.Roll.forget_under.Goals as goal
 

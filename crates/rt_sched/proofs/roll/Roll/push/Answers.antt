@@ -1,7 +1,6 @@
-use Rattle.std.proofs.Common.{◌≡◌, ℕ, Bool, true, false, cond, eqb, List, [], ◌∷◌, ◌<◌, length, Option, Some, None, refl, ap, sym, ◌∙◌, subst, arith, rules}
-use Rattle.std.specs.Option.{is_some}
-use Rattle.rt_sched.specs.Lines.{Row, has_number, waits, with_last, with_waiting, without_waiting, order_in}
-use Rattle.rt_sched.specs.Rosters.{Roster, AreLines, AllUnder, stands_under, all_waiting, without_under}
+use Rattle.std.proofs.Common.{◌≡◌, true, refl, ap, ◌∙◌}
+use Rattle.rt_sched.specs.Lines.{waits}
+use Rattle.rt_sched.specs.Rosters.{Roster, stands_under}
 use Rattle.rt_sched.proofs.RollLemmas.{stands_waits, stands_order, under_with_waiting, lines_ready}
 use Rattle.rt_sched.proofs.roll.Roll.push.Goals as goal
 

@@ -1,7 +1,5 @@
-use Rattle.std.proofs.Common.{◌≡◌, ℕ, Bool, true, false, cond, eqb, List, [], ◌∷◌, ◌<◌, length, Option, Some, None, refl, ap, sym, ◌∙◌, subst, arith, rules}
-use Rattle.std.specs.Option.{is_some}
-use Rattle.rt_sched.specs.Lines.{Row, has_number, waits, with_last, with_waiting, without_waiting, order_in}
-use Rattle.rt_sched.specs.Rosters.{Roster, AreLines, AllUnder, stands_under, all_waiting, without_under}
+use Rattle.std.proofs.Common.{ap}
+use Rattle.rt_sched.specs.Lines.{Row}
 use Rattle.rt_sched.proofs.RollLemmas.{under_without, lines_ready, lines_posted}
 use Rattle.rt_sched.proofs.roll.Roll.start.Goals as goal
 

@@ -1,4 +1,4 @@
-use Rattle.std.proofs.Common.{◌≡◌, true, false, ap, sym, ◌∙◌, arith, rules, length, ◌<◌}
+use Rattle.std.proofs.Common.{◌≡◌, true, false, rules, length, ◌<◌}
 use Rattle.rt_sched.specs.Places.{place_before}
 use Rattle.rt_sched.proofs.InOrder.{in_order_left, in_order_right, sides_shorter, with_place_left, with_place_right}
 use Rattle.rt_sched.proofs.tree.Tree.+insert.Goals as goal

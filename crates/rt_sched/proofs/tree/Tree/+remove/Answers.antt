@@ -1,4 +1,4 @@
-use Rattle.std.proofs.Common.{◌≡◌, ◌<◌, true, false, length, ap, sym, ◌∙◌, arith, rules}
+use Rattle.std.proofs.Common.{◌≡◌, ◌<◌, true, false, length, sym, rules}
 use Rattle.rt_sched.specs.Places.{place_before, same_place}
 use Rattle.rt_sched.proofs.InOrder.{in_order_left, in_order_right, sides_shorter, has_place_left, has_place_right, has_place_middle, without_place_left, without_place_right, without_place_middle}
 use Rattle.rt_sched.proofs.PlaceLemmas.{same_place_is}
