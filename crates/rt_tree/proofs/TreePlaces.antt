@@ -1,9 +1,9 @@
 -- No two nodes of a tree stand at one place, and no two of its component slots.
-use Rattle.std.proofs.Common.{◌≡◌, ℕ, zero, suc, ◌+◌, List, [], ◌∷◌, ◌++◌, map, get_or, refl, sym, ◌∙◌, ap, subst}
-use Rattle.std.specs.List.{All, slice_index_or}
+use Rattle.std.proofs.Common.{◌≡◌, ℕ, zero, suc, ◌+◌, List, [], ◌∷◌, ◌++◌, map, refl, sym, ◌∙◌, ap, subst}
+use Rattle.std.specs.List.{All}
 use Rattle.std.proofs.lemmas.List.Elements.{All-nil, All-cons, All-head, All-tail}
 use Rattle.rt_tree.specs.Met.{Met, AtElement, AtAttribute, AtText, AtSlot, met_in}
-use Rattle.rt_tree.specs.Places.{Step, InTemplate, InFragment, Kind, AnElement, AText, ATextSlot, APlaceholder, AnEmptyFragment, NodePlace, Below, in_items, in_value, nodes_met, slots_met, fragment_nodes, value_nodes, tree_nodes, node_places, SlotPlace, Held, held_in, value_slots, tree_slots, slot_places, HasPlacesApart}
+use Rattle.rt_tree.specs.Places.{Step, InTemplate, InFragment, Kind, AnElement, AText, ATextSlot, APlaceholder, AnEmptyFragment, NodePlace, Below, in_items, in_value, nodes_met, slots_met, fragment_nodes, value_nodes, tree_nodes, node_places, SlotPlace, held_in, value_slots, tree_slots, slot_places, HasPlacesApart}
 use Rattle.rt_tree.specs.declared.template.Template.{Template}
 use Rattle.rt_tree.specs.declared.vnode.VNode.{VNode}
 use Rattle.rt_tree.specs.declared.vnode.VComponent.{VComponent}
@@ -15,7 +15,7 @@ use Rattle.rt_tree.specs.declared.vnode.DynamicNode.TheVariants.{Placeholder, ro
 use Rattle.rt_tree.specs.declared.vnode.DynamicNode.TheOpen.{DynamicNode-F, VNode-F}
 use Rattle.rt_tree.specs.declared.vnode.DynamicNode.TheViews.{roll-VNode, roll-DynamicNode}
 use Rattle.rt_tree.specs.declared.vnode.DynamicNode.TheFolds.{fold-VNode, fold-DynamicNode, fold-VComponent, fold-ErrorBoundaryProps, fold-FragmentProps, fold-SuspenseBoundaryProps, fold-roll-VNode, fold-roll-DynamicNode, para-VNode, para-DynamicNode, para-VComponent, para-ErrorBoundaryProps, para-FragmentProps, para-SuspenseBoundaryProps, para-roll-VNode, para-roll-DynamicNode, ind-VNode, map-VNode, map-DynamicNode}
-use Rattle.rt_tree.proofs.Spread.{Row, Apart, IsSpread, are_apart, numbered, numbered-apart, numbered-spread, placed, placed-spread, one-spread, none-spread, spread-same}
+use Rattle.rt_tree.proofs.Spread.{Row, IsSpread, are_apart, numbered, numbered-apart, numbered-spread, placed, placed-spread, one-spread, none-spread, spread-same}
 use Rattle.rt_tree.proofs.TemplatePlaces.{tagged, tagged-all, met_in-apart}
 
 module _ {A : Type 0} where
