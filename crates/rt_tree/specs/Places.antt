@@ -83,6 +83,7 @@ module _ {P Component Props Value Handler TaskState Effect Payload : Type 0} whe
   value_nodes (DynamicNode-F.Component below) steps = []
   value_nodes (DynamicNode-F.DynamicNode::Fragment items) steps = fragment_nodes items steps
 
+  -- the nodes of a tree, where those of its slots are known
   abbrev pub tree_nodes : VNode-F P Component Props Value Handler TaskState Effect Payload (Below NodePlace) (Below NodePlace) (Below NodePlace) (Below NodePlace) (Below NodePlace) (Below NodePlace) → Below NodePlace
   tree_nodes tree steps = nodes_met tree.template tree.dynamic_nodes (met_in tree.template.roots) steps
 
@@ -99,6 +100,7 @@ module _ {P Component Props Value Handler TaskState Effect Payload : Type 0} whe
   value_slots (DynamicNode-F.Component component) steps = (steps, component.0) ∷ []
   value_slots (DynamicNode-F.DynamicNode::Fragment items) steps = in_items (held_in items) 0 steps
 
+  -- the component slots of a tree, where those in its slots are known
   abbrev pub tree_slots : {C N E F S T : Type 0} → VNode-F P Component Props Value Handler TaskState Effect Payload (Held C N) (Held C C) (Held C E) (Held C F) (Held C S) (Held C T) → Below (SlotPlace C)
   tree_slots tree steps = slots_met tree.template (held_in tree.dynamic_nodes) (met_in tree.template.roots) steps
 
