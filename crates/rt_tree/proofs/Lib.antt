@@ -10,3 +10,6 @@ pub mod Times
 pub mod Numbered
 pub mod Elsewhere
 pub mod Rising
+mod Spread
+mod TemplatePlaces
+pub mod TreePlaces

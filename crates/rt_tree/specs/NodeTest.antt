@@ -61,6 +61,7 @@ module _ {P Component Props Value Handler TaskState Effect Payload : Type 0} whe
   value_fits plain NoValue = true
   value_fits plain (Listener listener) = plain
 
+  -- an attribute in a slot fits where its value does
   abbrev pub attribute_fits : Attribute P Component Props Value Handler TaskState Effect Payload → Bool
   attribute_fits attribute = value_fits (is_none attribute.namespace) attribute.value
 
@@ -73,6 +74,7 @@ module _ {P Component Props Value Handler TaskState Effect Payload : Type 0} whe
     levels = levels;
   }
 
+  -- the same of a whole tree
   abbrev pub sought : VNode P Component Props Value Handler TaskState Effect Payload → ℕ → Sought
   sought tree levels = sought_in tree.template tree.dynamic_attrs levels
 
@@ -84,12 +86,14 @@ module _ {P Component Props Value Handler TaskState Effect Payload : Type 0} whe
       && (list_all (list_all attribute_fits) dynamic_attrs
       && template_fits (sought_in template dynamic_attrs levels) template.roots))
 
+  -- a value of a slot, where it is known what fits below it
   abbrev pub node_step : DynamicNode-F P Component Props Value Handler TaskState Effect Payload Test Test Test Test Test Test → Test
   node_step (DynamicNode-F.Text text) levels = true
   node_step DynamicNode-F.Placeholder levels = true
   node_step (DynamicNode-F.Component below) levels = below levels
   node_step (DynamicNode-F.DynamicNode::Fragment below) levels = all_fit below levels
 
+  -- a component: the children of a built-in one are tested, those of the application are another scope's
   abbrev pub component_step : VComponent-F P Component Props Value Handler TaskState Effect Payload Test Test Test Test Test Test → Test
   component_step (VComponent-F.App component props) levels = true
   component_step (VComponent-F.VComponent::Fragment below) levels = below levels
@@ -97,15 +101,19 @@ module _ {P Component Props Value Handler TaskState Effect Payload : Type 0} whe
   component_step (VComponent-F.SuspenseBoundary below) levels = below levels
   component_step (VComponent-F.Root props) levels = true
 
+  -- the children of a fragment
   abbrev pub fragment_step : FragmentProps-F P Component Props Value Handler TaskState Effect Payload Test Test Test Test Test Test → Test
   fragment_step props levels = children_fit props.children levels
 
+  -- the children of an error boundary
   abbrev pub error_boundary_step : ErrorBoundaryProps-F P Component Props Value Handler TaskState Effect Payload Test Test Test Test Test Test → Test
   error_boundary_step props levels = children_fit props.children levels
 
+  -- the children of a suspense boundary
   abbrev pub suspense_boundary_step : SuspenseBoundaryProps-F P Component Props Value Handler TaskState Effect Payload Test Test Test Test Test Test → Test
   suspense_boundary_step props levels = children_fit props.children levels
 
+  -- a tree fits where it does without its slots, and what stands in them does
   abbrev pub tree_step : VNode-F P Component Props Value Handler TaskState Effect Payload Test Test Test Test Test Test → Test
   tree_step tree levels = block_fits tree.template (length tree.dynamic_nodes) tree.dynamic_attrs levels
       && slots_fit tree.template.node_paths 0 tree.dynamic_nodes levels
@@ -114,9 +122,11 @@ module _ {P Component Props Value Handler TaskState Effect Payload : Type 0} whe
   abbrev pub fits_within : VNode P Component Props Value Handler TaskState Effect Payload → Test
   fits_within = fold-VNode P Component Props Value Handler TaskState Effect Payload Test Test Test Test Test Test node_step component_step error_boundary_step fragment_step suspense_boundary_step tree_step
 
+  -- whether the value of a slot fits into a number of levels
   abbrev pub node_fits_within : DynamicNode P Component Props Value Handler TaskState Effect Payload → Test
   node_fits_within = fold-DynamicNode P Component Props Value Handler TaskState Effect Payload Test Test Test Test Test Test node_step component_step error_boundary_step fragment_step suspense_boundary_step tree_step
 
+  -- whether a component fits into a number of levels
   abbrev pub component_fits_within : VComponent P Component Props Value Handler TaskState Effect Payload → Test
   component_fits_within = fold-VComponent P Component Props Value Handler TaskState Effect Payload Test Test Test Test Test Test node_step component_step error_boundary_step fragment_step suspense_boundary_step tree_step
 

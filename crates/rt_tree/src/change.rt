@@ -1,4 +1,5 @@
-//! An edit made in place: the node that it names is sought from the roots down, and what stands there is changed.
+//! An edit made in place: the node that it names is sought from the roots down, and what stands
+//! there is changed.
 ghost use Rattle.std.specs.Prelude.{◌≡◌, ◌<◌, ◌++◌, [], ◌∷◌, take, drop, vec_len, OnOk, OnErr};
 ghost use Rattle.rt_tree.specs.Nodes.{numbers, numbers_below, has, changed, changed_below};
 ghost use Rattle.rt_tree.specs.Document.{within, kind_after, node_after, instead, valued};
@@ -15,7 +16,8 @@ use std::mem;
 /// Gives an element more children, after its own.
 #[tactic(auto, using(crate::proofs::Rows::parts))]
 fn append_to(kind: DocKind, more: List<DocNode>) -> (DocKind, Result<(), OutOfMemory>)
-    ensures ok { OnOk result.1 (result.0 ≡ within (λ parts. record parts { children = parts.children ++ more }) kind) }
+    ensures ok { OnOk result.1 (result.0 ≡
+        within (λ parts. record parts { children = parts.children ++ more }) kind) }
     ensures err { OnErr result.1 (result.0 ≡ kind) }
 {
     match kind {
@@ -77,7 +79,8 @@ fn set_attribute_of(
     namespace: Option<Text>,
     value: Option<Text>,
 ) -> (DocKind, Result<(), OutOfMemory>)
-    ensures ok { OnOk result.1 (result.0 ≡ within (λ parts. record parts { attrs = valued name namespace value parts.attrs }) kind) }
+    ensures ok { OnOk result.1 (result.0 ≡
+        within (λ parts. record parts { attrs = valued name namespace value parts.attrs }) kind) }
     ensures err { OnErr result.1 (result.0 ≡ kind) }
 {
     match kind {
@@ -106,7 +109,8 @@ fn set_attribute_of(
 /// Makes an element listen to events of a name.
 #[tactic(auto, using(crate::proofs::Rows::parts))]
 fn listen_to(kind: DocKind, name: Text) -> (DocKind, Result<(), OutOfMemory>)
-    ensures ok { OnOk result.1 (result.0 ≡ within (λ parts. record parts { listeners = put_in (text_order name) name parts.listeners }) kind) }
+    ensures ok { OnOk result.1 (result.0 ≡ within (λ parts.
+        record parts { listeners = put_in (text_order name) name parts.listeners }) kind) }
     ensures err { OnErr result.1 (result.0 ≡ kind) }
 {
     match kind {
@@ -136,7 +140,8 @@ fn listen_to(kind: DocKind, name: Text) -> (DocKind, Result<(), OutOfMemory>)
 /// Makes an element listen to events of a name no more.
 #[tactic(auto, using(crate::proofs::Rows::parts))]
 fn listen_no_more(kind: DocKind, name: &Text) -> DocKind
-    ensures kind { result ≡ within (λ parts. record parts { listeners = taken_out (text_order name.now) parts.listeners }) kind }
+    ensures kind { result ≡ within (λ parts.
+        record parts { listeners = taken_out (text_order name.now) parts.listeners }) kind }
 {
     match kind {
         DocKind::Element {
@@ -198,7 +203,8 @@ fn edit_node(node: &mut DocNode, edit: Edit) -> Result<(), OutOfMemory>
 #[tactic(auto, using(crate::proofs::Found::at_place))]
 fn edit_at(row: &mut Vec<DocNode>, at: usize, edit: Edit) -> Result<(), OutOfMemory>
     requires within { at < vec_len row.old }
-    ensures ok { OnOk result (row.new.items ≡ take at row.old.items ++ with_first (λ node. node_after edit node ∷ []) (drop at row.old.items)) }
+    ensures ok { OnOk result (row.new.items ≡ take at row.old.items ++
+        with_first (λ node. node_after edit node ∷ []) (drop at row.old.items)) }
     ensures err { OnErr result (row.new.items ≡ row.old.items) }
 {
     edit_node(&mut row[at], edit)?;
@@ -209,7 +215,8 @@ fn edit_at(row: &mut Vec<DocNode>, at: usize, edit: Edit) -> Result<(), OutOfMem
 #[tactic(auto, using(crate::proofs::Found::remove_at))]
 fn remove_at(row: &mut Vec<DocNode>, at: usize)
     requires within { at < vec_len row.old }
-    ensures removed { row.new.items ≡ take at row.old.items ++ with_first (λ node. []) (drop at row.old.items) }
+    ensures removed { row.new.items ≡ take at row.old.items ++
+        with_first (λ node. []) (drop at row.old.items) }
 {
     row.remove(at);
 }
@@ -218,7 +225,8 @@ fn remove_at(row: &mut Vec<DocNode>, at: usize)
 #[tactic(auto, using(crate::proofs::Found::at_place))]
 fn replace_at(row: &mut Vec<DocNode>, at: usize, nodes: List<DocNode>) -> Result<(), OutOfMemory>
     requires within { at < vec_len row.old }
-    ensures ok { OnOk result (row.new.items ≡ take at row.old.items ++ with_first (λ node. nodes) (drop at row.old.items)) }
+    ensures ok { OnOk result (row.new.items ≡ take at row.old.items ++
+        with_first (λ node. nodes) (drop at row.old.items)) }
     ensures err { OnErr result (row.new.items ≡ row.old.items) }
 {
     row.splice(at..at + 1, nodes.into_vec())?;
@@ -229,7 +237,8 @@ fn replace_at(row: &mut Vec<DocNode>, at: usize, nodes: List<DocNode>) -> Result
 #[tactic(auto, using(crate::proofs::Found::at_place))]
 fn insert_after(row: &mut Vec<DocNode>, at: usize, nodes: List<DocNode>) -> Result<(), OutOfMemory>
     requires within { at < vec_len row.old }
-    ensures ok { OnOk result (row.new.items ≡ take at row.old.items ++ with_first (λ node. node ∷ nodes) (drop at row.old.items)) }
+    ensures ok { OnOk result (row.new.items ≡ take at row.old.items ++
+        with_first (λ node. node ∷ nodes) (drop at row.old.items)) }
     ensures err { OnErr result (row.new.items ≡ row.old.items) }
 {
     row.splice(at + 1..at + 1, nodes.into_vec())?;
@@ -239,7 +248,8 @@ fn insert_after(row: &mut Vec<DocNode>, at: usize, nodes: List<DocNode>) -> Resu
 /// Makes an edit of the node at an index.
 fn change_at(row: &mut Vec<DocNode>, at: usize, edit: Edit) -> Result<(), OutOfMemory>
     requires within { at < vec_len row.old }
-    ensures ok { OnOk result (row.new.items ≡ take at row.old.items ++ with_first (instead edit) (drop at row.old.items)) }
+    ensures ok { OnOk result (row.new.items ≡ take at row.old.items ++
+        with_first (instead edit) (drop at row.old.items)) }
     ensures err { OnErr result (row.new.items ≡ row.old.items) }
 {
     match edit {

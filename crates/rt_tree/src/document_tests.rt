@@ -1,16 +1,17 @@
-//! The document and the sinks, by examples. Nodes are printed as `(tag#1 name="value" @listener "text"#2 _#3)`.
+//! The document and the sinks, by examples. Nodes are printed as
+//! `(tag#1 name="value" @listener "text"#2 _#3)`.
 use crate::doc_node::{DocAttr, DocKind, DocNode, ElementId};
 use crate::document::{DocFault, Document};
 use crate::edit::Edit;
 use crate::failing::FailingMutations;
 use crate::sink::{SinkError, WriteMutations};
 use crate::sinks::{Mutations, NoOpMutations};
-use rt_cells::{List, OutOfMemory, Text};
+use rt_cells::{List, Text};
 use std::alloc::{AllocError, Global};
 use std::process::Abort;
-use std::test::Fail;
 
-/// An edit by plain values: a carried node is a text by its number and its text, or an element with a placeholder.
+/// An edit by plain values: a carried node is a text by its number and its text, or an element with
+/// a placeholder.
 #[derive(Clone, Copy)]
 enum Step {
     Append(u64, u64, &'static str),
@@ -26,120 +27,105 @@ enum Step {
     Unlisten(u64, &'static str),
 }
 
-fn words(alloc: Global, number: u64, text: &str) -> Result<List<DocNode>, OutOfMemory> {
-    let id = ElementId(number);
-    let kind = DocKind::Text(Text::from_str(alloc, text)?);
-    let mut nodes = List::new(alloc);
-    nodes.push(DocNode { id, kind })?;
-    Ok(nodes)
+fn text(rt: &impl Abort, alloc: Global, bytes: &str) -> Text {
+    Text::from_str(alloc, bytes).expect(rt, "memory for a text")
 }
 
-fn wrapped(alloc: Global, number: u64, below: u64) -> Result<List<DocNode>, OutOfMemory> {
-    let mut children = List::new(alloc);
-    children.push(DocNode {
-        id: ElementId(below),
-        kind: DocKind::Placeholder,
-    })?;
+fn one<T: Drop>(rt: &impl Abort, alloc: Global, item: T) -> List<T> {
+    let mut items = List::new(alloc);
+    assert!(rt; items.push(item).is_ok());
+    items
+}
+
+fn words(rt: &impl Abort, alloc: Global, number: u64, bytes: &str) -> List<DocNode> {
+    let id = ElementId(number);
+    let kind = DocKind::Text(text(rt, alloc, bytes));
+    one(rt, alloc, DocNode { id, kind })
+}
+
+fn placeholder(rt: &impl Abort, alloc: Global, number: u64) -> List<DocNode> {
+    let id = ElementId(number);
+    let kind = DocKind::Placeholder;
+    one(rt, alloc, DocNode { id, kind })
+}
+
+fn wrapped(rt: &impl Abort, alloc: Global, number: u64, below: u64) -> List<DocNode> {
+    let id = ElementId(number);
     let kind = DocKind::Element {
-        tag: Text::from_str(alloc, "p")?,
+        tag: text(rt, alloc, "p"),
         namespace: None,
         attrs: List::new(alloc),
         listeners: List::new(alloc),
-        children,
+        children: placeholder(rt, alloc, below),
     };
-    let mut nodes = List::new(alloc);
-    nodes.push(DocNode {
-        id: ElementId(number),
-        kind,
-    })?;
-    Ok(nodes)
+    one(rt, alloc, DocNode { id, kind })
 }
 
-fn attribute(
-    alloc: Global,
-    id: u64,
-    namespace: Option<Text>,
-    name: &str,
-    value: Option<Text>,
-) -> Result<Edit, OutOfMemory> {
-    let name = Text::from_str(alloc, name)?;
-    Ok(Edit::SetAttribute {
+fn append(id: u64, nodes: List<DocNode>) -> Edit {
+    let id = ElementId(id);
+    Edit::AppendChildren { id, nodes }
+}
+
+fn replace(id: u64, nodes: List<DocNode>) -> Edit {
+    let id = ElementId(id);
+    Edit::ReplaceNodeWith { id, nodes }
+}
+
+fn insert(id: u64, nodes: List<DocNode>) -> Edit {
+    let id = ElementId(id);
+    Edit::InsertNodesAfter { id, nodes }
+}
+
+fn write_text(rt: &impl Abort, alloc: Global, id: u64, bytes: &str) -> Edit {
+    let id = ElementId(id);
+    let text = text(rt, alloc, bytes);
+    Edit::SetNodeText { id, text }
+}
+
+fn set(rt: &impl Abort, alloc: Global, id: u64, name: &str, value: Option<Text>) -> Edit {
+    Edit::SetAttribute {
         id: ElementId(id),
-        name,
-        namespace,
+        name: text(rt, alloc, name),
+        namespace: None,
         value,
-    })
+    }
+}
+
+fn style(rt: &impl Abort, alloc: Global, id: u64, name: &str, value: &str) -> Edit {
+    Edit::SetAttribute {
+        id: ElementId(id),
+        name: text(rt, alloc, name),
+        namespace: Some(text(rt, alloc, "style")),
+        value: Some(text(rt, alloc, value)),
+    }
+}
+
+fn listen(rt: &impl Abort, alloc: Global, id: u64, name: &str) -> Edit {
+    let id = ElementId(id);
+    let name = text(rt, alloc, name);
+    Edit::CreateEventListener { id, name }
+}
+
+fn unlisten(rt: &impl Abort, alloc: Global, id: u64, name: &str) -> Edit {
+    let id = ElementId(id);
+    let name = text(rt, alloc, name);
+    Edit::RemoveEventListener { id, name }
 }
 
 impl Step {
-    fn nodes(self, alloc: Global) -> Result<List<DocNode>, OutOfMemory> {
+    fn edit(self, rt: &impl Abort, alloc: Global) -> Edit {
         match self {
-            Step::Append(_, number, text) => words(alloc, number, text),
-            Step::Replace(_, number, text) => words(alloc, number, text),
-            Step::Insert(_, number, text) => words(alloc, number, text),
-            Step::Wrap(_, number, below) => wrapped(alloc, number, below),
-            _ => Ok(List::new(alloc)),
-        }
-    }
-
-    fn edit(self, alloc: Global) -> Result<Edit, OutOfMemory> {
-        let nodes = self.nodes(alloc)?;
-        match self {
-            Step::Append(id, _, _) => Ok(Edit::AppendChildren {
-                id: ElementId(id),
-                nodes,
-            }),
-            Step::Wrap(id, _, _) => Ok(Edit::AppendChildren {
-                id: ElementId(id),
-                nodes,
-            }),
-            Step::Replace(id, _, _) => Ok(Edit::ReplaceNodeWith {
-                id: ElementId(id),
-                nodes,
-            }),
-            Step::Insert(id, _, _) => Ok(Edit::InsertNodesAfter {
-                id: ElementId(id),
-                nodes,
-            }),
-            _ => self.own_edit(alloc),
-        }
-    }
-
-    fn own_edit(self, alloc: Global) -> Result<Edit, OutOfMemory> {
-        match self {
-            Step::Write(id, text) => {
-                let text = Text::from_str(alloc, text)?;
-                Ok(Edit::SetNodeText {
-                    id: ElementId(id),
-                    text,
-                })
-            }
-            Step::Set(id, name, value) => {
-                let value = Text::from_str(alloc, value)?;
-                attribute(alloc, id, None, name, Some(value))
-            }
-            Step::Style(id, name, value) => {
-                let style = Text::from_str(alloc, "style")?;
-                let value = Text::from_str(alloc, value)?;
-                attribute(alloc, id, Some(style), name, Some(value))
-            }
-            Step::Clear(id, name) => attribute(alloc, id, None, name, None),
-            Step::Listen(id, name) => {
-                let name = Text::from_str(alloc, name)?;
-                Ok(Edit::CreateEventListener {
-                    id: ElementId(id),
-                    name,
-                })
-            }
-            Step::Unlisten(id, name) => {
-                let name = Text::from_str(alloc, name)?;
-                Ok(Edit::RemoveEventListener {
-                    id: ElementId(id),
-                    name,
-                })
-            }
-            Step::Remove(id) => Ok(Edit::RemoveNode { id: ElementId(id) }),
-            _ => Ok(Edit::RemoveNode { id: ElementId(0) }),
+            Step::Append(id, number, bytes) => append(id, words(rt, alloc, number, bytes)),
+            Step::Wrap(id, number, below) => append(id, wrapped(rt, alloc, number, below)),
+            Step::Replace(id, number, bytes) => replace(id, words(rt, alloc, number, bytes)),
+            Step::Insert(id, number, bytes) => insert(id, words(rt, alloc, number, bytes)),
+            Step::Remove(id) => Edit::RemoveNode { id: ElementId(id) },
+            Step::Write(id, bytes) => write_text(rt, alloc, id, bytes),
+            Step::Set(id, name, value) => set(rt, alloc, id, name, Some(text(rt, alloc, value))),
+            Step::Style(id, name, value) => style(rt, alloc, id, name, value),
+            Step::Clear(id, name) => set(rt, alloc, id, name, None),
+            Step::Listen(id, name) => listen(rt, alloc, id, name),
+            Step::Unlisten(id, name) => unlisten(rt, alloc, id, name),
         }
     }
 }
@@ -201,37 +187,34 @@ fn print_nodes(out: &mut String, nodes: &[DocNode]) -> Result<(), AllocError> {
     Ok(())
 }
 
-/// Asserts what one edit answers, and what the document shows then.
-fn answers(
-    rt: &impl Abort,
-    alloc: Global,
-    document: &mut Document,
-    case: (Step, Result<(), DocFault>, &str),
-) -> Result<(), OutOfMemory> {
-    let (step, want, shown) = case;
-    let edit = step.edit(alloc)?;
-    assert_eq!(rt; document.apply(alloc, &edit), want, "before {shown}");
+fn printed(rt: &impl Abort, alloc: Global, nodes: &[DocNode]) -> String {
     let mut out = String::new(alloc);
-    print_nodes(&mut out, document.nodes())?;
-    assert_eq!(rt; out.as_str(), shown);
-    Ok(())
+    assert!(rt; print_nodes(&mut out, nodes).is_ok());
+    out
+}
+
+/// An edit, what it answers, and what the document shows then.
+type Case = (Step, Result<(), DocFault>, &'static str);
+
+/// Asserts what one edit answers, and what the document shows then.
+fn answers(rt: &impl Abort, alloc: Global, document: &mut Document, case: Case) {
+    let (step, want, shown) = case;
+    let edit = step.edit(rt, alloc);
+    assert_eq!(rt; document.apply(alloc, &edit), want, "before {shown}");
+    let text = printed(rt, alloc, document.nodes());
+    assert_eq!(rt; text.as_str(), shown);
 }
 
 /// Asserts what edits answer, one after the other, of an empty document.
-fn all_answer(
-    rt: &impl Abort,
-    alloc: Global,
-    cases: &[(Step, Result<(), DocFault>, &'static str)],
-) -> Result<(), OutOfMemory> {
+fn all_answer(rt: &impl Abort, alloc: Global, cases: &[Case]) {
     let mut document = Document::empty(alloc);
     for case in cases {
-        answers(rt, alloc, &mut document, *case)?;
+        answers(rt, alloc, &mut document, *case);
     }
-    Ok(())
 }
 
 #[test]
-fn a_refused_edit_leaves_the_document(rt: HostRuntime) -> Result<(), Fail> {
+fn a_refused_edit_leaves_the_document(rt: HostRuntime) {
     let kept = " (p#1 _#2)";
     let cases = [
         (Step::Wrap(0, 1, 2), Ok(()), kept),
@@ -250,12 +233,11 @@ fn a_refused_edit_leaves_the_document(rt: HostRuntime) -> Result<(), Fail> {
         (Step::Wrap(1, 7, 7), Err(DocFault::RepeatedId), kept),
         (Step::Insert(1, 0, "x"), Err(DocFault::RepeatedId), kept),
     ];
-    all_answer(&rt, rt.alloc(), &cases)?;
-    Ok(())
+    all_answer(&rt, rt.alloc(), &cases);
 }
 
 #[test]
-fn nodes_come_and_go(rt: HostRuntime) -> Result<(), Fail> {
+fn nodes_come_and_go(rt: HostRuntime) {
     let cases = [
         (Step::Wrap(0, 1, 2), Ok(()), " (p#1 _#2)"),
         (Step::Append(1, 3, "a"), Ok(()), " (p#1 _#2 \"a\"#3)"),
@@ -274,12 +256,11 @@ fn nodes_come_and_go(rt: HostRuntime) -> Result<(), Fail> {
         ),
         (Step::Remove(1), Ok(()), " \"e\"#6"),
     ];
-    all_answer(&rt, rt.alloc(), &cases)?;
-    Ok(())
+    all_answer(&rt, rt.alloc(), &cases);
 }
 
 #[test]
-fn attributes_and_listeners_stand_in_order(rt: HostRuntime) -> Result<(), Fail> {
+fn attributes_and_listeners_stand_in_order(rt: HostRuntime) {
     let cases = [
         (Step::Wrap(0, 1, 2), Ok(()), " (p#1 _#2)"),
         (Step::Style(1, "b", "x"), Ok(()), " (p#1 style:b=\"x\" _#2)"),
@@ -325,70 +306,84 @@ fn attributes_and_listeners_stand_in_order(rt: HostRuntime) -> Result<(), Fail> 
             " (p#1 style:b=\"x\" @off _#2)",
         ),
     ];
-    all_answer(&rt, rt.alloc(), &cases)?;
-    Ok(())
+    all_answer(&rt, rt.alloc(), &cases);
 }
 
-fn append_and_write(alloc: Global, document: &mut Document) -> Result<(), DocFault> {
-    for number in 1..3001 {
-        let edit = Step::Append(0, number, "a").edit(alloc)?;
-        document.apply(alloc, &edit)?;
-    }
-    for number in 1..3001 {
-        let edit = Step::Write(number, "b").edit(alloc)?;
-        document.apply(alloc, &edit)?;
-    }
-    Ok(())
+fn is_made(rt: &impl Abort, alloc: Global, document: &mut Document, step: Step) {
+    assert_eq!(rt; document.apply(alloc, &step.edit(rt, alloc)), Ok(()));
 }
 
 #[test]
 fn thousands_of_edits_are_made(rt: HostRuntime) {
     let mut document = Document::empty(rt.alloc());
-    assert_eq!(rt; append_and_write(rt.alloc(), &mut document), Ok(()));
+    for number in 1..3001 {
+        is_made(&rt, rt.alloc(), &mut document, Step::Append(0, number, "a"));
+    }
+    for number in 1..3001 {
+        is_made(&rt, rt.alloc(), &mut document, Step::Write(number, "b"));
+    }
     assert_eq!(rt; document.nodes().len(), 3000);
 }
 
-/// Writes an edit of each kind to a sink.
-fn write_all<M: WriteMutations>(alloc: Global, to: &mut M) -> Result<(), SinkError> {
-    let steps = [
-        Step::Append(0, 1, "a"),
-        Step::Replace(1, 2, "b"),
-        Step::Insert(2, 3, "c"),
-        Step::Remove(3),
-        Step::Write(2, "d"),
-        Step::Style(1, "b", "x"),
-        Step::Listen(1, "on"),
-        Step::Unlisten(1, "on"),
-    ];
-    for step in steps {
-        let edit = step.edit(alloc)?;
-        edit.write_to(alloc, to)?;
+/// An edit of each kind.
+const EACH: [Step; 8] = [
+    Step::Append(0, 1, "a"),
+    Step::Replace(1, 2, "b"),
+    Step::Insert(2, 3, "c"),
+    Step::Remove(3),
+    Step::Write(2, "d"),
+    Step::Style(1, "b", "x"),
+    Step::Listen(1, "on"),
+    Step::Unlisten(1, "on"),
+];
+
+fn written<M: WriteMutations>(
+    rt: &impl Abort,
+    alloc: Global,
+    step: Step,
+    to: &mut M,
+) -> Result<(), SinkError> {
+    step.edit(rt, alloc).write_to(alloc, to)
+}
+
+/// Writes an edit of each kind to a sink, of which the one of this index fails.
+fn write_all<M: WriteMutations>(rt: &impl Abort, alloc: Global, to: &mut M, failing: usize) {
+    for (index, step) in EACH.iter().enumerate() {
+        let want = if index == failing {
+            Err(SinkError::Failed)
+        } else {
+            Ok(())
+        };
+        assert_eq!(rt; written(rt, alloc, *step, to), want, "at {index}");
     }
-    Ok(())
+}
+
+fn is_kept(rt: &impl Abort, alloc: Global, step: Step, kept: &Edit) -> bool {
+    step.edit(rt, alloc).same(kept)
 }
 
 #[test]
 fn a_list_keeps_each_edit(rt: HostRuntime) {
     let mut kept = Mutations::default_list(rt.alloc());
-    assert_eq!(rt; write_all(rt.alloc(), &mut kept), Ok(()));
-    assert_eq!(rt; kept.edits().len(), 8);
-    let edit = Edit::RemoveNode { id: ElementId(3) };
-    assert!(rt; edit.same(&kept.edits()[3]));
+    write_all(&rt, rt.alloc(), &mut kept, 8);
+    let edits = kept.edits();
+    assert_eq!(rt; edits.len(), 8);
+    for (step, edit) in EACH.iter().zip(edits) {
+        assert!(rt; is_kept(&rt, rt.alloc(), *step, edit));
+    }
 }
 
 #[test]
-fn a_sink_fails_at_the_given_call(rt: HostRuntime) -> Result<(), Fail> {
-    let mut calls = List::new(rt.alloc());
-    calls.push(4)?;
-    let mut failing = FailingMutations::new(rt.alloc(), calls);
-    assert_eq!(rt; write_all(rt.alloc(), &mut failing), Err(SinkError::Failed));
-    assert_eq!(rt; failing.edits().len(), 3);
-    assert_eq!(rt; write_all(rt.alloc(), &mut failing), Ok(()));
-    assert_eq!(rt; failing.edits().len(), 11);
-    Ok(())
+fn a_sink_fails_at_the_given_call(rt: HostRuntime) {
+    let mut failing = FailingMutations::new(rt.alloc(), one(&rt, rt.alloc(), 4));
+    write_all(&rt, rt.alloc(), &mut failing, 3);
+    assert_eq!(rt; failing.edits().len(), 7);
+    write_all(&rt, rt.alloc(), &mut failing, 8);
+    assert_eq!(rt; failing.edits().len(), 15);
+    assert!(rt; is_kept(&rt, rt.alloc(), Step::Write(2, "d"), &failing.edits()[3]));
 }
 
 #[test]
 fn a_sink_may_throw_all_away(rt: HostRuntime) {
-    assert_eq!(rt; write_all(rt.alloc(), &mut NoOpMutations), Ok(()));
+    write_all(&rt, rt.alloc(), &mut NoOpMutations, 8);
 }

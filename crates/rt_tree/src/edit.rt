@@ -49,7 +49,8 @@ pub enum Edit {
 impl Edit {
     /// Writes the edit to a sink, by the sink's call for it.
     pub fn write_to<M: WriteMutations>(&self, alloc: Global, to: &mut M) -> Result<(), SinkError>
-        ensures takes { Takes self.now (M.taken to.old) (M.taken to.new) (M.faults to.old) (M.faults to.new) result }
+        ensures takes { Takes self.now (M.taken to.old) (M.taken to.new)
+            (M.faults to.old) (M.faults to.new) result }
     {
         match self {
             Edit::AppendChildren { id, nodes } => to.append_children(alloc, id, nodes),
@@ -227,7 +228,8 @@ impl Edit {
         namespace: &Option<Text>,
         value: &Option<Text>,
     ) -> Result<Edit, OutOfMemory>
-        ensures edit { IfOk result (λ edit. edit ≡ Edit.SetAttribute id name.now namespace.now value.now) }
+        ensures edit { IfOk result (λ edit. edit ≡
+            Edit.SetAttribute id name.now namespace.now value.now) }
     {
         let name = name.copy(alloc)?;
         let namespace = namespace.copy(alloc)?;

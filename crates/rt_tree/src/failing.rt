@@ -38,15 +38,19 @@ impl FailingMutations {
         self.edits.as_slice()
     }
 
-    /// Counts a call, and fails at those of the given numbers. Calls past the last number aren't counted.
+    /// Counts a call, and fails at those of the given numbers. Calls past the last number aren't
+    /// counted.
     #[tactic(auto, using(crate::proofs::Failures::steps))]
     fn count(&mut self) -> Result<(), SinkError>
         ensures edits { self.new.edits ≡ self.old.edits }
         ensures calls { self.new.calls ≡ self.old.calls }
-        ensures later { failures self.old.calls self.old.made ≤ failures self.new.calls self.new.made }
-        ensures cause { IfErr result (λ error. failures self.old.calls self.old.made < failures self.new.calls self.new.made) }
+        ensures later { failures self.old.calls self.old.made ≤
+            failures self.new.calls self.new.made }
+        ensures cause { IfErr result (λ error. failures self.old.calls self.old.made <
+            failures self.new.calls self.new.made) }
         ensures counted { self.old.made < u64.MAX → self.new.made ≡ self.old.made + 1 }
-        ensures fails { self.old.made < u64.MAX → IsErrOf result SinkError.Failed ↔ IsTrue (fails_at self.old.calls (self.old.made + 1)) }
+        ensures fails { self.old.made < u64.MAX →
+            IsErrOf result SinkError.Failed ↔ IsTrue (fails_at self.old.calls (self.old.made + 1)) }
         ensures failed { IfErr result (λ error. error ≡ SinkError.Failed) }
     {
         if self.made == u64::MAX {
@@ -80,8 +84,13 @@ impl WriteMutations for FailingMutations {
         id: &ElementId,
         nodes: &List<DocNode>,
     ) -> Result<(), SinkError>
-        ensures takes { Takes (edits.AppendChildren id.now nodes.now) (Some self.old.edits) (Some self.new.edits) (failures self.old.calls self.old.made) (failures self.new.calls self.new.made) result }
-        ensures fails { self.old.made < u64.MAX → IsErrOf result SinkError.Failed ↔ IsTrue (fails_at self.old.calls (self.old.made + 1)) }
+        ensures takes { Takes (edits.AppendChildren id.now nodes.now)
+            (Some self.old.edits) (Some self.new.edits)
+            (failures self.old.calls self.old.made) (failures self.new.calls self.new.made) result }
+        ensures fails { self.old.made < u64.MAX →
+            IsErrOf result SinkError.Failed ↔ IsTrue (fails_at self.old.calls (self.old.made + 1)) }
+        ensures calls { self.new.calls ≡ self.old.calls }
+        ensures counted { self.old.made < u64.MAX → self.new.made ≡ self.old.made + 1 }
     {
         self.count()?;
         self.keep(Edit::appended(alloc, *id, nodes)?)?;
@@ -94,8 +103,13 @@ impl WriteMutations for FailingMutations {
         id: &ElementId,
         nodes: &List<DocNode>,
     ) -> Result<(), SinkError>
-        ensures takes { Takes (edits.ReplaceNodeWith id.now nodes.now) (Some self.old.edits) (Some self.new.edits) (failures self.old.calls self.old.made) (failures self.new.calls self.new.made) result }
-        ensures fails { self.old.made < u64.MAX → IsErrOf result SinkError.Failed ↔ IsTrue (fails_at self.old.calls (self.old.made + 1)) }
+        ensures takes { Takes (edits.ReplaceNodeWith id.now nodes.now)
+            (Some self.old.edits) (Some self.new.edits)
+            (failures self.old.calls self.old.made) (failures self.new.calls self.new.made) result }
+        ensures fails { self.old.made < u64.MAX →
+            IsErrOf result SinkError.Failed ↔ IsTrue (fails_at self.old.calls (self.old.made + 1)) }
+        ensures calls { self.new.calls ≡ self.old.calls }
+        ensures counted { self.old.made < u64.MAX → self.new.made ≡ self.old.made + 1 }
     {
         self.count()?;
         self.keep(Edit::replaced(alloc, *id, nodes)?)?;
@@ -108,8 +122,13 @@ impl WriteMutations for FailingMutations {
         id: &ElementId,
         nodes: &List<DocNode>,
     ) -> Result<(), SinkError>
-        ensures takes { Takes (edits.InsertNodesAfter id.now nodes.now) (Some self.old.edits) (Some self.new.edits) (failures self.old.calls self.old.made) (failures self.new.calls self.new.made) result }
-        ensures fails { self.old.made < u64.MAX → IsErrOf result SinkError.Failed ↔ IsTrue (fails_at self.old.calls (self.old.made + 1)) }
+        ensures takes { Takes (edits.InsertNodesAfter id.now nodes.now)
+            (Some self.old.edits) (Some self.new.edits)
+            (failures self.old.calls self.old.made) (failures self.new.calls self.new.made) result }
+        ensures fails { self.old.made < u64.MAX →
+            IsErrOf result SinkError.Failed ↔ IsTrue (fails_at self.old.calls (self.old.made + 1)) }
+        ensures calls { self.new.calls ≡ self.old.calls }
+        ensures counted { self.old.made < u64.MAX → self.new.made ≡ self.old.made + 1 }
     {
         self.count()?;
         self.keep(Edit::inserted(alloc, *id, nodes)?)?;
@@ -117,8 +136,13 @@ impl WriteMutations for FailingMutations {
     }
 
     fn remove_node(&mut self, _alloc: Global, id: &ElementId) -> Result<(), SinkError>
-        ensures takes { Takes (edits.RemoveNode id.now) (Some self.old.edits) (Some self.new.edits) (failures self.old.calls self.old.made) (failures self.new.calls self.new.made) result }
-        ensures fails { self.old.made < u64.MAX → IsErrOf result SinkError.Failed ↔ IsTrue (fails_at self.old.calls (self.old.made + 1)) }
+        ensures takes { Takes (edits.RemoveNode id.now)
+            (Some self.old.edits) (Some self.new.edits)
+            (failures self.old.calls self.old.made) (failures self.new.calls self.new.made) result }
+        ensures fails { self.old.made < u64.MAX →
+            IsErrOf result SinkError.Failed ↔ IsTrue (fails_at self.old.calls (self.old.made + 1)) }
+        ensures calls { self.new.calls ≡ self.old.calls }
+        ensures counted { self.old.made < u64.MAX → self.new.made ≡ self.old.made + 1 }
     {
         self.count()?;
         self.keep(Edit::RemoveNode { id: *id })?;
@@ -126,8 +150,13 @@ impl WriteMutations for FailingMutations {
     }
 
     fn set_node_text(&mut self, alloc: Global, id: &ElementId, text: &Text) -> Result<(), SinkError>
-        ensures takes { Takes (edits.SetNodeText id.now text.now) (Some self.old.edits) (Some self.new.edits) (failures self.old.calls self.old.made) (failures self.new.calls self.new.made) result }
-        ensures fails { self.old.made < u64.MAX → IsErrOf result SinkError.Failed ↔ IsTrue (fails_at self.old.calls (self.old.made + 1)) }
+        ensures takes { Takes (edits.SetNodeText id.now text.now)
+            (Some self.old.edits) (Some self.new.edits)
+            (failures self.old.calls self.old.made) (failures self.new.calls self.new.made) result }
+        ensures fails { self.old.made < u64.MAX →
+            IsErrOf result SinkError.Failed ↔ IsTrue (fails_at self.old.calls (self.old.made + 1)) }
+        ensures calls { self.new.calls ≡ self.old.calls }
+        ensures counted { self.old.made < u64.MAX → self.new.made ≡ self.old.made + 1 }
     {
         self.count()?;
         self.keep(Edit::written(alloc, *id, text)?)?;
@@ -142,8 +171,13 @@ impl WriteMutations for FailingMutations {
         namespace: &Option<Text>,
         value: &Option<Text>,
     ) -> Result<(), SinkError>
-        ensures takes { Takes (edits.SetAttribute id.now name.now namespace.now value.now) (Some self.old.edits) (Some self.new.edits) (failures self.old.calls self.old.made) (failures self.new.calls self.new.made) result }
-        ensures fails { self.old.made < u64.MAX → IsErrOf result SinkError.Failed ↔ IsTrue (fails_at self.old.calls (self.old.made + 1)) }
+        ensures takes { Takes (edits.SetAttribute id.now name.now namespace.now value.now)
+            (Some self.old.edits) (Some self.new.edits)
+            (failures self.old.calls self.old.made) (failures self.new.calls self.new.made) result }
+        ensures fails { self.old.made < u64.MAX →
+            IsErrOf result SinkError.Failed ↔ IsTrue (fails_at self.old.calls (self.old.made + 1)) }
+        ensures calls { self.new.calls ≡ self.old.calls }
+        ensures counted { self.old.made < u64.MAX → self.new.made ≡ self.old.made + 1 }
     {
         self.count()?;
         self.keep(Edit::set(alloc, *id, name, namespace, value)?)?;
@@ -156,8 +190,13 @@ impl WriteMutations for FailingMutations {
         id: &ElementId,
         name: &Text,
     ) -> Result<(), SinkError>
-        ensures takes { Takes (edits.CreateEventListener id.now name.now) (Some self.old.edits) (Some self.new.edits) (failures self.old.calls self.old.made) (failures self.new.calls self.new.made) result }
-        ensures fails { self.old.made < u64.MAX → IsErrOf result SinkError.Failed ↔ IsTrue (fails_at self.old.calls (self.old.made + 1)) }
+        ensures takes { Takes (edits.CreateEventListener id.now name.now)
+            (Some self.old.edits) (Some self.new.edits)
+            (failures self.old.calls self.old.made) (failures self.new.calls self.new.made) result }
+        ensures fails { self.old.made < u64.MAX →
+            IsErrOf result SinkError.Failed ↔ IsTrue (fails_at self.old.calls (self.old.made + 1)) }
+        ensures calls { self.new.calls ≡ self.old.calls }
+        ensures counted { self.old.made < u64.MAX → self.new.made ≡ self.old.made + 1 }
     {
         self.count()?;
         self.keep(Edit::created(alloc, *id, name)?)?;
@@ -170,8 +209,13 @@ impl WriteMutations for FailingMutations {
         id: &ElementId,
         name: &Text,
     ) -> Result<(), SinkError>
-        ensures takes { Takes (edits.RemoveEventListener id.now name.now) (Some self.old.edits) (Some self.new.edits) (failures self.old.calls self.old.made) (failures self.new.calls self.new.made) result }
-        ensures fails { self.old.made < u64.MAX → IsErrOf result SinkError.Failed ↔ IsTrue (fails_at self.old.calls (self.old.made + 1)) }
+        ensures takes { Takes (edits.RemoveEventListener id.now name.now)
+            (Some self.old.edits) (Some self.new.edits)
+            (failures self.old.calls self.old.made) (failures self.new.calls self.new.made) result }
+        ensures fails { self.old.made < u64.MAX →
+            IsErrOf result SinkError.Failed ↔ IsTrue (fails_at self.old.calls (self.old.made + 1)) }
+        ensures calls { self.new.calls ≡ self.old.calls }
+        ensures counted { self.old.made < u64.MAX → self.new.made ≡ self.old.made + 1 }
     {
         self.count()?;
         self.keep(Edit::ended(alloc, *id, name)?)?;

@@ -32,7 +32,8 @@ fn highest_below(kind: &DocKind) -> u64
     }
 }
 
-/// The last number in nodes, where each is greater than the one before it and the first than `above`.
+/// The last number in nodes, where each is greater than the one before it and the first than
+/// `above`.
 #[cycle(rises)]
 #[tactic(auto, using(crate::proofs::Rising::rising_next))]
 fn rises(nodes: &[DocNode], above: u64) -> Option<u64>
@@ -71,10 +72,11 @@ fn rises_below(kind: &DocKind, above: u64) -> Option<u64>
     }
 }
 
-/// Whether a number of the nodes is 0, comes twice or is in the document. Numbers that rise from above all of the
-/// document's, as those that a runtime draws, are gone through once.
+/// Whether a number of the nodes is 0, comes twice or is in the document. Numbers that rise from
+/// above all of the document's, as those that a runtime draws, are gone through once.
 pub fn clashes(nodes: &[DocNode], document: &[DocNode]) -> bool
-    ensures clashes { result ≡ list_any (is_barred (numbers document.now) (numbers nodes.now)) (numbers nodes.now) }
+    ensures clashes { result ≡
+        list_any (is_barred (numbers document.now) (numbers nodes.now)) (numbers nodes.now) }
 {
     match rises(nodes, highest(document)) {
         Some(_) => false,

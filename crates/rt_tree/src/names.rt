@@ -23,7 +23,8 @@ pub(crate) fn names_differ<P: Parts>(
     true
 }
 
-// Whether the names of an attribute differ from each other and from those of the attributes after it.
+// Whether the names of an attribute differ from each other and from those of the attributes after
+// it.
 fn is_fresh<P: Parts>(
     attr: &TemplateAttribute,
     later: &[TemplateAttribute],
@@ -71,7 +72,8 @@ fn is_named<P: Parts>(
     attrs: &[TemplateAttribute],
     slots: &[List<Attribute<P>>],
 ) -> bool
-    ensures { result ≡ list_any (same_name (name.now, namespace.now)) (names_in (slot_names slots.now) attrs.now) }
+    ensures { result ≡ list_any (same_name (name.now, namespace.now))
+        (names_in (slot_names slots.now) attrs.now) }
 {
     for attr in attrs {
         if names(attr, slots, name, namespace) {
@@ -88,7 +90,8 @@ fn names<P: Parts>(
     name: &Text,
     namespace: &Option<Text>,
 ) -> bool
-    ensures { result ≡ list_any (same_name (name.now, namespace.now)) (names_of (slot_names slots.now) attr.now) }
+    ensures { result ≡ list_any (same_name (name.now, namespace.now))
+        (names_of (slot_names slots.now) attr.now) }
 {
     match attr {
         TemplateAttribute::Static {

@@ -4,6 +4,7 @@ ghost use Rattle.std.specs.Prelude.{◌≡◌, ◌≤◌, [], length};
 ghost use Rattle.std.specs.List.{list_all, slice_index_or};
 ghost use Rattle.rt_tree.specs.Met.{met_in};
 ghost use Rattle.rt_tree.specs.NodeTest.{attribute_fits, block_fits, component_fits_within, element_fits_within, fits, fits_within, met_as, node_fits_within, sought};
+ghost use Rattle.rt_tree.specs.Places.{HasPlacesApart};
 ghost use Rattle.rt_tree.specs.Walk.{ends};
 
 use crate::place::Place;
@@ -14,12 +15,15 @@ use rt_cells::List;
 /// How many levels a tree may have, from its roots down through what its slots hold.
 const LEVELS: usize = 128;
 
-/// Whether a tree passes the node test: its slots are numbered from 0 as they are met depth first and
-/// have the listed paths, each has its value, a template has 1 to 256 roots and an element at most 256
-/// children and no two attributes of one name, no listener has a namespace, and nothing stands below
-/// the 128th level. The trees in its slots are tested too.
+/// Whether a tree passes the node test: its slots are numbered from 0 as they are met depth first
+/// and have the listed paths, each has its value, a template has 1 to 256 roots and an element at
+/// most 256 children and no two attributes of one name, no listener has a namespace, and nothing
+/// stands below the 128th level. The trees in its slots are tested too.
 pub fn fits<P: Parts>(node: &VNode<P>) -> bool
-    ensures { result ≡ fits node.now }
+    ensures test { result ≡ fits node.now }
+
+    // Whatever the answer, no place of the tree's nodes stands twice, nor of its component slots.
+    ensures apart { HasPlacesApart node.now }
 {
     tree_fits(node, LEVELS)
 }

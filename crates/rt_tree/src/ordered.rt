@@ -98,7 +98,8 @@ fn place_for_listener(listeners: &[Text], name: &Text) -> usize
 
 /// Puts an attribute in its place, over the one of its name and namespace.
 pub fn put_attribute(attrs: &mut Vec<DocAttr>, attr: DocAttr) -> Result<(), OutOfMemory>
-    ensures ok { OnOk result (attrs.new.items ≡ put_in (attribute_order attr.name attr.namespace) attr attrs.old.items) }
+    ensures ok { OnOk result (attrs.new.items ≡
+        put_in (attribute_order attr.name attr.namespace) attr attrs.old.items) }
     ensures err { OnErr result (attrs.new.items ≡ attrs.old.items) }
 {
     match place_of_attribute(attrs, &attr.name, &attr.namespace) {
@@ -113,7 +114,8 @@ pub fn put_attribute(attrs: &mut Vec<DocAttr>, attr: DocAttr) -> Result<(), OutO
 
 /// Takes the attribute of this name and namespace away, if there is one.
 pub fn take_attribute(attrs: &mut Vec<DocAttr>, name: &Text, namespace: &Option<Text>)
-    ensures taken { attrs.new.items ≡ taken_out (attribute_order name.now namespace.now) attrs.old.items }
+    ensures taken { attrs.new.items ≡
+        taken_out (attribute_order name.now namespace.now) attrs.old.items }
 {
     if let Some(at) = place_of_attribute(attrs, name, namespace) {
         attrs.remove(at);
@@ -122,7 +124,8 @@ pub fn take_attribute(attrs: &mut Vec<DocAttr>, name: &Text, namespace: &Option<
 
 /// Puts a listener in its place.
 pub fn put_listener(listeners: &mut Vec<Text>, name: Text) -> Result<(), OutOfMemory>
-    ensures ok { OnOk result (listeners.new.items ≡ put_in (text_order name) name listeners.old.items) }
+    ensures ok { OnOk result (listeners.new.items ≡
+        put_in (text_order name) name listeners.old.items) }
     ensures err { OnErr result (listeners.new.items ≡ listeners.old.items) }
 {
     match place_of_listener(listeners, &name) {

@@ -93,7 +93,8 @@ fn count_below(kind: &DocKind, number: u64) -> u8
     }
 }
 
-/// Whether a node of this number can't come with others into a document: it is 0, stands in the document, or comes twice.
+/// Whether a node of this number can't come with others into a document: it is 0, stands in the
+/// document, or comes twice.
 fn is_barred(number: u64, all: &[DocNode], document: &[DocNode]) -> bool
     ensures barred { result ≡ is_barred (numbers document.now) (numbers all.now) number }
 {
@@ -104,7 +105,8 @@ fn is_barred(number: u64, all: &[DocNode], document: &[DocNode]) -> bool
 #[cycle(barred)]
 #[tactic(auto, using(crate::proofs::Next::any_next))]
 pub fn any_barred(nodes: &[DocNode], all: &[DocNode], document: &[DocNode]) -> bool
-    ensures barred { result ≡ list_any (is_barred (numbers document.now) (numbers all.now)) (numbers nodes.now) }
+    ensures barred { result ≡
+        list_any (is_barred (numbers document.now) (numbers all.now)) (numbers nodes.now) }
 {
     for node in nodes {
         if is_barred(node.id.0, all, document) || barred_below(&node.kind, all, document) {
@@ -117,7 +119,8 @@ pub fn any_barred(nodes: &[DocNode], all: &[DocNode], document: &[DocNode]) -> b
 #[cycle(barred)]
 #[tactic(auto, using(crate::proofs::Rows::kinds))]
 fn barred_below(kind: &DocKind, all: &[DocNode], document: &[DocNode]) -> bool
-    ensures barred { result ≡ list_any (is_barred (numbers document.now) (numbers all.now)) (numbers_below kind.now) }
+    ensures barred { result ≡
+        list_any (is_barred (numbers document.now) (numbers all.now)) (numbers_below kind.now) }
 {
     match kind {
         DocKind::Element { children, .. } => any_barred(children.as_slice(), all, document),

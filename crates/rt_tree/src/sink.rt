@@ -1,5 +1,5 @@
-//! Where edits are written. What a sink has taken is known to clauses where the sink tells it, and each
-//! refusal that isn't want of memory raises its count of faults.
+//! Where edits are written. What a sink has taken is known to clauses where the sink tells it, and
+//! each refusal that isn't want of memory raises its count of faults.
 ghost use Rattle.std.specs.Prelude.{◌≡◌, ℕ, Option, List};
 ghost use Rattle.rt_tree.specs.Sinks.{Takes};
 ghost use Rattle.rt_tree.specs.declared.edit.Edit.{Edit};
@@ -44,7 +44,8 @@ pub trait WriteMutations: Drop {
         id: &ElementId,
         nodes: &List<DocNode>,
     ) -> Result<(), SinkError>
-        ensures takes { Takes (edits.AppendChildren id.now nodes.now) (taken self.old) (taken self.new) (faults self.old) (faults self.new) result };
+        ensures takes { Takes (edits.AppendChildren id.now nodes.now)
+            (taken self.old) (taken self.new) (faults self.old) (faults self.new) result };
 
     /// Puts nodes in the place of a node.
     fn replace_node_with(
@@ -53,7 +54,8 @@ pub trait WriteMutations: Drop {
         id: &ElementId,
         nodes: &List<DocNode>,
     ) -> Result<(), SinkError>
-        ensures takes { Takes (edits.ReplaceNodeWith id.now nodes.now) (taken self.old) (taken self.new) (faults self.old) (faults self.new) result };
+        ensures takes { Takes (edits.ReplaceNodeWith id.now nodes.now)
+            (taken self.old) (taken self.new) (faults self.old) (faults self.new) result };
 
     /// Puts nodes after a node, beside it.
     fn insert_nodes_after(
@@ -62,15 +64,18 @@ pub trait WriteMutations: Drop {
         id: &ElementId,
         nodes: &List<DocNode>,
     ) -> Result<(), SinkError>
-        ensures takes { Takes (edits.InsertNodesAfter id.now nodes.now) (taken self.old) (taken self.new) (faults self.old) (faults self.new) result };
+        ensures takes { Takes (edits.InsertNodesAfter id.now nodes.now)
+            (taken self.old) (taken self.new) (faults self.old) (faults self.new) result };
 
     /// Takes a node away, with all that stands below it.
     fn remove_node(&mut self, alloc: Global, id: &ElementId) -> Result<(), SinkError>
-        ensures takes { Takes (edits.RemoveNode id.now) (taken self.old) (taken self.new) (faults self.old) (faults self.new) result };
+        ensures takes { Takes (edits.RemoveNode id.now)
+            (taken self.old) (taken self.new) (faults self.old) (faults self.new) result };
 
     /// Gives a text node another text.
     fn set_node_text(&mut self, alloc: Global, id: &ElementId, text: &Text) -> Result<(), SinkError>
-        ensures takes { Takes (edits.SetNodeText id.now text.now) (taken self.old) (taken self.new) (faults self.old) (faults self.new) result };
+        ensures takes { Takes (edits.SetNodeText id.now text.now)
+            (taken self.old) (taken self.new) (faults self.old) (faults self.new) result };
 
     /// Gives an attribute of an element a value, or takes it away where there is none.
     fn set_attribute(
@@ -81,7 +86,8 @@ pub trait WriteMutations: Drop {
         namespace: &Option<Text>,
         value: &Option<Text>,
     ) -> Result<(), SinkError>
-        ensures takes { Takes (edits.SetAttribute id.now name.now namespace.now value.now) (taken self.old) (taken self.new) (faults self.old) (faults self.new) result };
+        ensures takes { Takes (edits.SetAttribute id.now name.now namespace.now value.now)
+            (taken self.old) (taken self.new) (faults self.old) (faults self.new) result };
 
     /// Makes an element listen to events of a name.
     fn create_event_listener(
@@ -90,7 +96,8 @@ pub trait WriteMutations: Drop {
         id: &ElementId,
         name: &Text,
     ) -> Result<(), SinkError>
-        ensures takes { Takes (edits.CreateEventListener id.now name.now) (taken self.old) (taken self.new) (faults self.old) (faults self.new) result };
+        ensures takes { Takes (edits.CreateEventListener id.now name.now)
+            (taken self.old) (taken self.new) (faults self.old) (faults self.new) result };
 
     /// Makes an element listen to events of a name no more.
     fn remove_event_listener(
@@ -99,5 +106,6 @@ pub trait WriteMutations: Drop {
         id: &ElementId,
         name: &Text,
     ) -> Result<(), SinkError>
-        ensures takes { Takes (edits.RemoveEventListener id.now name.now) (taken self.old) (taken self.new) (faults self.old) (faults self.new) result };
+        ensures takes { Takes (edits.RemoveEventListener id.now name.now)
+            (taken self.old) (taken self.new) (faults self.old) (faults self.new) result };
 }

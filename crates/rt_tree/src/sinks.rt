@@ -195,7 +195,8 @@ impl WriteMutations for NoOpMutations {
         _namespace: &Option<Text>,
         _value: &Option<Text>,
     ) -> Result<(), SinkError>
-        ensures takes { Takes (edits.SetAttribute _id.now _name.now _namespace.now _value.now) None None 0 0 result }
+        ensures takes { Takes (edits.SetAttribute _id.now _name.now _namespace.now _value.now)
+            None None 0 0 result }
         ensures ok { IsOk result }
     {
         Ok(())

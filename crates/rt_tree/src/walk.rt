@@ -21,8 +21,8 @@ pub(crate) struct Seen {
     pub(crate) attrs: usize,
 }
 
-/// Goes through siblings of a tree's template, which stand below `parent` at a level counted from 1.
-/// Answers what was seen by then, or `None` where something does not fit.
+/// Goes through siblings of a tree's template, which stand below `parent` at a level counted from
+/// 1. Answers what was seen by then, or `None` where something does not fit.
 #[cycle(walk)]
 pub(crate) fn walk_among<P: Parts>(
     nodes: &[TemplateNode],
@@ -98,7 +98,8 @@ fn walk_attrs<P: Parts>(
     tree: &VNode<P>,
     seen: Seen,
 ) -> Option<Seen>
-    ensures { (levels : ℕ) → result ≡ walked (sought tree.now levels) (met_attrs (path_of place.now) attrs.now) seen }
+    ensures { (levels : ℕ) → result ≡
+        walked (sought tree.now levels) (met_attrs (path_of place.now) attrs.now) seen }
 {
     let mut seen = seen;
     for attr in attrs {
@@ -114,7 +115,8 @@ fn walk_attr<P: Parts>(
     tree: &VNode<P>,
     seen: Seen,
 ) -> Option<Seen>
-    ensures { (levels : ℕ) → result ≡ walked (sought tree.now levels) (met_attr (path_of place.now) attr.now) seen }
+    ensures { (levels : ℕ) → result ≡
+        walked (sought tree.now levels) (met_attr (path_of place.now) attr.now) seen }
 {
     match attr {
         TemplateAttribute::Static { .. } => Some(seen),
