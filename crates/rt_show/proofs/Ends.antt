@@ -1,5 +1,6 @@
 -- A run of a source's application that ends in a fault came to it.
-use Rattle.std.proofs.Common.{◌≡◌, ◌⊎◌, ℕ, true, false, ◌&&◌, List, [], Some, None, Ok, sym, ap, ◌∙◌, inl, inr}
+use Rattle.std.proofs.Common.{subst, ◌≡◌, ◌⊎◌, ℕ, true, false, ◌&&◌, List, [], Some, None, Ok, sym, ap, ◌∙◌, inl, inr}
+use Rattle.rt_cells.specs.declared.names.ScopeId.{ScopeId}
 use Rattle.rt_form.specs.declared.syntax.Application.{Application}
 use Rattle.rt_model.specs.Headline.{CameTo}
 use Rattle.rt_model.specs.State as model
@@ -52,4 +53,6 @@ pub comes_to : (app : Application) (before after : ℕ) (fault : Fault) (line : 
 comes_to app before after faults.OutOfMemory line still cause names rest = absurd (cc)
 comes_to app before after faults.SinkFault line still cause names rest = absurd (cc)
 comes_to app before after (faults.IdsExhausted what) line still cause names rest = cause rest
-comes_to app before after (faults.BadNode scope) line still cause names rest = came_or_more app rest _ still (cause rest)
+comes_to app before after (faults.BadNode scope) line still cause names rest =
+    subst (λ (s : ScopeId). CameTo (meant_by app rest) no_props [] unworded (Some []) [] (model.BadNode s.0)) (sym (cause rest).0)
+    (came_or_more app rest (model.BadNode 3) still (cause rest).1)

@@ -125,8 +125,7 @@ module _ {C Q V H T E L : Type 0} (root : C) (body : C → Q → BodyMeaning C Q
   came-of-first before after OutOfMemory h limits height = λ rest. tt
   came-of-first before after SinkFault h limits height = absurd h
   came-of-first before after (IdsExhausted what) h limits height = absurd h
-  came-of-first before after (BadNode scope) h limits height = λ rest.
-      subst (λ s. CameTo (filled root body rest) props [] (limits_of limits) (Some []) [] (state.BadNode s.0) ⊎ AnswersMore (body root props first_world)) (sym h.0) (came-bad limits height rest h.1)
+  came-of-first before after (BadNode scope) h limits height = λ rest. (h.0, came-bad limits height rest h.1)
 
   -- why the sink refused
   pub came-of-sink : (before after : ℕ) (fault : Fault) → SinkRefuses before after fault → (limits : Limits) → CameFrom root body props limits before after fault
@@ -146,7 +145,7 @@ module _ {C Q V H T E L : Type 0} (root : C) (body : C → Q → BodyMeaning C Q
   completes limits before after SinkFault cause = λ rest valid. tt
   completes limits before after (IdsExhausted what) cause = λ rest valid.
       fault_is_invalid (filled root body rest) props [] (limits_of limits) (Some []) _ (cause rest) valid
-  completes limits before after (BadNode scope) cause = λ rest valid. either limits rest _ valid (cause rest)
+  completes limits before after (BadNode scope) cause = λ rest valid. either limits rest _ valid (cause rest).1
 
 -- the numbers that were drawn, in words of the tree's own roots
 pub roots-within : (roots read : List TemplateNode) (first last : ℕ) → read ≡ roots → first ≡ 1 → last ≡ first + node_count (nodes_of read) → last < 2 ^ 64 → node_count (nodes_of roots) + 1 ≤ last_number

@@ -70,12 +70,13 @@ module _ {K : Types} where
     pub headline : Headline app props [] (Some (map edit_of edits)) (map report_of reports)
 
   -- why a fault came, with the sink's count of failures before and after: want of memory is free, a failure of the sink is counted,
-  -- any other is one that the run comes to, but for BadNode where the answer is more than this stage takes
+  -- any other is one that the run comes to, but for BadNode, of the root component, where the answer is more than this stage takes
   abbrev pub Cause : Application K → K.Props → Limits → ℕ → ℕ → Fault → Type 0
   Cause app props limits before after faults.OutOfMemory = Unit {0}
   Cause app props limits before after faults.SinkFault = before < after
   Cause app props limits before after (faults.IdsExhausted what) = CameTo app props [] (limits_of limits) (Some []) [] (IdsExhausted (counter_of what))
-  Cause app props limits before after (faults.BadNode scope) = CameTo app props [] (limits_of limits) (Some []) [] (BadNode scope.0) ⊎ AnswersMore (first_call app props)
+  Cause app props limits before after (faults.BadNode scope) =
+      (scope ≡ record { 0 = 3 }) × (CameTo app props [] (limits_of limits) (Some []) [] (BadNode 3) ⊎ AnswersMore (first_call app props))
 
   -- no log of the build comes to a refusal
   abbrev pub IsValid : Application K → K.Props → Limits → Type 0
