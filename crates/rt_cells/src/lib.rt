@@ -1,34 +1,11 @@
-//! The base of reactive state: names, texts and lists that clauses see as values, serial numbers.
+//! The base of reactive state: tracked cells, who reads them, reactive contexts, and the plain
+//! values that all crates above are made of.
 #![tactic(auto)]
 
-mod boxed;
-mod cells;
-mod contexts;
-mod faults;
-mod links;
-mod list;
-mod memory;
-mod names;
-mod numbered;
-mod part;
-mod places;
-mod reads;
-mod serials;
-mod sources;
-mod subscribers;
-mod text;
-
-pub use boxed::Boxed;
-pub use cells::Cells;
-pub use faults::CellsFault;
-pub use list::{List, copy_slice, same_slice};
-pub use memory::OutOfMemory;
-pub use names::{ReactiveContext, ScopeId, Task};
-pub use part::Part;
-pub use serials::Serials;
-pub use sources::{Reader, Source, Target};
-pub use subscribers::Subscribers;
-pub use text::Text;
+pub use rt_tracked::{
+    Cells, CellsFault, ReactiveContext, Reader, Serials, Source, Subscribers, Target,
+};
+pub use rt_values::{Boxed, List, OutOfMemory, Part, ScopeId, Task, Text, copy_slice, same_slice};
 
 #[cfg(test)]
 mod tests;

@@ -1,5 +1,5 @@
 //! What the worked cases, the values and a million readers say.
 
-mod calls;
 mod cases;
+mod steps;
 mod values;

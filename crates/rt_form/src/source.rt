@@ -8,7 +8,7 @@ ghost use Rattle.rt_form.specs.declared.syntax.Application.{Application};
 use crate::fields::{is_object_of, only_member};
 use crate::syntax::{Application, Component};
 use crate::views::view_nodes;
-use rt_cells::{List, OutOfMemory};
+use rt_values::{List, OutOfMemory};
 use serde_json::Value;
 use serde_json::error::Category;
 use std::alloc::Global;

@@ -1,6 +1,6 @@
 //! An application as its source describes it, checked, with names as places.
 
-use rt_cells::{List, Text};
+use rt_values::{List, Text};
 
 /// A node of a view.
 #[derive(Debug, Drop)]

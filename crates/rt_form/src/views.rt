@@ -7,7 +7,7 @@ ghost use Rattle.rt_form.specs.Views.{node_in, element_in};
 use crate::fields::{is_object_of, list_or_empty};
 use crate::names::is_name;
 use crate::syntax::ViewNode;
-use rt_cells::{List, OutOfMemory, Text};
+use rt_values::{List, OutOfMemory, Text};
 use serde_json::Value;
 use std::alloc::Global;
 

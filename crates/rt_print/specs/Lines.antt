@@ -1,8 +1,8 @@
 -- The lines of edits.
 use Rattle.std.specs.Prelude.{ℕ, List, ◌++◌, map, codes, Option, Some, None}
 use Rattle.json.specs.Print.{quoted}
-use Rattle.rt_tree.specs.declared.Edit.{Edit}
-use Rattle.rt_tree.specs.declared.Edit.TheVariants.{AppendChildren, ReplaceNodeWith, InsertNodesAfter, RemoveNode, SetNodeText, SetAttribute, CreateEventListener, RemoveEventListener}
+use Rattle.rt_edits.specs.declared.Edit.{Edit}
+use Rattle.rt_edits.specs.declared.Edit.TheVariants.{AppendChildren, ReplaceNodeWith, InsertNodesAfter, RemoveNode, SetNodeText, SetAttribute, CreateEventListener, RemoveEventListener}
 use Rattle.rt_print.specs.Nodes.{numbered, spaced, qualified, node_text}
 
 -- what an attribute becomes

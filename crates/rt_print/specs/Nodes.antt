@@ -2,10 +2,10 @@
 use Rattle.std.specs.Prelude.{ℕ, List, ◌∷◌, ◌++◌, map, codes, decimal, Option, Some, None}
 use Rattle.std.specs.List.{flat_map}
 use Rattle.json.specs.Print.{quoted}
-use Rattle.rt_tree.specs.declared.DocAttr.{DocAttr}
-use Rattle.rt_tree.specs.declared.DocNode.{DocNode, DocNode-F}
-use Rattle.rt_tree.specs.declared.DocKind.{DocKind, DocKind-F}
-use Rattle.rt_tree.specs.declared.DocKind.TheFolds.{fold-DocNode, fold-DocKind}
+use Rattle.rt_edits.specs.declared.DocAttr.{DocAttr}
+use Rattle.rt_edits.specs.declared.DocNode.{DocNode, DocNode-F}
+use Rattle.rt_edits.specs.declared.DocKind.{DocKind, DocKind-F}
+use Rattle.rt_edits.specs.declared.DocKind.TheFolds.{fold-DocNode, fold-DocKind}
 
 -- `#` and a number
 abbrev pub numbered : ℕ → List ℕ

@@ -1,6 +1,6 @@
 -- What the program prints of a run.
 use Rattle.std.specs.Prelude.{ℕ, List, [], ◌∷◌, ◌++◌, Option, option_map}
-use Rattle.rt_tree.specs.declared.Edit.{Edit}
+use Rattle.rt_edits.specs.declared.Edit.{Edit}
 use Rattle.rt_vdom.specs.declared.Fault.{Fault}
 use Rattle.rt_vdom.specs.declared.Report.{Report}
 use Rattle.rt_print.specs.Lines.{lines_of}

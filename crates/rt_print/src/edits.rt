@@ -4,8 +4,8 @@ ghost use Rattle.rt_print.specs.Lines.{value_text, edit_text, line_of};
 
 use crate::nodes::put_nodes;
 use crate::pieces::{put_name, put_number, put_quoted};
-use rt_cells::{OutOfMemory, Text};
 use rt_tree::Edit;
+use rt_values::{OutOfMemory, Text};
 use std::alloc::{AllocError, Global};
 
 // Appends what an attribute becomes.

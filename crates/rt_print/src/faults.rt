@@ -2,7 +2,7 @@
 ghost use Rattle.std.specs.Prelude.{◌≡◌, ◌++◌, IfOk, OnOk, string_bytes, codes};
 ghost use Rattle.rt_print.specs.Faults.{counter_text, fault_line_of};
 
-use rt_cells::{OutOfMemory, Text};
+use rt_values::{OutOfMemory, Text};
 use rt_vdom::{Counter, Fault};
 use std::alloc::Global;
 

@@ -3,8 +3,8 @@ ghost use Rattle.std.specs.Prelude.{◌≡◌, ◌++◌, OnOk, string_bytes, map
 ghost use Rattle.rt_print.specs.Nodes.{spaced, attr_text, listener_text, kind_text, node_text};
 
 use crate::pieces::{put_name, put_number, put_quoted};
-use rt_cells::Text;
 use rt_tree::{DocAttr, DocKind, DocNode, ElementId};
+use rt_values::Text;
 use std::alloc::{AllocError, Global};
 
 fn put_attrs(alloc: Global, line: &mut String, attrs: &[DocAttr]) -> Result<(), AllocError>

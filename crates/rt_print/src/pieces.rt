@@ -3,7 +3,7 @@ ghost use Rattle.std.specs.Prelude.{◌≡◌, ◌++◌, OnOk, string_bytes};
 ghost use Rattle.json.specs.Print.{quoted};
 ghost use Rattle.rt_print.specs.Nodes.{numbered, qualified};
 
-use rt_cells::Text;
+use rt_values::Text;
 use serde_json::Value;
 use std::alloc::{AllocError, Global};
 

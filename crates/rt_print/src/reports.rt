@@ -3,7 +3,7 @@ ghost use Rattle.std.specs.Prelude.{◌≡◌, ◌++◌, IfOk, OnOk, map, string
 ghost use Rattle.rt_print.specs.Nodes.{spaced};
 ghost use Rattle.rt_print.specs.Reports.{entry_text, counts_text, report_line_of};
 
-use rt_cells::{OutOfMemory, Text};
+use rt_values::{OutOfMemory, Text};
 use rt_vdom::{Entry, Report};
 use std::alloc::{AllocError, Global};
 

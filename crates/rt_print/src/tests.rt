@@ -1,8 +1,8 @@
 //! The form of the lines that no clause chose: each edit, each kind of node, a report and a fault.
 
 use crate::{edit_line, fault_line, report_line};
-use rt_cells::{List, OutOfMemory, ScopeId, Text};
 use rt_tree::{DocAttr, DocKind, DocNode, Edit, ElementId};
+use rt_values::{List, OutOfMemory, ScopeId, Text};
 use rt_vdom::{Counter, Entry, Fault, Report};
 use std::alloc::Global;
 use std::test::Fail;

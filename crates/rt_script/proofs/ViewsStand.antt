@@ -3,8 +3,8 @@ use Rattle.std.proofs.Common.{ℕ, rules, true, ◌&&◌, List, [], ◌∷◌, N
 use Rattle.rt_form.specs.declared.syntax.ViewNode.{ViewNode}
 use Rattle.rt_form.specs.declared.syntax.ViewNode.TheOpen.{ViewNode-F}
 use Rattle.rt_form.specs.declared.syntax.ViewNode.TheFolds.{fold-roll-ViewNode, ind-ViewNode, map-ViewNode}
-use Rattle.rt_tree.specs.declared.template.TemplateNode.{TemplateNode, the_lemmas}
-use Rattle.rt_tree.specs.declared.template.TemplateNode.TheVariants as nodes
+use Rattle.rt_parts.specs.declared.template.TemplateNode.{TemplateNode, the_lemmas}
+use Rattle.rt_parts.specs.declared.template.TemplateNode.TheVariants as nodes
 use Rattle.rt_vdom.specs.Mirror.{element_of}
 use Rattle.rt_vdom.specs.Promised.{is_still}
 use Rattle.rt_vdom.specs.Still.{all_true, stands_still, all_stand_still}

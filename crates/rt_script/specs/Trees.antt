@@ -4,10 +4,10 @@ use Rattle.rt_form.specs.declared.syntax.ViewNode.{ViewNode, fold-ViewNode}
 use Rattle.rt_form.specs.declared.syntax.ViewNode.TheOpen.{ViewNode-F}
 use Rattle.rt_form.specs.declared.syntax.Component.{Component}
 use Rattle.rt_form.specs.declared.syntax.Application.{Application}
-use Rattle.rt_tree.specs.declared.template.TemplateNode.{TemplateNode}
-use Rattle.rt_tree.specs.declared.template.TemplateNode.TheVariants.{Element, Text, Dynamic}
-use Rattle.rt_tree.specs.declared.vnode.VNode.{VNode}
-use Rattle.rt_tree.specs.declared.vnode.DynamicNode.TheVariants.{Placeholder}
+use Rattle.rt_parts.specs.declared.template.TemplateNode.{TemplateNode}
+use Rattle.rt_parts.specs.declared.template.TemplateNode.TheVariants.{Element, Text, Dynamic}
+use Rattle.rt_nodes.specs.declared.vnode.VNode.{VNode}
+use Rattle.rt_nodes.specs.declared.vnode.DynamicNode.TheVariants.{Placeholder}
 use Rattle.rt_script.specs.declared.script.Script.{Script}
 use Rattle.rt_script.specs.declared.value.Value.{Value}
 use Rattle.rt_script.specs.declared.value.Props.{Props}

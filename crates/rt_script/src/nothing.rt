@@ -1,6 +1,6 @@
 //! What stands for what the language has no word for yet.
 
-use rt_cells::{OutOfMemory, Part};
+use rt_values::{OutOfMemory, Part};
 use std::alloc::Global;
 
 /// A handler, an effect or the state of a task: no source describes one yet.

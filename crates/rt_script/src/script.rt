@@ -10,9 +10,9 @@ ghost use Rattle.rt_vdom.specs.Mirror.{element_of};
 use crate::nothing::Nothing;
 use crate::tree::{Tree, placeholder, tree};
 use crate::value::{Props, Value};
-use rt_cells::{List, OutOfMemory};
 use rt_form::Application;
 use rt_tree::Parts;
+use rt_values::{List, OutOfMemory};
 use rt_vdom::app::{App, BodyCx, BodyTurn};
 use std::alloc::Global;
 

@@ -1,9 +1,9 @@
 //! The trees of views, and values beside their copies.
 
 use crate::{Script, Value};
-use rt_cells::{Part, Text};
 use rt_form::read_source;
 use rt_tree::TemplateNode;
+use rt_values::{Part, Text};
 use rt_vdom::app::App;
 use std::alloc::{AllocError, Global};
 use std::test::Fail;

@@ -3,9 +3,9 @@ ghost use Rattle.std.specs.Prelude.{◌≡◌, IfOk, map};
 ghost use Rattle.rt_script.specs.Trees.{template_node_of, tree_of, placeholder};
 
 use crate::script::Script;
-use rt_cells::{List, OutOfMemory, Part};
 use rt_form::ViewNode;
 use rt_tree::{DynamicNode, Template, TemplateNode, VNode};
+use rt_values::{List, OutOfMemory, Part};
 use std::alloc::Global;
 
 /// A tree of the application.

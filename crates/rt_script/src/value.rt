@@ -1,6 +1,6 @@
 //! What an application of the language computes with.
 
-use rt_cells::{List, OutOfMemory, Part, Text};
+use rt_values::{List, OutOfMemory, Part, Text};
 use std::alloc::Global;
 
 /// A value: of a cell, of props, or that an event carries.

@@ -1,6 +1,6 @@
 -- A run of a source's application that ends in a fault came to it.
 use Rattle.std.proofs.Common.{subst, ◌≡◌, ◌⊎◌, ℕ, true, false, ◌&&◌, List, [], Some, None, Ok, sym, ap, ◌∙◌, inl, inr}
-use Rattle.rt_cells.specs.declared.names.ScopeId.{ScopeId}
+use Rattle.rt_values.specs.declared.names.ScopeId.{ScopeId}
 use Rattle.rt_form.specs.declared.syntax.Application.{Application}
 use Rattle.rt_model.specs.Headline.{CameTo}
 use Rattle.rt_model.specs.State as model

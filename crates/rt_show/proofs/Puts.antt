@@ -6,7 +6,7 @@ use Rattle.rt_print.specs.Lines.{line_of, lines_of}
 use Rattle.rt_print.specs.Reports.{report_line_of, report_lines_from}
 use Rattle.rt_print.specs.Texts.{joined}
 use Rattle.rt_vdom.specs.declared.Report.{Report}
-use Rattle.rt_tree.specs.declared.Edit.{Edit}
+use Rattle.rt_edits.specs.declared.Edit.{Edit}
 use Rattle.rt_streams.specs.Writes.{grown, Writes}
 use Rattle.rt_streams.specs.declared.out.OutError.{OutError}
 

@@ -14,7 +14,7 @@ use Rattle.rt_script.specs.declared.script.Script.{Script}
 use Rattle.rt_script.specs.declared.value.Props.{Props}
 use Rattle.rt_streams.specs.Reads.{IsWhole, IsLonger}
 use Rattle.rt_streams.specs.Writes.{AddsFront}
-use Rattle.rt_tree.specs.declared.edit.Edit.{Edit}
+use Rattle.rt_edits.specs.declared.edit.Edit.{Edit}
 use Rattle.rt_vdom.specs.Mirror.{element_of}
 use Rattle.rt_vdom.specs.Outcomes.{fault_of}
 use Rattle.rt_vdom.specs.Promised.{Rest, filled, is_still, WasBuilt}

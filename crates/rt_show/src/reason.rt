@@ -2,8 +2,8 @@
 ghost use Rattle.std.specs.Prelude.{◌≡◌, Err};
 ghost use Rattle.rt_show.specs.Statuses.{status_of};
 
-use rt_cells::OutOfMemory;
 use rt_streams::OutError;
+use rt_values::OutOfMemory;
 
 /// Why the program doesn't come to its end.
 #[derive(Clone, Copy, Debug, PartialEq, Eq)]

@@ -1,8 +1,8 @@
 //! The program over bytes in memory: what is printed, and which sources are refused.
 
 use crate::top::show;
-use rt_cells::{List, Text};
 use rt_streams::{BytesOut, BytesSource, SureOut, SureSource};
+use rt_values::{List, Text};
 use std::alloc::{AllocError, Global};
 use std::test::Fail;
 

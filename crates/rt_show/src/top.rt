@@ -6,12 +6,12 @@ ghost use Rattle.rt_show.specs.Statuses.{Comes, Shows};
 
 use crate::reason::Stop;
 use crate::writing::{put_ended_run, put_run};
-use rt_cells::{List, OutOfMemory, Text};
 use rt_form::{Application, read_source};
 use rt_print::fault_line;
 use rt_script::Script;
 use rt_streams::{Out, ReadError, Source, read_all};
 use rt_tree::Mutations;
+use rt_values::{List, OutOfMemory, Text};
 use rt_vdom::app::App;
 use rt_vdom::{Limits, SessionFault, session};
 use std::alloc::Global;

@@ -1,7 +1,7 @@
 //! The words that the program is given.
 
 use crate::reason::Stop;
-use rt_cells::Text;
+use rt_values::Text;
 use std::env;
 use std::io::{Error, ErrorKind};
 use std::rt::Env;

@@ -5,10 +5,10 @@ ghost use Rattle.rt_print.specs.Reports.{report_line_of, report_lines_from};
 ghost use Rattle.rt_print.specs.Texts.{joined, text_of};
 ghost use Rattle.rt_streams.specs.Writes.{Writes};
 
-use rt_cells::Text;
 use rt_print::{edit_line, report_line};
 use rt_streams::{Out, OutError};
 use rt_tree::Edit;
+use rt_values::Text;
 use rt_vdom::Report;
 use std::alloc::Global;
 

@@ -4,7 +4,7 @@ ghost use Rattle.rt_streams.specs.Failures.{failures};
 
 use crate::out::{Out, OutError};
 use crate::schedule::Schedule;
-use rt_cells::List;
+use rt_values::List;
 use std::alloc::Global;
 
 /// Keeps what is written, of which some puts fail, and then write nothing.

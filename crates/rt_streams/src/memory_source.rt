@@ -5,7 +5,7 @@ ghost use Rattle.rt_streams.specs.Failures.{failures};
 use crate::rest::Rest;
 use crate::schedule::Schedule;
 use crate::source::{ReadFailed, Source};
-use rt_cells::List;
+use rt_values::List;
 
 /// Bytes of which some reads fail, and then move nothing.
 #[derive(Drop)]

@@ -2,7 +2,7 @@
 ghost use Rattle.std.specs.Prelude.{◌≡◌, ℕ, List, Option};
 ghost use Rattle.rt_streams.specs.Writes.{Writes};
 
-use rt_cells::OutOfMemory;
+use rt_values::OutOfMemory;
 use std::alloc::AllocError;
 
 /// Why bytes were not all written.

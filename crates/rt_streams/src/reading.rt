@@ -3,7 +3,7 @@ ghost use Rattle.std.specs.Prelude.{◌≡◌, ◌<◌, ◌≤◌, IfOk, IsErrOf
 ghost use Rattle.rt_streams.specs.Reads.{IsWhole, IsLonger};
 
 use crate::source::Source;
-use rt_cells::List;
+use rt_values::List;
 use std::alloc::{AllocError, Global};
 
 /// The most bytes that are read of a source.

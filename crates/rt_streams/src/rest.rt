@@ -1,7 +1,7 @@
 //! Bytes in memory of which a front has been read. Clauses see the bytes that are left.
 ghost use Rattle.std.specs.Prelude.{◌≡◌, ◌≤◌, ◌<◌, ◌++◌, [], length, take, drop};
 
-use rt_cells::List;
+use rt_values::List;
 use std::marker::Model;
 
 /// Bytes that are taken from the front.

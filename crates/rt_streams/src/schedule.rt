@@ -2,7 +2,7 @@
 ghost use Rattle.std.specs.Prelude.{◌≡◌, ◌≤◌, ◌<◌, ◌+◌, ◌↔◌, IsTrue, Contains};
 ghost use Rattle.rt_streams.specs.Failures.{failures};
 
-use rt_cells::List;
+use rt_values::List;
 
 /// Which calls fail, and how many calls there were.
 #[derive(Drop)]

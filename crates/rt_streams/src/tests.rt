@@ -1,7 +1,7 @@
 //! What no clause says: which calls fail, and that ample memory suffices.
 
 use crate::{BytesOut, BytesSource, Out, OutError, ReadError, SureOut, SureSource, read_all};
-use rt_cells::List;
+use rt_values::List;
 use std::test::Fail;
 
 #[test]

@@ -1,12 +1,12 @@
 -- What a session promises, from what its parts answered and what the model says of such a build.
 use Rattle.std.proofs.Common.{ℕ, true, ◌+◌, ◌≤◌, ◌<◌, ◌^◌, List, [], ◌∷◌, ◌≡◌, ◌⊎◌, inl, inr, refl, sym, ap, ◌∙◌, subst, map, arith}
 use Rattle.std.specs.Prelude.{Option, Some, None}
-use Rattle.rt_tree.specs.Sinks.{grown}
-use Rattle.rt_tree.specs.declared.doc_node.DocNode.{DocNode}
-use Rattle.rt_tree.specs.declared.edit.Edit.{Edit}
-use Rattle.rt_tree.specs.declared.edit.Edit.TheVariants as edits
-use Rattle.rt_tree.specs.declared.template.TemplateNode.{TemplateNode}
-use Rattle.rt_tree.specs.declared.vnode.VNode.{VNode}
+use Rattle.rt_edits.specs.Sinks.{grown}
+use Rattle.rt_edits.specs.declared.doc_node.DocNode.{DocNode}
+use Rattle.rt_edits.specs.declared.edit.Edit.{Edit}
+use Rattle.rt_edits.specs.declared.edit.Edit.TheVariants as edits
+use Rattle.rt_parts.specs.declared.template.TemplateNode.{TemplateNode}
+use Rattle.rt_nodes.specs.declared.vnode.VNode.{VNode}
 use Rattle.rt_model.specs.Causes as causes
 use Rattle.rt_model.specs.Document as doc
 use Rattle.rt_model.specs.Headline.{Headline, CameTo}

@@ -1,10 +1,10 @@
 -- The first call of the root component's body: what it sees, and what follows from its answer.
 use Rattle.std.proofs.Common.{ℕ, Bool, true, false, ◌&&◌, List, [], ◌∷◌, ◌≡◌, ◌⊎◌, inl, inr, refl, sym, ap, ◌∙◌, map, nat_eq, subst}
 use Rattle.std.specs.Prelude.{◌≢◌, ◌↔◌, IsTrue, IfOk, IfErr, Option, Some, None, Result, Ok, Err, option_map, option_and_then, if◌then◌else◌}
-use Rattle.rt_tree.specs.NodeTest.{fits}
-use Rattle.rt_tree.specs.declared.error.RenderError.{RenderError}
-use Rattle.rt_tree.specs.declared.error.RenderError.TheVariants as errors
-use Rattle.rt_tree.specs.declared.vnode.VNode.{VNode}
+use Rattle.rt_nodes.specs.NodeTest.{fits}
+use Rattle.rt_parts.specs.declared.error.RenderError.{RenderError}
+use Rattle.rt_parts.specs.declared.error.RenderError.TheVariants as errors
+use Rattle.rt_nodes.specs.declared.vnode.VNode.{VNode}
 use Rattle.rt_model.specs.OneLog.{types}
 use Rattle.rt_model.specs.Tree.{Types, Element}
 use Rattle.rt_model.specs.World as models

@@ -2,10 +2,10 @@
 use Rattle.std.proofs.Common.{ℕ, ◌+◌, Bool, true, false, ◌&&◌, List, [], ◌≡◌, refl, ap, ◌∙◌}
 use Rattle.std.specs.Prelude.{Option}
 use mathlib.Core.Former.{Count}
-use Rattle.rt_tree.specs.declared.doc_node.DocNode.{DocNode}
-use Rattle.rt_tree.specs.declared.doc_node.DocAttr.{DocAttr}
-use Rattle.rt_tree.specs.declared.doc_node.DocKind.{DocKind, Element', Row_of-DocNode, end_of-DocNode, more_of-DocNode, items-the_row-DocNode, items_hidden-the_row-DocNode-0}
-use Rattle.rt_tree.specs.declared.doc_node.DocKind.TheVariants.{Element, Text}
+use Rattle.rt_edits.specs.declared.doc_node.DocNode.{DocNode}
+use Rattle.rt_edits.specs.declared.doc_node.DocAttr.{DocAttr}
+use Rattle.rt_edits.specs.declared.doc_node.DocKind.{DocKind, Element', Row_of-DocNode, end_of-DocNode, more_of-DocNode, items-the_row-DocNode, items_hidden-the_row-DocNode-0}
+use Rattle.rt_edits.specs.declared.doc_node.DocKind.TheVariants.{Element, Text}
 use Rattle.rt_model.specs.Tree.{TemplateNodes, no_nodes, element_node, text_node, slot_node}
 use Rattle.rt_model.specs.Document.{Forest, Node, Empty, DocElement, DocText}
 use Rattle.rt_model.specs.StillBuild.{no_attribute, stands_still, node_count, numbered_forest}

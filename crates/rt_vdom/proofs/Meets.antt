@@ -1,8 +1,8 @@
 -- The node test of a template that stands still: no slot is met, and the levels fit as the model's do.
 use Rattle.std.proofs.Common.{Bool, true, false, ◌&&◌, List, [], ◌∷◌, ◌≡◌, refl, sym, ap, ◌∙◌, subst, map}
-use Rattle.rt_tree.specs.declared.template.TemplateNode.{TemplateNode}
-use Rattle.rt_tree.specs.declared.template.TemplateNode.TheOpen.{TemplateNode-F}
-use Rattle.rt_tree.specs.declared.template.TemplateNode.TheFolds.{fold-roll-TemplateNode, ind-TemplateNode, map-TemplateNode}
+use Rattle.rt_parts.specs.declared.template.TemplateNode.{TemplateNode}
+use Rattle.rt_parts.specs.declared.template.TemplateNode.TheOpen.{TemplateNode-F}
+use Rattle.rt_parts.specs.declared.template.TemplateNode.TheFolds.{fold-roll-TemplateNode, ind-TemplateNode, map-TemplateNode}
 use Rattle.rt_model.specs.Tree.{TemplateNodes, no_nodes}
 use Rattle.rt_model.specs.StillBuild.{stands_still}
 use Rattle.rt_vdom.specs.Still.{all_true, still_step, stands_still as is_still, all_stand_still}

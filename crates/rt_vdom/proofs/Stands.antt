@@ -1,8 +1,8 @@
 -- What is met in a template that stands still: no slot, and levels that fit as the model's do.
 use Rattle.std.proofs.Common.{suc, ◌+◌, List, [], ◌∷◌, ◌≡◌, refl, ap, ◌∙◌, length, arith}
-use Rattle.rt_tree.specs.declared.template.TemplateNode.{TemplateNode}
-use Rattle.rt_tree.specs.declared.template.TemplateNode.TheOpen.{TemplateNode-F}
-use Rattle.rt_tree.specs.declared.template.TemplateNode.TheFolds.{fold-roll-TemplateNode, ind-TemplateNode, map-TemplateNode}
+use Rattle.rt_parts.specs.declared.template.TemplateNode.{TemplateNode}
+use Rattle.rt_parts.specs.declared.template.TemplateNode.TheOpen.{TemplateNode-F}
+use Rattle.rt_parts.specs.declared.template.TemplateNode.TheFolds.{fold-roll-TemplateNode, ind-TemplateNode, map-TemplateNode}
 use Rattle.rt_model.specs.Tree.{TemplateNodes}
 use Rattle.rt_model.specs.Fits.{row_length}
 use Rattle.rt_vdom.specs.Mirror.{before_step, node_before, nodes_of}

@@ -3,12 +3,12 @@ use Rattle.std.proofs.Common.{ℕ, suc, ◌+◌, Bool, true, false, ◌&&◌, Li
 use Rattle.std.proofs.lemmas.Bool.{eqb-true}
 use Rattle.std.specs.Prelude.{◌==◌}
 use Rattle.std.specs.List.{list_all}
-use Rattle.rt_tree.specs.NodeTest.{fits, slots_fit, node_fits_within, attribute_fits, template_fits, sought_in}
-use Rattle.rt_tree.specs.Names.{slot_names}
-use Rattle.rt_tree.proofs.NodeTestLemmas.{fits-out}
-use Rattle.rt_tree.specs.declared.vnode.VNode.{VNode}
-use Rattle.rt_tree.specs.declared.vnode.DynamicNode.{DynamicNode}
-use Rattle.rt_tree.specs.declared.vnode.DynamicNode.TheFolds.{fold-DynamicNode}
+use Rattle.rt_nodes.specs.NodeTest.{fits, slots_fit, node_fits_within, attribute_fits, template_fits, sought_in}
+use Rattle.rt_nodes.specs.Names.{slot_names}
+use Rattle.rt_fits.proofs.NodeTestLemmas.{fits-out}
+use Rattle.rt_nodes.specs.declared.vnode.VNode.{VNode}
+use Rattle.rt_nodes.specs.declared.vnode.DynamicNode.{DynamicNode}
+use Rattle.rt_nodes.specs.declared.vnode.DynamicNode.TheFolds.{fold-DynamicNode}
 use Rattle.rt_model.specs.Lists.{same_list, same_numbers}
 use Rattle.rt_model.specs.Fits as model
 use Rattle.rt_model.specs.Fits.{slot_count, row_length, counts_from, all_plain, nodes_fit, slots_fit as values_fit}

@@ -2,10 +2,10 @@
 use Rattle.std.proofs.Common.{true, ◌≡◌, sym, ◌∙◌, map, length}
 use Rattle.std.specs.Prelude.{◌==◌}
 use Rattle.std.specs.List.{list_all}
-use Rattle.rt_tree.specs.Names.{slot_names}
-use Rattle.rt_tree.specs.NodeTest.{fits, block_fits, slots_fit, node_fits_within, attribute_fits}
-use Rattle.rt_tree.proofs.NodeTestLemmas.{fits-out}
-use Rattle.rt_tree.specs.declared.vnode.VNode.{VNode}
+use Rattle.rt_nodes.specs.Names.{slot_names}
+use Rattle.rt_nodes.specs.NodeTest.{fits, block_fits, slots_fit, node_fits_within, attribute_fits}
+use Rattle.rt_fits.proofs.NodeTestLemmas.{fits-out}
+use Rattle.rt_nodes.specs.declared.vnode.VNode.{VNode}
 use Rattle.rt_model.specs.StillBuild.{still_fits}
 use Rattle.rt_vdom.specs.Still.{all_stand_still}
 use Rattle.rt_vdom.specs.Mirror.{template_of}

@@ -1,11 +1,11 @@
 -- The node test of a template that stands still is the model's.
 use Rattle.std.proofs.Common.{ℕ, true, ◌&&◌, List, [], ◌∷◌, ◌≡◌, refl, sym, ap, ◌∙◌}
 use Rattle.std.specs.Prelude.{nat_le, nat_lt}
-use Rattle.rt_tree.specs.Met.{met_in}
-use Rattle.rt_tree.specs.NodeTest.{template_fits}
-use Rattle.rt_tree.specs.Names.{Name}
-use Rattle.rt_tree.specs.Slots.{node_slots, attr_slots, are_numbered}
-use Rattle.rt_tree.specs.declared.template.Template.{Template}
+use Rattle.rt_nodes.specs.Met.{met_in}
+use Rattle.rt_nodes.specs.NodeTest.{template_fits}
+use Rattle.rt_nodes.specs.Names.{Name}
+use Rattle.rt_nodes.specs.Slots.{node_slots, attr_slots, are_numbered}
+use Rattle.rt_parts.specs.declared.template.Template.{Template}
 use Rattle.rt_model.specs.StillBuild.{no_path, still_fits}
 use Rattle.rt_vdom.specs.Still.{all_stand_still}
 use Rattle.rt_vdom.specs.Mirror.{template_of}

@@ -1,7 +1,7 @@
 -- The mirror of a tree goes through its parts.
 use Rattle.std.proofs.Common.{map, ◌≡◌}
-use Rattle.rt_tree.specs.declared.vnode.VNode.{VNode}
-use Rattle.rt_tree.specs.declared.vnode.DynamicNode.TheFolds.{fold_out-VNode, fold-DynamicNode}
+use Rattle.rt_nodes.specs.declared.vnode.VNode.{VNode}
+use Rattle.rt_nodes.specs.declared.vnode.DynamicNode.TheFolds.{fold_out-VNode, fold-DynamicNode}
 use Rattle.rt_model.specs.OneLog.{types}
 use Rattle.rt_model.specs.Tree.{Tree, block, Slot, VComponent}
 use Rattle.rt_vdom.specs.Mirror.{template_of, attribute_of, slots_from, slot_step, component_step, error_boundary_step, fragment_step, suspense_boundary_step, tree_step, tree_of}

@@ -1,9 +1,9 @@
 -- What a call looks at and what it leaves, as the model has it.
 use Rattle.std.specs.Prelude.{ℕ, nat_eq, List, [], ◌∷◌, map, Option, Some, None, option_map, option_and_then, if◌then◌else◌}
-use Rattle.rt_cells.specs.Held.{value_at}
-use Rattle.rt_cells.specs.declared.names.ScopeId.{ScopeId}
-use Rattle.rt_cells.specs.declared.sources.Source.{Source}
-use Rattle.rt_cells.specs.declared.sources.Source.TheVariants as sources
+use Rattle.rt_tracked.specs.Held.{value_at}
+use Rattle.rt_values.specs.declared.names.ScopeId.{ScopeId}
+use Rattle.rt_tracked.specs.declared.sources.Source.{Source}
+use Rattle.rt_tracked.specs.declared.sources.Source.TheVariants as sources
 use Rattle.rt_model.specs.OneLog.{types}
 use Rattle.rt_model.specs.Tree.{Element}
 use Rattle.rt_model.specs.World as model

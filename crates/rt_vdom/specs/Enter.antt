@@ -1,5 +1,5 @@
 -- The world that a call is begun in.
-use Rattle.rt_cells.specs.declared.names.ScopeId.{ScopeId}
+use Rattle.rt_values.specs.declared.names.ScopeId.{ScopeId}
 use Rattle.rt_vdom.specs.World.{CallWorld}
 use Rattle.rt_vdom.specs.declared.app.world.World.{World}
 

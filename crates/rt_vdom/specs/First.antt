@@ -1,9 +1,9 @@
 -- The first call of the root component's body: what it sees, and what is taken of its answer.
 use Rattle.std.specs.Prelude.{◌≡◌, ◌⊎◌, ℕ, Bool, true, false, List, [], ◌∷◌, Option, Some, None, Result, Ok, Err, ◌&&◌}
-use Rattle.rt_cells.specs.declared.names.ScopeId.{ScopeId}
-use Rattle.rt_tree.specs.NodeTest.{fits}
-use Rattle.rt_tree.specs.declared.error.RenderError.{RenderError}
-use Rattle.rt_tree.specs.declared.vnode.VNode.{VNode}
+use Rattle.rt_values.specs.declared.names.ScopeId.{ScopeId}
+use Rattle.rt_nodes.specs.NodeTest.{fits}
+use Rattle.rt_parts.specs.declared.error.RenderError.{RenderError}
+use Rattle.rt_nodes.specs.declared.vnode.VNode.{VNode}
 use Rattle.rt_model.specs.OneLog.{types}
 use Rattle.rt_model.specs.Fits as model
 use Rattle.rt_model.specs.Tree.{Types, Tree, rendered, Element}

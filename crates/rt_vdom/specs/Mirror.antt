@@ -1,29 +1,29 @@
 -- Templates, trees, answers, documents and edits of code as those of the model.
 use Rattle.std.specs.Prelude.{List, [], ◌∷◌, map, Option, Some, None, Result, Ok, Err}
-use Rattle.rt_tree.specs.declared.attribute.Attribute.{Attribute}
-use Rattle.rt_tree.specs.declared.attribute.AttributeValue.{AttributeValue}
-use Rattle.rt_tree.specs.declared.attribute.AttributeValue.TheVariants as values
-use Rattle.rt_tree.specs.declared.doc_node.DocAttr.{DocAttr}
-use Rattle.rt_tree.specs.declared.doc_node.DocNode.{DocNode}
-use Rattle.rt_tree.specs.declared.doc_node.DocKind.{DocKind, Element', Text, Placeholder, Row_of-DocNode, end_of-DocNode, more_of-DocNode}
-use Rattle.rt_tree.specs.declared.edit.Edit.{Edit}
-use Rattle.rt_tree.specs.declared.edit.Edit.TheVariants as edits
-use Rattle.rt_tree.specs.declared.error.CapturedError.{CapturedError}
-use Rattle.rt_tree.specs.declared.error.RenderError.{RenderError}
-use Rattle.rt_tree.specs.declared.error.RenderError.TheVariants as errors
-use Rattle.rt_tree.specs.declared.template.Template.{Template}
-use Rattle.rt_tree.specs.declared.template.TemplateAttribute.{TemplateAttribute}
-use Rattle.rt_tree.specs.declared.template.TemplateAttribute.TheVariants as attributes
-use Rattle.rt_tree.specs.declared.template.TemplateNode.{TemplateNode}
-use Rattle.rt_tree.specs.declared.template.TemplateNode.TheOpen.{TemplateNode-F}
-use Rattle.rt_tree.specs.declared.template.TemplateNode.TheFolds.{fold-TemplateNode}
-use Rattle.rt_tree.specs.declared.vnode.ErrorHandler.{ErrorHandler}
-use Rattle.rt_tree.specs.declared.vnode.ErrorHandler.TheVariants as handlers
-use Rattle.rt_tree.specs.declared.vnode.Fallback.{Fallback}
-use Rattle.rt_tree.specs.declared.vnode.Fallback.TheVariants as fallbacks
-use Rattle.rt_tree.specs.declared.vnode.VNode.{VNode}
-use Rattle.rt_tree.specs.declared.vnode.DynamicNode.TheOpen.{DynamicNode-F, VComponent-F, FragmentProps-F, ErrorBoundaryProps-F, SuspenseBoundaryProps-F, VNode-F}
-use Rattle.rt_tree.specs.declared.vnode.DynamicNode.TheFolds.{fold-VNode}
+use Rattle.rt_parts.specs.declared.attribute.Attribute.{Attribute}
+use Rattle.rt_parts.specs.declared.attribute.AttributeValue.{AttributeValue}
+use Rattle.rt_parts.specs.declared.attribute.AttributeValue.TheVariants as values
+use Rattle.rt_edits.specs.declared.doc_node.DocAttr.{DocAttr}
+use Rattle.rt_edits.specs.declared.doc_node.DocNode.{DocNode}
+use Rattle.rt_edits.specs.declared.doc_node.DocKind.{DocKind, Element', Text, Placeholder, Row_of-DocNode, end_of-DocNode, more_of-DocNode}
+use Rattle.rt_edits.specs.declared.edit.Edit.{Edit}
+use Rattle.rt_edits.specs.declared.edit.Edit.TheVariants as edits
+use Rattle.rt_parts.specs.declared.error.CapturedError.{CapturedError}
+use Rattle.rt_parts.specs.declared.error.RenderError.{RenderError}
+use Rattle.rt_parts.specs.declared.error.RenderError.TheVariants as errors
+use Rattle.rt_parts.specs.declared.template.Template.{Template}
+use Rattle.rt_parts.specs.declared.template.TemplateAttribute.{TemplateAttribute}
+use Rattle.rt_parts.specs.declared.template.TemplateAttribute.TheVariants as attributes
+use Rattle.rt_parts.specs.declared.template.TemplateNode.{TemplateNode}
+use Rattle.rt_parts.specs.declared.template.TemplateNode.TheOpen.{TemplateNode-F}
+use Rattle.rt_parts.specs.declared.template.TemplateNode.TheFolds.{fold-TemplateNode}
+use Rattle.rt_nodes.specs.declared.vnode.ErrorHandler.{ErrorHandler}
+use Rattle.rt_nodes.specs.declared.vnode.ErrorHandler.TheVariants as handlers
+use Rattle.rt_nodes.specs.declared.vnode.Fallback.{Fallback}
+use Rattle.rt_nodes.specs.declared.vnode.Fallback.TheVariants as fallbacks
+use Rattle.rt_nodes.specs.declared.vnode.VNode.{VNode}
+use Rattle.rt_nodes.specs.declared.vnode.DynamicNode.TheOpen.{DynamicNode-F, VComponent-F, FragmentProps-F, ErrorBoundaryProps-F, SuspenseBoundaryProps-F, VNode-F}
+use Rattle.rt_nodes.specs.declared.vnode.DynamicNode.TheFolds.{fold-VNode}
 use Rattle.rt_model.specs.OneLog.{types}
 use Rattle.rt_model.specs.Tree as model
 use Rattle.rt_model.specs.Tree.{TemplateNodes, no_nodes, element_node, text_node, slot_node, fixed, from_slot, text_value, no_value, listener, Tree, block, Slots, no_slots, more_slots, Slot, text_slot, placeholder_slot, component_slot, fragment_slot, Trees, no_trees, more_trees, VComponent, Own, Root, Fragment, ErrorBoundary, SuspenseBoundary, Element, rendered, failed, suspended}

@@ -1,7 +1,7 @@
 -- The document's nodes of a template, numbered depth first.
 use Rattle.std.specs.Prelude.{ℕ, ◌+◌, List, [], ◌∷◌, Option}
-use Rattle.rt_tree.specs.declared.doc_node.DocNode.{DocNode}
-use Rattle.rt_tree.specs.declared.doc_node.DocKind.TheVariants as kinds
+use Rattle.rt_edits.specs.declared.doc_node.DocNode.{DocNode}
+use Rattle.rt_edits.specs.declared.doc_node.DocKind.TheVariants as kinds
 use Rattle.rt_model.specs.Tree.{TemplateNodes, no_nodes, element_node, text_node, slot_node}
 use Rattle.rt_model.specs.StillBuild.{node_count}
 

@@ -1,7 +1,7 @@
 -- What a session promises of an application of the model: the headline where it was built, the cause where it wasn't.
 use Rattle.std.specs.Prelude.{◌≡◌, ◌⊎◌, ◌&&◌, ℕ, ◌<◌, Bool, true, false, List, [], ◌∷◌, map, Option, Some, None}
-use Rattle.rt_tree.specs.Sinks.{grown}
-use Rattle.rt_tree.specs.declared.edit.Edit.{Edit}
+use Rattle.rt_edits.specs.Sinks.{grown}
+use Rattle.rt_edits.specs.declared.edit.Edit.{Edit}
 use Rattle.rt_model.specs.OneLog.{types}
 use Rattle.rt_model.specs.Tree.{Types, template_of, Element, rendered, failed, suspended}
 use Rattle.rt_model.specs.World.{Command, World, Meaning, TaskStep, Event, Nothing, Application}

@@ -8,12 +8,12 @@ use Rattle.rt_model.specs.Tree.{Element as Answer}
 use Rattle.rt_model.specs.World.{Given, Meaning}
 use Rattle.rt_vdom.specs.Calls.{BodyMeaning}
 use Rattle.rt_vdom.specs.Mirror.{element_of}
-use Rattle.rt_tree.specs.declared.vnode.VNode.{VNode}
-use Rattle.rt_tree.specs.declared.vnode.DynamicNode.TheVariants.{Placeholder}
-use Rattle.rt_tree.specs.declared.error.RenderError.{RenderError}
-use Rattle.rt_tree.specs.declared.error.RenderError.TheVariants.{Suspended}
-use Rattle.rt_tree.specs.declared.template.TemplateNode.{TemplateNode}
-use Rattle.rt_tree.specs.declared.template.TemplateNode.TheVariants.{Element, Text, Dynamic}
+use Rattle.rt_nodes.specs.declared.vnode.VNode.{VNode}
+use Rattle.rt_nodes.specs.declared.vnode.DynamicNode.TheVariants.{Placeholder}
+use Rattle.rt_parts.specs.declared.error.RenderError.{RenderError}
+use Rattle.rt_parts.specs.declared.error.RenderError.TheVariants.{Suspended}
+use Rattle.rt_parts.specs.declared.template.TemplateNode.{TemplateNode}
+use Rattle.rt_parts.specs.declared.template.TemplateNode.TheVariants.{Element, Text, Dynamic}
 
 module _ {P Component Props Value Handler TaskState Effect Payload : Type 0} where
   -- a tree of these roots, all static

@@ -1,8 +1,8 @@
 -- Trees that stand still: static elements without attributes, and static texts.
 use Rattle.std.specs.Prelude.{Bool, true, false, ◌&&◌, List, [], ◌∷◌, map}
-use Rattle.rt_tree.specs.declared.template.TemplateNode.{TemplateNode}
-use Rattle.rt_tree.specs.declared.template.TemplateNode.TheOpen.{TemplateNode-F}
-use Rattle.rt_tree.specs.declared.template.TemplateNode.TheFolds.{fold-TemplateNode}
+use Rattle.rt_parts.specs.declared.template.TemplateNode.{TemplateNode}
+use Rattle.rt_parts.specs.declared.template.TemplateNode.TheOpen.{TemplateNode-F}
+use Rattle.rt_parts.specs.declared.template.TemplateNode.TheFolds.{fold-TemplateNode}
 
 -- every test holds
 abbrev pub all_true : List Bool → Bool

@@ -2,7 +2,7 @@
 use Rattle.std.specs.Prelude.{◌≢◌, List, [], Option, Some, None}
 use Rattle.rt_vdom.specs.World.{CallWorld}
 use Rattle.rt_vdom.specs.declared.app.world.Firsts.{Firsts}
-use Rattle.rt_cells.specs.declared.sources.Source.{Source}
+use Rattle.rt_tracked.specs.declared.sources.Source.{Source}
 use Rattle.rt_vdom.specs.declared.app.turn.Command.{Command}
 use Rattle.rt_vdom.specs.declared.app.turn.CxFault.{CxFault}
 use Rattle.rt_vdom.specs.declared.app.turn.CxFault.TheVariants.{OutOfMemory}

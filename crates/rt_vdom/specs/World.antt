@@ -1,8 +1,8 @@
 -- What a call of an application can look at, as the code holds it.
 use Rattle.std.specs.Prelude.{ℕ, Bool, List, [], ◌∷◌, Option, Some, None, nat_eq, if◌then◌else◌}
-use Rattle.rt_cells.specs.declared.numbered.Held.{Held}
-use Rattle.rt_cells.specs.declared.names.ScopeId.{ScopeId}
-use Rattle.rt_cells.specs.declared.names.Task.{Task}
+use Rattle.rt_tracked.specs.declared.numbered.Held.{Held}
+use Rattle.rt_values.specs.declared.names.ScopeId.{ScopeId}
+use Rattle.rt_values.specs.declared.names.Task.{Task}
 use Rattle.rt_vdom.specs.declared.app.world.Firsts.{Firsts}
 use Rattle.rt_vdom.specs.declared.app.rows.ScopeRow.{ScopeRow}
 use Rattle.rt_vdom.specs.declared.app.rows.Provided.{Provided}

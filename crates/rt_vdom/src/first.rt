@@ -1,6 +1,6 @@
 //! The first call of the root component's body.
 ghost use Rattle.std.specs.Prelude.{◌≡◌, ◌⊎◌, ◌&&◌, IfOk, IfErr, true, false};
-ghost use Rattle.rt_tree.specs.NodeTest.{fits};
+ghost use Rattle.rt_nodes.specs.NodeTest.{fits};
 ghost use Rattle.rt_model.specs.StillBuild.{first_world};
 ghost use Rattle.rt_vdom.specs.Calls.{meaning_of};
 ghost use Rattle.rt_vdom.specs.First.{bare_row, first_rows, is_taken, FailsTest, Answers, RefusesFirst};

@@ -1,7 +1,7 @@
 //! A session: the build of an application, and the inputs that follow it.
 ghost use Rattle.std.specs.Prelude.{◌≡◌, ◌≤◌, [], ◌∷◌, IfOk, IfErr, OnOk, OnErr, is_ok, if◌then◌else◌};
-ghost use Rattle.rt_tree.specs.Sinks.{grown};
-ghost use Rattle.rt_tree.specs.declared.edit.Edit.TheVariants as edits;
+ghost use Rattle.rt_edits.specs.Sinks.{grown};
+ghost use Rattle.rt_edits.specs.declared.edit.Edit.TheVariants as edits;
 ghost use Rattle.rt_vdom.specs.Promised.{WasBuilt, CameFrom, NeverFaults, Completes, SinkRefuses};
 ghost use Rattle.rt_vdom.specs.Report.{build_report};
 

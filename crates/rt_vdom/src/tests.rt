@@ -1,6 +1,6 @@
 //! A session over a small application, and what its sink took.
 ghost use Rattle.std.specs.Prelude.{◌≡◌, ◌∷◌, [], IfOk, codes};
-ghost use Rattle.rt_tree.specs.declared.template.TemplateNode.TheVariants as nodes;
+ghost use Rattle.rt_parts.specs.declared.template.TemplateNode.TheVariants as nodes;
 ghost use Rattle.rt_vdom.specs.Turn.{begun, HadMemory};
 ghost use Rattle.rt_vdom.specs.Calls.{meaning_of, world_of};
 ghost use Rattle.rt_vdom.specs.Mirror.{element_of};

@@ -51,13 +51,9 @@ fn differ<T: Part>(rt: &impl Abort, alloc: Global, one: &T, other: &T) {
 fn numbers_are_parts(rt: HostRuntime) {
     differ(&rt, rt.alloc(), &true, &false);
     differ::<u8>(&rt, rt.alloc(), &1, &2);
-    differ::<u16>(&rt, rt.alloc(), &1, &2);
     differ::<u32>(&rt, rt.alloc(), &1, &2);
     differ::<u64>(&rt, rt.alloc(), &1, &2);
     differ::<usize>(&rt, rt.alloc(), &1, &2);
-    differ::<i8>(&rt, rt.alloc(), &-1, &1);
-    differ::<i16>(&rt, rt.alloc(), &-1, &1);
-    differ::<i32>(&rt, rt.alloc(), &-1, &1);
     differ::<i64>(&rt, rt.alloc(), &-1, &1);
     differ::<Option<u8>>(&rt, rt.alloc(), &Some(0), &None);
 }
@@ -79,16 +75,20 @@ fn names_are_parts(rt: HostRuntime) {
     differ(&rt, rt.alloc(), &task, &Target::Scope(ScopeId(1)));
 }
 
+fn text_is(rt: &impl Abort, text: &Text, want: &str) {
+    assert!(rt; text.as_str() == want);
+    assert!(rt; text.as_bytes() == want.as_bytes());
+    assert!(rt; text.len() == want.len());
+    assert!(rt; text.is_empty() == want.is_empty());
+}
+
 #[test]
 fn a_text_has_the_bytes_that_it_was_made_of(rt: HostRuntime) {
     let left = text(&rt, rt.alloc(), "left");
     let none = text(&rt, rt.alloc(), "");
     differ(&rt, rt.alloc(), &left, &none);
-    assert!(rt; none.is_empty() && left.len() == 4);
-    assert!(rt; left.as_bytes() == b"left".as_slice());
-    let string = left.into_string();
-    assert!(rt; string.as_str() == "left");
-    assert!(rt; Text::from_string(string).as_str() == "left");
+    text_is(&rt, &none, "");
+    text_is(&rt, &Text::from_string(left.into_string()), "left");
 }
 
 #[test]

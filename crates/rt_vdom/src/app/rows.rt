@@ -45,7 +45,7 @@ pub struct Rows<P: Parts> {
 
 impl<P: Parts> Model for Rows<P> {
     ghost use Rattle.std.specs.Prelude.{List};
-    ghost use Rattle.rt_cells.specs.declared.names.ScopeId.{ScopeId};
+    ghost use Rattle.rt_values.specs.declared.names.ScopeId.{ScopeId};
     ghost use Rattle.rt_vdom.specs.declared.app.rows.ScopeRow.{ScopeRow};
 
     ghost Value = { List (ScopeId × ScopeRow P P.Component P.Props P.Value P.Handler P.TaskState P.Effect P.Payload) };

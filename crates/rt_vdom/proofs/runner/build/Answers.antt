@@ -1,6 +1,6 @@
 -- What the parts of a build answered, put together.
 use Rattle.std.proofs.Common.{rules, [], ◌∷◌, ◌≡◌, ◌≤◌, Err, ap, subst}
-use Rattle.rt_tree.specs.Sinks.{grown}
+use Rattle.rt_edits.specs.Sinks.{grown}
 use Rattle.rt_model.specs.StillBuild.{node_count, first_world}
 use Rattle.rt_vdom.specs.Drawn.{RunsOut}
 use Rattle.rt_vdom.specs.Mirror.{nodes_of}

@@ -1,0 +1,3 @@
+pub mod NamesLemmas
+pub mod NodeTestLemmas
+pub mod WalkLemmas

@@ -1,0 +1,4 @@
+mod Spread
+mod TemplatePlaces
+pub mod PropsLemmas
+pub mod TreePlaces

@@ -1,0 +1,11 @@
+pub mod Order
+pub mod Dirty
+pub mod Batches
+pub mod Queues
+pub mod Due
+pub mod Places
+pub mod Tree
+pub mod Lines
+pub mod Rosters
+pub mod Pending
+pub mod Kept

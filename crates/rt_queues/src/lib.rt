@@ -1,0 +1,18 @@
+//! The queues of the scheduler, with their contracts and proofs. Callers take them from rt_sched.
+#![tactic(auto)]
+
+mod dirty;
+mod effects;
+mod line;
+mod order;
+mod place;
+mod queues;
+mod roll;
+mod tree;
+mod work;
+
+pub use dirty::DirtyTasks;
+pub use effects::Effect;
+pub use order::ScopeOrder;
+pub use queues::Queues;
+pub use work::Work;

@@ -1,0 +1,17 @@
+//! Plain values that contracts see as what they hold: names, texts, lists, boxes, and what
+//! can be compared and copied.
+#![tactic(auto)]
+
+mod boxed;
+mod list;
+mod memory;
+mod names;
+mod part;
+mod text;
+
+pub use boxed::Boxed;
+pub use list::{List, copy_slice, same_slice};
+pub use memory::OutOfMemory;
+pub use names::{ScopeId, Task};
+pub use part::Part;
+pub use text::Text;
