@@ -1,0 +1,4 @@
+pub mod Totals
+pub mod Posted
+pub mod Keeps
+pub mod Gathered

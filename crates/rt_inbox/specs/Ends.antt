@@ -1,0 +1,73 @@
+-- Which ends are an inbox's own, and what a contract sees of them.
+use Rattle.std.specs.Prelude.{◌≡◌, ℕ, ◌<◌, List, [], length, slice_index_or}
+use Rattle.crossbeam_queue.specs.SegTies.{IsSegPassOf}
+use Rattle.rt_inbox.specs.declared.message.Post.{Post}
+use Rattle.rt_inbox.specs.declared.message.Msg.{Msg}
+use Rattle.rt_inbox.specs.declared.view.View.TheVariants.{Posting, Owning}
+use Rattle.rt_inbox.specs.declared.inbox.Inbox.{Inbox}
+use Rattle.rt_inbox.specs.declared.notifier.Notifier.{Notifier}
+use Rattle.rt_inbox.specs.declared.owner.Owner.{Owner}
+use Rattle.rt_inbox.specs.declared.taken.Taken.{Taken}
+use Rattle.rt_inbox.specs.Rule.{WasAt}
+
+-- how many posters the inbox has
+abbrev pub posters_of : Inbox → ℕ
+posters_of i = i.posters
+
+-- a notifier's number among the posters
+abbrev pub number_of : Notifier → ℕ
+number_of n = n.number
+
+-- the posts of a notifier that were accepted, in order
+abbrev pub posts_of : Notifier → List Post
+posts_of n = n.accepted.items
+
+-- the messages that the owner took, in order
+abbrev pub taken_of : Owner → List Msg
+taken_of o = o.taken.items
+
+-- how many of the owner's pops found none
+abbrev pub nones_of : Owner → ℕ
+nones_of o = o.nones
+
+-- what an ended inbox has: the messages taken
+abbrev pub taken_list : Taken → List Msg
+taken_list t = t.taken.items
+
+-- the messages left
+abbrev pub left_list : Taken → List Msg
+left_list t = t.left.items
+
+-- the accepted posts of each poster, by its number
+abbrev pub accepted_lists : Taken → List (List Post)
+accepted_lists t = t.accepted.items
+
+-- the notifier is one of this inbox's own, and its pass knows its number and its accepted posts
+abbrev pub IsNotifierOf : Inbox → Notifier → Type 0
+IsNotifierOf i n =
+    IsSegPassOf i.line n.pass × (n.pass.me.view.client ≡ Posting (number_of n) (posts_of n))
+    × (number_of n < posters_of i)
+
+-- the owner is this inbox's own: its pass knows what it took, that all were made and none joined
+abbrev pub IsOwnerOf : Inbox → Owner → Type 0
+IsOwnerOf i o =
+    IsSegPassOf i.line o.pass × (o.pass.me.view.client ≡ Owning (taken_of o) (posters_of i) [])
+
+-- at one moment the queue held nothing, and the owner had taken what it has taken
+abbrev pub FoundNone : Owner → Type 0
+FoundNone o = WasAt [] o.pass.me.view.client
+
+-- the fact holds of each item and its index
+abbrev pub EachAt : {A : Type 0} → (ℕ → A → Type 0) → List A → Type 0
+EachAt {A} fact items =
+    (k : ℕ) (default : A) → k < length items → fact k (slice_index_or items k default)
+
+-- the notifier at each index has that number
+abbrev pub AreNumbered : List Notifier → Type 0
+AreNumbered ns = EachAt (λ k n. number_of n ≡ k) ns
+
+-- the notifier of poster k as it is made, with nothing posted
+abbrev pub IsMade : Inbox → ℕ → Notifier → Type 0
+IsMade i k n =
+    IsSegPassOf i.line n.pass × (n.pass.me.view.client ≡ Posting k [])
+    × (number_of n ≡ k) × (posts_of n ≡ [])

@@ -1,0 +1,4 @@
+pub mod Merge
+pub mod Rule
+pub mod Ends
+pub mod Gathered
