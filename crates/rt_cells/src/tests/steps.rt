@@ -1,8 +1,9 @@
 //! Calls of the cells as data, each with the answer that is wanted of it.
 
-use crate::{Cells, CellsFault, ReactiveContext, Reader, ScopeId, Source, Target};
+use crate::{
+    Cells, CellsFault, List, OutOfMemory, ReactiveContext, Reader, ScopeId, Source, Target,
+};
 use std::alloc::Global;
-use std::process::Abort;
 
 pub(crate) const SCOPE: ScopeId = ScopeId(3);
 
@@ -21,11 +22,13 @@ pub(crate) enum Step<'a> {
     /// Of a cell, with the value that it is to have, and whether it is there.
     Writes(u64, u64, bool),
     Holds(u64, Option<u64>),
+    /// Of a cell, with the value that comes out.
     Drops(u64, Option<u64>),
+    /// The cells of a scope.
     Owns(u64, &'a [u64]),
-    /// The body reads just these.
+    /// The body's sources, in place of the former ones.
     Sets(&'a [Source]),
-    /// The body reads one cell more.
+    /// One more cell for the body to read.
     Adds(u64),
     /// The body reads nothing.
     DropsBody,
@@ -37,8 +40,10 @@ pub(crate) enum Step<'a> {
     LooksUp(u64, u32, u64),
     /// What some reader looked up of a scope.
     LookedUp(u64, &'a [Source]),
-    /// The reactive context, which tells its scope.
+    /// The first reactive context, which tells its scope.
     Begins,
+    /// A reactive context of that number.
+    BeginsAt(u64),
     /// The reactive context, which tells that target.
     BeginsFor(Target),
     Subscribes(u64),
@@ -51,108 +56,84 @@ pub(crate) enum Step<'a> {
     IsSpent,
 }
 
-/// Takes these steps with new cells, whose counters stand at the number.
-pub(crate) fn shows(rt: &impl Abort, alloc: Global, first: u64, steps: &[Step]) {
+/// Whether new cells, whose counters stand at the number, answer each of these steps as it wants.
+pub(crate) fn are_answered(alloc: Global, first: u64, steps: &[Step]) -> bool {
     let mut cells = Cells::new(alloc, first, first);
+    let mut is_well = true;
     for step in steps {
-        take(rt, alloc, &mut cells, *step);
+        is_well = is_well & is_answered(alloc, &mut cells, *step);
     }
+    is_well
 }
 
-/// Makes a call, which must not be refused for want of memory.
-pub(crate) fn take(rt: &impl Abort, alloc: Global, cells: &mut Cells<u64>, step: Step) {
+/// Makes a call, and says whether it was answered as the step wants it.
+pub(crate) fn is_answered(alloc: Global, cells: &mut Cells<u64>, step: Step) -> bool {
     match step {
-        Step::Makes(owner, value, number) => makes(rt, cells, owner, value, number),
-        Step::Writes(cell, value, live) => assert!(rt; cells.write(cell, value) == live),
-        Step::Drops(cell, want) => assert!(rt; cells.drop_cell(cell) == want),
-        Step::Sets(sources) => sets(rt, alloc, cells, sources),
-        Step::Adds(cell) => adds(rt, alloc, cells, BODY, Source::Cell(cell)),
-        Step::DropsBody => cells.drop_reader(BODY),
-        Step::LooksUp(reader, kind, scope) => {
-            let reader = Reader::Scope(ScopeId(reader));
-            adds(
-                rt,
+        Step::Makes(owner, value, number) => cells.new_cell(ScopeId(owner), value) == Ok(number),
+        Step::Writes(cell, value, live) => cells.write(cell, value) == live,
+        Step::Drops(cell, want) => cells.drop_cell(cell) == want,
+        Step::Sets(sources) => cells.set_reads(alloc, BODY, sources).is_ok(),
+        Step::Adds(cell) => cells.add_read(alloc, BODY, Source::Cell(cell)).is_ok(),
+        Step::DropsBody => {
+            cells.drop_reader(BODY);
+            true
+        }
+        Step::LooksUp(reader, kind, scope) => cells
+            .add_read(
                 alloc,
-                cells,
-                reader,
+                Reader::Scope(ScopeId(reader)),
                 Source::Context(kind, ScopeId(scope)),
-            );
-        }
-        Step::Begins => begins(rt, cells),
-        Step::BeginsFor(target) => begins_for(rt, cells, target),
-        Step::Subscribes(cell) => subscribes(rt, alloc, cells, cell),
-        Step::Clears => FIRST.clear_subscribers(cells),
-        Step::DropsContexts => cells.drop_contexts(SCOPE),
-        Step::IsSpent => is_spent(rt, cells),
-        _ => tells(rt, alloc, cells, step),
+            )
+            .is_ok(),
+        _ => is_context_answered(alloc, cells, step),
     }
 }
 
-// The cells answer what a step wants of them.
-fn tells(rt: &impl Abort, alloc: Global, cells: &Cells<u64>, step: Step) {
+fn is_context_answered(alloc: Global, cells: &mut Cells<u64>, step: Step) -> bool {
     match step {
-        Step::Holds(cell, want) => assert!(rt; cells.get(cell).copied() == want),
-        Step::Owns(scope, want) => owns(rt, alloc, cells, scope, want),
-        Step::Reads(want) => assert!(rt; cells.reads_of(BODY) == want),
-        Step::ReadBy(cell, want) => read_by(rt, alloc, cells, cell, want),
-        Step::LookedUp(scope, want) => looked_up(rt, alloc, cells, scope, want),
+        Step::Begins => ReactiveContext::new(cells, SCOPE) == Ok(FIRST),
+        Step::BeginsAt(number) => {
+            ReactiveContext::new(cells, SCOPE) == Ok(ReactiveContext(number))
+        }
+        Step::BeginsFor(target) => {
+            ReactiveContext::new_with_callback(cells, SCOPE, target) == Ok(FIRST)
+        }
+        Step::Subscribes(cell) => FIRST.subscribe(alloc, cells, Source::Cell(cell)).is_ok(),
+        Step::Clears => {
+            FIRST.clear_subscribers(cells);
+            true
+        }
+        Step::DropsContexts => {
+            cells.drop_contexts(SCOPE);
+            true
+        }
+        Step::IsSpent => {
+            (cells.new_cell(SCOPE, 0) == Err(CellsFault::IdsExhausted))
+                & (ReactiveContext::new(cells, SCOPE) == Err(CellsFault::IdsExhausted))
+        }
+        _ => is_seen(alloc, cells, step),
+    }
+}
+
+/// Whether the cells answer what a step wants of them.
+pub(crate) fn is_seen(alloc: Global, cells: &Cells<u64>, step: Step) -> bool {
+    match step {
+        Step::Holds(cell, want) => cells.get(cell).copied() == want,
+        Step::Owns(scope, want) => is_list(cells.owned(alloc, ScopeId(scope)), want),
+        Step::Reads(want) => cells.reads_of(BODY) == want,
+        Step::ReadBy(cell, want) => is_list(cells.readers_of(alloc, Source::Cell(cell)), want),
+        Step::LookedUp(scope, want) => is_list(cells.context_sources(alloc, ScopeId(scope)), want),
         Step::Tells(target) => {
-            assert!(rt; FIRST.origin_scope(cells) == Some(SCOPE));
-            assert!(rt; FIRST.target(cells) == Some(target));
+            (FIRST.origin_scope(cells) == Some(SCOPE)) & (FIRST.target(cells) == Some(target))
         }
-        _ => {
-            assert!(rt; FIRST.origin_scope(cells).is_none());
-            assert!(rt; FIRST.target(cells).is_none());
-        }
+        _ => FIRST.origin_scope(cells).is_none() & FIRST.target(cells).is_none(),
     }
 }
 
-fn makes(rt: &impl Abort, cells: &mut Cells<u64>, owner: u64, value: u64, number: u64) {
-    assert!(rt; cells.new_cell(ScopeId(owner), value) == Ok(number));
-}
-
-fn sets(rt: &impl Abort, alloc: Global, cells: &mut Cells<u64>, sources: &[Source]) {
-    assert!(rt; cells.set_reads(alloc, BODY, sources).is_ok());
-}
-
-fn adds(rt: &impl Abort, alloc: Global, cells: &mut Cells<u64>, reader: Reader, source: Source) {
-    assert!(rt; cells.add_read(alloc, reader, source).is_ok());
-}
-
-fn begins(rt: &impl Abort, cells: &mut Cells<u64>) {
-    assert!(rt; ReactiveContext::new(cells, SCOPE) == Ok(FIRST));
-}
-
-fn begins_for(rt: &impl Abort, cells: &mut Cells<u64>, target: Target) {
-    assert!(rt; ReactiveContext::new_with_callback(cells, SCOPE, target) == Ok(FIRST));
-}
-
-fn subscribes(rt: &impl Abort, alloc: Global, cells: &mut Cells<u64>, cell: u64) {
-    assert!(rt; FIRST.subscribe(alloc, cells, Source::Cell(cell)).is_ok());
-}
-
-fn is_spent(rt: &impl Abort, cells: &mut Cells<u64>) {
-    assert!(rt; cells.new_cell(SCOPE, 0) == Err(CellsFault::IdsExhausted));
-    assert!(rt; ReactiveContext::new(cells, SCOPE) == Err(CellsFault::IdsExhausted));
-}
-
-fn owns(rt: &impl Abort, alloc: Global, cells: &Cells<u64>, scope: u64, want: &[u64]) {
-    match cells.owned(alloc, ScopeId(scope)) {
-        Ok(owned) => assert!(rt; owned.as_slice() == want),
-        Err(_) => assert!(rt; false, "want of memory"),
-    }
-}
-
-fn read_by(rt: &impl Abort, alloc: Global, cells: &Cells<u64>, cell: u64, want: &[Reader]) {
-    match cells.readers_of(alloc, Source::Cell(cell)) {
-        Ok(readers) => assert!(rt; readers.as_slice() == want),
-        Err(_) => assert!(rt; false, "want of memory"),
-    }
-}
-
-fn looked_up(rt: &impl Abort, alloc: Global, cells: &Cells<u64>, scope: u64, want: &[Source]) {
-    match cells.context_sources(alloc, ScopeId(scope)) {
-        Ok(sources) => assert!(rt; sources.as_slice() == want),
-        Err(_) => assert!(rt; false, "want of memory"),
+// Whether the answer is a list of just these items, and no want of memory.
+fn is_list<T: PartialEq + Drop>(answer: Result<List<T>, OutOfMemory>, want: &[T]) -> bool {
+    match answer {
+        Ok(list) => list.as_slice() == want,
+        Err(_) => false,
     }
 }
