@@ -158,21 +158,14 @@ fn a_noop_set_stays_empty(rt: HostRuntime) {
     assert!(rt; is_added & subscribers.visit().is_empty());
 }
 
-// A table that goes through all that it holds at each call doesn't come to an end here.
-#[test]
-fn a_million_readers_are_found_one_by_one(rt: HostRuntime) {
-    assert!(rt; are_read_one_by_one(rt.alloc(), 1_000_000));
-}
+// How many cells there are.
+const CELLS: u64 = 1_000_000;
 
 // Cells from 1 on, each of a scope of the same number, which reads it.
-fn are_read_one_by_one(alloc: Global, count: u64) -> bool {
-    let mut cells = Cells::new(alloc, 1, 1);
+fn are_made_and_read(alloc: Global, cells: &mut Cells<u64>) -> bool {
     let mut is_well = true;
-    for number in 1..=count {
-        is_well = is_well & is_made_and_read(alloc, &mut cells, number);
-    }
-    for number in 1..=count {
-        is_well = is_well & is_read(alloc, &cells, number);
+    for number in 1..=CELLS {
+        is_well = is_well & is_made_and_read(alloc, cells, number);
     }
     is_well
 }
@@ -185,10 +178,19 @@ fn is_made_and_read(alloc: Global, cells: &mut Cells<u64>, number: u64) -> bool 
             .is_ok()
 }
 
-fn is_read(alloc: Global, cells: &Cells<u64>, number: u64) -> bool {
-    is_seen(
-        alloc,
-        cells,
-        Step::ReadBy(number, &[Reader::Scope(ScopeId(number))]),
-    )
+fn are_found(alloc: Global, cells: &Cells<u64>) -> bool {
+    let mut is_well = true;
+    for number in 1..=CELLS {
+        let readers = [Reader::Scope(ScopeId(number))];
+        is_well = is_well & is_seen(alloc, cells, Step::ReadBy(number, &readers));
+    }
+    is_well
+}
+
+// A table that goes through all that it holds at each call doesn't come to an end here.
+#[test]
+fn a_million_readers_are_found_one_by_one(rt: HostRuntime) {
+    let mut cells = Cells::new(rt.alloc(), 1, 1);
+    let is_well = are_made_and_read(rt.alloc(), &mut cells) & are_found(rt.alloc(), &cells);
+    assert!(rt; is_well);
 }

@@ -59,9 +59,13 @@ pub(crate) enum Step<'a> {
 /// Whether new cells, whose counters stand at the number, answer each of these steps as it wants.
 pub(crate) fn are_answered(alloc: Global, first: u64, steps: &[Step]) -> bool {
     let mut cells = Cells::new(alloc, first, first);
+    answer(alloc, &mut cells, steps)
+}
+
+fn answer(alloc: Global, cells: &mut Cells<u64>, steps: &[Step]) -> bool {
     let mut is_well = true;
     for step in steps {
-        is_well = is_well & is_answered(alloc, &mut cells, *step);
+        is_well = is_well & is_answered(alloc, cells, *step);
     }
     is_well
 }

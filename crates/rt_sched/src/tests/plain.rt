@@ -1,10 +1,10 @@
 //! The queues as one plain list of entries, and a mixed run of both side by side.
 
-use super::steps::{Step, order, take};
+use super::steps::{Step, is_answered, order};
+use super::{Trial, holds};
 use crate::{Effect, Queues, ScopeOrder, Work};
 use rt_values::{ScopeId, Task};
 use std::alloc::Global;
-use std::process::Abort;
 
 #[derive(Clone, Copy, PartialEq, Eq)]
 enum Kind {
@@ -48,15 +48,14 @@ impl Plain {
         self.entries.iter().any(|entry| entry.is(kind, number))
     }
 
-    fn put(&mut self, rt: &impl Abort, kind: Kind, order: ScopeOrder, number: u64) {
-        if !self.has(kind, number) {
-            let entry = Entry {
-                kind,
-                order,
-                number,
-            };
-            assert!(rt; self.entries.push(entry).is_ok());
-        }
+    // Whether there was memory for one entry more, where it wasn't there.
+    fn put(&mut self, kind: Kind, order: ScopeOrder, number: u64) -> bool {
+        let entry = Entry {
+            kind,
+            order,
+            number,
+        };
+        self.has(kind, number) || self.entries.push(entry).is_ok()
     }
 
     fn first(&self, kind: Kind) -> Option<Entry> {
@@ -84,12 +83,14 @@ impl Plain {
         Some(first)
     }
 
-    fn move_all(&mut self, rt: &impl Abort, from: Kind, to: Kind) {
+    fn move_all(&mut self, from: Kind, to: Kind) -> bool {
+        let mut is_well = true;
         for _ in 0..self.entries.len() {
             if let Some(entry) = self.pop(from) {
-                self.put(rt, to, entry.order, entry.number);
+                is_well = is_well & self.put(to, entry.order, entry.number);
             }
         }
+        is_well
     }
 
     fn pop_task(&mut self) -> Option<Task> {
@@ -107,26 +108,29 @@ impl Plain {
         Some(Work::PollTask(self.pop_task()?))
     }
 
-    fn take(&mut self, rt: &impl Abort, step: Step) {
+    fn takes(&mut self, step: Step) -> bool {
         match step {
-            Step::Mark(height, number) => self.put(rt, Kind::Seen, order(height, number), number),
+            Step::Mark(height, number) => self.put(Kind::Seen, order(height, number), number),
             Step::PostMark(height, number) => {
-                self.put(rt, Kind::MarkPosted, order(height, number), number);
+                self.put(Kind::MarkPosted, order(height, number), number)
             }
             Step::Wake(task, height, number) => {
-                self.put(rt, Kind::Queued, order(height, number), task);
+                self.put(Kind::Queued, order(height, number), task)
             }
             Step::PostWake(task, height, number) => {
-                self.put(rt, Kind::WakePosted, order(height, number), task);
+                self.put(Kind::WakePosted, order(height, number), task)
             }
             Step::Effect(height, number, effect) => {
-                self.put(rt, Kind::Effect, order(height, number), effect);
+                self.put(Kind::Effect, order(height, number), effect)
             }
             Step::Look => {
-                self.move_all(rt, Kind::MarkPosted, Kind::Seen);
-                self.move_all(rt, Kind::WakePosted, Kind::Queued);
+                self.move_all(Kind::MarkPosted, Kind::Seen)
+                    & self.move_all(Kind::WakePosted, Kind::Queued)
             }
-            _ => self.end(step),
+            _ => {
+                self.end(step);
+                true
+            }
         }
     }
 
@@ -154,6 +158,15 @@ impl Plain {
         }
     }
 
+    // Whether the first effects are this batch, and all that there are of its scope.
+    fn has_batch(&mut self, batch: &Effect<u64>) -> bool {
+        let mut is_well = true;
+        for effect in batch.effects.as_slice() {
+            is_well = is_well & self.pops_effect(batch.order, *effect);
+        }
+        is_well & self.ends_batch(batch.order)
+    }
+
     // Whether the next effect is of another scope, if there is one.
     fn ends_batch(&self, order: ScopeOrder) -> bool {
         match self.first(Kind::Effect) {
@@ -168,7 +181,7 @@ fn height_of(number: u64) -> u32 {
 }
 
 // One mark, wake or effect more, or a look.
-fn step_on(random: u64) -> Step {
+fn step_on(random: u64) -> Step<'static> {
     let task = random / 16 % 16;
     let number = task % 8;
     let height = height_of(number);
@@ -183,7 +196,7 @@ fn step_on(random: u64) -> Step {
 }
 
 // A start or an end.
-fn step_off(random: u64) -> Step {
+fn step_off(random: u64) -> Step<'static> {
     let task = random / 16 % 16;
     match random % 4 {
         0 => Step::StartScope(task % 8),
@@ -193,76 +206,51 @@ fn step_off(random: u64) -> Step {
     }
 }
 
-// A scope is entered with two tasks.
-fn enter_all(rt: &impl Abort, alloc: Global, queues: &mut Queues<u64>, number: u64) {
+// A scope is entered with two tasks. What is entered already stays.
+fn enters_all(alloc: Global, queues: &mut Queues<u64>, number: u64) -> bool {
     let height = height_of(number);
-    take(rt, alloc, queues, Step::EnterScope(height, number));
-    take(rt, alloc, queues, Step::EnterTask(number, height, number));
-    take(
-        rt,
-        alloc,
-        queues,
-        Step::EnterTask(number % 8 + 8, height, number),
-    );
+    is_answered(alloc, queues, Step::EnterScope(height, number))
+        & is_answered(alloc, queues, Step::EnterTask(number, height, number))
+        & is_answered(
+            alloc,
+            queues,
+            Step::EnterTask(number % 8 + 8, height, number),
+        )
 }
 
-// All scopes are entered with their tasks. Those that are entered stay.
-fn enter_each(rt: &impl Abort, alloc: Global, queues: &mut Queues<u64>) {
+fn enters_each(alloc: Global, queues: &mut Queues<u64>) -> bool {
+    let mut is_well = true;
     for number in 0..8 {
-        enter_all(rt, alloc, queues, number);
+        is_well = is_well & enters_all(alloc, queues, number);
     }
+    is_well
 }
 
-fn same_step(
-    rt: &impl Abort,
-    alloc: Global,
-    queues: &mut Queues<u64>,
-    plain: &mut Plain,
-    step: Step,
-) {
-    take(rt, alloc, queues, step);
-    plain.take(rt, step);
-}
-
-fn same_task(rt: &impl Abort, queues: &mut Queues<u64>, plain: &mut Plain) {
-    assert!(rt; queues.pop_task() == plain.pop_task());
-}
-
-fn same_work(rt: &impl Abort, queues: &mut Queues<u64>, plain: &mut Plain) {
-    assert!(rt; queues.pop_work() == plain.pop_work());
-}
-
-fn same_batch(rt: &impl Abort, queues: &mut Queues<u64>, plain: &mut Plain) {
+fn is_same_batch(queues: &mut Queues<u64>, plain: &mut Plain) -> bool {
     match queues.pop_effect() {
-        Some(batch) => has_batch(rt, plain, &batch),
-        None => assert!(rt; plain.first(Kind::Effect).is_none()),
+        Some(batch) => plain.has_batch(&batch),
+        None => plain.first(Kind::Effect).is_none(),
     }
 }
 
-// The first effects of the plain list are this batch.
-fn has_batch(rt: &impl Abort, plain: &mut Plain, batch: &Effect<u64>) {
-    for effect in batch.effects.as_slice() {
-        assert!(rt; plain.pops_effect(batch.order, *effect));
-    }
-    assert!(rt; plain.ends_batch(batch.order));
+fn is_same_rest(queues: &Queues<u64>, plain: &Plain) -> bool {
+    (queues.has_dirty_scopes() == plain.first(Kind::Seen).is_some())
+        & (queues.idle() == plain.entries.is_empty())
 }
 
-fn same_rest(rt: &impl Abort, queues: &Queues<u64>, plain: &Plain) {
-    assert!(rt; queues.has_dirty_scopes() == plain.first(Kind::Seen).is_some());
-    assert!(rt; queues.idle() == plain.entries.is_empty());
+fn is_same_step(alloc: Global, queues: &mut Queues<u64>, plain: &mut Plain, step: Step) -> bool {
+    is_answered(alloc, queues, step) & plain.takes(step)
 }
 
 // One step in both.
-fn turn(rt: &impl Abort, alloc: Global, queues: &mut Queues<u64>, plain: &mut Plain, random: u64) {
+fn is_same(alloc: Global, queues: &mut Queues<u64>, plain: &mut Plain, random: u64) -> bool {
     match random / 256 % 8 {
-        0 => same_task(rt, queues, plain),
-        1 => same_work(rt, queues, plain),
-        2 => same_batch(rt, queues, plain),
-        3 => same_step(rt, alloc, queues, plain, step_off(random)),
-        _ => same_step(rt, alloc, queues, plain, step_on(random)),
+        0 => queues.pop_task() == plain.pop_task(),
+        1 => queues.pop_work() == plain.pop_work(),
+        2 => is_same_batch(queues, plain),
+        3 => is_same_step(alloc, queues, plain, step_off(random)),
+        _ => is_same_step(alloc, queues, plain, step_on(random)),
     }
-    same_rest(rt, queues, plain);
-    enter_each(rt, alloc, queues);
 }
 
 fn next_random(random: u64) -> u64 {
@@ -273,17 +261,29 @@ fn next_random(random: u64) -> u64 {
     next
 }
 
-#[test]
-fn a_mixed_run_agrees_with_a_plain_list(rt: HostRuntime) {
-    let alloc = rt.alloc();
-    let mut queues = Queues::new(alloc);
+// So many turns in both, after each of which all scopes and tasks are entered anew.
+fn turn(alloc: Global, queues: &mut Queues<u64>, plain: &mut Plain, turns: u64) -> bool {
+    let mut is_well = enters_each(alloc, queues);
+    let mut random: u64 = 88_172_645_463_325_252;
+    for _ in 0..turns {
+        random = next_random(random);
+        is_well = is_well
+            & is_same(alloc, queues, plain, random)
+            & is_same_rest(queues, plain)
+            & enters_each(alloc, queues);
+    }
+    is_well
+}
+
+/// Whether the queues and a plain list agree in so many random steps.
+pub(crate) fn agree(alloc: Global, queues: &mut Queues<u64>, turns: u64) -> bool {
     let mut plain = Plain {
         entries: Vec::new(alloc),
     };
-    enter_each(&rt, alloc, &mut queues);
-    let mut random: u64 = 88_172_645_463_325_252;
-    for _ in 0..10_000 {
-        random = next_random(random);
-        turn(&rt, alloc, &mut queues, &mut plain, random);
-    }
+    turn(alloc, queues, &mut plain, turns)
+}
+
+#[test]
+fn a_mixed_run_agrees_with_a_plain_list(rt: HostRuntime) {
+    assert!(rt; holds(rt.alloc(), Trial::Mixed(10_000)));
 }
