@@ -5,6 +5,7 @@ pub mod Scan
 pub mod Pairs
 pub mod NumbersOf
 pub mod Searched
+pub mod Indexed
 pub mod LinkSteps
 pub mod Linked
 pub mod InOrder

@@ -1,4 +1,5 @@
--- A refused thing leaves the pairs as they were.
+-- A new thing is tied to its scope; a refused one leaves the pairs as they were.
+use Rattle.rt_tracked.proofs.Indexed.{indexed_more}
 use Rattle.rt_tracked.proofs.Untied.{taken_back}
 use Rattle.rt_tracked.proofs.numbered.Numbered.insert.Goals as goal
 
@@ -7,3 +8,12 @@ invariant_of-self-in_default-insert-2 g c =
     rw c.in_default-insert-2.ensures.err
     (taken_back c.self.invariant (c.args.owner, c.self.inside.next) _ _ c.in-Ok.ensures.updates.0 c.remove.ensures.updates.0
     c.in_default-insert-2.ensures.absent)
+
+pub invariant_of-self-2 : goal.invariant_of-self-2
+invariant_of-self-2 g c =
+    indexed_more c.self.invariant (record { owner = c.args.owner; value = c.args.value }) _ _ _ c.in-Some.ensures.1
+    c.in-Ok.ensures.updates.0 c.in-Ok-insert.ensures.updates.0 c.in-Ok-insert.ensures.ordered
+
+pub returns-clause-ok : goal.returns-clause-ok
+returns-clause-ok g c = rw (← c.self.view_is)
+    (λ i. record { held = c.in-Ok-insert.ensures.entries i; next = c.in-Some.ensures.1 i })
