@@ -1,5 +1,6 @@
-use Rattle.std.proofs.Common.{◌≡◌, true, false, rules, length, ◌<◌}
-use Rattle.rt_queues.specs.Places.{place_before}
+use Rattle.std.proofs.Common.{◌≡◌, List, ◌∷◌, ◌++◌, true, false, rules, length, ◌<◌, ap, sym, ◌∙◌}
+use Rattle.rt_queues.specs.Places.{place_before, with_place}
+use Rattle.rt_queues.specs.declared.place.Place.{Place}
 use Rattle.rt_queues.proofs.InOrder.{in_order_left, in_order_right, sides_shorter, with_place_left, with_place_right}
 use Rattle.rt_queues.proofs.tree.Tree.+insert.Goals as goal
 
@@ -18,13 +19,17 @@ insert-requires-else-is_before t c =
 pub returns-then-is_before : goal.returns-then-is_before
 returns-then-is_before t c =
     let is = c.in-Some.ensures.parts in
-    let first : place_before c.args.node.value.place c.in-Some.root.value.place ≡ true = cc in
-    let left = with_place_left c.args.node.value.place c.in-Some.left c.in-Some.root.value.place c.in-Some.right first in
-    record { placed = cc }
+    let x = c.args.node.value.place in
+    let k = c.in-Some.root.value.place in
+    let before : c.is_before.result ≡ place_before x k = rw (c.deref.ensures, c.deref-in-Some.ensures) at c.is_before.ensures.before in
+    let left = with_place_left x c.in-Some.left k c.in-Some.right (sym before ∙ c.if-is_before.true) in
+    record { placed = c.balanced.ensures.places ∙ ap (λ (l : List Place). l ++ k ∷ c.in-Some.right) c.insert.ensures.placed ∙ sym left ∙ ap (with_place x) (sym is) }
 
 pub returns-else-is_before : goal.returns-else-is_before
 returns-else-is_before t c =
     let is = c.in-Some.ensures.parts in
-    let late : place_before c.args.node.value.place c.in-Some.root.value.place ≡ false = cc in
-    let right = with_place_right c.args.node.value.place c.in-Some.left c.in-Some.root.value.place c.in-Some.right late (rw is at c.requires.in_order) in
-    record { placed = cc }
+    let x = c.args.node.value.place in
+    let k = c.in-Some.root.value.place in
+    let before : c.is_before.result ≡ place_before x k = rw (c.deref.ensures, c.deref-in-Some.ensures) at c.is_before.ensures.before in
+    let right = with_place_right x c.in-Some.left k c.in-Some.right (sym before ∙ c.if-is_before.false) (rw is at c.requires.in_order) in
+    record { placed = c.balanced-else-is_before.ensures.places ∙ ap (λ (l : List Place). c.in-Some.left ++ k ∷ l) c.insert-else-is_before.ensures.placed ∙ sym right ∙ ap (with_place x) (sym is) }
