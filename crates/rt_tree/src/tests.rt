@@ -291,53 +291,93 @@ fn a_listener_has_no_namespace(rt: HostRuntime) {
     all_answer(&rt, rt.alloc(), LISTENERS);
 }
 
+/// What a scope shows, and why.
+#[derive(Clone, Copy)]
+enum Source {
+    /// A placeholder that a body answered.
+    Placeholder,
+    /// The empty answer.
+    Empty,
+    /// An answer that is an early abort.
+    Aborted,
+    /// A copy of the former.
+    Copied,
+    /// A placeholder in the place of an early abort.
+    InPlace,
+}
+
+fn aborted_early(rt: &impl Abort, alloc: Global) -> RenderError {
+    RenderError::aborted_early(alloc).expect(rt, "memory for an error")
+}
+
+fn empty(rt: &impl Abort, alloc: Global) -> Element<Numbers> {
+    VNode::empty(alloc).expect(rt, "memory for a placeholder")
+}
+
 fn shown(rt: &impl Abort, alloc: Global, answer: Element<Numbers>) -> LastRenderedNode<Numbers> {
     LastRenderedNode::new(alloc, answer).expect(rt, "memory for a placeholder")
 }
 
-fn empty(rt: &impl Abort, alloc: Global) -> LastRenderedNode<Numbers> {
-    shown(
-        rt,
-        alloc,
-        VNode::empty(alloc).expect(rt, "memory for a placeholder"),
-    )
-}
-
 fn aborted(rt: &impl Abort, alloc: Global) -> LastRenderedNode<Numbers> {
-    let error = RenderError::aborted_early(alloc).expect(rt, "memory for an error");
-    shown(rt, alloc, Err(error))
+    shown(rt, alloc, Err(aborted_early(rt, alloc)))
 }
 
-fn is_copied(rt: &impl Abort, alloc: Global, shown: &LastRenderedNode<Numbers>) -> bool {
-    shown
+fn copied(rt: &impl Abort, alloc: Global) -> LastRenderedNode<Numbers> {
+    aborted(rt, alloc)
         .copy(alloc)
         .expect(rt, "memory for a copy")
-        .same(shown)
 }
 
-fn is_placeholder(rt: &impl Abort, alloc: Global, tree: &Tree) -> bool {
-    tree.same(&placeholder(rt, alloc))
+fn in_place(rt: &impl Abort, alloc: Global) -> LastRenderedNode<Numbers> {
+    LastRenderedNode::Placeholder(placeholder(rt, alloc), aborted_early(rt, alloc))
+}
+
+impl Source {
+    fn shown(self, rt: &impl Abort, alloc: Global) -> LastRenderedNode<Numbers> {
+        match self {
+            Source::Placeholder => LastRenderedNode::Real(placeholder(rt, alloc)),
+            Source::Empty => shown(rt, alloc, empty(rt, alloc)),
+            Source::Aborted => aborted(rt, alloc),
+            Source::Copied => copied(rt, alloc),
+            Source::InPlace => in_place(rt, alloc),
+        }
+    }
+}
+
+// Whether the two are the same tree, of one root, which fits.
+fn are_one_tree(left: &Tree, right: &Tree) -> bool {
+    left.same(right) & (left.template.roots.len() == 1) & fits(left)
+}
+
+// Whether the two show the same, and whether they show the same tree.
+fn compared(rt: &impl Abort, alloc: Global, left: Source, right: Source) -> (bool, bool) {
+    let left = left.shown(rt, alloc);
+    let right = right.shown(rt, alloc);
+    (
+        left.same(&right),
+        are_one_tree(left.as_vnode(), right.as_vnode()),
+    )
 }
 
 #[test]
 fn the_empty_answer_is_the_placeholder(rt: HostRuntime) {
-    let real = empty(&rt, rt.alloc());
-    assert!(rt; matches!(&real, LastRenderedNode::Real(_)));
-    assert!(rt; is_placeholder(&rt, rt.alloc(), real.as_vnode()));
-    assert_eq!(rt; real.as_vnode().template.roots.len(), 1);
-    assert!(rt; fits(real.as_vnode()));
+    let (same, one_tree) = compared(&rt, rt.alloc(), Source::Empty, Source::Placeholder);
+    assert!(rt; same);
+    assert!(rt; one_tree);
 }
 
 #[test]
 fn an_early_abort_shows_a_placeholder(rt: HostRuntime) {
-    let failed = aborted(&rt, rt.alloc());
-    assert!(rt; matches!(&failed, LastRenderedNode::Placeholder(_, _)));
-    assert!(rt; is_placeholder(&rt, rt.alloc(), failed.as_vnode()));
-    assert!(rt; is_copied(&rt, rt.alloc(), &failed));
+    for kept in [Source::InPlace, Source::Copied] {
+        let (same, one_tree) = compared(&rt, rt.alloc(), Source::Aborted, kept);
+        assert!(rt; same);
+        assert!(rt; one_tree);
+    }
 }
 
 #[test]
 fn a_placeholder_tree_is_no_error(rt: HostRuntime) {
-    let failed = aborted(&rt, rt.alloc());
-    assert!(rt; !failed.same(&empty(&rt, rt.alloc())));
+    let (same, one_tree) = compared(&rt, rt.alloc(), Source::Aborted, Source::Empty);
+    assert!(rt; !same);
+    assert!(rt; one_tree);
 }
