@@ -1,6 +1,6 @@
 //! One walk through a template, which counts its slots and tests each node that it meets.
 
-ghost use Rattle.std.specs.Prelude.{◌≡◌, ◌+◌, ◌≤◌, ℕ, length, map};
+ghost use Rattle.std.specs.Prelude.{◌≡◌, ◌+◌, ◌≤◌, length, map};
 ghost use Rattle.rt_parts.specs.Met.{met, met_among, met_attr, met_attrs};
 ghost use Rattle.rt_walk.specs.Place.{path_of};
 ghost use Rattle.rt_walk.specs.Walk.{next_slot, sought_by, walked};
