@@ -1,3 +1,1 @@
-pub mod NamesLemmas
 pub mod NodeTestLemmas
-pub mod WalkLemmas

@@ -1,17 +1,15 @@
 //! The node test: whether a template and the values of its slots belong together.
 
 ghost use Rattle.std.specs.Prelude.{◌≡◌, ◌≤◌, [], length};
-ghost use Rattle.std.specs.List.{list_all, slice_index_or};
-ghost use Rattle.rt_nodes.specs.Met.{met_in};
-ghost use Rattle.rt_nodes.specs.NodeTest.{attribute_fits, block_fits, component_fits_within, element_fits_within, fits, fits_within, met_as, node_fits_within, sought};
+ghost use Rattle.std.specs.List.{slice_index_or};
+ghost use Rattle.rt_parts.specs.BlockTest.{block_fits};
+ghost use Rattle.rt_nodes.specs.NodeTest.{component_fits_within, element_fits_within, fits, fits_within, node_fits_within};
 ghost use Rattle.rt_nodes.specs.Places.{HasPlacesApart};
-ghost use Rattle.rt_fits.specs.Walk.{ends};
 
-use crate::place::Place;
-use crate::walk::{CHILDREN, Seen, walk_among};
 use rt_nodes::{DynamicNode, Element, VComponent, VNode};
-use rt_parts::{Attribute, AttributeValue, Parts};
+use rt_parts::Parts;
 use rt_values::List;
+use rt_walk::block_fits;
 
 /// How many levels a tree may have, from its roots down through what its slots hold.
 const LEVELS: usize = 128;
@@ -108,70 +106,10 @@ fn is_block<P: Parts>(tree: &VNode<P>, levels: usize) -> bool
     ensures { result ≡ block_fits tree.now.template (length tree.now.dynamic_nodes)
         tree.now.dynamic_attrs levels }
 {
-    let roots = tree.template.roots.len();
-    tree.dynamic_nodes.len() == tree.template.node_paths.len()
-        && tree.dynamic_attrs.len() == tree.template.attr_paths.len()
-        && listeners_fit(tree.dynamic_attrs.as_slice())
-        && 0 < roots
-        && roots <= CHILDREN
-        && slots_are_met(tree, levels)
-}
-
-// Whether one walk through the template meets its slots in order and nothing that does not fit.
-fn slots_are_met<P: Parts>(tree: &VNode<P>, levels: usize) -> bool
-    requires levels { levels ≤ 128 }
-    requires few { length tree.now.template.roots ≤ 256 }
-    ensures { result ≡ met_as (sought tree.now levels) (met_in tree.now.template.roots) }
-{
-    let start = Seen { nodes: 0, attrs: 0 };
-    let roots = tree.template.roots.as_slice();
-    let seen = walk_among(roots, &Place::Top, 1, tree, levels, start);
-    saw_all(
-        seen,
-        tree.template.node_paths.len(),
-        tree.template.attr_paths.len(),
+    block_fits(
+        &tree.template,
+        tree.dynamic_nodes.len(),
+        tree.dynamic_attrs.as_slice(),
+        levels,
     )
-}
-
-// Whether a walk came to its end having seen so many slots.
-fn saw_all(seen: Option<Seen>, nodes: usize, attrs: usize) -> bool
-    ensures { result ≡ ends nodes attrs seen }
-{
-    match seen {
-        Some(seen) => seen.nodes == nodes && seen.attrs == attrs,
-        None => false,
-    }
-}
-
-// Whether no listener in a slot has a namespace.
-fn listeners_fit<P: Parts>(slots: &[List<Attribute<P>>]) -> bool
-    ensures { result ≡ list_all (list_all attribute_fits) slots.now }
-{
-    for slot in slots {
-        if !slot_fits(slot.as_slice()) {
-            return false;
-        }
-    }
-    true
-}
-
-fn slot_fits<P: Parts>(slot: &[Attribute<P>]) -> bool
-    ensures { result ≡ list_all attribute_fits slot.now }
-{
-    for attribute in slot {
-        if !is_plain(attribute) {
-            return false;
-        }
-    }
-    true
-}
-
-fn is_plain<P: Parts>(attribute: &Attribute<P>) -> bool
-    ensures { result ≡ attribute_fits attribute.now }
-{
-    match &attribute.value {
-        AttributeValue::Text(_) => true,
-        AttributeValue::None => true,
-        AttributeValue::Listener(_) => attribute.namespace.is_none(),
-    }
 }

@@ -2,7 +2,7 @@
 use Rattle.std.proofs.Common.{◌≡◌, ℕ, ◌+◌, List, [], ◌∷◌, ◌++◌, length, map, refl, sym, ◌∙◌, ap, subst}
 use Rattle.std.specs.List.{All}
 use Rattle.std.proofs.lemmas.List.Elements.{All-nil, All-cons}
-use Rattle.rt_nodes.specs.Met.{Met, AtElement, AtAttribute, AtText, AtSlot, met, met_step, met_attrs, met_among, met_in}
+use Rattle.rt_parts.specs.Met.{Met, AtElement, AtAttribute, AtText, AtSlot, met, met_step, met_attrs, met_among, met_in}
 use Rattle.rt_parts.specs.declared.template.TemplateAttribute.{TemplateAttribute}
 use Rattle.rt_parts.specs.declared.template.TemplateAttribute.TheVariants.{Static, Dynamic}
 use Rattle.rt_parts.specs.declared.template.TemplateNode.{TemplateNode}

@@ -7,7 +7,7 @@ use crate::{
     VNode,
 };
 use rt_parts::Parts;
-use rt_values::{Boxed, List, OutOfMemory, Part};
+use rt_values::{Boxed, List, OutOfMemory, Part, both};
 use std::alloc::Global;
 
 impl<P: Parts> VNode<P> {
@@ -16,11 +16,13 @@ impl<P: Parts> VNode<P> {
     pub fn copy(&self, alloc: Global) -> Result<VNode<P>, OutOfMemory>
         ensures { IfOk result (λ copied. copied ≡ self.now) }
     {
-        let nodes = copy_values(alloc, self.dynamic_nodes.as_slice())?;
+        let nodes = copy_values(alloc, self.dynamic_nodes.as_slice());
+        let block = both(self.template.copy(alloc), self.dynamic_attrs.copy(alloc));
+        let (dynamic_nodes, (template, dynamic_attrs)) = both(nodes, block)?;
         Ok(VNode {
-            template: self.template.copy(alloc)?,
-            dynamic_nodes: List::from_vec(nodes),
-            dynamic_attrs: self.dynamic_attrs.copy(alloc)?,
+            template,
+            dynamic_nodes,
+            dynamic_attrs,
         })
     }
 }
@@ -30,10 +32,10 @@ impl<P: Parts> VNode<P> {
 fn copy_values<P: Parts>(
     alloc: Global,
     values: &[DynamicNode<P>],
-) -> Result<Vec<DynamicNode<P>>, OutOfMemory>
-    ensures { IfOk result (λ copied. copied.items ≡ values.now) }
+) -> Result<List<DynamicNode<P>>, OutOfMemory>
+    ensures { IfOk result (λ copied. copied ≡ values.now) }
 {
-    let mut copied = Vec::new(alloc);
+    let mut copied = List::new(alloc);
     for value in values {
         copied.push(value.copy(alloc)?)?;
     }
@@ -52,20 +54,19 @@ impl<P: Parts> DynamicNode<P> {
             DynamicNode::Component(component) => {
                 Ok(DynamicNode::Component(component.copy(alloc)?))
             }
-            DynamicNode::Fragment(trees) => Ok(DynamicNode::Fragment(List::from_vec(copy_trees(
-                alloc,
-                trees.as_slice(),
-            )?))),
+            DynamicNode::Fragment(trees) => {
+                Ok(DynamicNode::Fragment(copy_trees(alloc, trees.as_slice())?))
+            }
         }
     }
 }
 
 // A copy of each item of a fragment, in order.
 #[cycle(copy)]
-fn copy_trees<P: Parts>(alloc: Global, trees: &[VNode<P>]) -> Result<Vec<VNode<P>>, OutOfMemory>
-    ensures { IfOk result (λ copied. copied.items ≡ trees.now) }
+fn copy_trees<P: Parts>(alloc: Global, trees: &[VNode<P>]) -> Result<List<VNode<P>>, OutOfMemory>
+    ensures { IfOk result (λ copied. copied ≡ trees.now) }
 {
-    let mut copied = Vec::new(alloc);
+    let mut copied = List::new(alloc);
     for tree in trees {
         copied.push(tree.copy(alloc)?)?;
     }
@@ -79,10 +80,10 @@ impl<P: Parts> VComponent<P> {
         ensures { IfOk result (λ copied. copied ≡ self.now) }
     {
         match self {
-            VComponent::App { component, props } => Ok(VComponent::App {
-                component: component.copy(alloc)?,
-                props: props.copy(alloc)?,
-            }),
+            VComponent::App { component, props } => {
+                let (component, props) = both(component.copy(alloc), props.copy(alloc))?;
+                Ok(VComponent::App { component, props })
+            }
             VComponent::Fragment(props) => Ok(VComponent::Fragment(props.copy(alloc)?)),
             VComponent::ErrorBoundary(props) => Ok(VComponent::ErrorBoundary(props.copy(alloc)?)),
             VComponent::SuspenseBoundary(props) => {
@@ -111,8 +112,8 @@ impl<P: Parts> ErrorBoundaryProps<P> {
     pub fn copy(&self, alloc: Global) -> Result<ErrorBoundaryProps<P>, OutOfMemory>
         ensures { IfOk result (λ copied. copied ≡ self.now) }
     {
-        let handle_error = self.handle_error.copy(alloc)?;
-        let children = copy_children(alloc, &self.children)?;
+        let children = copy_children(alloc, &self.children);
+        let (children, handle_error) = both(children, self.handle_error.copy(alloc))?;
         Ok(ErrorBoundaryProps {
             children,
             handle_error,
@@ -126,13 +127,13 @@ impl<P: Parts> SuspenseBoundaryProps<P> {
     pub fn copy(&self, alloc: Global) -> Result<SuspenseBoundaryProps<P>, OutOfMemory>
         ensures { IfOk result (λ copied. copied ≡ self.now) }
     {
-        let fallback = self.fallback.copy(alloc)?;
-        let children = copy_children(alloc, &self.children)?;
+        let children = copy_children(alloc, &self.children);
+        let (children, fallback) = both(children, self.fallback.copy(alloc))?;
         Ok(SuspenseBoundaryProps { children, fallback })
     }
 }
 
-// A copy of the children of a built-in component.
+// A copy of the children of a built-in component: of a tree, or of the error in its place.
 #[cycle(copy)]
 fn copy_children<P: Parts>(
     alloc: Global,
@@ -140,16 +141,8 @@ fn copy_children<P: Parts>(
 ) -> Result<Boxed<Element<P>>, OutOfMemory>
     ensures { IfOk result (λ copied. copied ≡ children.now) }
 {
-    Boxed::new(alloc, copy_element(alloc, children.get())?)
-}
-
-// A copy of a tree, or of the error in its place.
-#[cycle(copy)]
-fn copy_element<P: Parts>(alloc: Global, element: &Element<P>) -> Result<Element<P>, OutOfMemory>
-    ensures { IfOk result (λ copied. copied ≡ element.now) }
-{
-    match element {
-        Ok(tree) => Ok(Ok(tree.copy(alloc)?)),
-        Err(error) => Ok(Err(error.copy(alloc)?)),
+    match children.get() {
+        Ok(tree) => Boxed::new(alloc, Ok(tree.copy(alloc)?)),
+        Err(error) => Boxed::new(alloc, Err(error.copy(alloc)?)),
     }
 }

@@ -5,7 +5,7 @@ ghost use Rattle.rt_nodes.specs.Shown.{last_of, tree_of};
 
 use crate::{Element, VNode};
 use rt_parts::{Parts, RenderError};
-use rt_values::OutOfMemory;
+use rt_values::{OutOfMemory, both};
 use std::alloc::Global;
 
 /// What a scope showed last: a tree of its body, or a placeholder and why.
@@ -48,7 +48,7 @@ impl<P: Parts> LastRenderedNode<P> {
             (
                 LastRenderedNode::Placeholder(left, own),
                 LastRenderedNode::Placeholder(right, others),
-            ) => left.same(right) && own.same(others),
+            ) => left.same(right) & own.same(others),
             _ => false,
         }
     }
@@ -59,10 +59,10 @@ impl<P: Parts> LastRenderedNode<P> {
     {
         match self {
             LastRenderedNode::Real(tree) => Ok(LastRenderedNode::Real(tree.copy(alloc)?)),
-            LastRenderedNode::Placeholder(tree, error) => Ok(LastRenderedNode::Placeholder(
-                tree.copy(alloc)?,
-                error.copy(alloc)?,
-            )),
+            LastRenderedNode::Placeholder(tree, error) => {
+                let (tree, error) = both(tree.copy(alloc), error.copy(alloc))?;
+                Ok(LastRenderedNode::Placeholder(tree, error))
+            }
         }
     }
 }

@@ -6,7 +6,7 @@ ghost use Rattle.rt_nodes.specs.Places.{InTemplate, APlaceholder, node_places, s
 ghost use Rattle.rt_nodes.specs.Shown.{placeholder_tree};
 
 use rt_parts::{Attribute, Parts, RenderError, Template, TemplateNode};
-use rt_values::{Boxed, List, OutOfMemory, Part, Text};
+use rt_values::{Boxed, List, OutOfMemory, Part, Text, both};
 use std::alloc::Global;
 
 /// What a component's body answers: a tree, or an error or suspension.
@@ -138,7 +138,7 @@ impl<P: Parts> ErrorHandler<P> {
         match (self, other) {
             (ErrorHandler::Default, ErrorHandler::Default) => true,
             (ErrorHandler::Component(left, own), ErrorHandler::Component(right, others)) => {
-                left.same(right) && own.same(others)
+                left.same(right) & own.same(others)
             }
             _ => false,
         }
@@ -150,10 +150,10 @@ impl<P: Parts> ErrorHandler<P> {
     {
         match self {
             ErrorHandler::Default => Ok(ErrorHandler::Default),
-            ErrorHandler::Component(component, props) => Ok(ErrorHandler::Component(
-                component.copy(alloc)?,
-                props.copy(alloc)?,
-            )),
+            ErrorHandler::Component(component, props) => {
+                let (component, props) = both(component.copy(alloc), props.copy(alloc))?;
+                Ok(ErrorHandler::Component(component, props))
+            }
         }
     }
 }
@@ -166,7 +166,7 @@ impl<P: Parts> Fallback<P> {
         match (self, other) {
             (Fallback::Placeholder, Fallback::Placeholder) => true,
             (Fallback::Component(left, own), Fallback::Component(right, others)) => {
-                left.same(right) && own.same(others)
+                left.same(right) & own.same(others)
             }
             _ => false,
         }
@@ -178,10 +178,10 @@ impl<P: Parts> Fallback<P> {
     {
         match self {
             Fallback::Placeholder => Ok(Fallback::Placeholder),
-            Fallback::Component(component, props) => Ok(Fallback::Component(
-                component.copy(alloc)?,
-                props.copy(alloc)?,
-            )),
+            Fallback::Component(component, props) => {
+                let (component, props) = both(component.copy(alloc), props.copy(alloc))?;
+                Ok(Fallback::Component(component, props))
+            }
         }
     }
 }
@@ -191,16 +191,14 @@ impl<P: Parts> RootProps<P> {
     pub fn same(&self, other: &RootProps<P>) -> bool
         ensures { IsTrue result ↔ (self.now ≡ other.now) }
     {
-        self.component.same(&other.component) && self.props.same(&other.props)
+        self.component.same(&other.component) & self.props.same(&other.props)
     }
 
     /// Equal props.
     pub fn copy(&self, alloc: Global) -> Result<RootProps<P>, OutOfMemory>
         ensures { IfOk result (λ copied. copied ≡ self.now) }
     {
-        Ok(RootProps {
-            component: self.component.copy(alloc)?,
-            props: self.props.copy(alloc)?,
-        })
+        let (component, props) = both(self.component.copy(alloc), self.props.copy(alloc))?;
+        Ok(RootProps { component, props })
     }
 }

@@ -1,1 +1,5 @@
 pub mod Texts
+pub mod Met
+pub mod Names
+pub mod Slots
+pub mod BlockTest

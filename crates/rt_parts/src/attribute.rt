@@ -3,7 +3,7 @@
 ghost use Rattle.std.specs.Prelude.{◌≡◌, ◌↔◌, IsTrue, IfOk};
 
 use crate::Parts;
-use rt_values::{OutOfMemory, Part, ScopeId, Text};
+use rt_values::{OutOfMemory, Part, ScopeId, Text, both};
 use std::alloc::Global;
 
 /// An attribute in a slot.
@@ -74,15 +74,17 @@ impl<P: Parts> Part for AttributeValue<P> {
 impl<P: Parts> Part for Attribute<P> {
     fn same(&self, other: &Attribute<P>) -> bool {
         self.name.same(&other.name)
-            && self.namespace.same(&other.namespace)
-            && self.value.same(&other.value)
+            & self.namespace.same(&other.namespace)
+            & self.value.same(&other.value)
     }
 
     fn copy(&self, alloc: Global) -> Result<Attribute<P>, OutOfMemory> {
+        let names = both(self.name.copy(alloc), self.namespace.copy(alloc));
+        let ((name, namespace), value) = both(names, self.value.copy(alloc))?;
         Ok(Attribute {
-            name: self.name.copy(alloc)?,
-            namespace: self.namespace.copy(alloc)?,
-            value: self.value.copy(alloc)?,
+            name,
+            namespace,
+            value,
         })
     }
 }

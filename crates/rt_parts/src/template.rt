@@ -2,7 +2,7 @@
 
 ghost use Rattle.std.specs.Prelude.{◌≡◌, ◌↔◌, IsTrue, IfOk};
 
-use rt_values::{List, OutOfMemory, Part, Text};
+use rt_values::{List, OutOfMemory, Part, Text, both};
 use std::alloc::Global;
 
 /// The static part of a tree. Slots are numbered from 0 as they are met depth first: an element,
@@ -55,18 +55,23 @@ impl Template {
         ensures { IsTrue result ↔ (self.now ≡ other.now) }
     {
         same_nodes(self.roots.as_slice(), other.roots.as_slice())
-            && self.node_paths.same(&other.node_paths)
-            && self.attr_paths.same(&other.attr_paths)
+            & self.node_paths.same(&other.node_paths)
+            & self.attr_paths.same(&other.attr_paths)
     }
 
     /// An equal template.
     pub fn copy(&self, alloc: Global) -> Result<Template, OutOfMemory>
         ensures { IfOk result (λ copied. copied ≡ self.now) }
     {
+        let paths = both(self.node_paths.copy(alloc), self.attr_paths.copy(alloc));
+        let (roots, (node_paths, attr_paths)) = both(
+            copy_nodes(alloc, self.roots.as_slice()),
+            paths,
+        )?;
         Ok(Template {
-            roots: List::from_vec(copy_nodes(alloc, self.roots.as_slice())?),
-            node_paths: self.node_paths.copy(alloc)?,
-            attr_paths: self.attr_paths.copy(alloc)?,
+            roots,
+            node_paths,
+            attr_paths,
         })
     }
 }
@@ -89,10 +94,10 @@ fn same_nodes(left: &[TemplateNode], right: &[TemplateNode]) -> bool
 
 /// A copy of each node, in order.
 #[cycle(copy)]
-fn copy_nodes(alloc: Global, nodes: &[TemplateNode]) -> Result<Vec<TemplateNode>, OutOfMemory>
-    ensures { IfOk result (λ copied. copied.items ≡ nodes.now) }
+fn copy_nodes(alloc: Global, nodes: &[TemplateNode]) -> Result<List<TemplateNode>, OutOfMemory>
+    ensures { IfOk result (λ copied. copied ≡ nodes.now) }
 {
-    let mut copied = Vec::new(alloc);
+    let mut copied = List::new(alloc);
     for node in nodes {
         copied.push(node.copy(alloc)?)?;
     }
@@ -119,9 +124,9 @@ impl TemplateNode {
                     children: other_children,
                 } => {
                     tag.same(other_tag)
-                        && namespace.same(other_namespace)
-                        && attrs.same(other_attrs)
-                        && same_nodes(children.as_slice(), other_children.as_slice())
+                        & namespace.same(other_namespace)
+                        & attrs.same(other_attrs)
+                        & same_nodes(children.as_slice(), other_children.as_slice())
                 }
                 _ => false,
             },
@@ -147,12 +152,17 @@ impl TemplateNode {
                 namespace,
                 attrs,
                 children,
-            } => Ok(TemplateNode::Element {
-                tag: tag.copy(alloc)?,
-                namespace: namespace.copy(alloc)?,
-                attrs: attrs.copy(alloc)?,
-                children: List::from_vec(copy_nodes(alloc, children.as_slice())?),
-            }),
+            } => {
+                let names = both(tag.copy(alloc), namespace.copy(alloc));
+                let lists = both(attrs.copy(alloc), copy_nodes(alloc, children.as_slice()));
+                let ((tag, namespace), (attrs, children)) = both(names, lists)?;
+                Ok(TemplateNode::Element {
+                    tag,
+                    namespace,
+                    attrs,
+                    children,
+                })
+            }
             TemplateNode::Text { text } => Ok(TemplateNode::Text {
                 text: text.copy(alloc)?,
             }),
@@ -176,7 +186,7 @@ impl Part for TemplateAttribute {
                     value: other_value,
                 },
             ) => {
-                name.same(other_name) && namespace.same(other_namespace) && value.same(other_value)
+                name.same(other_name) & namespace.same(other_namespace) & value.same(other_value)
             }
             (TemplateAttribute::Dynamic { id }, TemplateAttribute::Dynamic { id: other_id }) => *id
                 == *other_id,
@@ -190,11 +200,15 @@ impl Part for TemplateAttribute {
                 name,
                 namespace,
                 value,
-            } => Ok(TemplateAttribute::Static {
-                name: name.copy(alloc)?,
-                namespace: namespace.copy(alloc)?,
-                value: value.copy(alloc)?,
-            }),
+            } => {
+                let names = both(name.copy(alloc), namespace.copy(alloc));
+                let ((name, namespace), value) = both(names, value.copy(alloc))?;
+                Ok(TemplateAttribute::Static {
+                    name,
+                    namespace,
+                    value,
+                })
+            }
             TemplateAttribute::Dynamic { id } => Ok(TemplateAttribute::Dynamic { id: *id }),
         }
     }

@@ -1,7 +1,8 @@
 pub use Rattle.rt_parts.specs.Texts
-pub use Rattle.rt_nodes.specs.Met
-pub use Rattle.rt_nodes.specs.Names
-pub use Rattle.rt_nodes.specs.Slots
+pub use Rattle.rt_parts.specs.Met
+pub use Rattle.rt_parts.specs.Names
+pub use Rattle.rt_parts.specs.Slots
+pub use Rattle.rt_parts.specs.BlockTest
 pub use Rattle.rt_nodes.specs.NodeTest
 pub use Rattle.rt_nodes.specs.Places
 pub use Rattle.rt_nodes.specs.Shown

@@ -1,13 +1,12 @@
-//! The node test at its bounds, and what errors and events show, by examples.
+//! The node test at its bounds, and what stands where a body answered no tree, by examples.
 
 use crate::{
-    Attribute, AttributeValue, CapturedError, DynamicNode, Element, Event, FragmentProps,
-    LastRenderedNode, ListenerCallback, Parts, RenderError, SuspendedFuture, Template,
-    TemplateAttribute, TemplateNode, VComponent, VNode, fits,
+    Attribute, AttributeValue, DynamicNode, Element, FragmentProps, LastRenderedNode,
+    ListenerCallback, Parts, RenderError, Template, TemplateAttribute, TemplateNode, VComponent,
+    VNode, fits,
 };
-use rt_values::{Boxed, List, ScopeId, Task, Text};
+use rt_values::{Boxed, List, ScopeId, Text};
 use std::alloc::Global;
-use std::fmt::Display;
 use std::process::Abort;
 
 /// An application of plain numbers.
@@ -32,6 +31,24 @@ impl Parts for Numbers {
 
 type Tree = VNode<Numbers>;
 
+/// A tree by plain values.
+#[derive(Clone, Copy)]
+enum Shape {
+    /// So many texts, under so many elements.
+    Texts(usize, usize),
+    /// A placeholder under so many fragments.
+    Fragments(usize),
+    /// A placeholder under so many built-in components.
+    Components(usize),
+    /// A placeholder in the slot with this number.
+    Slot(u64),
+    /// An element with the attribute `a`, and beside it one of this name, which may be in the
+    /// namespace `style`.
+    Named(&'static str, bool),
+    /// The same with a listener beside it.
+    Listening(&'static str, bool),
+}
+
 fn text(rt: &impl Abort, alloc: Global, bytes: &str) -> Text {
     Text::from_str(alloc, bytes).expect(rt, "memory for a text")
 }
@@ -42,15 +59,11 @@ fn one<T: Drop>(rt: &impl Abort, alloc: Global, item: T) -> List<T> {
     items
 }
 
-fn words(rt: &impl Abort, alloc: Global) -> TemplateNode {
-    let text = text(rt, alloc, "x");
-    TemplateNode::Text { text }
-}
-
-fn many_words(rt: &impl Abort, alloc: Global, count: usize) -> List<TemplateNode> {
+fn texts(rt: &impl Abort, alloc: Global, count: usize) -> List<TemplateNode> {
     let mut nodes = List::new(alloc);
     for _ in 0..count {
-        assert!(rt; nodes.push(words(rt, alloc)).is_ok());
+        let text = text(rt, alloc, "x");
+        assert!(rt; nodes.push(TemplateNode::Text { text }).is_ok());
     }
     nodes
 }
@@ -60,22 +73,27 @@ fn element(
     alloc: Global,
     attrs: List<TemplateAttribute>,
     children: List<TemplateNode>,
-) -> TemplateNode {
-    let tag = text(rt, alloc, "p");
-    TemplateNode::Element {
-        tag,
+) -> List<TemplateNode> {
+    let element = TemplateNode::Element {
+        tag: text(rt, alloc, "p"),
         namespace: None,
         attrs,
         children,
+    };
+    one(rt, alloc, element)
+}
+
+// The one path to the first root.
+fn first_root(rt: &impl Abort, alloc: Global) -> List<List<u8>> {
+    one(rt, alloc, one(rt, alloc, 0))
+}
+
+// A tree of which nothing varies.
+fn still(rt: &impl Abort, alloc: Global, count: usize, elements: usize) -> Tree {
+    let mut roots = texts(rt, alloc, count);
+    for _ in 0..elements {
+        roots = element(rt, alloc, List::new(alloc), roots);
     }
-}
-
-fn around(rt: &impl Abort, alloc: Global, node: TemplateNode) -> TemplateNode {
-    let children = one(rt, alloc, node);
-    element(rt, alloc, List::new(alloc), children)
-}
-
-fn still(alloc: Global, roots: List<TemplateNode>) -> Tree {
     VNode {
         template: Template {
             roots,
@@ -87,13 +105,8 @@ fn still(alloc: Global, roots: List<TemplateNode>) -> Tree {
     }
 }
 
-// The one path to the first root.
-fn first_root(rt: &impl Abort, alloc: Global) -> List<List<u8>> {
-    let path = one(rt, alloc, 0);
-    one(rt, alloc, path)
-}
-
-fn with_slot(rt: &impl Abort, alloc: Global, id: u64, node: DynamicNode<Numbers>) -> Tree {
+// A tree that is one slot.
+fn slot(rt: &impl Abort, alloc: Global, id: u64, node: DynamicNode<Numbers>) -> Tree {
     VNode {
         template: Template {
             roots: one(rt, alloc, TemplateNode::Dynamic { id }),
@@ -105,96 +118,45 @@ fn with_slot(rt: &impl Abort, alloc: Global, id: u64, node: DynamicNode<Numbers>
     }
 }
 
+fn fragment(rt: &impl Abort, alloc: Global, tree: Tree) -> DynamicNode<Numbers> {
+    DynamicNode::Fragment(one(rt, alloc, tree))
+}
+
+fn component(rt: &impl Abort, alloc: Global, tree: Tree) -> DynamicNode<Numbers> {
+    let children = Boxed::new(alloc, Ok(tree)).expect(rt, "memory for a box");
+    DynamicNode::Component(VComponent::Fragment(FragmentProps { children }))
+}
+
 fn placeholder(rt: &impl Abort, alloc: Global) -> Tree {
     VNode::placeholder(alloc).expect(rt, "memory for a placeholder")
 }
 
-fn in_fragment(rt: &impl Abort, alloc: Global, tree: Tree) -> Tree {
-    let items = one(rt, alloc, tree);
-    with_slot(rt, alloc, 0, DynamicNode::Fragment(items))
-}
-
-fn boxed(rt: &impl Abort, alloc: Global, tree: Tree) -> Boxed<Element<Numbers>> {
-    Boxed::new(alloc, Ok(tree)).expect(rt, "memory for a box")
-}
-
-fn in_component(rt: &impl Abort, alloc: Global, tree: Tree) -> Tree {
-    let children = boxed(rt, alloc, tree);
-    let component = VComponent::Fragment(FragmentProps { children });
-    with_slot(rt, alloc, 0, DynamicNode::Component(component))
-}
-
-// Whether a text under so many elements fits.
-fn elements_fit(rt: &impl Abort, alloc: Global, above: usize) -> bool {
-    let mut node = words(rt, alloc);
-    for _ in 0..above {
-        node = around(rt, alloc, node);
-    }
-    fits(&still(alloc, one(rt, alloc, node)))
-}
-
-// Whether a placeholder under so many fragments fits.
-fn fragments_fit(rt: &impl Abort, alloc: Global, above: usize) -> bool {
+fn in_fragments(rt: &impl Abort, alloc: Global, above: usize) -> Tree {
     let mut tree = placeholder(rt, alloc);
     for _ in 0..above {
-        tree = in_fragment(rt, alloc, tree);
+        tree = slot(rt, alloc, 0, fragment(rt, alloc, tree));
     }
-    fits(&tree)
+    tree
 }
 
-// Whether a placeholder under so many built-in components fits.
-fn components_fit(rt: &impl Abort, alloc: Global, above: usize) -> bool {
+fn in_components(rt: &impl Abort, alloc: Global, above: usize) -> Tree {
     let mut tree = placeholder(rt, alloc);
     for _ in 0..above {
-        tree = in_component(rt, alloc, tree);
+        tree = slot(rt, alloc, 0, component(rt, alloc, tree));
     }
-    fits(&tree)
-}
-
-fn roots_fit(rt: &impl Abort, alloc: Global, count: usize) -> bool {
-    fits(&still(alloc, many_words(rt, alloc, count)))
-}
-
-fn children_fit(rt: &impl Abort, alloc: Global, count: usize) -> bool {
-    let children = many_words(rt, alloc, count);
-    let node = element(rt, alloc, List::new(alloc), children);
-    fits(&still(alloc, one(rt, alloc, node)))
-}
-
-fn slot_fits(rt: &impl Abort, alloc: Global, id: u64) -> bool {
-    fits(&with_slot(rt, alloc, id, DynamicNode::Placeholder))
-}
-
-fn named(rt: &impl Abort, alloc: Global, name: &str) -> TemplateAttribute {
-    TemplateAttribute::Static {
-        name: text(rt, alloc, name),
-        namespace: None,
-        value: text(rt, alloc, ""),
-    }
+    tree
 }
 
 // The attribute `a` and an attribute slot.
 fn static_and_slot(rt: &impl Abort, alloc: Global) -> List<TemplateAttribute> {
-    let mut attrs = one(rt, alloc, named(rt, alloc, "a"));
+    let named = TemplateAttribute::Static {
+        name: text(rt, alloc, "a"),
+        namespace: None,
+        value: text(rt, alloc, ""),
+    };
+    let mut attrs = one(rt, alloc, named);
     assert!(rt; attrs.push(TemplateAttribute::Dynamic { id: 0 }).is_ok());
     attrs
-}
-
-// Whether an element with the attribute `a` and a slot of one attribute fits.
-fn attribute_fits(rt: &impl Abort, alloc: Global, attribute: Attribute<Numbers>) -> bool {
-    let attrs = static_and_slot(rt, alloc);
-    let slot = one(rt, alloc, attribute);
-    let node = element(rt, alloc, attrs, List::new(alloc));
-    let tree: Tree = VNode {
-        template: Template {
-            roots: one(rt, alloc, node),
-            node_paths: List::new(alloc),
-            attr_paths: first_root(rt, alloc),
-        },
-        dynamic_nodes: List::new(alloc),
-        dynamic_attrs: one(rt, alloc, slot),
-    };
-    fits(&tree)
 }
 
 fn style(rt: &impl Abort, alloc: Global, styled: bool) -> Option<Text> {
@@ -205,174 +167,217 @@ fn style(rt: &impl Abort, alloc: Global, styled: bool) -> Option<Text> {
     }
 }
 
-// Whether an attribute without a value, beside the attribute `a`, fits.
-fn name_fits(rt: &impl Abort, alloc: Global, name: &str, styled: bool) -> bool {
+// An element with the attribute `a` and one in a slot.
+fn named(
+    rt: &impl Abort,
+    alloc: Global,
+    name: &str,
+    styled: bool,
+    value: AttributeValue<Numbers>,
+) -> Tree {
     let attribute = Attribute {
         name: text(rt, alloc, name),
         namespace: style(rt, alloc, styled),
-        value: AttributeValue::None,
+        value,
     };
-    attribute_fits(rt, alloc, attribute)
+    VNode {
+        template: Template {
+            roots: element(rt, alloc, static_and_slot(rt, alloc), List::new(alloc)),
+            node_paths: List::new(alloc),
+            attr_paths: first_root(rt, alloc),
+        },
+        dynamic_nodes: List::new(alloc),
+        dynamic_attrs: one(rt, alloc, one(rt, alloc, attribute)),
+    }
 }
 
-fn listener_fits(rt: &impl Abort, alloc: Global, styled: bool) -> bool {
-    let listener = ListenerCallback {
+fn listener() -> AttributeValue<Numbers> {
+    AttributeValue::Listener(ListenerCallback {
         origin: ScopeId(3),
         handler: 7,
-    };
-    let attribute = Attribute {
-        name: text(rt, alloc, "onclick"),
-        namespace: style(rt, alloc, styled),
-        value: AttributeValue::Listener(listener),
-    };
-    attribute_fits(rt, alloc, attribute)
+    })
 }
+
+impl Shape {
+    fn tree(self, rt: &impl Abort, alloc: Global) -> Tree {
+        match self {
+            Shape::Texts(count, elements) => still(rt, alloc, count, elements),
+            Shape::Fragments(above) => in_fragments(rt, alloc, above),
+            Shape::Components(above) => in_components(rt, alloc, above),
+            Shape::Slot(id) => slot(rt, alloc, id, DynamicNode::Placeholder),
+            Shape::Named(name, styled) => named(rt, alloc, name, styled, AttributeValue::None),
+            Shape::Listening(name, styled) => named(rt, alloc, name, styled, listener()),
+        }
+    }
+}
+
+fn passes(rt: &impl Abort, alloc: Global, shape: Shape) -> bool {
+    fits(&shape.tree(rt, alloc))
+}
+
+fn all_answer(rt: &impl Abort, alloc: Global, cases: &[(Shape, bool)]) {
+    for (at, (shape, want)) in cases.iter().enumerate() {
+        assert_eq!(rt; passes(rt, alloc, *shape), *want, "case {at}");
+    }
+}
+
+const ROOTS: &[(Shape, bool)] = &[
+    (Shape::Texts(0, 0), false),
+    (Shape::Texts(1, 0), true),
+    (Shape::Texts(255, 0), true),
+    (Shape::Texts(256, 0), true),
+    (Shape::Texts(257, 0), false),
+];
 
 #[test]
 fn a_template_has_one_to_256_roots(rt: HostRuntime) {
-    for (count, want) in [
-        (0, false),
-        (1, true),
-        (255, true),
-        (256, true),
-        (257, false),
-    ] {
-        assert_eq!(rt; roots_fit(&rt, rt.alloc(), count), want, "{count} roots");
-    }
+    all_answer(&rt, rt.alloc(), ROOTS);
 }
+
+const CHILDREN: &[(Shape, bool)] = &[
+    (Shape::Texts(0, 1), true),
+    (Shape::Texts(255, 1), true),
+    (Shape::Texts(256, 1), true),
+    (Shape::Texts(257, 1), false),
+];
 
 #[test]
 fn an_element_has_at_most_256_children(rt: HostRuntime) {
-    for (count, want) in [(0, true), (255, true), (256, true), (257, false)] {
-        assert_eq!(rt;
-            children_fit(&rt, rt.alloc(), count),
-            want,
-            "{count} children"
-        );
-    }
+    all_answer(&rt, rt.alloc(), CHILDREN);
 }
+
+const LEVELS: &[(Shape, bool)] = &[
+    (Shape::Texts(1, 126), true),
+    (Shape::Texts(1, 127), true),
+    (Shape::Texts(1, 128), false),
+    (Shape::Fragments(126), true),
+    (Shape::Fragments(127), true),
+    (Shape::Fragments(128), false),
+    (Shape::Components(126), true),
+    (Shape::Components(127), true),
+    (Shape::Components(128), false),
+];
 
 #[test]
 fn nothing_stands_below_the_128th_level(rt: HostRuntime) {
-    for (above, want) in [(126, true), (127, true), (128, false)] {
-        assert_eq!(rt;
-            elements_fit(&rt, rt.alloc(), above),
-            want,
-            "{above} elements"
-        );
-        assert_eq!(rt;
-            fragments_fit(&rt, rt.alloc(), above),
-            want,
-            "{above} fragments"
-        );
-        assert_eq!(rt;
-            components_fit(&rt, rt.alloc(), above),
-            want,
-            "{above} components"
-        );
-    }
+    all_answer(&rt, rt.alloc(), LEVELS);
 }
+
+const SLOTS: &[(Shape, bool)] = &[(Shape::Slot(0), true), (Shape::Slot(1), false)];
 
 #[test]
 fn slots_are_numbered_from_0(rt: HostRuntime) {
-    assert!(rt; slot_fits(&rt, rt.alloc(), 0));
-    assert!(rt; !slot_fits(&rt, rt.alloc(), 1));
+    all_answer(&rt, rt.alloc(), SLOTS);
 }
+
+const NAMES: &[(Shape, bool)] = &[
+    (Shape::Named("b", false), true),
+    (Shape::Named("a", false), false),
+    (Shape::Named("a", true), true),
+];
 
 #[test]
 fn no_name_stands_twice_in_an_element(rt: HostRuntime) {
-    assert!(rt; name_fits(&rt, rt.alloc(), "b", false));
-    assert!(rt; !name_fits(&rt, rt.alloc(), "a", false));
-    assert!(rt; name_fits(&rt, rt.alloc(), "a", true));
+    all_answer(&rt, rt.alloc(), NAMES);
 }
+
+const LISTENERS: &[(Shape, bool)] = &[
+    (Shape::Listening("onclick", false), true),
+    (Shape::Listening("onclick", true), false),
+];
 
 #[test]
 fn a_listener_has_no_namespace(rt: HostRuntime) {
-    assert!(rt; listener_fits(&rt, rt.alloc(), false));
-    assert!(rt; !listener_fits(&rt, rt.alloc(), true));
+    all_answer(&rt, rt.alloc(), LISTENERS);
 }
 
-#[test]
-fn the_empty_answer_is_the_placeholder(rt: HostRuntime) {
-    let tree = placeholder(&rt, rt.alloc());
-    assert_eq!(rt; tree.template.roots.len(), 1);
-    assert!(rt; fits(&tree));
-    assert!(rt; is_empty_answer(&rt, rt.alloc(), &tree));
+/// What a scope shows, and why.
+#[derive(Clone, Copy)]
+enum Source {
+    /// A placeholder that a body answered.
+    Placeholder,
+    /// The empty answer.
+    Empty,
+    /// An answer that is an early abort.
+    Aborted,
+    /// A copy of the former.
+    Copied,
+    /// A placeholder in the place of an early abort.
+    InPlace,
 }
 
-fn is_empty_answer(rt: &impl Abort, alloc: Global, tree: &Tree) -> bool {
-    match VNode::empty(alloc).expect(rt, "memory for a placeholder") {
-        Ok(empty) => tree.same(&empty),
-        Err(_) => false,
-    }
-}
-
-fn aborted(rt: &impl Abort, alloc: Global) -> RenderError {
+fn aborted_early(rt: &impl Abort, alloc: Global) -> RenderError {
     RenderError::aborted_early(alloc).expect(rt, "memory for an error")
+}
+
+fn empty(rt: &impl Abort, alloc: Global) -> Element<Numbers> {
+    VNode::empty(alloc).expect(rt, "memory for a placeholder")
 }
 
 fn shown(rt: &impl Abort, alloc: Global, answer: Element<Numbers>) -> LastRenderedNode<Numbers> {
     LastRenderedNode::new(alloc, answer).expect(rt, "memory for a placeholder")
 }
 
-fn is_copied(rt: &impl Abort, alloc: Global, shown: &LastRenderedNode<Numbers>) -> bool {
-    shown
+fn aborted(rt: &impl Abort, alloc: Global) -> LastRenderedNode<Numbers> {
+    shown(rt, alloc, Err(aborted_early(rt, alloc)))
+}
+
+fn copied(rt: &impl Abort, alloc: Global) -> LastRenderedNode<Numbers> {
+    aborted(rt, alloc)
         .copy(alloc)
         .expect(rt, "memory for a copy")
-        .same(shown)
+}
+
+fn in_place(rt: &impl Abort, alloc: Global) -> LastRenderedNode<Numbers> {
+    LastRenderedNode::Placeholder(placeholder(rt, alloc), aborted_early(rt, alloc))
+}
+
+impl Source {
+    fn shown(self, rt: &impl Abort, alloc: Global) -> LastRenderedNode<Numbers> {
+        match self {
+            Source::Placeholder => LastRenderedNode::Real(placeholder(rt, alloc)),
+            Source::Empty => shown(rt, alloc, empty(rt, alloc)),
+            Source::Aborted => aborted(rt, alloc),
+            Source::Copied => copied(rt, alloc),
+            Source::InPlace => in_place(rt, alloc),
+        }
+    }
+}
+
+// Whether the two are the same tree, of one root, which fits.
+fn are_one_tree(left: &Tree, right: &Tree) -> bool {
+    left.same(right) & (left.template.roots.len() == 1) & fits(left)
+}
+
+// Whether the two show the same, and whether they show the same tree.
+fn compared(rt: &impl Abort, alloc: Global, left: Source, right: Source) -> (bool, bool) {
+    let left = left.shown(rt, alloc);
+    let right = right.shown(rt, alloc);
+    (
+        left.same(&right),
+        are_one_tree(left.as_vnode(), right.as_vnode()),
+    )
+}
+
+#[test]
+fn the_empty_answer_is_the_placeholder(rt: HostRuntime) {
+    let (same, one_tree) = compared(&rt, rt.alloc(), Source::Empty, Source::Placeholder);
+    assert!(rt; same);
+    assert!(rt; one_tree);
 }
 
 #[test]
 fn an_early_abort_shows_a_placeholder(rt: HostRuntime) {
-    let failed = shown(&rt, rt.alloc(), Err(aborted(&rt, rt.alloc())));
-    assert!(rt; matches!(&failed, LastRenderedNode::Placeholder(_, _)));
-    assert!(rt; failed.as_vnode().same(&placeholder(&rt, rt.alloc())));
-    assert!(rt; is_copied(&rt, rt.alloc(), &failed));
+    for kept in [Source::InPlace, Source::Copied] {
+        let (same, one_tree) = compared(&rt, rt.alloc(), Source::Aborted, kept);
+        assert!(rt; same);
+        assert!(rt; one_tree);
+    }
 }
 
 #[test]
 fn a_placeholder_tree_is_no_error(rt: HostRuntime) {
-    let failed = shown(&rt, rt.alloc(), Err(aborted(&rt, rt.alloc())));
-    let real = shown(&rt, rt.alloc(), Ok(placeholder(&rt, rt.alloc())));
-    assert!(rt; !failed.same(&real));
-}
-
-fn prints<T: Display>(rt: &impl Abort, alloc: Global, shown: &T, want: &str) {
-    let text = format!(in alloc; "{shown}").expect(rt, "memory for a text");
-    assert_eq!(rt; text.as_str(), want);
-}
-
-#[test]
-fn an_early_abort_prints_its_text(rt: HostRuntime) {
-    prints(
-        &rt,
-        rt.alloc(),
-        &aborted(&rt, rt.alloc()),
-        "Render aborted: Render aborted early",
-    );
-    let error = CapturedError {
-        serial: 1,
-        text: text(&rt, rt.alloc(), "no such page"),
-    };
-    prints(&rt, rt.alloc(), &error, "no such page");
-}
-
-#[test]
-fn a_suspension_prints_its_task(rt: HostRuntime) {
-    let future = SuspendedFuture::new(ScopeId(5), Task(12));
-    prints(&rt, rt.alloc(), &future, "SuspendedFuture { task: 12 }");
-    let error = RenderError::Suspended(future);
-    prints(&rt, rt.alloc(), &error, "Component suspended: task 12");
-}
-
-#[test]
-fn a_mapped_event_keeps_its_flags(rt: HostRuntime) {
-    let mut event = Event::new(20u64, true);
-    event.prevent_default();
-    let mapped = event.map(|payload| *payload / 2);
-    assert_eq!(rt; *mapped.data(), 10);
-    assert!(rt; mapped.propagates());
-    assert!(rt; !mapped.default_action_enabled());
-    event.cancel_bubble();
-    assert!(rt; !event.propagates());
+    let (same, one_tree) = compared(&rt, rt.alloc(), Source::Aborted, Source::Empty);
+    assert!(rt; !same);
+    assert!(rt; one_tree);
 }

@@ -11,7 +11,7 @@ mod text;
 
 pub use boxed::Boxed;
 pub use list::{List, copy_slice, same_slice};
-pub use memory::OutOfMemory;
+pub use memory::{OutOfMemory, both};
 pub use names::{ScopeId, Task};
 pub use part::Part;
 pub use text::Text;

@@ -2,9 +2,9 @@
 use Rattle.std.proofs.Common.{ℕ, suc, ◌+◌, Bool, true, false, ◌&&◌, List, [], ◌∷◌, ◌++◌, ◌≡◌, refl, sym, ap, ◌∙◌, subst, map, length, arith}
 use Rattle.std.specs.Prelude.{nat_le}
 use Rattle.std.specs.List.{list_all}
-use Rattle.rt_nodes.specs.Met.{Met, met, met_step, met_among}
-use Rattle.rt_nodes.specs.NodeTest.{met_fits}
-use Rattle.rt_nodes.specs.Names.{Name}
+use Rattle.rt_parts.specs.Met.{Met, met, met_step, met_among}
+use Rattle.rt_parts.specs.BlockTest.{met_fits}
+use Rattle.rt_parts.specs.Names.{Name}
 use Rattle.rt_parts.specs.declared.template.TemplateNode.{TemplateNode}
 use Rattle.rt_parts.specs.declared.template.TemplateNode.TheOpen.{TemplateNode-F}
 use Rattle.rt_parts.specs.declared.template.TemplateNode.TheFolds.{fold-roll-TemplateNode, ind-TemplateNode, map-TemplateNode}

@@ -1,7 +1,7 @@
 -- What is met in a template that stands still: no slot.
 use Rattle.std.proofs.Common.{ℕ, ◌+◌, Bool, true, List, [], ◌∷◌, ◌++◌, ◌≡◌, refl, sym, ap, ◌∙◌, subst, map}
-use Rattle.rt_nodes.specs.Met.{Met, AtElement, AtAttribute, AtText, AtSlot, met, met_step, met_among}
-use Rattle.rt_nodes.specs.Slots.{node_slots, attr_slots}
+use Rattle.rt_parts.specs.Met.{Met, AtElement, AtAttribute, AtText, AtSlot, met, met_step, met_among}
+use Rattle.rt_parts.specs.Slots.{node_slots, attr_slots}
 use Rattle.rt_parts.specs.declared.template.TemplateNode.{TemplateNode}
 use Rattle.rt_parts.specs.declared.template.TemplateNode.TheOpen.{TemplateNode-F}
 use Rattle.rt_parts.specs.declared.template.TemplateNode.TheFolds.{fold-roll-TemplateNode, ind-TemplateNode, map-TemplateNode}

@@ -3,8 +3,9 @@ use Rattle.std.proofs.Common.{ℕ, suc, ◌+◌, Bool, true, false, ◌&&◌, Li
 use Rattle.std.proofs.lemmas.Bool.{eqb-true}
 use Rattle.std.specs.Prelude.{◌==◌}
 use Rattle.std.specs.List.{list_all}
-use Rattle.rt_nodes.specs.NodeTest.{fits, slots_fit, node_fits_within, attribute_fits, template_fits, sought_in}
-use Rattle.rt_nodes.specs.Names.{slot_names}
+use Rattle.rt_parts.specs.BlockTest.{attribute_fits, template_fits, sought_in}
+use Rattle.rt_nodes.specs.NodeTest.{fits, slots_fit, node_fits_within}
+use Rattle.rt_parts.specs.Names.{slot_names}
 use Rattle.rt_fits.proofs.NodeTestLemmas.{fits-out}
 use Rattle.rt_nodes.specs.declared.vnode.VNode.{VNode}
 use Rattle.rt_nodes.specs.declared.vnode.DynamicNode.{DynamicNode}

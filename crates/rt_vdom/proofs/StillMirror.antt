@@ -3,7 +3,8 @@ use Rattle.std.proofs.lemmas.Bool.{eqb-true}
 use Rattle.rt_nodes.specs.declared.vnode.DynamicNode.TheFolds.{fold-DynamicNode}
 use Rattle.std.proofs.Common.{ℕ, suc, arith, true, List, [], ◌∷◌, ◌≡◌, refl, sym, ◌∙◌, map, length}
 use Rattle.std.specs.Prelude.{◌==◌, nat_lt, nat_le}
-use Rattle.rt_nodes.specs.NodeTest.{fits, block_fits, slots_fit, node_fits_within}
+use Rattle.rt_parts.specs.BlockTest.{block_fits}
+use Rattle.rt_nodes.specs.NodeTest.{fits, slots_fit, node_fits_within}
 use Rattle.rt_fits.proofs.NodeTestLemmas.{fits-out}
 use Rattle.rt_nodes.specs.declared.vnode.VNode.{VNode}
 use Rattle.rt_model.specs.Fits.{row_length}

@@ -2,8 +2,9 @@
 use Rattle.std.proofs.Common.{true, ◌≡◌, sym, ◌∙◌, map, length}
 use Rattle.std.specs.Prelude.{◌==◌}
 use Rattle.std.specs.List.{list_all}
-use Rattle.rt_nodes.specs.Names.{slot_names}
-use Rattle.rt_nodes.specs.NodeTest.{fits, block_fits, slots_fit, node_fits_within, attribute_fits}
+use Rattle.rt_parts.specs.Names.{slot_names}
+use Rattle.rt_parts.specs.BlockTest.{block_fits, attribute_fits}
+use Rattle.rt_nodes.specs.NodeTest.{fits, slots_fit, node_fits_within}
 use Rattle.rt_fits.proofs.NodeTestLemmas.{fits-out}
 use Rattle.rt_nodes.specs.declared.vnode.VNode.{VNode}
 use Rattle.rt_model.specs.StillBuild.{still_fits}

@@ -1,10 +1,10 @@
 -- The node test of a template that stands still is the model's.
 use Rattle.std.proofs.Common.{ℕ, true, ◌&&◌, List, [], ◌∷◌, ◌≡◌, refl, sym, ap, ◌∙◌}
 use Rattle.std.specs.Prelude.{nat_le, nat_lt}
-use Rattle.rt_nodes.specs.Met.{met_in}
-use Rattle.rt_nodes.specs.NodeTest.{template_fits}
-use Rattle.rt_nodes.specs.Names.{Name}
-use Rattle.rt_nodes.specs.Slots.{node_slots, attr_slots, are_numbered}
+use Rattle.rt_parts.specs.Met.{met_in}
+use Rattle.rt_parts.specs.BlockTest.{template_fits}
+use Rattle.rt_parts.specs.Names.{Name}
+use Rattle.rt_parts.specs.Slots.{node_slots, attr_slots, are_numbered}
 use Rattle.rt_parts.specs.declared.template.Template.{Template}
 use Rattle.rt_model.specs.StillBuild.{no_path, still_fits}
 use Rattle.rt_vdom.specs.Still.{all_stand_still}

@@ -1,0 +1,1 @@
+pub use Rattle.rt_parts.specs.Texts

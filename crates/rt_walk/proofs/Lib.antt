@@ -1,0 +1,3 @@
+mod BlockLemmas
+pub mod NamesLemmas
+pub mod WalkLemmas
