@@ -16,8 +16,8 @@ impl<P: Parts> VNode<P> {
         ensures { IsTrue result ↔ (self.now ≡ other.now) }
     {
         self.template.same(&other.template)
-            & self.dynamic_attrs.same(&other.dynamic_attrs)
-            & same_values(
+            && self.dynamic_attrs.same(&other.dynamic_attrs)
+            && same_values(
                 self.dynamic_nodes.as_slice(),
                 other.dynamic_nodes.as_slice(),
             )
@@ -94,7 +94,7 @@ impl<P: Parts> VComponent<P> {
                 VComponent::App {
                     component: other_component,
                     props: other_props,
-                } => component.same(other_component) & props.same(other_props),
+                } => component.same(other_component) && props.same(other_props),
                 _ => false,
             },
             VComponent::Fragment(left) => match other {
@@ -133,7 +133,8 @@ impl<P: Parts> ErrorBoundaryProps<P> {
     pub fn same(&self, other: &ErrorBoundaryProps<P>) -> bool
         ensures { IsTrue result ↔ (self.now ≡ other.now) }
     {
-        self.handle_error.same(&other.handle_error) & same_children(&self.children, &other.children)
+        self.handle_error.same(&other.handle_error)
+            && same_children(&self.children, &other.children)
     }
 }
 
@@ -143,7 +144,7 @@ impl<P: Parts> SuspenseBoundaryProps<P> {
     pub fn same(&self, other: &SuspenseBoundaryProps<P>) -> bool
         ensures { IsTrue result ↔ (self.now ≡ other.now) }
     {
-        self.fallback.same(&other.fallback) & same_children(&self.children, &other.children)
+        self.fallback.same(&other.fallback) && same_children(&self.children, &other.children)
     }
 }
 

@@ -138,7 +138,7 @@ impl<P: Parts> ErrorHandler<P> {
         match (self, other) {
             (ErrorHandler::Default, ErrorHandler::Default) => true,
             (ErrorHandler::Component(left, own), ErrorHandler::Component(right, others)) => {
-                left.same(right) & own.same(others)
+                left.same(right) && own.same(others)
             }
             _ => false,
         }
@@ -166,7 +166,7 @@ impl<P: Parts> Fallback<P> {
         match (self, other) {
             (Fallback::Placeholder, Fallback::Placeholder) => true,
             (Fallback::Component(left, own), Fallback::Component(right, others)) => {
-                left.same(right) & own.same(others)
+                left.same(right) && own.same(others)
             }
             _ => false,
         }
@@ -191,7 +191,7 @@ impl<P: Parts> RootProps<P> {
     pub fn same(&self, other: &RootProps<P>) -> bool
         ensures { IsTrue result ↔ (self.now ≡ other.now) }
     {
-        self.component.same(&other.component) & self.props.same(&other.props)
+        self.component.same(&other.component) && self.props.same(&other.props)
     }
 
     /// Equal props.

@@ -74,8 +74,8 @@ impl<P: Parts> Part for AttributeValue<P> {
 impl<P: Parts> Part for Attribute<P> {
     fn same(&self, other: &Attribute<P>) -> bool {
         self.name.same(&other.name)
-            & self.namespace.same(&other.namespace)
-            & self.value.same(&other.value)
+            && self.namespace.same(&other.namespace)
+            && self.value.same(&other.value)
     }
 
     fn copy(&self, alloc: Global) -> Result<Attribute<P>, OutOfMemory> {

@@ -55,8 +55,8 @@ impl Template {
         ensures { IsTrue result ↔ (self.now ≡ other.now) }
     {
         same_nodes(self.roots.as_slice(), other.roots.as_slice())
-            & self.node_paths.same(&other.node_paths)
-            & self.attr_paths.same(&other.attr_paths)
+            && self.node_paths.same(&other.node_paths)
+            && self.attr_paths.same(&other.attr_paths)
     }
 
     /// An equal template.
@@ -124,9 +124,9 @@ impl TemplateNode {
                     children: other_children,
                 } => {
                     tag.same(other_tag)
-                        & namespace.same(other_namespace)
-                        & attrs.same(other_attrs)
-                        & same_nodes(children.as_slice(), other_children.as_slice())
+                        && namespace.same(other_namespace)
+                        && attrs.same(other_attrs)
+                        && same_nodes(children.as_slice(), other_children.as_slice())
                 }
                 _ => false,
             },
@@ -186,7 +186,7 @@ impl Part for TemplateAttribute {
                     value: other_value,
                 },
             ) => {
-                name.same(other_name) & namespace.same(other_namespace) & value.same(other_value)
+                name.same(other_name) && namespace.same(other_namespace) && value.same(other_value)
             }
             (TemplateAttribute::Dynamic { id }, TemplateAttribute::Dynamic { id: other_id }) => *id
                 == *other_id,
