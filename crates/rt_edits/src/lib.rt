@@ -17,5 +17,6 @@ pub use doc_node::{DocAttr, DocKind, DocNode};
 pub use document::{DocFault, Document};
 pub use edit::Edit;
 pub use failing::FailingMutations;
+pub use ordered::{put_attribute, put_listener};
 pub use sink::{SinkError, WriteMutations};
 pub use sinks::{Mutations, NoOpMutations};

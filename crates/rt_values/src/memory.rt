@@ -1,6 +1,6 @@
 //! Want of memory: the one refusal that any call which allocates may give.
 
-ghost use Rattle.std.specs.Prelude.{◌≡◌, IfOk, Ok};
+ghost use Rattle.std.specs.Prelude.{◌≡◌, IfOk, IsOk, Ok, OnOk};
 
 use std::alloc::{AllocError, AllocFailed};
 
@@ -25,6 +25,7 @@ pub fn both<A: Drop, B: Drop>(
     left: Result<A, OutOfMemory>,
     right: Result<B, OutOfMemory>,
 ) -> Result<(A, B), OutOfMemory>
+    ensures ok { OnOk left (OnOk right (IsOk result)) }
     ensures left { IfOk result (λ pair. left ≡ Ok pair.0) }
     ensures right { IfOk result (λ pair. right ≡ Ok pair.1) }
 {

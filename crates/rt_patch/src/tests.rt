@@ -1,0 +1,5 @@
+//! Builds by examples: each step is printed.
+
+mod cases;
+mod printing;
+mod trees;
