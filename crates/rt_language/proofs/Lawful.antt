@@ -7,7 +7,7 @@ use Rattle.rt_model.specs.Program.{body_means}
 use Rattle.rt_model.proofs.Maps.{eq_same}
 use Rattle.rt_model.proofs.StillFits.{and-left, and-right}
 use Rattle.rt_model.proofs.SameTrees.{both, numbers, list_tests}
-use Rattle.rt_model.proofs.Lawful.{programs_are_lawful}
+use Rattle.rt_model.proofs.Lawful.{mean_alike, programs_are_lawful}
 use Rattle.rt_language.specs.Values.{Value, NoValue, NumberValue, TextValue, CellValue, TaskValue, same_number, same_value, same_values}
 use Rattle.rt_language.specs.Expressions.{Doing, SourceTypes}
 use Rattle.rt_language.specs.Meaning.{same_doing, programs_of}
@@ -60,7 +60,11 @@ place-true a b h = eqb-true a b h
 pub sources_are_lawful : SourcesAreLawful
 sources_are_lawful s =
     programs_are_lawful SourceTypes (programs_of s)
-    (λ c p q h w. ap (λ (props : List Value). body_means ((programs_of s).body c props) w) (values.0 p q h))
+    (
+    λ c p q h w.
+    mean_alike (body_means ((programs_of s).body c p) w) (body_means ((programs_of s).body c q) w)
+    (ap (λ (props : List Value). body_means ((programs_of s).body c props) w) (values.0 p q h))
+    )
     (place-true, eq_same)
     values
     value

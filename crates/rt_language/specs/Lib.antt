@@ -23,3 +23,6 @@ pub mod BoundaryRows
 pub mod TreeRows
 pub mod Generated
 pub mod Laws
+pub mod CutRows
+pub mod KindRows
+pub mod StateRows

@@ -1,68 +1,40 @@
 -- What a log of a source prints, where a session may have that log.
-use Rattle.std.specs.Prelude.{Bool, true, false, ◌&&◌, List, [], ◌∷◌, ◌++◌, length, Option, Some, None, if◌then◌else◌, is_some, ◌≡◌}
+use Rattle.std.specs.Prelude.{Bool, true, false, ◌&&◌, List, ◌++◌, Option, Some, None, if◌then◌else◌, is_some, ◌≡◌}
 use Rattle.rt_model.specs.Lists.{Text, joined}
 use Rattle.rt_model.specs.World.{Application}
 use Rattle.rt_model.specs.State.{Fault}
-use Rattle.rt_model.specs.Document.{Empty}
-use Rattle.rt_model.specs.Replay.{Entry, Input, Machine, start}
-use Rattle.rt_model.specs.Told.{Told, Telling, is_unit, is_body, count_entries, tell_reports, tell_log, telling, edits_of, all_shown}
-use Rattle.rt_model.specs.Current.{all_current}
+use Rattle.rt_model.specs.Replay.{Entry, Machine, start}
+use Rattle.rt_model.specs.Told.{Told, Telling, tell_reports, tell_log, telling, edits_of}
 use Rattle.rt_model.specs.Causes.{Limits, refusal, replay_within, edits_at_refusal}
-use Rattle.rt_model.specs.Headline.{Report, last_machine}
+use Rattle.rt_model.specs.Headline.{last_machine, one_each, one_each_then}
+use Rattle.rt_model.specs.Finished.{reports_of, is_finished}
 use Rattle.rt_language.specs.Syntax.{Source}
 use Rattle.rt_language.specs.Expressions.{SourceTypes}
 use Rattle.rt_language.specs.Meaning.{meaning_of, props_of, inputs_of}
 use Rattle.rt_language.specs.Lines.{text_of, fault_text_of}
 
--- what a report says of its log, its edits and the state after it
-abbrev pub report_of : List Entry → Told SourceTypes → Report
-report_of log told =
-    record {
-      log = log;
-      units = count_entries is_unit log;
-      bodies = count_entries is_body log;
-      edits = length told.edits;
-      default_enabled = told.machine.default_enabled;
-    }
-
--- the reports of logs
-abbrev pub reports_of : List (List Entry) → List (Told SourceTypes) → List Report
-reports_of [] told = []
-reports_of (log ∷ logs) [] = []
-reports_of (log ∷ logs) (r ∷ rs) = report_of log r ∷ reports_of logs rs
-
--- every kept output is current after each report
-abbrev pub each_current : Application SourceTypes → List (Told SourceTypes) → Bool
-each_current app [] = true
-each_current app (r ∷ rs) = all_current app r.machine.state && each_current app rs
-
--- no input is left
-abbrev pub none_left : List (Input SourceTypes) → Bool
-none_left [] = true
-none_left (i ∷ is) = false
-
 -- a replay at the start of a source's inputs
 abbrev pub start_of : Source → Machine SourceTypes
 start_of s = start (meaning_of s) (props_of s) (inputs_of s.inputs)
 
--- no refusal comes before an entry of the logs, nor after the last one
+-- there is no refusal
+abbrev pub no_refusal : Option Fault → Bool
+no_refusal None = true
+no_refusal (Some fault) = false
+
+-- the logs are one for the build and one for each input, and no refusal comes before an entry of theirs, nor after the last one
 abbrev pub is_within : Limits → Source → List (List Entry) → Bool
 is_within limits s logs =
-    elim (replay_within (meaning_of s) limits (Some (start_of s)) (joined logs)) [
-      | None ↦ false
-      | Some m ↦ elim (refusal limits m) [ None ↦ none_left m.inputs | Some fault ↦ false ]
-    ]
-
--- after each report the document is what shows, nothing is owed, and all is current
-abbrev pub is_finished : Application SourceTypes → List (Told SourceTypes) → Bool
-is_finished app told = all_shown Empty told && each_current app told
+    one_each (inputs_of s.inputs) logs
+    &&
+    elim (replay_within (meaning_of s) limits (Some (start_of s)) (joined logs)) [ None ↦ false | Some m ↦ no_refusal (refusal limits m) ]
 
 -- the text of reports that are finished
 abbrev pub text_of_told : Application SourceTypes → List (List Entry) → Option (List (Told SourceTypes)) → Option Text
 text_of_told app logs None = None
 text_of_told app logs (Some told) = if is_finished app told then Some (text_of (joined (edits_of told)) (reports_of logs told)) else None
 
--- the text of a session with these logs, where the source has them: all inputs are taken, within the limits
+-- the text of a session with these logs, where the source has them within the limits
 abbrev pub printed : Limits → Source → List (List Entry) → Option Text
 printed limits s logs =
     if is_within limits s logs then text_of_told (meaning_of s) logs (tell_reports (meaning_of s) (start_of s) logs) else None
@@ -88,10 +60,15 @@ fault_text_on limits s logs log None = None
 fault_text_on limits s logs log (Some told) =
     text_on limits (meaning_of s) logs told (tell_log (meaning_of s) (Some (telling (last_machine (start_of s) told))) log)
 
+-- one log for the build and for each finished input, the last one opens with what came next, and no refusal comes before its end
+abbrev pub is_cut_within : Limits → Source → List (List Entry) → List Entry → Bool
+is_cut_within limits s logs log =
+    one_each_then (inputs_of s.inputs) logs log && is_some (replay_within (meaning_of s) limits (Some (start_of s)) (joined logs ++ log))
+
 -- the text of a session with these finished logs, which then goes on by a log to a refusal, the first one within the limits
 abbrev pub printed_to_fault : Limits → Source → List (List Entry) → List Entry → Option Text
 printed_to_fault limits s logs log =
-    if is_some (replay_within (meaning_of s) limits (Some (start_of s)) (joined logs ++ log))
+    if is_cut_within limits s logs log
     then fault_text_on limits s logs log (tell_reports (meaning_of s) (start_of s) logs)
     else None
 

@@ -7,12 +7,15 @@ mod boundary_rows;
 mod child_rows;
 mod command_rows;
 mod context_rows;
+mod cut_rows;
 mod error_rows;
 mod event_rows;
 mod fault_rows;
 mod first_rows;
 mod generated_rows;
+mod kind_rows;
 mod laws;
+mod state_rows;
 mod suspense_rows;
 mod table_rows;
 mod task_rows;
@@ -33,6 +36,7 @@ pub use command_rows::{
 pub use context_rows::{
     context_is_tracked, context_of_a_child, context_through_a_fragment, nearer_provider,
 };
+pub use cut_rows::cut_units;
 pub use error_rows::{error_caught_and_cleared, first_error_stays, handler_fails};
 pub use event_rows::{
     all_are_marked, event_is_stopped, events_bubble, fragment_empties_and_fills,
@@ -47,7 +51,15 @@ pub use first_rows::{
     other_prop, prop, static_tree,
 };
 pub use generated_rows::ten_rows;
-pub use laws::{rows_say, sources_are_lawful};
+pub use kind_rows::{
+    absent_value_is_provided, actions_know_no_generation, first_uses, kept_values, kinds_of_hooks,
+    single_cases,
+};
+pub use laws::{fault_rows_say, rows_say, sources_are_lawful};
+pub use state_rows::{
+    all_goes_with_a_scope, cell_is_dropped, fallback_goes_first, order_of_equal_heights,
+    task_pauses, task_without_steps, units_begin_anew,
+};
 pub use suspense_rows::{
     boundary_in_a_boundary, foreign_task_holds_on, one_task_holds_two_boundaries, suspense,
     two_tasks_hold_one_boundary,

@@ -59,28 +59,28 @@ module _ {A : Type 0} where
 both : (a b : Bool) → a ≡ true → b ≡ true → a && b ≡ true
 both a b p q = ap (λ (x : Bool). x && b) p ∙ q
 
-numbers_same : (a : List ℕ) → same_numbers a a ≡ true
+pub numbers_same : (a : List ℕ) → same_numbers a a ≡ true
 numbers_same [] = refl
 numbers_same (x ∷ xs) = both _ (same_numbers xs xs) (eq_same x) (numbers_same xs)
 
-attribute_same : (a : TemplateAttribute) → same_attribute a a ≡ true
+pub attribute_same : (a : TemplateAttribute) → same_attribute a a ≡ true
 attribute_same (fixed n a v) = both _ (same_numbers v v) (both _ (same_option same_numbers a a) (numbers_same n) (option_same same_numbers numbers_same a)) (numbers_same v)
 attribute_same (from_slot k) = eq_same k
 
-nodes_same : (a : TemplateNodes) → same_nodes a a ≡ true
+pub nodes_same : (a : TemplateNodes) → same_nodes a a ≡ true
 nodes_same no_nodes = refl
 nodes_same (element_node t n a k r) =
     both _ (same_nodes r r) (both _ (same_nodes k k) (both _ (same_list same_attribute a a) (both _ (same_option same_numbers n n) (numbers_same t) (option_same same_numbers numbers_same n)) (list_same same_attribute attribute_same a)) (nodes_same k)) (nodes_same r)
 nodes_same (text_node t r) = both _ (same_nodes r r) (numbers_same t) (nodes_same r)
 nodes_same (slot_node k r) = both _ (same_nodes r r) (eq_same k) (nodes_same r)
 
-template_same : (t : Template) → same_template t t ≡ true
+pub template_same : (t : Template) → same_template t t ≡ true
 template_same t =
     both _ (same_list same_numbers t.attribute_paths t.attribute_paths)
     (both _ (same_list same_numbers t.node_paths t.node_paths) (nodes_same t.roots) (list_same same_numbers numbers_same t.node_paths))
     (list_same same_numbers numbers_same t.attribute_paths)
 
-step_same : (a : Step) → same_step a a ≡ true
+pub step_same : (a : Step) → same_step a a ≡ true
 step_same (inside t p) = both _ (same_template t t) (numbers_same p) (template_same t)
 step_same (item i) = eq_same i
 

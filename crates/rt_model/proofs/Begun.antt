@@ -6,7 +6,7 @@ use Rattle.rt_model.specs.World.{Elements, at_end}
 use Rattle.rt_model.specs.State.{SideName, Mark, Woken, Fault, IdsExhausted, RowStep, Scope, State, Item, Draw, Row, Feed, Make, Drop, Outcome, Done, Cut}
 use Rattle.rt_model.specs.Commands.{post}
 use Rattle.rt_model.specs.Heard.{Listener}
-use Rattle.rt_model.specs.Replay.{Post, MarkScope, WakeTask, AllDirty, Message, Input, EventAt, WakeOf, WriteOf, MarkOf, Drain, Machine, ended_by, numbered, draws, closed_at, closed, waiting, post_all, post_message, post_messages, looked_where_quiet, then_looked, taken_in, take_next, step}
+use Rattle.rt_model.specs.Replay.{Post, MarkScope, WakeTask, AllDirty, Message, Input, EventAt, WakeOf, WriteOf, MarkOf, Drain, Machine, ended_by, numbered, drawn_on, draws, closed_at, closed, waiting, post_all, post_message, post_messages, looked_where_quiet, then_looked, taken_in, take_next, step}
 use Rattle.rt_model.proofs.Maps.{none_some}
 use Rattle.rt_model.proofs.SideFrames.{Stay, stay_trans, stay_refl, post_stay, write_stay}
 use Rattle.rt_model.proofs.SideRuns.{look_stay, mounted_stay}
@@ -34,13 +34,18 @@ module _ {K : Types} where
   either_good true x y h g = h
   either_good false x y h g = g
 
+  drawn_good : (go : Machine K → Machine K) (m : Machine K) (i : Item K) (rest : List (Item K)) (v : State K) (end : Bool) → Good (go (record m { state = v; work = rest }))
+      → Good (drawn_on go m i rest (if end then Cut m.state (IdsExhausted Elements) else Done v []))
+  drawn_good go m i rest v true h = λ d. none_some d refl
+  drawn_good go m i rest v false h = h
+
   -- numbers are drawn
   pub draws_good : (work : List (Item K)) (m : Machine K) → m.built ≡ true → Stands m.state work → Good (draws work m)
   draws_good [] m b h = λ d. record { stands = h; built = b }
   draws_good (Draw s side p k ∷ rest) m b h =
-      either_good (at_end m.state.next.elements) (record m { work = rest; dead = Some (IdsExhausted Elements); refused = Some (Draw s side p k) }) (draws rest (record m { state = numbered m.state s side p k }))
-      (λ d. none_some d refl)
-      (draws_good rest (record m { state = numbered m.state s side p k }) b (numbered_stands m.state rest s side p k h))
+      let v : State K = numbered m.state s side p k in
+      drawn_good (λ u. draws rest u) m (Draw s side p k) rest v (at_end m.state.next.elements)
+      (draws_good rest (record m { state = v; work = rest }) b (numbered_stands m.state rest s side p k h))
   draws_good (Row i step ∷ rest) m b h = λ d. record { stands = h; built = b }
   draws_good (Feed s side p c ∷ rest) m b h = λ d. record { stands = h; built = b }
   draws_good (Make s side p c ∷ rest) m b h = λ d. record { stands = h; built = b }

@@ -1,15 +1,15 @@
 -- The test of current outputs and the statement that every scope is current say the same.
 use Rattle.std.proofs.Common.{ℕ, Bool, true, false, ◌&&◌, List, [], ◌∷◌, ◌≡◌, refl, sym, ap, ◌∙◌}
-use Rattle.std.specs.Prelude.{Option, Some, None, is_some}
+use Rattle.std.specs.Prelude.{Option, Some, None}
 use Rattle.std.specs.List.{AllByRecursion}
-use Rattle.rt_model.specs.Lists.{same_option, same_list}
+use Rattle.rt_model.specs.Lists.{at, same_list}
 use Rattle.rt_model.specs.Tree.{Types, Tree, VComponent, Own, Root, Fragment, ErrorBoundary, SuspenseBoundary, Element, rendered, failed, suspended}
-use Rattle.rt_model.specs.World.{Source, same_source, World, Meaning, Application}
+use Rattle.rt_model.specs.World.{Source, same_source, Meaning, Application}
 use Rattle.rt_model.specs.Laws.{Tests}
 use Rattle.rt_model.specs.Values.{same_tree, same_element}
-use Rattle.rt_model.specs.State.{FallbackSide, Scope, State, is_side, is_held}
+use Rattle.rt_model.specs.State.{FallbackSide, Scope, LastCall, State, is_side, is_held}
 use Rattle.rt_model.specs.Boundary.{tree_or_placeholder, children_of}
-use Rattle.rt_model.specs.Current.{Repeats, KeepsAnswer, again, BodyIsCurrent, FallbackIsCurrent, ShownSideIsCurrent, BoundaryIsCurrent, CurrentAs, IsCurrent, repeats, keeps_tree, keeps_answer, body_is_current, fallback_is_current, tested_again, no_reads, shown_side_is_current, current_as, is_current, all_among}
+use Rattle.rt_model.specs.Current.{stayed, Repeats, KeepsAnswer, again, BodyIsCurrent, FallbackIsCurrent, ShownSideIsCurrent, BoundaryIsCurrent, CurrentAs, IsCurrent, repeats, keeps_tree, keeps_answer, body_is_current, fallback_is_current, tested_again, no_reads, shown_side_is_current, current_as, is_current, all_among}
 use Rattle.rt_model.specs.CurrentTest.{TestDecidesCurrent}
 use Rattle.rt_model.proofs.StillFits.{and-left, and-right}
 use Rattle.rt_model.proofs.SameTrees.{both, option_tests, list_tests, source_tests, tree_tests, element_tests}
@@ -28,12 +28,12 @@ itself : (b : Bool) → Decides b (b ≡ true)
 itself b = (λ h. h, λ h. h)
 
 module _ {K : Types} (app : Application K) (components : Tests K.Component app.same_component) (props : Tests K.Props app.same_props) (handlers : Tests K.Handler app.same_handler) where
-  repeats-decides : (x : Scope K) (m : Meaning K (Element K)) → Decides (repeats app x m) (Repeats x m)
-  repeats-decides x m =
-      let answers = option_tests (λ a b. same_element app a b) (element_tests app components props handlers) in
+  repeats-decides : (x : Scope K) (last : LastCall K) (m : Meaning K (Element K)) → Decides (repeats app x last m) (Repeats x last m)
+  repeats-decides x last m =
+      let answers = element_tests app components props handlers in
       let reads = list_tests same_source source_tests in
-      two (same_option (λ a b. same_element app a b) x.answer (Some m.answer)) (same_list same_source x.reads m.reads)
-      (answers.0 x.answer (Some m.answer), λ e. ap (λ (o : Option (Element K)). same_option (λ a b. same_element app a b) o (Some m.answer)) e ∙ answers.1 (Some m.answer))
+      two (same_element app last.answer m.answer) (same_list same_source x.reads m.reads)
+      (answers.0 last.answer m.answer, λ e. ap (λ (o : Element K). same_element app o m.answer) e ∙ answers.1 m.answer)
       (reads.0 x.reads m.reads, λ e. ap (λ (r : List Source). same_list same_source r m.reads) e ∙ reads.1 m.reads)
 
   tree-decides : (output : Option (Tree K)) (tree : Tree K) → Decides (keeps_tree app output tree) (output ≡ Some tree)
@@ -41,49 +41,49 @@ module _ {K : Types} (app : Application K) (components : Tests K.Component app.s
       let trees = option_tests (λ a b. same_tree app a b) (tree_tests app components props handlers) in
       (trees.0 output (Some tree), λ e. ap (λ (o : Option (Tree K)). keeps_tree app o tree) e ∙ trees.1 (Some tree))
 
-  answer-decides : (answer : Element K) (output : Option (Tree K)) → Decides (keeps_answer app answer output) (KeepsAnswer answer output)
-  answer-decides (rendered tree) output = tree-decides output tree
-  answer-decides (failed e) output = itself (is_some output)
-  answer-decides (suspended origin task) output = itself (is_some output)
+  answer-decides : (last : LastCall K) (answer : Element K) (output : Option (Tree K)) → Decides (keeps_answer app last answer output) (KeepsAnswer last answer output)
+  answer-decides last (rendered tree) output = tree-decides output tree
+  answer-decides last (failed e) output = tree-decides output (stayed last)
+  answer-decides last (suspended origin task) output = tree-decides output (stayed last)
 
-  body-decides : (w : State K) (x : Scope K) (o : Option (World K)) → Decides (tested_again app w x (λ y m. body_is_current app y m) o) (BodyIsCurrent app w x o)
+  body-decides : (w : State K) (x : Scope K) (o : Option (LastCall K)) → Decides (tested_again app w x (λ y l m. body_is_current app y l m) o) (BodyIsCurrent app w x o)
   body-decides w x None = (never, λ h. absurd h)
-  body-decides w x (Some kept) =
-      let m = again app w x kept in
-      two (repeats app x m) (keeps_answer app m.answer x.main_side.output) (repeats-decides x m) (answer-decides m.answer x.main_side.output)
+  body-decides w x (Some last) =
+      let m = again app w x last in
+      two (repeats app x last m) (keeps_answer app last m.answer x.main_side.output) (repeats-decides x last m) (answer-decides last m.answer x.main_side.output)
 
-  fallback-decides : (w : State K) (x : Scope K) (o : Option (World K)) → Decides (tested_again app w x (λ y m. fallback_is_current app y m) o) (FallbackIsCurrent app w x o)
+  fallback-decides : (w : State K) (x : Scope K) (o : Option (LastCall K)) → Decides (tested_again app w x (λ y l m. fallback_is_current app y l m) o) (FallbackIsCurrent app w x o)
   fallback-decides w x None = (never, λ h. absurd h)
-  fallback-decides w x (Some kept) =
-      let m = again app w x kept in
-      two (repeats app x m) (keeps_tree app x.fallback_side.output (tree_or_placeholder m.answer)) (repeats-decides x m) (tree-decides x.fallback_side.output (tree_or_placeholder m.answer))
+  fallback-decides w x (Some last) =
+      let m = again app w x last in
+      two (repeats app x last m) (keeps_tree app x.fallback_side.output (tree_or_placeholder m.answer)) (repeats-decides x last m) (tree-decides x.fallback_side.output (tree_or_placeholder m.answer))
 
   reads-decides : (reads : List Source) → Decides (no_reads app reads) (reads ≡ [])
   reads-decides [] = (λ h. refl, λ h. refl)
   reads-decides (x ∷ xs) = (never, λ h. cc)
 
-  shown-decides : (w : State K) (x : Scope K) (shows held : Bool) → Decides (shown_side_is_current app w x shows held) ((shows ≡ held) × ShownSideIsCurrent app w x held)
-  shown-decides w x true true = let d = fallback-decides w x x.given in (λ h. (refl, d.0 h), λ h. d.1 h.1)
-  shown-decides w x false false = let d = reads-decides x.reads in (λ h. (refl, d.0 h), λ h. d.1 h.1)
-  shown-decides w x true false = (never, λ h. sym h.0)
-  shown-decides w x false true = (never, λ h. h.0)
+  shown-decides : (w : State K) (x : Scope K) (o : Option (LastCall K)) (shows held : Bool) → Decides (shown_side_is_current app w x o shows held) ((shows ≡ held) × ShownSideIsCurrent app w x o held)
+  shown-decides w x o true true = let d = fallback-decides w x o in (λ h. (refl, d.0 h), λ h. d.1 h.1)
+  shown-decides w x o false false = let d = reads-decides x.reads in (λ h. (refl, d.0 h), λ h. d.1 h.1)
+  shown-decides w x o true false = (never, λ h. sym h.0)
+  shown-decides w x o false true = (never, λ h. h.0)
 
-  boundary-decides : (w : State K) (x : Scope K) → Decides (keeps_tree app x.children_side.output (children_of x.component) && shown_side_is_current app w x (is_side x.shows FallbackSide) (is_held x)) (BoundaryIsCurrent app w x)
-  boundary-decides w x =
-      let d = two (keeps_tree app x.children_side.output (children_of x.component)) (shown_side_is_current app w x (is_side x.shows FallbackSide) (is_held x))
-      (tree-decides x.children_side.output (children_of x.component)) (shown-decides w x (is_side x.shows FallbackSide) (is_held x)) in
+  boundary-decides : (w : State K) (x : Scope K) (o : Option (LastCall K)) → Decides (keeps_tree app x.children_side.output (children_of x.component) && shown_side_is_current app w x o (is_side x.shows FallbackSide) (is_held x)) (BoundaryIsCurrent app w x o)
+  boundary-decides w x o =
+      let d = two (keeps_tree app x.children_side.output (children_of x.component)) (shown_side_is_current app w x o (is_side x.shows FallbackSide) (is_held x))
+      (tree-decides x.children_side.output (children_of x.component)) (shown-decides w x o (is_side x.shows FallbackSide) (is_held x)) in
       (λ h. let p = d.0 h in (p.0, p.1.0, p.1.1), λ h. d.1 (h.0, (h.1, h.2)))
 
-  current-decides : (w : State K) (x : Scope K) (c : VComponent K) → Decides (current_as app w x c) (CurrentAs app w x c)
-  current-decides w x (SuspenseBoundary children fallback) = boundary-decides w x
-  current-decides w x (Own component given) = body-decides w x x.given
-  current-decides w x (Root component given) = body-decides w x x.given
-  current-decides w x (Fragment children) = body-decides w x x.given
-  current-decides w x (ErrorBoundary children handler) = body-decides w x x.given
+  current-decides : (w : State K) (x : Scope K) (o : Option (LastCall K)) (c : VComponent K) → Decides (current_as app w x o c) (CurrentAs app w x o c)
+  current-decides w x o (SuspenseBoundary children fallback) = boundary-decides w x o
+  current-decides w x o (Own component given) = body-decides w x o
+  current-decides w x o (Root component given) = body-decides w x o
+  current-decides w x o (Fragment children) = body-decides w x o
+  current-decides w x o (ErrorBoundary children handler) = body-decides w x o
 
-  among-decides : (w : State K) (es : List (ℕ × Scope K)) → Decides (all_among app w es) (AllByRecursion (λ (e : ℕ × Scope K). IsCurrent app w e.1) es)
+  among-decides : (w : State K) (es : List (ℕ × Scope K)) → Decides (all_among app w es) (AllByRecursion (λ (e : ℕ × Scope K). IsCurrent app w e.0 e.1) es)
   among-decides w [] = (λ h. tt, λ h. refl)
-  among-decides w (e ∷ es) = two (is_current app w e.1) (all_among app w es) (current-decides w e.1 (e.1).component) (among-decides w es)
+  among-decides w (e ∷ es) = two (is_current app w e.0 e.1) (all_among app w es) (current-decides w e.1 (at w.last_calls e.0) (e.1).component) (among-decides w es)
 
 -- the test decides that all is current
 pub test_decides_current : {K : Types} (app : Application K) → TestDecidesCurrent app

@@ -1,9 +1,16 @@
 -- Applications of programs are lawful.
+use Rattle.std.proofs.Common.{◌≡◌, ap}
+use Rattle.rt_model.specs.World.{Meaning}
 use Rattle.rt_model.specs.Tree.{Types}
-use Rattle.rt_model.specs.Laws.{ProgramsAreLawful}
+use Rattle.rt_model.specs.Laws.{MeanAlike, ProgramsAreLawful}
 use Rattle.rt_model.proofs.Decides.{body_decides, call_decides}
 use Rattle.rt_model.proofs.Refusals.{body_refuses, call_refuses}
 use Rattle.rt_model.proofs.Numbers.{body_numbers, call_numbers}
+
+-- equal meanings give the same answer, reads and commands
+pub mean_alike : {K : Types} {A : Type 0} (m n : Meaning K A) → m ≡ n → MeanAlike m n
+mean_alike {K = K} {A = A} m n e =
+    (ap (λ (x : Meaning K A). x.answer) e, ap (λ (x : Meaning K A). x.reads) e, ap (λ (x : Meaning K A). x.commands) e)
 
 pub programs_are_lawful : (K : Types) → ProgramsAreLawful K
 programs_are_lawful K a alike components props values handlers =

@@ -34,9 +34,12 @@ pub mod SideChanges
 pub mod NumbersRun
 pub mod Begun
 pub mod NumbersStand
+pub mod TakesOne
 pub mod FitsSingle
 pub mod SameTrees
 pub mod CurrentDecided
 pub mod SmallLawful
 pub mod SameEdits
+pub mod ToldReplayed
+pub mod FinishedTold
 pub mod RowsSay

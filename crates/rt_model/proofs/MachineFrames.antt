@@ -9,15 +9,15 @@ use Rattle.rt_model.specs.Laws.{IsNumbered, IsLawful}
 use Rattle.rt_model.specs.State.{SideName, MainSide, ChildrenSide, FallbackSide, Posted, Mark, Woken, Fault, IdsExhausted, Side, Scope, TaskRow, State, Item, Draw, Row, Feed, Make, Drop, Outcome, Done, Cut, side_of, with_side, new_scope, change, is_shown, world_of}
 use Rattle.rt_model.specs.Commands.{post, write_cell, unqueued, end, commands}
 use Rattle.rt_model.specs.Next.{look, at_rest}
-use Rattle.rt_model.specs.Run.{fault_of, with_next, acted, run}
+use Rattle.rt_model.specs.Run.{fault_of, with_next, acted, run, called_once}
 use Rattle.rt_model.specs.Boundary.{boundary_step}
 use Rattle.rt_model.specs.Removal.{removed}
 use Rattle.rt_model.specs.Heard.{Listener}
-use Rattle.rt_model.specs.Replay.{Entry, Build, Taken, Heard, Rerun, Poll, Effects, Made, Fed, Kept, Removed, Post, MarkScope, WakeTask, AllDirty, Message, Input, EventAt, WakeOf, WriteOf, MarkOf, Drain, Machine, ended_by, numbered, draws, rows_left, mounted, mounted_state, closed_at, closed, waiting, post_all, post_message, post_messages, looked_where_quiet, then_looked, taken_in, take_next, one_more_unit, with_child, with_new_scope, row_first, row_next, served, settled, made_in, made, with_props, polled_to, polled_at, polled, batch, effects_of, effects_run, further, heard_event, heard_first, rested, rerun, change_by, step}
+use Rattle.rt_model.specs.Replay.{Entry, Build, Taken, Heard, Rerun, Poll, Effects, Made, Fed, Kept, Removed, Post, MarkScope, WakeTask, AllDirty, Message, Input, EventAt, WakeOf, WriteOf, MarkOf, Drain, Machine, ended_by, numbered, draws, rows_left, mounted, mounted_state, closed_at, closed, waiting, post_all, post_message, post_messages, looked_where_quiet, then_looked, taken_in, take_next, one_more_unit, with_child, with_new_scope, row_first, row_next, served, settled, made_in, made, with_props, polled_to, polled_at, polled, batch, effects_of, effects_run, further, heard_event, heard_first, rested, rerun, change_by, step, drawn_on, fed_child, keeps, handed}
 use Rattle.rt_model.specs.Lasting.{Rises, IsRooted}
 use Rattle.rt_model.proofs.Maps.{by_test, eq_same, none_some, at_here, at_there, at_append_none, at_append_here, at_put_here}
 use Rattle.rt_model.proofs.Frames.{shape, same_rest, with_put, change_same, post_same, end_same, write_same, task_same}
-use Rattle.rt_model.proofs.RunFrames.{rises_refl, Later, later_refl, later_trans, after_next, later_same, state_of, LaterO, onward_later, change_later, called, next_later, acted_later, run_later, step_later}
+use Rattle.rt_model.proofs.RunFrames.{rises_refl, Later, later_refl, later_trans, after_next, later_same, state_of, LaterO, onward_later, change_later, called, next_later, acted_later, run_later, step_later, from_later, once_later}
 use Rattle.rt_model.proofs.StepFrames.{look_same, rest_same, Follows, follows_later, follows_trans, follows_refl, removed_follows}
 
 -- numbers that differ
@@ -69,7 +69,7 @@ module _ {K : Types} where
   side_shape x ChildrenSide a = refl
   side_shape x FallbackSide a = refl
 
-  numbered_later : (w : State K) (s : ℕ) (side : SideName) (p : Place) (k : Kind) → Later w (numbered w s side p k)
+  pub numbered_later : (w : State K) (s : ℕ) (side : SideName) (p : Place) (k : Kind) → Later w (numbered w s side p k)
   numbered_later w s side p k =
       let n : Firsts = record (w.next) { elements = w.next.elements + 1 } in
       let a : w.next.tasks ≤ w.next.tasks = omega arith in
@@ -81,12 +81,16 @@ module _ {K : Types} where
       after_next w n (numbered w s side p k) r
       (change_same w.next.tasks (with_next w n) s (λ x. with_side x side (record (side_of x side) { numbers = (side_of x side).numbers ++ (p, k, w.next.elements) ∷ [] })) (λ x. side_shape x side _))
 
+  drawn_later : (go : Machine K → Machine K) (m : Machine K) (i : Item K) (rest : List (Item K)) (v : State K) (end : Bool) → Later m.state (go (record m { state = v; work = rest })).state
+      → Later m.state (drawn_on go m i rest (if end then Cut m.state (IdsExhausted Elements) else Done v [])).state
+  drawn_later go m i rest v true h = later_refl m.state
+  drawn_later go m i rest v false h = h
+
   draws_later : (work : List (Item K)) (m : Machine K) → Later m.state (draws work m).state
   draws_later [] m = later_refl m.state
   draws_later (Draw s side p k ∷ rest) m =
-      let v : Machine K = record m { state = numbered m.state s side p k } in
-      later_if m.state (at_end m.state.next.elements) (record m { work = rest; dead = Some (IdsExhausted Elements); refused = Some (Draw s side p k) }) (draws rest v)
-      (later_refl m.state)
+      let v : Machine K = record m { state = numbered m.state s side p k; work = rest } in
+      drawn_later (λ u. draws rest u) m (Draw s side p k) rest v.state (at_end m.state.next.elements)
       (later_trans m.state v.state (draws rest v).state (numbered_later m.state s side p k) (draws_later rest v))
   draws_later (Row b step ∷ rest) m = later_refl m.state
   draws_later (Feed s side p c ∷ rest) m = later_refl m.state
@@ -109,7 +113,7 @@ module _ {K : Types} where
       ∙ sym (ap (λ (o : Option (Scope K)). shape o) (at_there e.0 e.1 es s q))
       )
 
-  mounted_later : (w : State K) → Later w (mounted_state w)
+  pub mounted_later : (w : State K) → Later w (mounted_state w)
   mounted_later w = record { shapes = mounted_shapes w w.scopes; ended = λ t l e. e; rises = rises_refl w.next; next_scope = refl }
 
   closed_at_later : (m : Machine K) (work : List (Item K)) (unit : Bool) → Later m.state (closed_at m work unit).state
@@ -310,7 +314,7 @@ module _ {K : Types} (app : Application K) (lawful : IsLawful K app) where
   polled_at_later w t None h = later_refl w
   polled_at_later w t (Some x) h =
       let m : Meaning K (TaskStep K) = app.poll x.state (world_of w x.scope (Some t) false) in
-      polled_by_later w t x m m.fault (lawful.polls_number x.state (world_of w x.scope (Some t) false)) h
+      from_later w (called_once w) (polled_at app w t (Some x)) (once_later app lawful w) (polled_by_later (called_once w) t x m m.fault (lawful.polls_number x.state (world_of w x.scope (Some t) false)) h)
 
   polled_later : (w : State K) (t : ℕ) → LaterO w (polled app w t)
   polled_later w t =
@@ -353,7 +357,9 @@ module _ {K : Types} (app : Application K) (lawful : IsLawful K app) where
   heard_event_later m l ls None = later_refl m.state
   heard_event_later m l ls (Some event) =
       let meaning : Meaning K (Event K) = app.handle l.handler event (world_of m.state l.origin None false) in
-      heard_at_later m l ls meaning meaning.fault (lawful.handlers_number l.handler event (world_of m.state l.origin None false))
+      let u : Machine K = record m { state = called_once m.state } in
+      later_trans m.state u.state (heard_event app m l ls (Some event)).state (once_later app lawful m.state)
+      (heard_at_later u l ls meaning meaning.fault (lawful.handlers_number l.handler event (world_of m.state l.origin None false)))
 
   heard_later : (m : Machine K) (ls : List (Listener K)) → Later m.state (heard_first app m ls).state
   heard_later m [] = later_refl m.state
@@ -367,12 +373,24 @@ module _ {K : Types} (app : Application K) (lawful : IsLawful K app) where
   after_rest : (m v : Machine K) → Later (at_rest m.state) v.state → Follows m.state v.state
   after_rest m v h = follows_later m.state v.state (later_trans m.state (at_rest m.state) v.state (rest_later m.state) h)
 
-  change_follows : (m : Machine K) (work : List (Item K)) (e : Entry) → Follows m.state (change_by app m work e).state
+  handed_later : (w : State K) (t : ℕ) (c : VComponent K) (keeps : Bool) → LaterO w (if keeps then Done (with_props app w t c) [] else run app (with_props app w t c) t)
+  handed_later w t c true = with_props_later w t c
+  handed_later w t c false = let v : State K = with_props app w t c in from_later w v (run app v t) (with_props_later w t c) (run_later app lawful v t)
+
+  fed_later : (w : State K) (c : VComponent K) (o : Option ℕ) → LaterO w (elim o [ None ↦ Done w [] | Some t ↦ handed app w t c ])
+  fed_later w c None = later_refl w
+  fed_later w c (Some t) = handed_later w t c (keeps app w t c)
+
+  fed_follows : (m : Machine K) (s : ℕ) (side : SideName) (p : Place) (c : VComponent K) (rest : List (Item K)) (o : Option ℕ)
+      → Follows m.state (ended_by m (Some (Feed s side p c)) rest (elim o [ None ↦ Done m.state [] | Some t ↦ handed app m.state t c ])).state
+  fed_follows m s side p c rest o =
+      let f : Outcome K = elim o [ None ↦ Done m.state [] | Some t ↦ handed app m.state t c ] in
+      follows_later m.state (ended_by m (Some (Feed s side p c)) rest f).state (ended_later m.state m (Some (Feed s side p c)) rest f (fed_later m.state c o))
+
+  pub change_follows : (m : Machine K) (work : List (Item K)) (e : Entry) → Follows m.state (change_by app m work e).state
   change_follows m (Make s side p c ∷ rest) (Made t) = ended_follows m.state m (Some (Make s side p c)) rest (made app m.state s side p c) (made_follows m.state s side p c)
-  change_follows m (Feed s side p c ∷ rest) (Kept t) = follows_later m.state (with_props app m.state t c) (with_props_later m.state t c)
-  change_follows m (Feed s side p c ∷ rest) (Fed t) =
-      let v : State K = with_props app m.state t c in
-      follows_later m.state _ (later_trans m.state v _ (with_props_later m.state t c) (ended_later v m (Some (Feed s side p c)) rest (run app v t) (run_later app lawful v t)))
+  change_follows m (Feed s side p c ∷ rest) (Kept t) = fed_follows m s side p c rest (fed_child m.state s side p)
+  change_follows m (Feed s side p c ∷ rest) (Fed t) = fed_follows m s side p c rest (fed_child m.state s side p)
   change_follows m (Drop child s side ∷ rest) (Removed t) = dropped_follows m t child (Drop child s side) rest (nat_eq t child)
   change_follows m _ Build = follows_later m.state _ (ended_later m.state (record m { built = true; unit = true }) None [] (run app m.state 0) (run_later app lawful m.state 0))
   change_follows m _ (Taken k) = let r : Machine K = rested app m in after_rest m (take_next r r.inputs) (take_next_later r r.inputs)

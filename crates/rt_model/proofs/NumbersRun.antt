@@ -1,13 +1,13 @@
 -- What a run and the steps of a boundary leave standing.
 use Rattle.std.proofs.Common.{ℕ, Bool, true, false, List, [], ◌∷◌, ◌++◌, ◌≡◌, refl, sym, subst}
 use Rattle.std.specs.Prelude.{Option, Some, None, if◌then◌else◌}
-use Rattle.rt_model.specs.Lists.{at, drop_number}
+use Rattle.rt_model.specs.Lists.{at, without, drop_number}
 use Rattle.rt_model.specs.Tree.{Types, placeholder_tree, VComponent, Own, Root, Fragment, ErrorBoundary, SuspenseBoundary, Element, rendered, failed, suspended}
 use Rattle.rt_model.specs.World.{before_render_kind, CallFault, Command, World, Meaning, Nothing, TaskStep, Application}
 use Rattle.rt_model.specs.Laws.{IsNumbered, IsLawful}
 use Rattle.rt_model.specs.State.{MainSide, ChildrenSide, FallbackSide, BadNode, RowStep, PatchChildren, MadeChildren, RunFallback, ShowFallback, ShowChildren, DropFallback, Resolve, Scope, TaskRow, State, Item, Draw, Outcome, Done, Cut, onward, is_live, change, is_held, hooks_of, world_of}
 use Rattle.rt_model.specs.Commands.{unqueued, commands}
-use Rattle.rt_model.specs.Run.{fault_of, with_next, answer_fits, kept_call, unmarked, has_output, row_of, runs_fallback, row_items, body_of, acted, hooks_called, after_hooks, call_body, start_agenda, settled_answer, new_output, after_answer, boundary_run, run_as, run}
+use Rattle.rt_model.specs.Run.{fault_of, with_next, answer_fits, kept_call, unmarked, has_output, row_of, runs_fallback, row_items, body_of, acted, hooks_called, after_hooks, call_body, start_agenda, settled_answer, new_output, after_answer, boundary_run, run_as, run, called_once, called_where, is_own, answered_with}
 use Rattle.rt_model.specs.Boundary.{tree_or_placeholder, children_of, counts_render, side_scopes, drop_items, counted_render, fallback_answered, called_back, row_step, boundary_step}
 use Rattle.rt_model.specs.Removal.{clean_ups, stopped, cleaned, removed}
 use Rattle.rt_model.specs.Replay.{polled_to, polled_at, polled, batch, effects_of, effects_run}
@@ -84,12 +84,20 @@ module _ {K : Types} (app : Application K) (lawful : IsLawful K app) where
   answered_at w rest s world then_on m (Some f) n g h = tt
   answered_at w rest s world then_on m None n g h = fits_leads w rest s world then_on m (answer_fits m.answer) refl n g h
 
+  own_leads : (w : State K) (rest : List (Item K)) (s : ℕ) (world : World K) (then_on : State K → Element K → Outcome K) (m : Meaning K (Element K)) (own : Bool) → IsNumbered w.next m.commands m.next
+      → ((v : State K) (a : Element K) → answer_fits a ≡ true → Stands v rest → Leads rest (then_on v a))
+      → Stands w rest
+      → Leads rest (answered_with app (called_where own w) s world then_on m)
+  own_leads w rest s world then_on m true n g h =
+      answered_at (called_once w) rest s world then_on m m.fault n g (stay_stands w (called_once w) rest (stay_rest w (called_once w) refl refl refl) h)
+  own_leads w rest s world then_on m false n g h = answered_at w rest s world then_on m m.fault n g h
+
   call_leads : (w : State K) (rest : List (Item K)) (s : ℕ) (c : VComponent K) (then_on : State K → Element K → Outcome K)
       → ((v : State K) (a : Element K) → answer_fits a ≡ true → Stands v rest → Leads rest (then_on v a))
       → Stands w rest
       → Leads rest (call_body app w s c then_on)
   call_leads w rest s c then_on g h =
-      let world = world_of w s None true in answered_at w rest s world then_on (body_of app c world) (body_of app c world).fault (body_numbered app lawful c world) g h
+      let world = world_of w s None true in own_leads w rest s world then_on (body_of app c world) (is_own c world) (body_numbered app lawful c world) g h
 
   boundary_leads : (w : State K) (rest : List (Item K)) (b : ℕ) (steps : List RowStep) → Stands w rest → Leads rest (boundary_run app w b steps)
   boundary_leads w rest b steps h =
@@ -148,8 +156,9 @@ module _ {K : Types} (app : Application K) (lawful : IsLawful K app) where
       (stay_trans w v (change v b (λ y. record y { shows = Some FallbackSide })) (stay_rest w v refl refl refl) (change_stay v b (λ y. record y { shows = Some FallbackSide }) (λ y. refl)))
       h
   row_leads w rest b x ShowChildren e h =
-      stay_stands w (change w b (λ y. record y { shows = Some ChildrenSide; reads = []; aside = []; answer = None })) rest
-      (change_stay w b (λ y. record y { shows = Some ChildrenSide; reads = []; aside = []; answer = None }) (λ y. refl))
+      let v : State K = record w { last_calls = without w.last_calls b } in
+      stay_stands w (change v b (λ y. record y { shows = Some ChildrenSide; reads = [] })) rest
+      (stay_trans w v (change v b (λ y. record y { shows = Some ChildrenSide; reads = [] })) (stay_rest w v refl refl refl) (change_stay v b (λ y. record y { shows = Some ChildrenSide; reads = [] }) (λ y. refl)))
       h
   row_leads w rest b x DropFallback e h =
       let work : List (Item K) = drop_items b FallbackSide (side_scopes w x.fallback_side) in
@@ -178,11 +187,15 @@ module _ {K : Types} (app : Application K) (lawful : IsLawful K app) where
   cleaned_idle : (s : ℕ) (es : List K.Effect) (w : State K) (waiting : List (Command K)) → Idle (cleaned app s es w waiting)
   cleaned_idle s [] w waiting = refl
   cleaned_idle s (e ∷ es) w waiting =
-      let m : Meaning K Nothing = app.effect e (world_of w s None true) in cleaned_idle_at s es w waiting m m.fault (cleaned_idle s es (with_next w m.next) (waiting ++ m.commands))
+      let m : Meaning K Nothing = app.effect e (world_of w s None true) in cleaned_idle_at s es (called_once w) waiting m m.fault (cleaned_idle s es (with_next (called_once w) m.next) (waiting ++ m.commands))
+
+  -- a removal leads to no work
+  pub removed_idle : (w : State K) (s : ℕ) → Idle (removed app w s)
+  removed_idle w s = let v : State K = stopped w s in cleaned_idle s (clean_ups (hooks_of v s) []) v []
 
   -- a removal
   pub removed_leads : (w : State K) (rest : List (Item K)) (s : ℕ) → Stands w rest → Leads rest (removed app w s)
-  removed_leads w rest s h = let v : State K = stopped w s in stay_leads w rest (removed app w s) (removed_stay app lawful w s) (cleaned_idle s (clean_ups (hooks_of v s) []) v []) h
+  removed_leads w rest s h = stay_leads w rest (removed app w s) (removed_stay app lawful w s) (removed_idle w s) h
 
   polled_idle_by : (w : State K) (t : ℕ) (x : TaskRow K) (m : Meaning K (TaskStep K)) (o : Option CallFault) → Idle (elim o as (λ z. Outcome K) [
     | None ↦ Done (polled_to app (with_next w m.next) t x m m.answer) []
@@ -193,7 +206,7 @@ module _ {K : Types} (app : Application K) (lawful : IsLawful K app) where
 
   polled_idle : (w : State K) (t : ℕ) (o : Option (TaskRow K)) → Idle (polled_at app w t o)
   polled_idle w t None = refl
-  polled_idle w t (Some x) = let m : Meaning K (TaskStep K) = app.poll x.state (world_of w x.scope (Some t) false) in polled_idle_by w t x m m.fault
+  polled_idle w t (Some x) = let m : Meaning K (TaskStep K) = app.poll x.state (world_of w x.scope (Some t) false) in polled_idle_by (called_once w) t x m m.fault
 
   -- a poll
   pub polled_leads : (w : State K) (rest : List (Item K)) (t : ℕ) → Stands w rest → Leads rest (polled app w t)

@@ -8,11 +8,12 @@ use Rattle.rt_model.specs.Laws.{IsNumbered, IsLawful}
 use Rattle.rt_model.specs.State.{SideName, MainSide, ChildrenSide, FallbackSide, Fault, IdsExhausted, Side, Scope, State, Item, Draw, Row, Feed, Make, Drop, Outcome, Done, Cut, side_of, new_scope, empty_side, is_live, world_of}
 use Rattle.rt_model.specs.Commands.{commands}
 use Rattle.rt_model.specs.Next.{at_rest}
-use Rattle.rt_model.specs.Run.{child_at, fault_of, with_next, run}
+use Rattle.rt_model.specs.Run.{child_at, fault_of, with_next, called_once, run}
+use Rattle.rt_model.proofs.SideFrames.{stay_rest}
 use Rattle.rt_model.specs.Boundary.{boundary_step}
 use Rattle.rt_model.specs.Removal.{removed}
 use Rattle.rt_model.specs.Heard.{Listener}
-use Rattle.rt_model.specs.Replay.{Entry, Build, Taken, Heard, Rerun, Poll, Effects, Made, Fed, Kept, Removed, Input, Machine, ended_by, draws, rows_left, waiting, then_looked, take_next, one_more_unit, with_new_scope, row_first, row_next, served, settled, fed_child, keeps, due_feed, due_item, due_any, due, made_in, made, with_props, polled, effects_run, further, heard_event, heard_first, rested, change_by, step, is_due, replay_on, start, no_listener, no_work, is_quiet, if_quiet, replay}
+use Rattle.rt_model.specs.Replay.{Entry, Build, Taken, Heard, Rerun, Poll, Effects, Made, Fed, Kept, Removed, Input, Machine, ended_by, draws, rows_left, waiting, then_looked, take_next, one_more_unit, with_new_scope, row_first, row_next, served, settled, fed_child, keeps, handed, outcome_of, due_feed, due_item, due_any, due, made_in, made, with_props, polled, effects_run, further, heard_event, heard_first, rested, change_by, step, is_due, replay_on, start, no_listener, no_work, is_quiet, if_quiet, replay}
 use Rattle.rt_model.specs.Lasting.{IsRooted}
 use Rattle.rt_model.proofs.Maps.{none_some, pick_true, pick_false, by_test}
 use Rattle.rt_model.proofs.OneLogOnly.{fork}
@@ -36,7 +37,7 @@ not_build e f (inr h) = absurd (f (sym h))
 
 module _ {K : Types} where
   -- the first item of the work is one that this entry serves
-  abbrev Matches : List (Item K) → Entry → Type 0
+  abbrev pub Matches : List (Item K) → Entry → Type 0
   Matches [] e = Unit {0}
   Matches (Make s side p c ∷ rest) (Made t) = Unit {0}
   Matches (Feed s side p c ∷ rest) (Kept t) = Unit {0}
@@ -66,7 +67,7 @@ module _ {K : Types} (app : Application K) where
   item_match m (Drop t s side ∷ rest) e h = subst (λ (x : Entry). Matches (Drop t s side ∷ rest) x) (inj_entry h) tt
 
   -- before the build there is no work
-  abbrev Awaits : Machine K → Type 0
+  abbrev pub Awaits : Machine K → Type 0
   Awaits m = (m.built ≡ true) ⊎ (m.work ≡ [])
 
   absurd_bool : {P : Type 0} → false ≡ true → P
@@ -82,7 +83,7 @@ module _ {K : Types} (app : Application K) where
   any_match m e None q a h = let b = built_match m e m.built refl (a q) h in (q, b.0, b.1)
   any_match m e (Some fault) q a h = cc
 
-  due_match : (m : Machine K) (e : Entry) → (m.dead ≡ None → Awaits m) → is_due app (due app m) e ≡ true → (m.dead ≡ None) × Matches m.work e × ((m.built ≡ true) ⊎ (e ≡ Build))
+  pub due_match : (m : Machine K) (e : Entry) → (m.dead ≡ None → Awaits m) → is_due app (due app m) e ≡ true → (m.dead ≡ None) × Matches m.work e × ((m.built ≡ true) ⊎ (e ≡ Build))
   due_match m e a h = any_match m e m.dead refl a (live_of m.state (due_any app m) e (due_is app (due app m) e h)).0
 
 module _ {K : Types} (app : Application K) (lawful : IsLawful K app) where
@@ -156,7 +157,9 @@ module _ {K : Types} (app : Application K) (lawful : IsLawful K app) where
   heard_event_good m l ls None b = λ d. b
   heard_event_good m l ls (Some event) b =
       let meaning : Meaning K (Event K) = app.handle l.handler event (world_of m.state l.origin None false) in
-      heard_at_good m l ls meaning meaning.fault (lawful.handlers_number l.handler event (world_of m.state l.origin None false)) b
+      let u : Machine K = record m { state = called_once m.state } in
+      heard_at_good u l ls meaning meaning.fault (lawful.handlers_number l.handler event (world_of m.state l.origin None false))
+      (record { stands = stay_stands m.state u.state m.work (stay_rest m.state u.state refl refl refl) b.stands; built = b.built })
 
   heard_good : (m : Machine K) (ls : List (Listener K)) → Begun m → Good (heard_first app m ls)
   heard_good m [] b = λ d. b
@@ -170,14 +173,24 @@ module _ {K : Types} (app : Application K) (lawful : IsLawful K app) where
   rested_stands : (m : Machine K) (work : List (Item K)) → Stands m.state work → Stands (at_rest m.state) work
   rested_stands m work h = stay_stands m.state (at_rest m.state) work (rest_stay m.state) h
 
-  change_good : (m : Machine K) (work : List (Item K)) (e : Entry) → Matches work e → (m.built ≡ true) ⊎ (e ≡ Build) → IsRooted m.state → Stands m.state work → m.work ≡ work → Good (change_by app m work e)
+  handed_leads : (w : State K) (rest : List (Item K)) (t : ℕ) (c : VComponent K) (keeps : Bool) → Stands w rest → PartFits c
+      → Leads rest (if keeps then Done (with_props app w t c) [] else run app (with_props app w t c) t)
+  handed_leads w rest t c true h f = fed_stands w rest t c h f
+  handed_leads w rest t c false h f = run_leads app lawful (with_props app w t c) rest t (fed_stands w rest t c h f)
+
+  fed_leads : (w : State K) (rest : List (Item K)) (c : VComponent K) (o : Option ℕ) → Stands w rest → PartFits c → Leads rest (elim o [ None ↦ Done w [] | Some t ↦ handed app w t c ])
+  fed_leads w rest c None h f = h
+  fed_leads w rest c (Some t) h f = handed_leads w rest t c (keeps app w t c) h f
+
+  pub change_good : (m : Machine K) (work : List (Item K)) (e : Entry) → Matches work e → (m.built ≡ true) ⊎ (e ≡ Build) → IsRooted m.state → Stands m.state work → m.work ≡ work → Good (change_by app m work e)
   change_good m (Make s side p c ∷ rest) (Made t) a b r h q =
       ended_good m (Some (Make s side p c)) rest (made app m.state s side p c) (not_build (Made t) (λ i. cc) b) (made_leads m.state rest s side p c r h)
   change_good m (Feed s side p c ∷ rest) (Kept t) a b r h q =
-      λ d. record { stands = fed_stands m.state rest t c (feed_done m.state rest s side p c h) h.items.0; built = not_build (Kept t) (λ i. cc) b }
+      ended_good m (Some (Feed s side p c)) rest (outcome_of app m.state (Feed s side p c)) (not_build (Kept t) (λ i. cc) b)
+      (fed_leads m.state rest c (fed_child m.state s side p) (feed_done m.state rest s side p c h) h.items.0)
   change_good m (Feed s side p c ∷ rest) (Fed t) a b r h q =
-      ended_good m (Some (Feed s side p c)) rest (run app (with_props app m.state t c) t) (not_build (Fed t) (λ i. cc) b)
-      (run_leads app lawful (with_props app m.state t c) rest t (fed_stands m.state rest t c (feed_done m.state rest s side p c h) h.items.0))
+      ended_good m (Some (Feed s side p c)) rest (outcome_of app m.state (Feed s side p c)) (not_build (Fed t) (λ i. cc) b)
+      (fed_leads m.state rest c (fed_child m.state s side p) (feed_done m.state rest s side p c h) h.items.0)
   change_good m (Drop child s side ∷ rest) (Removed t) a b r h q = dropped_good m t child s side rest (nat_eq t child) (not_build (Removed t) (λ i. cc) b) h
   change_good m [] Build a b r h q = ended_good (record m { built = true; unit = true }) None [] (run app m.state 0) refl (run_leads app lawful m.state [] 0 h)
   change_good m [] (Taken k) a b r h q =
@@ -203,10 +216,10 @@ module _ {K : Types} (app : Application K) (lawful : IsLawful K app) where
   change_good m _ _ a b r h q = absurd a
 
   -- what stands before an entry
-  record Sound (m : Machine K) : Type 0 where
-    rooted : IsRooted m.state
-    stands : m.dead ≡ None → Stands m.state m.work
-    awaits : m.dead ≡ None → Awaits app m
+  pub record Sound (m : Machine K) : Type 0 where
+    pub rooted : IsRooted m.state
+    pub stands : m.dead ≡ None → Stands m.state m.work
+    pub awaits : m.dead ≡ None → Awaits app m
 
   step_sound : (m : Machine K) (e : Entry) → Sound m → is_due app (due app m) e ≡ true → Sound (step app m e)
   step_sound m e h d =
@@ -245,7 +258,7 @@ module _ {K : Types} (app : Application K) (lawful : IsLawful K app) where
         slot = λ s t x a p q e g h. absurd (subst (λ (z : Side K). Among z.children (p, t)) (start_side props inputs s x a e) g);
       }
 
-  start_sound : (props : K.Props) (inputs : List (Input K)) → Sound (start app props inputs)
+  pub start_sound : (props : K.Props) (inputs : List (Input K)) → Sound (start app props inputs)
   start_sound props inputs = record { rooted = start_rooted app props inputs; stands = λ q. start_stands props inputs; awaits = λ q. inr refl }
 
 drawn_number : {P : Type 0} → P ⊎ ⊥ → P
@@ -253,7 +266,7 @@ drawn_number (inl h) = h
 drawn_number (inr h) = absurd h
 
 -- a child that is found in a slot is among the children
-child_among : (cs : List (Place × ℕ)) (p : Place) (t : ℕ) → child_at cs p ≡ Some t → Among cs (p, t)
+pub child_among : (cs : List (Place × ℕ)) (p : Place) (t : ℕ) → child_at cs p ≡ Some t → Among cs (p, t)
 child_among [] p t h = cc
 child_among (e ∷ cs) p t h =
     by_test (same_place e.0 p)

@@ -122,14 +122,14 @@ module _ {K : Types} (app : Application K) where
   rows_fit b [] = tt
   rows_fit b (step ∷ steps) = rows_fit b steps
 
+  drop_at_fits : (s : ℕ) (side : SideName) (o : Option ℕ) → ItemsFit (drop_at {K = K} s side o)
+  drop_at_fits s side None = tt
+  drop_at_fits s side (Some t) = tt
+
   -- drops make and feed nothing
   pub drop_items_fit : (b : ℕ) (side : SideName) (ts : List ℕ) → ItemsFit (drop_items {K = K} b side ts)
   drop_items_fit b side [] = tt
   drop_items_fit b side (t ∷ ts) = drop_items_fit b side ts
-
-  drop_at_fits : (s : ℕ) (side : SideName) (o : Option ℕ) → ItemsFit (drop_at app s side o)
-  drop_at_fits s side None = tt
-  drop_at_fits s side (Some t) = tt
 
   -- the agenda of a tree whose components fit
   pub serves_fit : (s : ℕ) (side : SideName) (old new : List (Spot K)) → SpotsFit new → ItemsFit (serves app s side old new)
@@ -146,6 +146,6 @@ module _ {K : Types} (app : Application K) where
   drops_fit s side new children [] = tt
   drops_fit s side new children (node_at p k ∷ old) = drops_fit s side new children old
   drops_fit s side new children (component_at p c ∷ old) =
-      items_either (is_fed app (Some c) (component_in new p)) (drops_of app s side new children old) (drop_at app s side (child_at children p) ++ drops_of app s side new children old)
+      items_either (is_fed app (Some c) (component_in new p)) (drops_of app s side new children old) (drop_at s side (child_at children p) ++ drops_of app s side new children old)
       (drops_fit s side new children old)
-      (items_both (drop_at app s side (child_at children p)) (drops_of app s side new children old) (drop_at_fits s side (child_at children p)) (drops_fit s side new children old))
+      (items_both (drop_at s side (child_at children p)) (drops_of app s side new children old) (drop_at_fits s side (child_at children p)) (drops_fit s side new children old))

@@ -1,14 +1,14 @@
 -- What a run and the steps of a boundary leave as it was.
 use Rattle.std.proofs.Common.{ℕ, Bool, true, false, List, [], ◌∷◌, ◌++◌, ◌≡◌, ◌≤◌, ◌<◌, ◌+◌, refl, sym, ◌∙◌, arith, subst}
 use Rattle.std.specs.Prelude.{Option, Some, None, if◌then◌else◌}
-use Rattle.rt_model.specs.Lists.{at, put, drop_number}
+use Rattle.rt_model.specs.Lists.{at, put, without, drop_number}
 use Rattle.rt_model.specs.Tree.{Types, CapturedError, Tree, placeholder_tree, VComponent, Own, Root, Fragment, ErrorBoundary, SuspenseBoundary, Element, rendered, failed, suspended, spots}
 use Rattle.rt_model.specs.World.{Source, Error, Renders, Firsts, at_end, before_render_kind, after_render_kind, CallFault, Hook, HookValue, HookEffect, Command, Spawn, World, Meaning, Nothing, Application}
 use Rattle.rt_model.specs.Laws as laws
 use Rattle.rt_model.specs.Laws.{CountUp, drawn, IsNumbered, IsLawful}
 use Rattle.rt_model.specs.State.{SideName, MainSide, ChildrenSide, FallbackSide, Mark, SuspendedTask, IdsExhausted, BadNode, RowStep, PatchChildren, MadeChildren, RunFallback, ShowFallback, ShowChildren, DropFallback, Resolve, Side, Scope, TaskRow, State, Outcome, Done, Cut, onward, empty_side, side_of, with_side, is_live, change, location, is_held, holds, hooks_of, renders_of, world_of}
 use Rattle.rt_model.specs.Commands.{post, commands, throw_error}
-use Rattle.rt_model.specs.Run.{fault_of, plain, error_tree, root_tree, children_tree, with_next, answer_fits, kept_call, is_kind, spots_of, raised, joins, suspends_on, unmarked, has_output, row_of, runs_fallback, row_items, caught, body_of, acted, hook_called, hooks_called, after_hooks, call_body, patched, start_agenda, settled_answer, new_output, after_answer, boundary_run, run_as, run}
+use Rattle.rt_model.specs.Run.{fault_of, plain, error_tree, root_tree, children_tree, with_next, answer_fits, kept_call, is_kind, spots_of, raised, joins, suspends_on, unmarked, has_output, row_of, runs_fallback, row_items, caught, body_of, acted, hook_called, hooks_called, after_hooks, call_body, patched, start_agenda, settled_answer, new_output, after_answer, boundary_run, run_as, run, called_once, called_where, is_own, answered_with}
 use Rattle.rt_model.specs.Boundary.{tree_or_placeholder, children_of, counts_render, counted_render, fallback_answered, called_back, row_step, boundary_step}
 use Rattle.rt_model.specs.Lasting.{Rises}
 use Rattle.rt_model.proofs.Frames.{shape, Same, same_refl, same_trans, same_rest, with_put, change_same, post_same, throw_same, task_same, AllFresh, commands_same}
@@ -170,6 +170,9 @@ module _ {K : Types} (app : Application K) (lawful : IsLawful K app) where
   pub next_later : {A : Type 0} (w : State K) (m : Meaning K A) → IsNumbered w.next m.commands m.next → Later w (with_next w m.next)
   next_later w m n = after_next w m.next (with_next w m.next) (numbered_rises w.next m.commands m.next n) (same_refl w.next.tasks (with_next w m.next))
 
+  pub once_later : (w : State K) → Later w (called_once w)
+  once_later w = later_same w (called_once w) (same_rest w.next.tasks w (called_once w) refl refl refl refl)
+
   acted_at : (w : State K) (s : ℕ) (m : Meaning K Nothing) (o : Option CallFault) → IsNumbered w.next m.commands m.next
       → LaterO w (elim o [ None ↦ Done (commands app (with_next w m.next) s None m.commands) [] | Some f ↦ Cut (with_next w m.next) (fault_of f) ])
   acted_at w s m None n = called w s None m n
@@ -177,7 +180,8 @@ module _ {K : Types} (app : Application K) (lawful : IsLawful K app) where
 
   pub acted_later : (w : State K) (s : ℕ) (e : K.Effect) (rendering : Bool) → LaterO w (acted app w s e rendering)
   acted_later w s e rendering =
-      let m = app.effect e (world_of w s None rendering) in acted_at w s m m.fault (lawful.effects_number e (world_of w s None rendering))
+      let m = app.effect e (world_of w s None rendering) in
+      from_later w (called_once w) (acted app w s e rendering) (once_later w) (acted_at (called_once w) s m m.fault (lawful.effects_number e (world_of w s None rendering)))
 
   hook_later : (w : State K) (s : ℕ) (h : Hook K) → LaterO w (hook_called app w s h)
   hook_later w s (HookValue k v) = later_refl w
@@ -208,7 +212,9 @@ module _ {K : Types} (app : Application K) (lawful : IsLawful K app) where
 
   kept_same : (w : State K) (s : ℕ) (world : World K) (m : Meaning K (Element K)) → Same w.next.tasks (with_next w m.next) (kept_call w s world m)
   kept_same w s world m =
-      change_same w.next.tasks (with_next w m.next) s (λ x. record x { given = Some world; reads = m.reads; aside = m.aside; answer = Some m.answer }) (λ x. refl)
+      let v : State K = with_next w m.next in
+      let u : State K = change v s (λ x. record x { reads = m.reads }) in
+      same_trans w.next.tasks v u (kept_call w s world m) (change_same w.next.tasks v s (λ x. record x { reads = m.reads }) (λ x. refl)) (same_rest w.next.tasks u (kept_call w s world m) refl refl refl refl)
 
   fits_later : (w : State K) (s : ℕ) (world : World K) (then_on : State K → Element K → Outcome K) (m : Meaning K (Element K)) (c : Bool) → IsNumbered w.next m.commands m.next
       → ((v : State K) (a : Element K) → LaterO v (then_on v a))
@@ -229,9 +235,16 @@ module _ {K : Types} (app : Application K) (lawful : IsLawful K app) where
   answered_at w s world then_on m (Some f) n g = next_later w m n
   answered_at w s world then_on m None n g = fits_later w s world then_on m (answer_fits m.answer) n g
 
+  own_later : (w : State K) (s : ℕ) (world : World K) (then_on : State K → Element K → Outcome K) (m : Meaning K (Element K)) (own : Bool) → IsNumbered w.next m.commands m.next
+      → ((v : State K) (a : Element K) → LaterO v (then_on v a))
+      → LaterO w (answered_with app (called_where own w) s world then_on m)
+  own_later w s world then_on m true n g =
+      from_later w (called_once w) (answered_with app (called_once w) s world then_on m) (once_later w) (answered_at (called_once w) s world then_on m m.fault n g)
+  own_later w s world then_on m false n g = answered_at w s world then_on m m.fault n g
+
   pub call_later : (w : State K) (s : ℕ) (c : VComponent K) (then_on : State K → Element K → Outcome K) → ((v : State K) (a : Element K) → LaterO v (then_on v a)) → LaterO w (call_body app w s c then_on)
   call_later w s c then_on g =
-      let world = world_of w s None true in answered_at w s world then_on (body_of app c world) (body_of app c world).fault (body_numbered c world) g
+      let world = world_of w s None true in own_later w s world then_on (body_of app c world) (is_own c world) (body_numbered c world) g
 
   agenda_at : (w : State K) (s : ℕ) (side : SideName) (tree : Tree K) (o : Option (Scope K)) → at w.scopes s ≡ o
       → LaterO w (elim o [
@@ -310,7 +323,9 @@ module _ {K : Types} (app : Application K) (lawful : IsLawful K app) where
   row_later w b x ShowFallback =
       let v : State K = record w { resolved = drop_number w.resolved b } in
       later_trans w v _ (later_same w v (same_rest w.next.tasks w v refl refl refl refl)) (change_later v b (λ y. record y { shows = Some FallbackSide }) (λ y. refl))
-  row_later w b x ShowChildren = change_later w b (λ y. record y { shows = Some ChildrenSide; reads = []; aside = []; answer = None }) (λ y. refl)
+  row_later w b x ShowChildren =
+      let v : State K = record w { last_calls = without w.last_calls b } in
+      later_trans w v _ (later_same w v (same_rest w.next.tasks w v refl refl refl refl)) (change_later v b (λ y. record y { shows = Some ChildrenSide; reads = [] }) (λ y. refl))
   row_later w b x DropFallback = change_later w b (λ y. record y { fallback_side = empty_side }) (λ y. refl)
   row_later w b x Resolve =
       let v : State K = record w { resolved = w.resolved ++ b ∷ [] } in

@@ -1,4 +1,4 @@
--- Places that the test finds equal are equal, so a number that is found stands under its place.
+-- Templates and places that the tests find equal are equal, so a number that is found stands under its place.
 use Rattle.std.proofs.Common.{ℕ, suc, ◌<◌, true, ◌&&◌, List, [], ◌∷◌, ◌≡◌, refl, sym, ap, ◌∙◌, subst, arith}
 use Rattle.std.specs.Prelude.{Option, Some, None, Contains}
 use Rattle.std.proofs.lemmas.Bool.{eqb-true}
@@ -8,7 +8,7 @@ use Rattle.rt_model.specs.Heard.{number_at}
 use Rattle.rt_model.proofs.Maps.{pick_true, pick_false, by_test}
 use Rattle.rt_model.proofs.StillFits.{and-left, and-right}
 
-numbers-true : (p q : List ℕ) → same_numbers p q ≡ true → p ≡ q
+pub numbers-true : (p q : List ℕ) → same_numbers p q ≡ true → p ≡ q
 numbers-true [] [] h = refl
 numbers-true (x ∷ xs) (y ∷ ys) h =
     let first : x ≡ y = eqb-true x y (and-left _ (same_numbers xs ys) h) in
@@ -16,12 +16,12 @@ numbers-true (x ∷ xs) (y ∷ ys) h =
     λ t. first t ∷ rest t
 numbers-true _ _ h = cc
 
-option-true : (o p : Option (List ℕ)) → same_option same_numbers o p ≡ true → o ≡ p
+pub option-true : (o p : Option (List ℕ)) → same_option same_numbers o p ≡ true → o ≡ p
 option-true None None h = refl
 option-true (Some a) (Some b) h = ap Some (numbers-true a b h)
 option-true _ _ h = cc
 
-attribute-true : (a b : TemplateAttribute) → same_attribute a b ≡ true → a ≡ b
+pub attribute-true : (a b : TemplateAttribute) → same_attribute a b ≡ true → a ≡ b
 attribute-true (fixed n a v) (fixed m b u) h =
     let front : same_numbers n m && same_option same_numbers a b ≡ true = and-left _ (same_numbers v u) h in
     let name : n ≡ m = numbers-true n m (and-left _ (same_option same_numbers a b) front) in
@@ -31,7 +31,7 @@ attribute-true (fixed n a v) (fixed m b u) h =
 attribute-true (from_slot k) (from_slot j) h = ap from_slot (eqb-true k j h)
 attribute-true _ _ h = cc
 
-attributes-true : (xs ys : List TemplateAttribute) → same_list same_attribute xs ys ≡ true → xs ≡ ys
+pub attributes-true : (xs ys : List TemplateAttribute) → same_list same_attribute xs ys ≡ true → xs ≡ ys
 attributes-true [] [] h = refl
 attributes-true (x ∷ xs) (y ∷ ys) h =
     let first : x ≡ y = attribute-true x y (and-left _ (same_list same_attribute xs ys) h) in
@@ -47,7 +47,7 @@ paths-true (x ∷ xs) (y ∷ ys) h =
     λ t. first t ∷ rest t
 paths-true _ _ h = cc
 
-nodes-true : (a b : TemplateNodes) → same_nodes a b ≡ true → a ≡ b
+pub nodes-true : (a b : TemplateNodes) → same_nodes a b ≡ true → a ≡ b
 nodes-true no_nodes no_nodes h = refl
 nodes-true (element_node t n a k r) (element_node u m b l q) h =
     let h4 : same_numbers t u && same_option same_numbers n m && same_list same_attribute a b && same_nodes k l ≡ true = and-left _ (same_nodes r q) h in
@@ -69,7 +69,7 @@ nodes-true (slot_node k r) (slot_node j q) h =
     λ i. slot_node (slot i) (rest i)
 nodes-true _ _ h = cc
 
-template-true : (t u : Template) → same_template t u ≡ true → t ≡ u
+pub template-true : (t u : Template) → same_template t u ≡ true → t ≡ u
 template-true t u h =
     let front : same_nodes t.roots u.roots && same_list same_numbers t.node_paths u.node_paths ≡ true = and-left _ (same_list same_numbers t.attribute_paths u.attribute_paths) h in
     let roots : t.roots ≡ u.roots = nodes-true t.roots u.roots (and-left _ (same_list same_numbers t.node_paths u.node_paths) front) in
@@ -77,7 +77,7 @@ template-true t u h =
     let attributes : t.attribute_paths ≡ u.attribute_paths = paths-true t.attribute_paths u.attribute_paths (and-right _ (same_list same_numbers t.attribute_paths u.attribute_paths) h) in
     λ i. record { roots = roots i; node_paths = nodes i; attribute_paths = attributes i }
 
-step-true : (a b : Step) → same_step a b ≡ true → a ≡ b
+pub step-true : (a b : Step) → same_step a b ≡ true → a ≡ b
 step-true (inside t p) (inside u q) h =
     let template : t ≡ u = template-true t u (and-right (same_numbers p q) _ h) in
     let path : p ≡ q = numbers-true p q (and-left _ (same_template t u) h) in

@@ -3,13 +3,14 @@ use Rattle.std.proofs.Common.{ℕ, Bool, true, ◌&&◌, List, [], ◌∷◌, �
 use Rattle.std.specs.Prelude.{Option, Some, None}
 use Rattle.std.proofs.lemmas.Bool.{eqb-true}
 use Rattle.rt_model.specs.Lists.{same_numbers, same_option, same_list}
-use Rattle.rt_model.specs.Tree.{Types, TemplateAttribute, fixed, from_slot, TemplateNodes, no_nodes, element_node, text_node, slot_node, Template, same_attribute, same_nodes, same_template, inside, CapturedError, AttributeValue, text_value, no_value, listener, Attribute, Tree, block, Slots, no_slots, more_slots, Slot, text_slot, placeholder_slot, component_slot, fragment_slot, Trees, no_trees, more_trees, VComponent, Own, Root, Fragment, ErrorBoundary, SuspenseBoundary, Element, rendered, failed, suspended}
+use Rattle.rt_model.specs.Tree.{Types, same_template, CapturedError, AttributeValue, text_value, no_value, listener, Attribute, Tree, block, Slots, no_slots, more_slots, Slot, text_slot, placeholder_slot, component_slot, fragment_slot, Trees, no_trees, more_trees, VComponent, Own, Root, Fragment, ErrorBoundary, SuspenseBoundary, Element, rendered, failed, suspended}
 use Rattle.rt_model.specs.World.{Source, Cell, Error, Context, same_source, Application}
 use Rattle.rt_model.specs.Laws.{Tests}
 use Rattle.rt_model.specs.Values.{same_error, same_attribute_value, same_given, same_call, same_tree, same_slots, same_slot, same_trees, same_by_value, same_element}
 use Rattle.rt_model.proofs.Maps.{eq_same}
 use Rattle.rt_model.proofs.StillFits.{and-left, and-right}
-use Rattle.rt_model.proofs.SamePlaces.{same_place-true}
+use Rattle.rt_model.proofs.Among.{numbers_same, template_same}
+use Rattle.rt_model.proofs.SamePlaces.{numbers-true, template-true}
 
 -- two tests that hold hold together
 pub both : {a b : Bool} → a ≡ true → b ≡ true → (a && b) ≡ true
@@ -47,40 +48,9 @@ module _ {A : Type 0} (same : A → A → Bool) where
   pub list_tests : Tests A same → Tests (List A) (λ xs ys. same_list same xs ys)
   list_tests test = (list-true test.0, list-same test.1)
 
-numbers-true : (p q : List ℕ) → same_numbers p q ≡ true → p ≡ q
-numbers-true [] [] h = refl
-numbers-true (x ∷ xs) (y ∷ ys) h =
-    let first : x ≡ y = eqb-true x y (and-left _ (same_numbers xs ys) h) in
-    let rest : xs ≡ ys = numbers-true xs ys (and-right (nat_eq x y) _ h) in
-    λ t. first t ∷ rest t
-numbers-true _ _ h = cc
-
-numbers-same : (p : List ℕ) → same_numbers p p ≡ true
-numbers-same [] = refl
-numbers-same (x ∷ xs) = both (eq_same x) (numbers-same xs)
-
 -- equal texts and paths are those that the test finds equal
 pub numbers : Tests (List ℕ) same_numbers
-numbers = (numbers-true, numbers-same)
-
-attribute-same : (a : TemplateAttribute) → same_attribute a a ≡ true
-attribute-same (fixed n s v) = both (both (numbers-same n) (option-same same_numbers numbers-same s)) (numbers-same v)
-attribute-same (from_slot k) = eq_same k
-
-nodes-same : (t : TemplateNodes) → same_nodes t t ≡ true
-nodes-same no_nodes = refl
-nodes-same (element_node t n a k r) =
-    both (both (both (both (numbers-same t) (option-same same_numbers numbers-same n)) (list-same same_attribute attribute-same a)) (nodes-same k)) (nodes-same r)
-nodes-same (text_node t r) = both (numbers-same t) (nodes-same r)
-nodes-same (slot_node i r) = both (eq_same i) (nodes-same r)
-
-template-same : (t : Template) → same_template t t ≡ true
-template-same t =
-    both (both (nodes-same t.roots) (list-same same_numbers numbers-same t.node_paths)) (list-same same_numbers numbers-same t.attribute_paths)
-
--- equal templates are those that head equal places
-template-true : (t u : Template) → same_template t u ≡ true → t ≡ u
-template-true t u h = let places = same_place-true (inside t [] ∷ []) (inside u [] ∷ []) (both h refl) in cc
+numbers = (numbers-true, numbers_same)
 
 error-true : (a b : CapturedError) → same_error a b ≡ true → a ≡ b
 error-true a b h =
@@ -89,7 +59,7 @@ error-true a b h =
     λ t. record { serial = serial t; text = text t }
 
 error-same : (a : CapturedError) → same_error a a ≡ true
-error-same a = both (eq_same a.serial) (numbers-same a.text)
+error-same a = both (eq_same a.serial) (numbers_same a.text)
 
 source-true : (a b : Source) → same_source a b ≡ true → a ≡ b
 source-true (Cell a) (Cell b) h = ap Cell (eqb-true a b h)
@@ -120,7 +90,7 @@ module _ {K : Types} (app : Application K) (components : Tests K.Component app.s
   value-true _ _ h = cc
 
   value-same : (v : AttributeValue K) → same_attribute_value app v v ≡ true
-  value-same (text_value t) = numbers-same t
+  value-same (text_value t) = numbers_same t
   value-same no_value = refl
   value-same (listener s f) = both (eq_same s) (handlers.1 f)
 
@@ -133,7 +103,7 @@ module _ {K : Types} (app : Application K) (components : Tests K.Component app.s
       λ t. record { name = name t; namespace = space t; value = value t }
 
   given-same : (a : Attribute K) → same_given app a a ≡ true
-  given-same a = both (both (numbers-same a.name) (option-same same_numbers numbers-same a.namespace)) (value-same a.value)
+  given-same a = both (both (numbers_same a.name) (option-same same_numbers numbers_same a.namespace)) (value-same a.value)
 
   attributes : Tests (List (List (Attribute K))) (λ a b. same_list (λ xs ys. same_list (λ x y. same_given app x y) xs ys) a b)
   attributes = list_tests (λ xs ys. same_list (λ x y. same_given app x y) xs ys) (list_tests (λ x y. same_given app x y) (given-true, given-same))
@@ -207,14 +177,14 @@ module _ {K : Types} (app : Application K) (components : Tests K.Component app.s
 
   mutual
     tree-same : (a : Tree K) → same_tree app a a ≡ true
-    tree-same (block t a ss) = both (both (template-same t) (attributes.1 a)) (slots-same ss)
+    tree-same (block t a ss) = both (both (template_same t) (attributes.1 a)) (slots-same ss)
 
     slots-same : (a : Slots K) → same_slots app a a ≡ true
     slots-same no_slots = refl
     slots-same (more_slots v ss) = both (slot-same v) (slots-same ss)
 
     slot-same : (a : Slot K) → same_slot app a a ≡ true
-    slot-same (text_slot t) = numbers-same t
+    slot-same (text_slot t) = numbers_same t
     slot-same placeholder_slot = refl
     slot-same (component_slot c) = component-same c
     slot-same (fragment_slot ts) = trees-same ts

@@ -1,4 +1,4 @@
--- What commands leave as it was: of each scope that lives on its component, its parent, the side it is below, and its sides.
+-- What commands leave as it was: of each scope that lives on its component, its parent, its height, the side it is below, and its sides.
 use Rattle.std.proofs.Common.{ℕ, Bool, true, false, List, [], ◌∷◌, ◌++◌, ◌≡◌, ◌&&◌, not, refl, sym, ap, ◌∙◌, nat_eq}
 use Rattle.std.specs.Prelude.{Option, Some, None, if◌then◌else◌, is_some}
 use Rattle.std.proofs.lemmas.Bool.{eqb-true}
@@ -7,37 +7,37 @@ use Rattle.rt_model.specs.Tree.{Types, VComponent, CapturedError}
 use Rattle.rt_model.specs.World.{Source, Cell, Error, Context, Target, ScopeTarget, TaskTarget, Command, KeepHook, NewCell, Write, DropCell, NewContext, Reset, ReadInto, Spawn, RemoveFuture, Wake, SetActive, QueueEffect, Provide, Update, Throw, ClearErrors, Resolved, Freeze, Application}
 use Rattle.rt_model.specs.State.{SideName, MainSide, ChildrenSide, FallbackSide, Posted, Mark, Woken, ClientOnly, Isomorphic, Side, Scope, CellRow, ContextRow, TaskRow, State, side_of, is_live, changed_scope, change, error_context, suspense_context}
 use Rattle.rt_model.specs.Commands.{drop_posted, holding, post, post_target, names_source, readers, tell_contexts, tell, released, end, written_at, write_cell, drop_cell_row, caught_at, thrown_to, throw_error, cleared_at, activated, spawned, registered, frozen_at, change_context, provided_at, provide_context, command, commands}
+use Rattle.rt_model.specs.Framed.{Frame, framed}
 use Rattle.rt_model.proofs.Maps.{by_test, at_here, at_there, at_put_other, at_put_here}
 
 module _ {K : Types} where
-  -- what stays of a scope
-  abbrev pub framed : Option (Scope K) → Option (VComponent K × Option ℕ × SideName × Side K × Side K × Side K)
-  framed None = None
-  framed (Some x) = Some (x.component, x.parent, x.below, x.main_side, x.children_side, x.fallback_side)
-
   -- v has no scope that w hasn't, each is framed as in w, and draws no number of a node or a scope
   pub record Stay (w v : State K) : Type 0 where
     pub frames : (s : ℕ) (x : Scope K) → at v.scopes s ≡ Some x → framed (at w.scopes s) ≡ framed (Some x)
     pub elements : v.next.elements ≡ w.next.elements
     pub next_scope : v.next_scope ≡ w.next_scope
 
-  abbrev component_in : VComponent K → Option (VComponent K × Option ℕ × SideName × Side K × Side K × Side K) → VComponent K
+  abbrev component_in : VComponent K → Option (Frame K) → VComponent K
   component_in c None = c
   component_in c (Some f) = f.0
 
-  abbrev parent_in : Option (VComponent K × Option ℕ × SideName × Side K × Side K × Side K) → Option ℕ
+  abbrev parent_in : Option (Frame K) → Option ℕ
   parent_in None = None
   parent_in (Some f) = f.1
 
-  abbrev below_in : Option (VComponent K × Option ℕ × SideName × Side K × Side K × Side K) → SideName
-  below_in None = MainSide
-  below_in (Some f) = f.2
+  abbrev height_in : Option (Frame K) → ℕ
+  height_in None = 0
+  height_in (Some f) = f.2
 
-  abbrev side_in : Side K → SideName → Option (VComponent K × Option ℕ × SideName × Side K × Side K × Side K) → Side K
+  abbrev below_in : Option (Frame K) → SideName
+  below_in None = MainSide
+  below_in (Some f) = f.3
+
+  abbrev side_in : Side K → SideName → Option (Frame K) → Side K
   side_in e a None = e
-  side_in e MainSide (Some f) = f.3
-  side_in e ChildrenSide (Some f) = f.4
-  side_in e FallbackSide (Some f) = f.5
+  side_in e MainSide (Some f) = f.4
+  side_in e ChildrenSide (Some f) = f.5
+  side_in e FallbackSide (Some f) = f.6
 
   -- a scope that is framed as another one
   pub record Alike (o : Option (Scope K)) (x : Scope K) : Type 0 where
@@ -45,6 +45,7 @@ module _ {K : Types} where
     pub found : o ≡ Some old
     pub component : old.component ≡ x.component
     pub parent : old.parent ≡ x.parent
+    pub height : old.height ≡ x.height
     pub below : old.below ≡ x.below
     pub sides : (a : SideName) → side_of old a ≡ side_of x a
 
@@ -62,6 +63,7 @@ module _ {K : Types} where
         found = refl;
         component = ap (λ o. component_in x.component o) h;
         parent = ap (λ o. parent_in o) h;
+        height = ap (λ o. height_in o) h;
         below = ap (λ o. below_in o) h;
         sides = sides_alike y x h;
       }

@@ -3,17 +3,18 @@ use Rattle.std.proofs.Common.{ℕ, Bool, true, false, List, [], ◌∷◌, ◌++
 use Rattle.std.specs.Prelude.{Option, Some, None, if◌then◌else◌, is_some}
 use Rattle.rt_model.specs.Lists.{at, put, drop_number, join}
 use Rattle.rt_model.specs.Tree.{Types, Element, rendered, failed, suspended}
-use Rattle.rt_model.specs.World.{Source, Renders, at_end, after_render_kind, CallFault, Hook, HookValue, HookEffect, Command, World, Meaning, Nothing, TaskStep, pending, ready, Application}
+use Rattle.rt_model.specs.World.{Source, Error, Renders, at_end, after_render_kind, CallFault, Hook, HookValue, HookEffect, Command, World, Meaning, Nothing, TaskStep, pending, ready, Application}
 use Rattle.rt_model.specs.Laws.{IsNumbered, IsLawful}
 use Rattle.rt_model.specs.State.{SideName, MainSide, ChildrenSide, FallbackSide, Posted, Mark, Woken, SuspendedTask, IdsExhausted, Scope, TaskRow, State, Outcome, Done, Cut, onward, is_live, change, is_shown, location, holds, hooks_of, renders_of, world_of}
 use Rattle.rt_model.specs.Commands.{post, tell, end, unqueued, commands}
 use Rattle.rt_model.specs.Next.{Work, look_on, look, found, paused, drop_then, drops, looked, at_rest}
-use Rattle.rt_model.specs.Run.{fault_of, with_next, kept_call, is_kind, raised, joins, suspends_on, unmarked, acted, hook_called, hooks_called, after_hooks, settled_answer}
+use Rattle.rt_model.specs.Run.{fault_of, with_next, kept_call, is_kind, raised, joins, suspends_on, unmarked, acted, hook_called, hooks_called, after_hooks, settled_answer, called_once}
 use Rattle.rt_model.specs.Boundary.{counted_render, called_back}
 use Rattle.rt_model.specs.Removal.{tasks_in, end_all, clean_ups, tell_all, cells_in, cell_sources, read_contexts, without_scope, gone, stopped, cleaned, removed}
 use Rattle.rt_model.specs.Replay.{mounted, mounted_state, polled_to, polled_at, polled, batch, effects_of, effects_run}
 use Rattle.rt_model.proofs.Maps.{by_test, none_some, at_here, at_there, at_without_here, at_without_other}
-use Rattle.rt_model.proofs.SideFrames.{framed, Stay, stay_trans, stay_equal, stay_refl, stay_rest, stay_either, change_stay, post_stay, tell_stay, end_stay, throw_stay, commands_stay}
+use Rattle.rt_model.specs.Framed.{framed}
+use Rattle.rt_model.proofs.SideFrames.{Stay, stay_trans, stay_equal, stay_refl, stay_rest, stay_either, change_stay, post_stay, tell_stay, end_stay, throw_stay, commands_stay}
 
 module _ {K : Types} where
   -- where a change isn't cut the sides stay
@@ -149,7 +150,7 @@ module _ {K : Types} where
   gone_stay w s =
       let u : State K = without_scope w s in
       let v : State K = tell_all u (cell_sources (cells_in s w.cells)) in
-      stay_trans w u (gone w s) (without_stay w s) (stay_trans u v (gone w s) (tell_all_stay u (cell_sources (cells_in s w.cells))) (tell_all_stay v (read_contexts v s)))
+      stay_trans w u (gone w s) (without_stay w s) (stay_trans u v (gone w s) (tell_all_stay u (cell_sources (cells_in s w.cells))) (tell_all_stay v (Error s ∷ read_contexts v s)))
 
   end_all_stay : (w : State K) (ts : List ℕ) → Stay w (end_all w ts)
   end_all_stay w [] = stay_refl w
@@ -175,8 +176,13 @@ module _ {K : Types} (app : Application K) (lawful : IsLawful K app) where
   kept_stay w s world m n =
       stay_trans w (with_next w m.next) _ (next_stay w m n)
       (stay_trans (with_next w m.next) (kept_call w s world m) _
-      (change_stay (with_next w m.next) s (λ x. record x { given = Some world; reads = m.reads; aside = m.aside; answer = Some m.answer }) (λ x. refl))
+      (stay_trans (with_next w m.next) (change (with_next w m.next) s (λ x. record x { reads = m.reads })) (kept_call w s world m)
+      (change_stay (with_next w m.next) s (λ x. record x { reads = m.reads }) (λ x. refl))
+      (stay_rest (change (with_next w m.next) s (λ x. record x { reads = m.reads })) (kept_call w s world m) refl refl refl))
       (commands_stay app (kept_call w s world m) s None m.commands))
+
+  once_stay : (w : State K) → Stay w (called_once w)
+  once_stay w = stay_rest w (called_once w) refl refl refl
 
   acted_at : (w : State K) (s : ℕ) (m : Meaning K Nothing) (o : Option CallFault) → IsNumbered w.next m.commands m.next
       → StayO w (elim o [ None ↦ Done (commands app (with_next w m.next) s None m.commands) [] | Some f ↦ Cut (with_next w m.next) (fault_of f) ])
@@ -186,7 +192,8 @@ module _ {K : Types} (app : Application K) (lawful : IsLawful K app) where
   -- an effect with its commands
   pub acted_stay : (w : State K) (s : ℕ) (e : K.Effect) (rendering : Bool) → StayO w (acted app w s e rendering)
   acted_stay w s e rendering =
-      let m = app.effect e (world_of w s None rendering) in acted_at w s m m.fault (lawful.effects_number e (world_of w s None rendering))
+      let m = app.effect e (world_of w s None rendering) in
+      from_stay w (called_once w) (acted app w s e rendering) (once_stay w) (acted_at (called_once w) s m m.fault (lawful.effects_number e (world_of w s None rendering)))
 
   hook_stay : (w : State K) (s : ℕ) (h : Hook K) → StayO w (hook_called app w s h)
   hook_stay w s (HookValue k v) = stay_refl w
@@ -234,7 +241,8 @@ module _ {K : Types} (app : Application K) (lawful : IsLawful K app) where
   cleaned_stay s [] w waiting = stay_trans w (gone w s) (commands app (gone w s) s None waiting) (gone_stay w s) (commands_stay app (gone w s) s None waiting)
   cleaned_stay s (e ∷ es) w waiting =
       let m : Meaning K Nothing = app.effect e (world_of w s None true) in
-      cleaned_at s es w waiting m m.fault (lawful.effects_number e (world_of w s None true)) (cleaned_stay s es (with_next w m.next) (waiting ++ m.commands))
+      from_stay w (called_once w) (cleaned app s (e ∷ es) w waiting) (once_stay w)
+      (cleaned_at s es (called_once w) waiting m m.fault (lawful.effects_number e (world_of w s None true)) (cleaned_stay s es (with_next (called_once w) m.next) (waiting ++ m.commands)))
 
   -- a removal
   pub removed_stay : (w : State K) (s : ℕ) → StayO w (removed app w s)
@@ -264,7 +272,7 @@ module _ {K : Types} (app : Application K) (lawful : IsLawful K app) where
   polled_at_stay w t None = stay_refl w
   polled_at_stay w t (Some x) =
       let m : Meaning K (TaskStep K) = app.poll x.state (world_of w x.scope (Some t) false) in
-      polled_by_stay w t x m m.fault (lawful.polls_number x.state (world_of w x.scope (Some t) false))
+      from_stay w (called_once w) (polled_at app w t (Some x)) (once_stay w) (polled_by_stay (called_once w) t x m m.fault (lawful.polls_number x.state (world_of w x.scope (Some t) false)))
 
   -- a poll
   pub polled_stay : (w : State K) (t : ℕ) → StayO w (polled app w t)

@@ -7,7 +7,7 @@ use Rattle.rt_model.specs.Small.{Val, Num, Str, same_val, Name, Main, Mid, Kid, 
 use Rattle.rt_model.proofs.Maps.{eq_same}
 use Rattle.rt_model.proofs.StillFits.{and-left, and-right}
 use Rattle.rt_model.proofs.SameTrees.{both, numbers, list_tests}
-use Rattle.rt_model.proofs.Lawful.{programs_are_lawful}
+use Rattle.rt_model.proofs.Lawful.{mean_alike, programs_are_lawful}
 
 val-true : (a b : Val) → same_val a b ≡ true → a ≡ b
 val-true (Num a) (Num b) h = ap Num (eqb-true a b h)
@@ -64,7 +64,7 @@ pub small_are_lawful : SmallAreLawful
 small_are_lawful body poll =
     let values = list_tests same_val (val-true, val-same) in
     programs_are_lawful R (record (app_of body) { poll = poll })
-    (λ c p q h w. ap (λ (props : List Val). body_means (body c props) w) (values.0 p q h))
+    (λ c p q h w. mean_alike (body_means (body c p) w) (body_means (body c q) w) (ap (λ (props : List Val). body_means (body c props) w) (values.0 p q h)))
     (name-true, name-same)
     values
     (val-true, val-same)

@@ -3,18 +3,18 @@ use Rattle.std.proofs.Common.{ℕ, true, List, [], ◌∷◌, ◌++◌, ◌≡�
 use Rattle.std.specs.Prelude.{Option, Some, None, if◌then◌else◌, is_some}
 use Rattle.rt_model.specs.Lists.{at, drop_number, join}
 use Rattle.rt_model.specs.Tree.{Types}
-use Rattle.rt_model.specs.World.{Source, Firsts, CallFault, Command, Meaning, Nothing, Application}
+use Rattle.rt_model.specs.World.{Source, Error, Firsts, CallFault, Command, Meaning, Nothing, Application}
 use Rattle.rt_model.specs.Laws.{IsNumbered, IsLawful}
 use Rattle.rt_model.specs.State.{Posted, Mark, Woken, Scope, State, Outcome, Done, Cut, is_live, hooks_of, world_of}
 use Rattle.rt_model.specs.Commands.{tell, end, commands}
 use Rattle.rt_model.specs.Next.{Work, look_on, look, found, paused, drop_then, drops, looked, at_rest}
-use Rattle.rt_model.specs.Run.{fault_of, with_next, unmarked}
+use Rattle.rt_model.specs.Run.{fault_of, with_next, unmarked, called_once}
 use Rattle.rt_model.specs.Removal.{tasks_in, end_all, clean_ups, tell_all, cells_in, cell_sources, read_contexts, without_scope, gone, stopped, cleaned, removed}
 use Rattle.rt_model.specs.Replay.{waiting}
 use Rattle.rt_model.specs.Lasting.{Rises, IsRooted}
 use Rattle.rt_model.proofs.Maps.{by_test, eq_same, none_some, at_without_here, at_without_other}
 use Rattle.rt_model.proofs.Frames.{shape, Same, same_refl, same_trans, same_rest, same_either, change_same, tell_same, end_same, AllFresh, commands_same}
-use Rattle.rt_model.proofs.RunFrames.{rises_refl, rises_trans, numbered_rises, Later, later_refl, later_trans, later_same, state_of, unmarked_later, fresh, next_later}
+use Rattle.rt_model.proofs.RunFrames.{rises_refl, rises_trans, numbered_rises, Later, later_refl, later_trans, later_same, state_of, unmarked_later, fresh, next_later, once_later}
 
 -- facts of shapes
 abbrev parent_in_shape : Option (Option ℕ × ℕ) → Option ℕ
@@ -172,23 +172,23 @@ module _ {K : Types} where
         next_scope = refl;
       }
 
-  tell_all_same : (b : ℕ) (w : State K) (xs : List Source) → Same b w (tell_all w xs)
+  pub tell_all_same : (b : ℕ) (w : State K) (xs : List Source) → Same b w (tell_all w xs)
   tell_all_same b w [] = same_refl b w
   tell_all_same b w (x ∷ xs) = same_trans b w (tell w x) (tell_all (tell w x) xs) (tell_same b w x) (tell_all_same b (tell w x) xs)
 
-  gone_same : (b : ℕ) (w : State K) (s : ℕ) → Same b (without_scope w s) (gone w s)
+  pub gone_same : (b : ℕ) (w : State K) (s : ℕ) → Same b (without_scope w s) (gone w s)
   gone_same b w s =
       let v : State K = tell_all (without_scope w s) (cell_sources (cells_in s w.cells)) in
-      same_trans b (without_scope w s) v (gone w s) (tell_all_same b (without_scope w s) (cell_sources (cells_in s w.cells))) (tell_all_same b v (read_contexts v s))
+      same_trans b (without_scope w s) v (gone w s) (tell_all_same b (without_scope w s) (cell_sources (cells_in s w.cells))) (tell_all_same b v (Error s ∷ read_contexts v s))
 
   gone_thin : (b : ℕ) (w : State K) (s : ℕ) → Thinner b w (gone w s)
   gone_thin b w s = thin_same b w (without_scope w s) (gone w s) (without_thin b w s) (gone_same b w s)
 
-  end_all_same : (b : ℕ) (w : State K) (ts : List ℕ) → Same b w (end_all w ts)
+  pub end_all_same : (b : ℕ) (w : State K) (ts : List ℕ) → Same b w (end_all w ts)
   end_all_same b w [] = same_refl b w
   end_all_same b w (t ∷ ts) = same_trans b w (end w t) (end_all (end w t) ts) (end_same b w t) (end_all_same b (end w t) ts)
 
-  stopped_later : (w : State K) (s : ℕ) → Later w (stopped w s)
+  pub stopped_later : (w : State K) (s : ℕ) → Later w (stopped w s)
   stopped_later w s =
       let v : State K = end_all w (tasks_in s w.tasks) in
       later_trans w v (stopped w s) (later_same w v (end_all_same w.next.tasks w (tasks_in s w.tasks)))
@@ -229,9 +229,11 @@ module _ {K : Types} (app : Application K) (lawful : IsLawful K app) where
       let n : IsNumbered w.next m.commands m.next = lawful.effects_number e (world_of w s None true) in
       let r : Rises w.next m.next = numbered_rises w.next m.commands m.next n in
       let more : b ≤ m.next.tasks = omega (arith, l, r.tasks) in
-      cleaned_at b s es w waiting m m.fault n l
-      (cleaned_thin b s es (with_next w m.next) (waiting ++ m.commands)
+      let c =
+      cleaned_at b s es (called_once w) waiting m m.fault n l
+      (cleaned_thin b s es (with_next (called_once w) m.next) (waiting ++ m.commands)
       (fresh_both b waiting m.commands f (fresh app lawful w.next.tasks m.next.tasks b m.commands l n.tasks)) more)
+      in (thin_after b w (called_once w) (state_of (cleaned app s (e ∷ es) w waiting)) (once_later app lawful w) l c.0, c.1)
 
   removed_thin : (w : State K) (s : ℕ) → Thinner w.next.tasks w (state_of (removed app w s)) × IsGone s (removed app w s)
   removed_thin w s =

@@ -3,23 +3,22 @@ use Rattle.std.proofs.Common.{ℕ, ◌+◌, ◌≤◌, Bool, true, false, List, 
 use Rattle.std.specs.Prelude.{Option, Some, None, Result, Ok, Err, if◌then◌else◌}
 use Rattle.rt_model.specs.Tree.{Types, Template, Element}
 use Rattle.rt_model.specs.World.{Source, Cell, Error, Context, Hook, Values, World, Meaning, Application}
-use Rattle.rt_model.specs.State.{ChildrenSide, OutOfTurns, Scope, State, values_of}
-use Rattle.rt_model.specs.Commands.{names_source}
+use Rattle.rt_model.specs.State.{ChildrenSide, OutOfTurns, Scope, LastCall, State, values_of}
 use Rattle.rt_model.specs.Replay.{Entry, Build, Made, Machine, due, is_due, step, start}
 use Rattle.rt_model.specs.Document.{Forest, Empty, AppendChildren, DocFault, RepeatedId, and_then, document_after}
 use Rattle.rt_model.specs.View.{view}
 use Rattle.rt_model.specs.Told.{Telling, Told, told_by, closed_unit, tell_on, tell_reports}
-use Rattle.rt_model.specs.Current.{values_again, world_again, KeepsAnswer, IsCurrent, AllCurrent}
+use Rattle.rt_model.specs.Current.{is_aside, values_again, world_again, KeepsAnswer, IsCurrent, AllCurrent}
 use Rattle.rt_model.specs.Causes.{Limits, refusal, replay_within, IsValid}
 use Rattle.rt_model.specs.Headline.{logs_of, DocumentIs, Holds}
 use Rattle.rt_model.specs.StillBuild.{numbered_forest, node_count, still_report, still_edits, first_world, first_call, AnswersStill, BuildsStill}
 use Rattle.rt_model.proofs.OneLogOnly.{same_entry-true}
 use Rattle.rt_model.proofs.StillDraws.{Numbered, numbering}
 use Rattle.rt_model.proofs.StillViews.{and-no, view-row, row-end, row-fits}
-use Rattle.rt_model.proofs.StillRuns.{no_values, values-none, run0, mach1, mach2, mach3, rest3, scope0, scope1, scope2, child1, child2, child3, state_of, frame, first-run, second-run, third-run, due0, due1, due2, due3, told_at}
+use Rattle.rt_model.proofs.StillRuns.{no_values, values-none, run0, mach1, mach2, mach3, rest3, scope0, scope1, scope2, child1, child2, child3, call0, call2, state_of, frame, first-run, second-run, third-run, due0, due1, due2, due3, told_at}
 use Rattle.rt_model.proofs.StillFaults.{open_gate}
 use Rattle.rt_model.proofs.StillRefused.{calm0, calm1, calm2, calm3, told-build}
-use Rattle.rt_model.proofs.StillBuilt.{scope3, the_tree, built_here, drawn, served_after, arrives, drawn-is}
+use Rattle.rt_model.proofs.StillBuilt.{scope3, call3, the_tree, built_here, drawn, served_after, arrives, drawn-is}
 
 either-way : {A : Type 0} (b : Bool) (x : A) → (if b then x else x) ≡ x
 either-way true x = refl
@@ -65,6 +64,9 @@ module _ {K : Types} (app : Application K) (props : K.Props) (t : Template) (hs 
         mounted = true;
       }
 
+  abbrev pub last_call : LastCall K
+  last_call = call3 app props (first_call app props) (the_tree app props t)
+
   -- the state at the end
   abbrev pub end_state : State K
   end_state =
@@ -76,8 +78,10 @@ module _ {K : Types} (app : Application K) (props : K.Props) (t : Template) (hs 
       ∷ (3, last_scope)
       ∷ []
       )
+      ((0, call0 app props) ∷ (2, call2 app props) ∷ (3, last_call) ∷ [])
       4 (record (first_call app props).next { elements = after_all })) {
         resolved = 1 ∷ [];
+        calls = 1;
       }
 
   abbrev pub end_machine : Machine K
@@ -102,29 +106,29 @@ module _ {K : Types} (app : Application K) (props : K.Props) (t : Template) (hs 
   nothing-there = values-none end_state refl ((refl, refl), ((refl, refl), ((refl, refl), ((refl, refl), tt))))
 
   -- what the root component's body would see again
-  sees-again : world_again end_state last_scope first_world ≡ first_world
+  sees-again : world_again end_state last_scope last_call ≡ first_world
   sees-again =
-      ap (λ (v : Values K). record { given = (first_world {K = K}).given; values = values_again (first_call app props).aside no_values v }) nothing-there
+      ap (λ (v : Values K). record { given = (first_world {K = K}).given; values = values_again (λ y. is_aside (first_call app props).aside (first_call app props).reads y) no_values v }) nothing-there
       ∙ (
       λ i.
       record {
         given = (first_world {K = K}).given;
         values =
             record {
-              cell = λ n. either-way (names_source (first_call app props).aside (Cell n)) None i;
-              error = λ s. either-way (names_source (first_call app props).aside (Error s)) None i;
-              context = λ k s. either-way (names_source (first_call app props).aside (Context k s)) None i;
+              cell = λ n. either-way (is_aside (first_call app props).aside (first_call app props).reads (Cell n)) None i;
+              error = λ s. either-way (is_aside (first_call app props).aside (first_call app props).reads (Error s)) None i;
+              context = λ k s. either-way (is_aside (first_call app props).aside (first_call app props).reads (Context k s)) None i;
             };
       }
       )
 
-  same-call : app.body app.root props (world_again end_state last_scope first_world) ≡ first_call app props
+  same-call : app.body app.root props (world_again end_state last_scope last_call) ≡ first_call app props
   same-call = ap (λ (w : World K). app.body app.root props w) sees-again
 
-  last-current : AnswersStill app props t → IsCurrent app end_state last_scope
+  last-current : AnswersStill app props t → IsCurrent app end_state 3 last_scope
   last-current a = (
-    (ap (λ (m : Meaning K (Element K)). Some m.answer) (sym same-call), ap (λ (m : Meaning K (Element K)). m.reads) (sym same-call)),
-    subst (λ (x : Element K). KeepsAnswer x (Some (the_tree app props t))) (sym (ap (λ (m : Meaning K (Element K)). m.answer) same-call ∙ a.answer)) refl,
+    (ap (λ (m : Meaning K (Element K)). m.answer) (sym same-call), ap (λ (m : Meaning K (Element K)). m.reads) (sym same-call)),
+    subst (λ (x : Element K). KeepsAnswer last_call x (Some (the_tree app props t))) (sym (ap (λ (m : Meaning K (Element K)). m.answer) same-call ∙ a.answer)) refl,
   )
 
   all-current : AnswersStill app props t → AllCurrent app end_state

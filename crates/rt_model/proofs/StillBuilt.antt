@@ -4,15 +4,15 @@ use Rattle.std.specs.Prelude.{Option, Some, None}
 use Rattle.std.proofs.lemmas.List.{append-nil}
 use Rattle.rt_model.specs.Tree.{Types, Template, Tree, Element, rendered, Spot, slots_spots, no_slots, spots}
 use Rattle.rt_model.specs.World.{Elements, last_number, Firsts, Hook, Command, KeepHook, after_render_kind, Meaning, Application}
-use Rattle.rt_model.specs.State.{MainSide, Fault, IdsExhausted, Side, Scope, State, Item, Outcome, Done, onward, empty_side, new_scope, change, hooks_of}
+use Rattle.rt_model.specs.State.{MainSide, Fault, IdsExhausted, Side, Scope, LastCall, State, Item, Outcome, Done, onward, empty_side, new_scope, change, hooks_of}
 use Rattle.rt_model.specs.Commands.{commands}
-use Rattle.rt_model.specs.Run.{is_kind, kept_call, raised, answered_with, hooks_called, after_hooks, serves, start_agenda, new_output, after_answer}
+use Rattle.rt_model.specs.Run.{is_kind, kept_call, raised, answered_with, hooks_called, after_hooks, serves, start_agenda, new_output, after_answer, called_once}
 use Rattle.rt_model.specs.Replay.{Made, Machine, draws, rows_left, row_first, row_next, served, settled, closed_at, closed, step}
 use Rattle.rt_model.specs.StillBuild.{stands_still, node_count, still_tree, keeps_hooks, first_world, first_call, AnswersStill, SpentNumbersEnd}
 use Rattle.rt_model.proofs.Maps.{pick_false}
 use Rattle.rt_model.proofs.StillFits.{and-left, and-right}
 use Rattle.rt_model.proofs.StillDraws.{Numbered, numbering, agenda, serves-agenda, agenda-rows, IsNumbering, draw-all, draw-end}
-use Rattle.rt_model.proofs.StillRuns.{answered-ok, follows, mach3, ready, rest3, root_component, scope0, scope1, scope2, child1, child2, child3, state_of, frame, ends_with, last-run}
+use Rattle.rt_model.proofs.StillRuns.{answered-ok, follows, mach3, ready, rest3, root_component, scope0, scope1, scope2, child1, child2, child3, call0, call2, state_of, frame, ends_with, last-run}
 use Rattle.rt_model.proofs.StillRefused.{comes-to}
 
 from-not : (b : Bool) → not b ≡ true → b ≡ false
@@ -60,15 +60,16 @@ module _ {K : Types} (app : Application K) (props : K.Props) (m : Meaning K (Ele
         main_side = main;
         renders = renders;
         hooks = hs;
-        given = Some first_world;
         reads = m.reads;
-        aside = m.aside;
-        answer = Some m.answer;
       }
+
+  -- the call of the root component's body, as it is kept
+  abbrev pub call3 : LastCall K
+  call3 = record { given = first_world; aside = m.aside; answer = m.answer; before = None }
 
   abbrev pub with_third : Scope K → Firsts → State K
   with_third x next =
-      state_of app props ((0, scope0 app props (child1 app props)) ∷ (1, scope1 app props (child2 app props)) ∷ (2, scope2 app props (child3 app props)) ∷ (3, x) ∷ []) 4 next
+      record (state_of app props ((0, scope0 app props (child1 app props)) ∷ (1, scope1 app props (child2 app props)) ∷ (2, scope2 app props (child3 app props)) ∷ (3, x) ∷ []) ((0, call0 app props) ∷ (2, call2 app props) ∷ (3, call3) ∷ []) 4 next) { calls = 1 }
 
   -- after the call, with hooks
   abbrev pub kept : List (Hook K) → State K
@@ -81,7 +82,7 @@ module _ {K : Types} (app : Application K) (props : K.Props) (m : Meaning K (Ele
   abbrev pub built : List (Hook K) → List Numbered → ℕ → State K
   built hs numbers n = with_third (scope3 hs 1 (record { output = Some tree; numbers = numbers; children = [] })) (record m.next { elements = n })
 
-  kept-is : kept_call (ready app props) 3 first_world m ≡ kept []
+  kept-is : kept_call (called_once (ready app props)) 3 first_world m ≡ kept []
   unfolding ready
   kept-is = refl
 
@@ -148,8 +149,8 @@ module _ {K : Types} (app : Application K) (props : K.Props) (t : Template) wher
       let m : Meaning K (Element K) = first_call app props in
       let l = commands-kept app props m the_tree m.commands [] a.commands refl in
       let items : List (Item K) = serves app 3 MainSide [] (spots [] the_tree) ++ [] in
-      let o : answered_with app (ready app props) 3 first_world (follows app 3) m ≡ Done (built app props m the_tree l.0 [] m.next.elements) items =
-      answered-ok app (ready app props) 3 first_world (follows app 3) m (rendered the_tree) a.fault a.answer a.passes
+      let o : answered_with app (called_once (ready app props)) 3 first_world (follows app 3) m ≡ Done (built app props m the_tree l.0 [] m.next.elements) items =
+      answered-ok app (called_once (ready app props)) 3 first_world (follows app 3) m (rendered the_tree) a.fault a.answer a.passes
       ∙ ap (λ (w : State K). after_answer app (commands app w 3 None m.commands) 3 (rendered the_tree)) (kept-is app props m the_tree)
       ∙ ap (λ (w : State K). after_answer app w 3 (rendered the_tree)) l.1
       ∙ follows-tree app props m the_tree l.0 l.2

@@ -6,9 +6,9 @@ use Rattle.std.proofs.lemmas.Bool.{ne_eqb, eq-eqb, cases_lt}
 use Rattle.std.proofs.Math.Nat.{eq-or-lt_of_le}
 use Rattle.rt_model.specs.Tree.{Types, TemplateNodes, no_nodes, element_node, text_node, slot_node, Template, Place, place_in, Kind, an_element, a_static_text, Spot, node_spots}
 use Rattle.rt_model.specs.World.{Elements, last_number, at_end, Application}
-use Rattle.rt_model.specs.State.{MainSide, IdsExhausted, State, Item, Draw}
+use Rattle.rt_model.specs.State.{MainSide, IdsExhausted, State, Item, Draw, Row, Feed, Make, Drop, Outcome, Done, Cut}
 use Rattle.rt_model.specs.Run.{serves}
-use Rattle.rt_model.specs.Replay.{Machine, numbered, draws, rows_left}
+use Rattle.rt_model.specs.Replay.{Machine, numbered, draw_number, drawn_on, draws, rows_left}
 use Rattle.rt_model.specs.StillBuild.{no_attribute, stands_still, node_count}
 use Rattle.rt_model.proofs.StillFits.{and-left, and-right}
 
@@ -64,6 +64,19 @@ module _ {K : Types} where
     pub stands : (numbers : List Numbered) (n : ℕ) → (w numbers n).next.elements ≡ n
     pub draws : (numbers : List Numbered) (n : ℕ) (p : Place) (k : Kind) → numbered (w numbers n) s MainSide p k ≡ w (numbers ++ (p, k, n) ∷ []) (n + 1)
 
+  -- the work that a machine has is no part of what is drawn
+  drawn-work : (go : Machine K → Machine K) (u : Machine K) (work : List (Item K)) (i : Item K) (rest : List (Item K)) (o : Outcome K) → drawn_on go (record u { work = work }) i rest o ≡ drawn_on go u i rest o
+  drawn-work go u work i rest (Done v more) = refl
+  drawn-work go u work i rest (Cut v fault) = refl
+
+  draws-work : (items : List (Item K)) (u : Machine K) (work : List (Item K)) → draws items (record u { work = work }) ≡ draws items u
+  draws-work [] u work = refl
+  draws-work (Draw t side p k ∷ rest) u work = drawn-work (λ x. draws rest x) u work (Draw t side p k) rest (draw_number u.state t side p k)
+  draws-work (Row b step ∷ rest) u work = refl
+  draws-work (Feed t side p c ∷ rest) u work = refl
+  draws-work (Make t side p c ∷ rest) u work = refl
+  draws-work (Drop c t side ∷ rest) u work = refl
+
 module _ {K : Types} (app : Application K) (m : Machine K) (s : ℕ) (w : List Numbered → ℕ → State K) (law : IsNumbering s w) where
   abbrev pub in_state : List Numbered → ℕ → Machine K
   in_state numbers n = record m { state = w numbers n }
@@ -77,11 +90,11 @@ module _ {K : Types} (app : Application K) (m : Machine K) (s : ℕ) (w : List N
       ap
       (
       λ (b : Bool).
-      if b
-      then record m { state = w numbers n; work = rest; dead = Some (IdsExhausted Elements); refused = Some (Draw s MainSide p k) }
-      else draws rest (record m { state = numbered (w numbers n) s MainSide p k })
+      drawn_on (λ u. draws rest u) (in_state numbers n) (Draw s MainSide p k) rest
+      (if b then Cut (w numbers n) (IdsExhausted Elements) else Done (numbered (w numbers n) s MainSide p k) [])
       )
       test
+      ∙ draws-work rest (record m { state = numbered (w numbers n) s MainSide p k }) rest
       ∙ ap (λ (v : State K). draws rest (record m { state = v })) (law.draws numbers n p k)
 
   -- no number is left
@@ -92,9 +105,8 @@ module _ {K : Types} (app : Application K) (m : Machine K) (s : ℕ) (w : List N
       ap
       (
       λ (b : Bool).
-      (if b
-      then record m { state = w numbers n; work = rest; dead = Some (IdsExhausted Elements); refused = Some (Draw s MainSide p k) }
-      else draws rest (record m { state = numbered (w numbers n) s MainSide p k })).dead
+      (drawn_on (λ u. draws rest u) (in_state numbers n) (Draw s MainSide p k) rest
+      (if b then Cut (w numbers n) (IdsExhausted Elements) else Done (numbered (w numbers n) s MainSide p k) [])).dead
       )
       test
 

@@ -1,13 +1,13 @@
--- A build that comes to a fault has no valid inputs, and comes to no other fault.
-use Rattle.std.proofs.Common.{Bool, true, false, List, [], ◌∷◌, ◌≡◌, refl, sym, ap, ◌∙◌, subst}
+-- A session that comes to a fault has no valid inputs, and comes to no other fault.
+use Rattle.std.proofs.Common.{Bool, true, false, List, [], ◌∷◌, ◌++◌, ◌≡◌, refl, sym, ap, ◌∙◌, subst}
 use Rattle.std.specs.Prelude.{Option, Some, None, if◌then◌else◌}
+use Rattle.rt_model.specs.Lists.{joined}
 use Rattle.rt_model.specs.Tree.{Types}
 use Rattle.rt_model.specs.World.{Application}
 use Rattle.rt_model.specs.State.{Fault}
 use Rattle.rt_model.specs.Replay.{Entry, Machine, due, step, is_due, start}
-use Rattle.rt_model.specs.Told.{Told}
 use Rattle.rt_model.specs.Causes.{Limits, refusal, replay_within}
-use Rattle.rt_model.specs.Headline.{last_machine}
+use Rattle.rt_model.specs.Headline.{logs_of}
 use Rattle.rt_model.specs.StillBuild.{FaultIsInvalid, OneFault}
 use Rattle.rt_model.proofs.OneLogOnly.{is_due-same}
 
@@ -51,24 +51,16 @@ module _ {K : Types} (app : Application K) (limits : Limits) where
       two (step app m e) v u es ds f g o.2 rest a b
 
 module _ {K : Types} (app : Application K) where
-  -- no report was finished
-  none_told : (told : List (Told K)) → Some [] ≡ Some told → [] ≡ told
-  none_told told h = cc
-
   pub fault_is_invalid : FaultIsInvalid app
-  fault_is_invalid props inputs limits taken fault came valid =
-      let e : [] ≡ came.told = none_told came.told came.holds.accepted in
-      let within = subst (λ (told : List (Told K)). replay_within app limits (Some (last_machine (start app props inputs) told)) came.log ≡ Some came.last.machine) (sym e) came.within in
-      let n : refusal limits came.last.machine ≡ None = valid came.log came.last.machine within in
+  fault_is_invalid props inputs limits taken reports fault came valid =
+      let n : refusal limits came.last.machine ≡ None = valid (joined (logs_of reports) ++ came.log) came.last.machine came.within in
       let s : refusal limits came.last.machine ≡ Some fault = came.cause in
       cc
 
   pub one_fault : OneFault app
-  one_fault props inputs limits taken also fault other came later =
-      let e : [] ≡ came.told = none_told came.told came.holds.accepted in
-      let d : [] ≡ later.told = none_told later.told later.holds.accepted in
-      two app limits (start app props inputs) came.last.machine later.last.machine came.log later.log fault other
-      (subst (λ (told : List (Told K)). replay_within app limits (Some (last_machine (start app props inputs) told)) came.log ≡ Some came.last.machine) (sym e) came.within)
-      (subst (λ (told : List (Told K)). replay_within app limits (Some (last_machine (start app props inputs) told)) later.log ≡ Some later.last.machine) (sym d) later.within)
+  one_fault props inputs limits taken also reports others fault other came later =
+      two app limits (start app props inputs) came.last.machine later.last.machine (joined (logs_of reports) ++ came.log) (joined (logs_of others) ++ later.log) fault other
+      came.within
+      later.within
       came.cause
       later.cause

@@ -5,7 +5,7 @@ use Rattle.std.proofs.lemmas.Bool.{le-ltb}
 use Rattle.rt_model.specs.Tree.{Types, rendered}
 use Rattle.rt_model.specs.World.{Application}
 use Rattle.rt_model.specs.State.{Fault, TooDeep, BadNode, State, Item, Outcome, Cut}
-use Rattle.rt_model.specs.Run.{fault_of, with_next, kept_call}
+use Rattle.rt_model.specs.Run.{fault_of, with_next, kept_call, called_once}
 use Rattle.rt_model.specs.Replay.{Entry, Build, Made, Machine, due, is_due, step}
 use Rattle.rt_model.specs.Document.{Edit}
 use Rattle.rt_model.specs.Caused.{caused, caused_until}
@@ -122,6 +122,7 @@ module _ {K : Types} (app : Application K) (props : K.Props) (limits : Limits) w
         told = [];
         holds = nothing-told app props;
         log = still_log;
+        one_each = (refl, refl);
         last = told_at app props v;
         goes_on = told-build v last ∙ ap (λ (t : Telling K). Some t) (told-dead v f dead);
         within = within-build v h last;
@@ -132,14 +133,14 @@ module _ {K : Types} (app : Application K) (props : K.Props) (limits : Limits) w
 module _ {K : Types} (app : Application K) where
   pub refused_call_ends : RefusedCallEnds app
   refused_call_ends props limits fault taken is h took =
-      let o : Outcome K = Cut (with_next (ready app props) (first_call app props).next) (fault_of fault) in
+      let o : Outcome K = Cut (with_next (called_once (ready app props)) (first_call app props).next) (fault_of fault) in
       comes-to app props limits (ends_with app props o) (fault_of fault) taken
-      (last-run app props o (answered-fault app (ready app props) 3 first_world (follows app 3) (first_call app props) fault is))
+      (last-run app props o (answered-fault app (called_once (ready app props)) 3 first_world (follows app 3) (first_call app props) fault is))
       refl h took
 
   pub unfit_tree_ends : UnfitTreeEnds app
   unfit_tree_ends props limits tree taken a h took =
-      let o : Outcome K = Cut (kept_call (ready app props) 3 first_world (first_call app props)) (BadNode 3) in
+      let o : Outcome K = Cut (kept_call (called_once (ready app props)) 3 first_world (first_call app props)) (BadNode 3) in
       comes-to app props limits (ends_with app props o) (BadNode 3) taken
-      (last-run app props o (answered-unfit app (ready app props) 3 first_world (follows app 3) (first_call app props) (rendered tree) a.fault a.answer a.fails))
+      (last-run app props o (answered-unfit app (called_once (ready app props)) 3 first_world (follows app 3) (first_call app props) (rendered tree) a.fault a.answer a.fails))
       refl h took

@@ -5,9 +5,9 @@ use Rattle.std.specs.List.{AllByRecursion}
 use Rattle.rt_model.specs.Lists.{at}
 use Rattle.rt_model.specs.Tree.{Types, CapturedError, slot_template, inside, item, Place, Tree, VComponent, Own, Root, ErrorBoundary, SuspenseBoundary, one_slot, component_slot, fragment_slot, no_trees, more_trees, Element, rendered}
 use Rattle.rt_model.specs.World.{Firsts, Error, before_render_kind, at_end, Values, World, Meaning, CallFault, Application}
-use Rattle.rt_model.specs.State.{CellRow, SideName, MainSide, ChildrenSide, Fault, BadNode, MadeChildren, Side, Scope, State, Item, Make, Row, Outcome, Done, Cut, onward, new_scope, values_of, world_of}
+use Rattle.rt_model.specs.State.{CellRow, SideName, MainSide, ChildrenSide, Fault, BadNode, MadeChildren, Side, Scope, LastCall, State, Item, Make, Row, Outcome, Done, Cut, onward, new_scope, values_of, world_of}
 use Rattle.rt_model.specs.Commands.{commands}
-use Rattle.rt_model.specs.Run.{body_of, run_as, fault_of, with_next, answer_fits, kept_call, unmarked, answered_with, call_body, hooks_called, after_answer, run}
+use Rattle.rt_model.specs.Run.{body_of, run_as, fault_of, with_next, answer_fits, kept_call, unmarked, answered_with, call_body, hooks_called, after_answer, run, called_once, called_where, is_own}
 use Rattle.rt_model.specs.Replay.{first_state, ones, Entry, Build, Made, Machine, ended_by, settled, with_new_scope, made_in, change_by, due, is_due, start, step}
 use Rattle.rt_model.specs.Caused.{caused, caused_until}
 use Rattle.rt_model.specs.Told.{Telling, opens, opened, telling, told_entry, closed_unit}
@@ -36,7 +36,7 @@ module _ {K : Types} (app : Application K) where
       → at w.scopes s ≡ Some (new_scope c parent height below)
       → unmarked w s ≡ v
       → world_of v s None true ≡ world
-      → run app w s ≡ answered_with app v s world (follows s) (body_of app c world)
+      → run app w s ≡ answered_with app (called_where (is_own c world) v) s world (follows s) (body_of app c world)
   run-called w v s c parent height below world calls here marks same =
       ap
       (
@@ -49,7 +49,7 @@ module _ {K : Types} (app : Application K) where
       here
       ∙ calls (unmarked w s) (new_scope c parent height below)
       ∙ ap (λ (u : State K). call_body app u s c (follows s)) marks
-      ∙ ap (λ (u : World K). answered_with app v s u (follows s) (body_of app c u)) same
+      ∙ ap (λ (u : World K). answered_with app (called_where (is_own c u) v) s u (follows s) (body_of app c u)) same
 
   -- where the call met no refusal and the tree passes
   pub answered-ok : (w : State K) (s : ℕ) (world : World K) (f : State K → Element K → Outcome K) (m : Meaning K (Element K)) (a : Element K)
@@ -251,8 +251,6 @@ module _ {K : Types} (app : Application K) (props : K.Props) where
       record (new_scope the_root None 0 MainSide) {
         main_side = side_with wrapper_tree children;
         renders = 1;
-        given = Some world0;
-        answer = Some (rendered wrapper_tree);
       }
 
   abbrev pub scope1 : List (Place × ℕ) → Scope K
@@ -263,15 +261,28 @@ module _ {K : Types} (app : Application K) (props : K.Props) where
       record (new_scope the_catcher (Some 1) 2 ChildrenSide) {
         main_side = side_with fragment_tree children;
         renders = 1;
-        given = Some world2;
         reads = Error 2 ∷ [];
-        answer = Some (rendered fragment_tree);
       }
 
-  abbrev pub state_of : List (ℕ × Scope K) → ℕ → Firsts → State K
-  state_of scopes next_scope next =
+  -- the calls of those two, as they are kept
+
+  abbrev pub call0 : LastCall K
+  call0 = record { given = world0; aside = []; answer = rendered wrapper_tree; before = None }
+
+  abbrev pub call2 : LastCall K
+  call2 = record { given = world2; aside = []; answer = rendered fragment_tree; before = None }
+
+  abbrev pub calls1 : List (ℕ × LastCall K)
+  calls1 = (0, call0) ∷ []
+
+  abbrev pub calls3 : List (ℕ × LastCall K)
+  calls3 = (0, call0) ∷ (2, call2) ∷ []
+
+  abbrev pub state_of : List (ℕ × Scope K) → List (ℕ × LastCall K) → ℕ → Firsts → State K
+  state_of scopes last next_scope next =
       record {
         scopes = scopes;
+        last_calls = last;
         cells = [];
         contexts = [];
         tasks = [];
@@ -282,6 +293,7 @@ module _ {K : Types} (app : Application K) (props : K.Props) where
         skipped = [];
         next_scope = next_scope;
         next = next;
+        calls = 0;
       }
 
   abbrev pub frame : State K → List (Item K) → Machine K
@@ -315,16 +327,16 @@ module _ {K : Types} (app : Application K) (props : K.Props) where
   state0 = first_state app.root props ones
 
   abbrev pub state1 : State K
-  state1 = state_of ((0, scope0 []) ∷ []) 1 ones
+  state1 = state_of ((0, scope0 []) ∷ []) calls1 1 ones
 
   abbrev pub state2 : State K
-  state2 = state_of ((0, scope0 child1) ∷ (1, scope1 []) ∷ []) 2 ones
+  state2 = state_of ((0, scope0 child1) ∷ (1, scope1 []) ∷ []) calls1 2 ones
 
   abbrev pub born2 : State K
-  born2 = state_of ((0, scope0 child1) ∷ (1, scope1 child2) ∷ (2, new_scope the_catcher (Some 1) 2 ChildrenSide) ∷ []) 3 ones
+  born2 = state_of ((0, scope0 child1) ∷ (1, scope1 child2) ∷ (2, new_scope the_catcher (Some 1) 2 ChildrenSide) ∷ []) calls1 3 ones
 
   abbrev pub state3 : State K
-  state3 = state_of ((0, scope0 child1) ∷ (1, scope1 child2) ∷ (2, scope2 []) ∷ []) 3 ones
+  state3 = state_of ((0, scope0 child1) ∷ (1, scope1 child2) ∷ (2, scope2 []) ∷ []) calls3 3 ones
 
   abbrev pub work1 : List (Item K)
   work1 = Make 0 MainSide slot_place the_boundary ∷ []
@@ -346,7 +358,7 @@ module _ {K : Types} (app : Application K) (props : K.Props) where
 
   -- the state in which the root component's body is called
   unfoldable pub ready : State K
-  ready = state_of ((0, scope0 child1) ∷ (1, scope1 child2) ∷ (2, scope2 child3) ∷ (3, new_scope root_component (Some 2) 3 MainSide) ∷ []) 4 ones
+  ready = state_of ((0, scope0 child1) ∷ (1, scope1 child2) ∷ (2, scope2 child3) ∷ (3, new_scope root_component (Some 2) 3 MainSide) ∷ []) calls3 4 ones
 
   unfoldable pub mach3 : Machine K
   mach3 = frame state3 (make3 ∷ rest3)
@@ -424,13 +436,13 @@ module _ {K : Types} (app : Application K) (props : K.Props) where
   unfolding ready
   sees-first = world-none ready 3 refl ((refl, refl), ((refl, refl), ((refl, refl), ((refl, refl), tt))))
 
-  run-3 : run app ready 3 ≡ answered_with app ready 3 first_world (follows app 3) (first_call app props)
+  run-3 : run app ready 3 ≡ answered_with app (called_once ready) 3 first_world (follows app 3) (first_call app props)
   run-3 = run-called app ready ready 3 root_component (Some 2) 3 MainSide first_world (λ u x. refl) new-there unmarked-is sees-first
 
   abbrev pub ends_with : Outcome K → Machine K
   ends_with o = settled app (ended_by mach3 (Some make3) rest3 o)
 
-  pub last-run : (o : Outcome K) → answered_with app ready 3 first_world (follows app 3) (first_call app props) ≡ o → step app mach3 (Made 3) ≡ ends_with o
+  pub last-run : (o : Outcome K) → answered_with app (called_once ready) 3 first_world (follows app 3) (first_call app props) ≡ o → step app mach3 (Made 3) ≡ ends_with o
   last-run o is =
       step-make app mach3 2 MainSide root_place root_component rest3 (scope2 []) 3 work3 scope2-there room3
       ∙ ap (λ (n : ℕ). settled app (ended_by mach3 (Some make3) rest3 (run app (with_new_scope mach3.state 2 MainSide root_place root_component (scope2 [])) n))) next3

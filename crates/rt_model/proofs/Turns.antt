@@ -44,7 +44,7 @@ module _ {K : Types} where
   -- a scope that is as it was
   pub same_since : (w v : State K) (work after : List (Item K)) (s : ℕ) (side : SideName) (p : Place) (k : Kind) (t : ℕ) (z : Scope K) → Stands w work → DrawsOf t work after → at w.scopes t ≡ Some z → Since w v after s side p k t z
   same_since w v work after s side p k t z h more e =
-      alike_since w v work after s side p k t z h more (record { old = z; found = e; component = refl; parent = refl; below = refl; sides = λ a. refl })
+      alike_since w v work after s side p k t z h more (record { old = z; found = e; component = refl; parent = refl; height = refl; below = refl; sides = λ a. refl })
 
   -- where the sides of the scopes that live on stay, what stood stands
   pub stay_stands : (w v : State K) (work : List (Item K)) → Stay w v → Stands w work → Stands v work

@@ -11,7 +11,7 @@ use Rattle.rt_model.specs.View.{child_view, nodes_view, tree_view, slots_view, s
 use Rattle.rt_model.proofs.SamePlaces.{contains_here, contains_later}
 use Rattle.rt_model.proofs.Places.{place_of, Apart, Distinct}
 
-count_join : (i : ℕ) (f g : Forest) → count_of i (join_rows f g) ≡ count_of i f + count_of i g
+pub count_join : (i : ℕ) (f g : Forest) → count_of i (join_rows f g) ≡ count_of i f + count_of i g
 count_join i Empty g = omega arith
 count_join i (Node n content children rest) g = let after : count_of i (join_rows rest g) ≡ count_of i rest + count_of i g = count_join i rest g in omega arith
 

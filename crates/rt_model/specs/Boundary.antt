@@ -1,6 +1,6 @@
 -- The steps of a suspense boundary's run.
 use Rattle.std.specs.Prelude.{ℕ, Bool, true, false, List, [], ◌∷◌, ◌++◌, Option, Some, None, if◌then◌else◌}
-use Rattle.rt_model.specs.Lists.{at, drop_number}
+use Rattle.rt_model.specs.Lists.{at, without, drop_number}
 use Rattle.rt_model.specs.Tree.{Types, Tree, placeholder_tree, VComponent, Own, Root, Fragment, ErrorBoundary, SuspenseBoundary, Element, rendered, failed, suspended, Place, Spot, node_at, component_at}
 use Rattle.rt_model.specs.World.{Application}
 use Rattle.rt_model.specs.State.{SideName, ChildrenSide, FallbackSide, RowStep, PatchChildren, MadeChildren, RunFallback, ShowFallback, ShowChildren, DropFallback, Resolve, Side, Scope, State, Item, Drop, Outcome, Done, onward, empty_side, is_live, change, is_held}
@@ -26,7 +26,7 @@ module _ {K : Types} where
   counts_render (SuspenseBoundary children (Some f)) (rendered tree) = true
   counts_render _ _ = false
 
-  -- the live child scopes among these spots, in order
+  -- a child scope, where there is one and it is live
   abbrev pub live_child : State K → Option ℕ → List ℕ
   live_child w None = []
   live_child w (Some t) = if is_live w t then t ∷ [] else []
@@ -73,7 +73,9 @@ module _ {K : Types} (app : Application K) where
   row_step w b x ShowFallback =
       Done (change (record w { resolved = drop_number w.resolved b }) b (λ y. record y { shows = Some FallbackSide })) []
   row_step w b x ShowChildren =
-      Done (change w b (λ y. record y { shows = Some ChildrenSide; reads = []; aside = []; answer = None })) []
+      Done
+      (change (record w { last_calls = without w.last_calls b }) b (λ y. record y { shows = Some ChildrenSide; reads = [] }))
+      []
   row_step w b x DropFallback =
       Done (change w b (λ y. record y { fallback_side = empty_side })) (drop_items b FallbackSide (side_scopes w x.fallback_side))
   row_step w b x Resolve =

@@ -70,7 +70,7 @@ pub record Lasts {K : Types} (app : Application K) (props : K.Props) (inputs : L
   pub ended : (t : ℕ) (rest : List Entry) (u : Machine K) → t < m.state.next.tasks → at m.state.tasks t ≡ None → replay_on app (Some m) rest ≡ Some u → AllByRecursion (λ (e : Entry). Polls e t → ⊥) rest
   -- no entry after a removal names its scope
   pub removed : (s : ℕ) (rest : List Entry) (u : Machine K) → replay_on app (Some m) (Removed s ∷ rest) ≡ Some u → AllByRecursion (λ (e : Entry). Names e s → ⊥) rest
-  -- no counter falls, so no number is drawn twice
+  -- no counter falls
   pub rises : (rest : List Entry) (u : Machine K) → replay_on app (Some m) rest ≡ Some u → Rises m.state.next u.state.next
 
 -- this holds of every accepted log of a lawful application

@@ -1,5 +1,5 @@
 -- The laws of an application: what its calls read decides what they mean, and new numbers are the world's next ones.
-use Rattle.std.specs.Prelude.{ℕ, ◌+◌, Bool, true, false, nat_eq, List, [], ◌∷◌, ◌++◌, Option, Some, None, ◌≡◌, ◌≤◌}
+use Rattle.std.specs.Prelude.{ℕ, ◌+◌, Bool, true, false, nat_eq, List, [], ◌∷◌, ◌++◌, Option, Some, None, ◌≡◌, ◌≤◌, ◌<◌}
 use Rattle.rt_model.specs.Lists.{nth}
 use Rattle.std.specs.List.{AllByRecursion}
 use Rattle.rt_model.specs.Tree.{Types}
@@ -12,9 +12,9 @@ CountUp first [] after = first ≡ after
 CountUp first (n ∷ ns) after = (n ≡ first) × CountUp (first + 1) ns after
 
 module _ {K : Types} where
-  -- the two worlds give one source the same value
+  -- the two worlds give one source the same value; of cells it speaks of those that were numbered before the call
   abbrev pub SameAt : World K → World K → Source → Type 0
-  SameAt v w (Cell n) = v.values.cell n ≡ w.values.cell n
+  SameAt v w (Cell n) = n < v.given.next.cells → v.values.cell n ≡ w.values.cell n
   SameAt v w (Error s) = v.values.error s ≡ w.values.error s
   SameAt v w (Context k s) = v.values.context k s ≡ w.values.context k s
 
@@ -26,6 +26,10 @@ module _ {K : Types} where
   abbrev pub ReadsDecide : {A : Type 0} → (World K → Meaning K A) → Type 0
   ReadsDecide {A = A} f =
       (v w : World K) → v.given ≡ w.given → Agree v w (f v).aside → Agree v w (f v).reads → f v ≡ f w
+
+  -- two meanings give the same answer, reads and commands
+  abbrev pub MeanAlike : {A : Type 0} → Meaning K A → Meaning K A → Type 0
+  MeanAlike m n = (m.answer ≡ n.answer) × (m.reads ≡ n.reads) × (m.commands ≡ n.commands)
 
   -- the number that a command gives to a new cell, context or task
   abbrev pub new_cell : Command K → List ℕ
@@ -107,8 +111,9 @@ pub record IsLawful (K : Types) (app : Application K) : Type 0 where
   pub polls_refuse : (a : K.TaskState) → Refuses (app.poll a)
   pub effects_refuse : (e : K.Effect) → Refuses (app.effect e)
   pub handlers_refuse : (h : K.Handler) (e : Event K) → Refuses (app.handle h e)
-  -- memoize is true only where old and new props mean the same in every world
-  pub memoized_alike : (c : K.Component) (p q : K.Props) → app.memoize c p q ≡ true → (w : World K) → app.body c p w ≡ app.body c q w
+  -- memoize is true only where old and new props give the same answer, reads and commands in every world
+  pub memoized_alike :
+      (c : K.Component) (p q : K.Props) → app.memoize c p q ≡ true → (w : World K) → MeanAlike (app.body c p w) (app.body c q w)
   pub tests_components : Tests K.Component app.same_component
   pub tests_props : Tests K.Props app.same_props
   pub tests_values : Tests K.Value app.same_value
@@ -118,7 +123,10 @@ pub record IsLawful (K : Types) (app : Application K) : Type 0 where
 abbrev pub ProgramsAreLawful : (K : Types) → Type 0
 ProgramsAreLawful K =
     (a : Programs K)
-    → ((c : K.Component) (p q : K.Props) → a.memoize c p q ≡ true → (w : World K) → body_means (a.body c p) w ≡ body_means (a.body c q) w)
+    → ((c : K.Component) (p q : K.Props)
+    → a.memoize c p q ≡ true
+    → (w : World K)
+    → MeanAlike (body_means (a.body c p) w) (body_means (a.body c q) w))
     → Tests K.Component a.same_component
     → Tests K.Props a.same_props
     → Tests K.Value a.same_value

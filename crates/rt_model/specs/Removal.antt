@@ -1,11 +1,12 @@
 -- What a removal takes: children first, and of each scope all that it owns.
-use Rattle.std.specs.Prelude.{ℕ, zero, suc, true, not, nat_eq, List, [], ◌∷◌, ◌++◌, length, Option, Some, None, if◌then◌else◌}
+use Rattle.std.specs.Prelude.{ℕ, zero, suc, Bool, true, false, not, nat_eq, List, [], ◌∷◌, ◌++◌, length, Option, Some, None, if◌then◌else◌}
 use Rattle.rt_model.specs.Lists.{at, without, kept_by, drop_number, insert_number}
 use Rattle.rt_model.specs.Tree.{Types}
 use Rattle.rt_model.specs.World.{Source, Cell, Error, Context, clean_up_kind, Hook, HookValue, HookEffect, Command, Meaning, Nothing, Application}
-use Rattle.rt_model.specs.State.{Scope, CellRow, ContextRow, TaskRow, State, Outcome, Done, Cut, change, hooks_of, world_of}
+use Rattle.rt_model.specs.State.{Scope, CellRow, ContextRow, TaskRow, State, Outcome, Done, Cut, onward, change, hooks_of, world_of}
 use Rattle.rt_model.specs.Commands.{tell, end, commands}
-use Rattle.rt_model.specs.Run.{fault_of, with_next, unmarked}
+use Rattle.rt_model.specs.Next.{least, is_before}
+use Rattle.rt_model.specs.Run.{fault_of, with_next, unmarked, called_once}
 use Rattle.rt_model.specs.Boundary.{side_scopes}
 
 -- the kinds of a scope's contexts that these sources name, ascending
@@ -26,6 +27,11 @@ context_sources s [] = []
 context_sources s (k ∷ ks) = Context k s ∷ context_sources s ks
 
 module _ {K : Types} where
+  -- the numbers of live scopes
+  abbrev pub numbers_of : List (ℕ × Scope K) → List ℕ
+  numbers_of [] = []
+  numbers_of (e ∷ es) = e.0 ∷ numbers_of es
+
   -- the fallback's children before the others
   abbrev pub children_below : State K → Option (Scope K) → List ℕ
   children_below w None = []
@@ -80,20 +86,21 @@ module _ {K : Types} where
   abbrev pub read_contexts : State K → ℕ → List Source
   read_contexts w s = context_sources s (kinds_of_contexts s w.contexts (kinds_of_scopes s w.scopes []))
 
-  -- the record goes, with its cells and reactive contexts
+  -- the record goes, with its last call, its cells and reactive contexts
   abbrev pub without_scope : State K → ℕ → State K
   without_scope w s =
       record w {
         scopes = without w.scopes s;
+        last_calls = without w.last_calls s;
         cells = kept_by (λ e. not (nat_eq (e.1).owner s)) w.cells;
         contexts = kept_by (λ e. not (nat_eq (e.1).scope s)) w.contexts;
         resolved = drop_number w.resolved s;
         skipped = drop_number w.skipped s;
       }
 
-  -- then its cells are told by number, and its sources by kind
+  -- then its cells are told by number, its error slot, and what it provided by kind
   abbrev pub told_of_sources : State K → ℕ → State K
-  told_of_sources w s = tell_all w (read_contexts w s)
+  told_of_sources w s = tell_all w (Error s ∷ read_contexts w s)
 
   -- a scope and what it owns are gone, and the readers of that are marked
   abbrev pub gone : State K → ℕ → State K
@@ -109,11 +116,33 @@ module _ {K : Types} (app : Application K) where
   cleaned_by go w waiting m =
       elim m.fault [ None ↦ go (with_next w m.next) (waiting ++ m.commands) | Some f ↦ Cut (with_next w m.next) (fault_of f) ]
 
-  -- the clean-ups that are left are called in turn
+  -- the clean-ups that are left are called in turn, in a patch or outside of one
+  abbrev pub cleaned_in : Bool → ℕ → List K.Effect → State K → List (Command K) → Outcome K
+  cleaned_in rendering s [] w waiting = Done (commands app (gone w s) s None waiting) []
+  cleaned_in rendering s (e ∷ es) w waiting =
+      cleaned_by (λ v cs. cleaned_in rendering s es v cs) (called_once w) waiting (app.effect e (world_of w s None rendering))
+
+  -- the clean-ups of a patch
   abbrev pub cleaned : ℕ → List K.Effect → State K → List (Command K) → Outcome K
-  cleaned s [] w waiting = Done (commands app (gone w s) s None waiting) []
-  cleaned s (e ∷ es) w waiting = cleaned_by (λ v cs. cleaned s es v cs) w waiting (app.effect e (world_of w s None true))
+  cleaned s es w waiting = cleaned_in true s es w waiting
 
   -- the removal of a scope whose children are gone
   abbrev pub removed : State K → ℕ → Outcome K
   removed w s = let v = stopped w s in cleaned s (clean_ups (hooks_of v s) []) v []
+
+  -- the same outside of a patch
+  abbrev pub removed_apart : State K → ℕ → Outcome K
+  removed_apart w s = let v = stopped w s in cleaned_in false s (clean_ups (hooks_of v s) []) v []
+
+  -- each scope goes, from the greatest order down, at most n of them
+  abbrev pub closes : ℕ → State K → Outcome K
+  closes zero w = Done w []
+  closes (suc n) w =
+      elim (least (λ s t. is_before w.scopes t s) (numbers_of w.scopes)) [
+        | None ↦ Done w []
+        | Some s ↦ onward (removed_apart w s) (λ v. closes n v)
+      ]
+
+  -- all scopes go
+  abbrev pub close : State K → Outcome K
+  close w = closes (length w.scopes) w

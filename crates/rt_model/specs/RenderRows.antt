@@ -1,6 +1,7 @@
 -- Worked rows of rendering while suspended and of a reactive context.
 use Rattle.std.specs.Prelude.{ℕ, zero, suc, Bool, true, false, ◌&&◌, not, List, [], ◌∷◌, Option, Some, None, ◌≡◌, if◌then◌else◌, codes}
-use Rattle.rt_model.specs.Lists.{same_numbers, join, at}
+use Rattle.rt_model.specs.Lists.{Text, same_numbers, join, at}
+use Rattle.rt_model.specs.Tree.{no_nodes, text_node, Tree, Slot, component_slot, SuspenseBoundary, one_slot, rendered}
 use Rattle.rt_model.specs.World.{Freeze, TaskTarget, TaskStep, pending, ready, Application}
 use Rattle.rt_model.specs.State.{FallbackSide, Woken, State, is_side}
 use Rattle.rt_model.specs.Commands.{post, commands}
@@ -8,9 +9,27 @@ use Rattle.rt_model.specs.Program.{Program, done, current_task, read, new_contex
 use Rattle.rt_model.specs.Replay.{Entry, Build, Rerun, Poll, Made, Kept, Taken, WriteOf, Machine, replay_on, start}
 use Rattle.rt_model.specs.Rendering.{renders_on, resolved_by_height, nothing_resolved}
 use Rattle.rt_model.specs.Document.{AppendChildren}
-use Rattle.rt_model.specs.Small.{Val, Num, Name, Job, Idle, Fetch, R, Body, number_of, app_of, use_cell, use_task, shows, words, RowOf}
+use Rattle.rt_model.specs.Small.{Val, Num, Name, Job, Idle, Fetch, R, Body, number_of, app_of, use_cell, use_task, shows, words, RowOf, Kid, Load, suspends, only, use_of}
 use Rattle.rt_model.specs.Pieces.{text}
-use Rattle.rt_model.specs.SuspenseRows.{loads}
+
+-- a body that suspends on its task until the cell is written
+abbrev pub unless_fetched : ℕ → Text → ℕ → Body
+unless_fetched t words zero = suspends t
+unless_fetched t words (suc n) = shows (only (text_node words no_nodes))
+
+-- a body that fetches by a task of its own
+abbrev pub article : Body
+article = use_cell (Num 0) (λ d. use_task (Fetch d 2) (λ t. read d (λ v. unless_fetched t (codes "Article") (number_of v))))
+
+-- a suspense boundary with a fallback
+abbrev pub held_apart : Tree R → Slot R
+held_apart children = component_slot (SuspenseBoundary (rendered children) (Some (Load, [])))
+
+-- an application with one such body under a boundary
+abbrev pub loads : Name → List Val → Body
+loads Kid props = article
+loads Load props = shows (words (codes "Loading..."))
+loads _ props = shows (one_slot (held_apart (one_slot (use_of Kid []))))
 
 -- a boundary shows its fallback
 abbrev pub shows_fallback : State R → ℕ → Bool

@@ -7,7 +7,7 @@ use Rattle.rt_model.specs.Values.{keeps_output}
 use Rattle.rt_model.specs.State.{SideName, MainSide, Mark, Woken, Fault, IdsExhausted, RowStep, MadeChildren, Scope, TaskRow, State, Item, Draw, Row, Feed, Make, Drop, Outcome, Done, Cut, onward, side_of, with_side, new_scope, is_live, change, is_shown, world_of}
 use Rattle.rt_model.specs.Commands.{post, write_cell, unqueued, end, commands}
 use Rattle.rt_model.specs.Next.{Work, RerunScope, PollTask, RunEffects, look, at_rest, next_at_rest}
-use Rattle.rt_model.specs.Run.{child_at, fault_of, with_next, acted, run}
+use Rattle.rt_model.specs.Run.{child_at, fault_of, with_next, acted, run, called_once}
 use Rattle.rt_model.specs.Boundary.{boundary_step}
 use Rattle.rt_model.specs.Removal.{next_removed, removed}
 use Rattle.rt_model.specs.Heard.{Listener, heard}
@@ -104,13 +104,19 @@ module _ {K : Types} where
       s
       (λ x. with_side x side (record (side_of x side) { numbers = (side_of x side).numbers ++ (p, k, w.next.elements) ∷ [] }))
 
+  -- a number for a place, unless the counter is at its end
+  abbrev pub draw_number : State K → ℕ → SideName → Place → Kind → Outcome K
+  draw_number w s side p k = if at_end w.next.elements then Cut w (IdsExhausted Elements) else Done (numbered w s side p k) []
+
+  -- after a draw the next ones follow, unless it ended all
+  abbrev pub drawn_on : (Machine K → Machine K) → Machine K → Item K → List (Item K) → Outcome K → Machine K
+  drawn_on go m item rest (Done w work) = go (ended_by m (Some item) rest (Done w work))
+  drawn_on go m item rest (Cut w fault) = ended_by m (Some item) rest (Cut w fault)
+
   -- numbers are drawn until another item comes
   abbrev pub draws : List (Item K) → Machine K → Machine K
   draws [] m = record m { work = [] }
-  draws (Draw s side p k ∷ rest) m =
-      (if at_end m.state.next.elements
-      then record m { work = rest; dead = Some (IdsExhausted Elements); refused = Some (Draw s side p k) }
-      else draws rest (record m { state = numbered m.state s side p k }))
+  draws (Draw s side p k ∷ rest) m = drawn_on (λ u. draws rest u) m (Draw s side p k) rest (draw_number m.state s side p k)
   draws (Row b step ∷ rest) m = record m { work = Row b step ∷ rest }
   draws (Feed s side p c ∷ rest) m = record m { work = Feed s side p c ∷ rest }
   draws (Make s side p c ∷ rest) m = record m { work = Make s side p c ∷ rest }
@@ -231,6 +237,7 @@ module _ {K : Types} where
   first_state root props firsts =
       record {
         scopes = (0, new_scope (Root root props) None 0 MainSide) ∷ [];
+        last_calls = [];
         cells = [];
         contexts = [];
         tasks = [];
@@ -241,6 +248,7 @@ module _ {K : Types} where
         skipped = [];
         next_scope = 1;
         next = firsts;
+        calls = 0;
       }
 
   -- no listener waits
@@ -349,10 +357,14 @@ module _ {K : Types} (app : Application K) where
   abbrev pub with_props : State K → ℕ → VComponent K → State K
   with_props w t c = change w t (λ x. record x { component = c })
 
-  -- a poll's answer: another state, or the end of the task
+  -- what a poll leaves: its commands, and another state or the end of the task
+  abbrev pub left_by_poll : State K → ℕ → TaskRow K → Meaning K (TaskStep K) → TaskStep K → State K
+  left_by_poll w t x m (pending a) = commands app (record w { tasks = put w.tasks t (record x { state = a }) }) x.scope (Some t) m.commands
+  left_by_poll w t x m ready = end (commands app w x.scope (Some t) m.commands) t
+
+  -- then a look
   abbrev pub polled_to : State K → ℕ → TaskRow K → Meaning K (TaskStep K) → TaskStep K → State K
-  polled_to w t x m (pending a) = look (commands app (record w { tasks = put w.tasks t (record x { state = a }) }) x.scope (Some t) m.commands)
-  polled_to w t x m ready = look (end (commands app w x.scope (Some t) m.commands) t)
+  polled_to w t x m step = look (left_by_poll w t x m step)
 
   -- a poll's commands and answer, or its fault
   abbrev pub polled_by : State K → ℕ → TaskRow K → Meaning K (TaskStep K) → Outcome K
@@ -365,16 +377,20 @@ module _ {K : Types} (app : Application K) where
   -- the poll of a task that was found
   abbrev pub polled_at : State K → ℕ → Option (TaskRow K) → Outcome K
   polled_at w t None = Done w []
-  polled_at w t (Some x) = polled_by w t x (app.poll x.state (world_of w x.scope (Some t) false))
+  polled_at w t (Some x) = polled_by (called_once w) t x (app.poll x.state (world_of w x.scope (Some t) false))
 
   -- a task is polled: its wakes are spent
   abbrev pub polled : State K → ℕ → Outcome K
   polled w t = polled_at (unqueued w t) t (at w.tasks t)
 
-  -- the effects of a batch, each one's commands done before the next; then a look
+  -- the effects of a batch, each one's commands done before the next; then what follows the last one
+  abbrev pub batch_then : (State K → State K) → State K → ℕ → List K.Effect → Outcome K
+  batch_then last w s [] = Done (last w) []
+  batch_then last w s (e ∷ es) = onward (acted app w s e false) (λ v. batch_then last v s es)
+
+  -- a batch, and then a look
   abbrev pub batch : State K → ℕ → List K.Effect → Outcome K
-  batch w s [] = Done (look w) []
-  batch w s (e ∷ es) = onward (acted app w s e false) (λ v. batch v s es)
+  batch w s es = batch_then look w s es
 
   -- the effects that a scope has queued
   abbrev pub effects_of : State K → ℕ → List K.Effect
@@ -406,7 +422,8 @@ module _ {K : Types} (app : Application K) where
   -- a listener is called with the event on its way
   abbrev pub heard_event : Machine K → Listener K → List (Listener K) → Option (Event K) → Machine K
   heard_event m l ls None = m
-  heard_event m l ls (Some event) = heard_by m l ls (app.handle l.handler event (world_of m.state l.origin None false))
+  heard_event m l ls (Some event) =
+      heard_by (record m { state = called_once m.state }) l ls (app.handle l.handler event (world_of m.state l.origin None false))
 
   -- the first listener that waits is called
   abbrev pub heard_first : Machine K → List (Listener K) → Machine K
@@ -426,11 +443,31 @@ module _ {K : Types} (app : Application K) where
   dropped m t child this rest =
       (if nat_eq t child then ended_by m (Some this) rest (removed app m.state t) else ended_by m (Some this) (this ∷ rest) (removed app m.state t))
 
+  -- a scope is handed a component: it keeps its output where the component means the same, else it runs
+  abbrev pub handed : State K → ℕ → VComponent K → Outcome K
+  handed w t c = if keeps w t c then Done (with_props w t c) [] else run app (with_props w t c) t
+
+  -- the change that serves an item; a drop is served by as many removals as there are scopes below it, so it has none of its own
+  abbrev pub outcome_of : State K → Item K → Outcome K
+  outcome_of w (Draw s side p k) = draw_number w s side p k
+  outcome_of w (Row b step) = boundary_step app w b step
+  outcome_of w (Feed s side p c) = elim (fed_child w s side p) [ None ↦ Done w [] | Some t ↦ handed w t c ]
+  outcome_of w (Make s side p c) = made w s side p c
+  outcome_of w (Drop t s side) = Done w []
+
+  -- the entry that names this change, none where it comes without one
+  abbrev pub entry_of : State K → Item K → List Entry
+  entry_of w (Draw s side p k) = []
+  entry_of w (Row b step) = []
+  entry_of w (Feed s side p c) = elim (fed_child w s side p) [ None ↦ [] | Some t ↦ (if keeps w t c then Kept t else Fed t) ∷ [] ]
+  entry_of w (Make s side p c) = Made w.next_scope ∷ []
+  entry_of w (Drop t s side) = []
+
   -- what an entry does, by the item that it serves
   abbrev pub change_by : Machine K → List (Item K) → Entry → Machine K
-  change_by m (Make s side p c ∷ rest) (Made t) = ended_by m (Some (Make s side p c)) rest (made m.state s side p c)
-  change_by m (Feed s side p c ∷ rest) (Kept t) = record m { state = with_props m.state t c; work = rest }
-  change_by m (Feed s side p c ∷ rest) (Fed t) = ended_by m (Some (Feed s side p c)) rest (run app (with_props m.state t c) t)
+  change_by m (Make s side p c ∷ rest) (Made t) = ended_by m (Some (Make s side p c)) rest (outcome_of m.state (Make s side p c))
+  change_by m (Feed s side p c ∷ rest) (Kept t) = ended_by m (Some (Feed s side p c)) rest (outcome_of m.state (Feed s side p c))
+  change_by m (Feed s side p c ∷ rest) (Fed t) = ended_by m (Some (Feed s side p c)) rest (outcome_of m.state (Feed s side p c))
   change_by m (Drop child s side ∷ rest) (Removed t) = dropped m t child (Drop child s side) rest
   change_by m _ Build = ended_by (record m { built = true; unit = true }) None [] (run app m.state 0)
   change_by m _ (Taken k) = let r = rested m in take_next r r.inputs

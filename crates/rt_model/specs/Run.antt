@@ -5,7 +5,7 @@ use Rattle.rt_model.specs.Tree.{Types, fixed, no_nodes, element_node, slot_node,
 use Rattle.rt_model.specs.Fits.{fits}
 use Rattle.rt_model.specs.World.{Source, Error, Renders, Firsts, at_end, before_render_kind, after_render_kind, CallFault, CounterAtEnd, OtherHook, Hook, HookValue, HookEffect, World, Meaning, Nothing, Application}
 use Rattle.rt_model.specs.Values.{is_same_component}
-use Rattle.rt_model.specs.State.{SideName, MainSide, ChildrenSide, FallbackSide, Mark, SuspendedTask, Fault, IdsExhausted, HookChanged, NoSuchTask, BadNode, RowStep, PatchChildren, MadeChildren, RunFallback, ShowFallback, ShowChildren, DropFallback, Resolve, Side, Scope, TaskRow, State, Item, Draw, Row, Feed, Make, Drop, Outcome, Done, Cut, onward, side_of, with_side, change, location, is_held, holds, hooks_of, renders_of, world_of}
+use Rattle.rt_model.specs.State.{SideName, MainSide, ChildrenSide, FallbackSide, Mark, SuspendedTask, Fault, IdsExhausted, HookChanged, NoSuchTask, BadNode, RowStep, PatchChildren, MadeChildren, RunFallback, ShowFallback, ShowChildren, DropFallback, Resolve, Side, Scope, LastCall, TaskRow, State, Item, Draw, Row, Feed, Make, Drop, Outcome, Done, Cut, onward, side_of, with_side, change, location, is_held, holds, hooks_of, renders_of, world_of}
 use Rattle.rt_model.specs.Commands.{drop_posted, post, commands, throw_error}
 
 -- a call's fault as the fault that ends a run
@@ -60,19 +60,46 @@ module _ {K : Types} where
   abbrev pub with_next : State K → Firsts → State K
   with_next w next = record w { next = next }
 
+  -- the application is called once more
+  abbrev pub called_once : State K → State K
+  called_once w = record w { calls = w.calls + 1 }
+
+  -- the application is called where the test says so
+  abbrev pub called_where : Bool → State K → State K
+  called_where true w = called_once w
+  called_where false w = w
+
+  -- the body of a component is the application's own: a component, a handler, a fallback
+  abbrev pub is_own : VComponent K → World K → Bool
+  is_own (Own component props) w = true
+  is_own (Root component props) w = false
+  is_own (Fragment children) w = false
+  is_own (ErrorBoundary children None) w = false
+  is_own (ErrorBoundary children (Some h)) w = is_some (w.values.error w.given.scope)
+  is_own (SuspenseBoundary children None) w = false
+  is_own (SuspenseBoundary children (Some f)) w = true
+
   -- the answered tree meets the node test
   abbrev pub answer_fits : Element K → Bool
   answer_fits (rendered tree) = fits tree
   answer_fits (failed error) = true
   answer_fits (suspended origin task) = true
 
-  -- the body's call is kept: its world, its reads and its answer
+  -- the kept output of a scope
+  abbrev pub output_of : State K → ℕ → Option (Tree K)
+  output_of w s = elim (at w.scopes s) [ None ↦ None | Some x ↦ x.main_side.output ]
+
+  -- a scope's last call is another one
+  abbrev pub with_last_call : State K → ℕ → LastCall K → State K
+  with_last_call w s call = record w { last_calls = put w.last_calls s call }
+
+  -- the body's call is kept: its reads with the scope, and its world, what it read aside and its answer among the last calls
   abbrev pub kept_call : State K → ℕ → World K → Meaning K (Element K) → State K
   kept_call w s world m =
-      change
-      (with_next w m.next)
+      with_last_call
+      (change (with_next w m.next) s (λ x. record x { reads = m.reads }))
       s
-      (λ x. record x { given = Some world; reads = m.reads; aside = m.aside; answer = Some m.answer })
+      (record { given = world; aside = m.aside; answer = m.answer; before = output_of w s })
 
   -- an effect is kept under this kind
   abbrev pub is_kind : ℕ → Hook K → Bool
@@ -147,6 +174,11 @@ runs_fallback (RunFallback ∷ steps) = true
 runs_fallback (step ∷ steps) = runs_fallback steps
 
 module _ {K : Types} where
+  -- the drop of a child, where there is one
+  abbrev pub drop_at : ℕ → SideName → Option ℕ → List (Item K)
+  drop_at s side None = []
+  drop_at s side (Some t) = Drop t s side ∷ []
+
   -- the steps of a boundary's run as open work
   abbrev pub row_items : ℕ → List RowStep → List (Item K)
   row_items b [] = []
@@ -175,7 +207,7 @@ module _ {K : Types} (app : Application K) where
 
   -- an effect is done in a scope
   abbrev pub acted : State K → ℕ → K.Effect → Bool → Outcome K
-  acted w s e rendering = acted_by w s (app.effect e (world_of w s None rendering))
+  acted w s e rendering = acted_by (called_once w) s (app.effect e (world_of w s None rendering))
 
   -- the hooks of one kind, each one's commands done before the next
   abbrev pub hook_called : State K → ℕ → Hook K → Outcome K
@@ -205,7 +237,7 @@ module _ {K : Types} (app : Application K) where
 
   -- a component's body is called in a world
   abbrev pub call_in : State K → ℕ → VComponent K → (State K → Element K → Outcome K) → World K → Outcome K
-  call_in w s c then_on world = answered_with w s world then_on (body_of c world)
+  call_in w s c then_on world = answered_with (called_where (is_own c world) w) s world then_on (body_of c world)
 
   -- a component's body is called in the present world
   abbrev pub call_body : State K → ℕ → VComponent K → (State K → Element K → Outcome K) → Outcome K
@@ -229,12 +261,7 @@ module _ {K : Types} (app : Application K) where
   serves s side old (component_at p c ∷ new) =
       (if is_fed (component_in old p) (Some c) then Feed s side p c ∷ serves s side old new else Make s side p c ∷ serves s side old new)
 
-  -- in the old tree's order: a drop for each child that isn't fed
-  abbrev pub drop_at : ℕ → SideName → Option ℕ → List (Item K)
-  drop_at s side None = []
-  drop_at s side (Some t) = Drop t s side ∷ []
-
-  -- the drops of the children that the new tree doesn't feed
+  -- in the old tree's order: a drop for each child that the new tree doesn't feed
   abbrev pub drops_of : ℕ → SideName → List (Spot K) → List (Place × ℕ) → List (Spot K) → List (Item K)
   drops_of s side new children [] = []
   drops_of s side new children (node_at p k ∷ old) = drops_of s side new children old

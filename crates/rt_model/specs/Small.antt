@@ -1,16 +1,15 @@
 -- Small applications for worked rows: values, tasks and actions, and short ways to write programs and trees.
-use Rattle.std.specs.Prelude.{ℕ, zero, suc, ◌+◌, Bool, true, false, ◌&&◌, nat_eq, is_some, List, [], ◌∷◌, ◌++◌, Option, Some, None, ◌≡◌, if◌then◌else◌}
-use Rattle.rt_model.specs.Lists.{Text, same_numbers, same_option, same_list}
-use Rattle.rt_model.specs.Tree.{Types, TemplateNodes, no_nodes, element_node, text_node, slot_node, template_with, Tree, block, Slots, no_slots, more_slots, Slot, component_slot, Own, placeholder_tree, Element, rendered, failed, suspended}
-use Rattle.rt_model.specs.World.{Counter, Scopes, Tasks, Cells, Contexts, Elements, Errors, Renders, TaskStep, pending, ready, Nothing, nothing, Application}
-use Rattle.rt_model.specs.Program.{Program, done, current_scope, read, new_cell, write, spawn, wake, captured, clear_errors, provide, hook_is_new, use_hook, Programs, application_of}
+use Rattle.std.specs.Prelude.{ℕ, zero, suc, ◌+◌, Bool, true, false, ◌&&◌, nat_eq, List, [], ◌∷◌, ◌++◌, Option, Some, None, ◌≡◌, if◌then◌else◌}
+use Rattle.rt_model.specs.Lists.{Text, same_numbers, same_list}
+use Rattle.rt_model.specs.Tree.{Types, TemplateNodes, no_nodes, text_node, template_with, Tree, block, Slots, no_slots, more_slots, Slot, component_slot, Own, placeholder_tree, Element, rendered, suspended}
+use Rattle.rt_model.specs.World.{TaskStep, pending, ready, Nothing, nothing, Application}
+use Rattle.rt_model.specs.Program.{Program, done, current_scope, read, new_cell, write, spawn, wake, clear_errors, provide, hook_is_new, use_hook, Programs, application_of}
 use Rattle.rt_model.specs.Laws.{IsLawful}
-use Rattle.rt_model.specs.Replay.{Entry, Build, Made, Input, Machine, start}
-use Rattle.rt_model.specs.State.{Fault, OutOfTurns, TooDeep, IdsExhausted, HookChanged, NoSuchTask, BadNode}
-use Rattle.rt_model.specs.Document.{Edit, Empty, same_edit}
-use Rattle.rt_model.specs.Told.{Told, Telling, tell_reports, edits_of, same_edits, all_shown, telling, tell_log}
-use Rattle.rt_model.specs.Current.{all_current}
-use Rattle.rt_model.specs.Causes.{Limits, refusal, replay_within, edits_at_refusal}
+use Rattle.rt_model.specs.Replay.{Entry, Input, start}
+use Rattle.rt_model.specs.Document.{Edit}
+use Rattle.rt_model.specs.Told.{Told, tell_reports, edits_of, same_edits}
+use Rattle.rt_model.specs.Headline.{one_each}
+use Rattle.rt_model.specs.Finished.{is_finished}
 
 -- a number or a text
 pub data Val : Type 0 where
@@ -163,13 +162,9 @@ use_task job rest =
     then spawn job false false (λ o. or_give_up o (λ t. use_hook 4 (Num t) (λ v. rest t)))
     else use_hook 4 (Num 0) (λ v. rest (number_of v)))
 
--- a body that suspends on a task, or fails with a text
+-- a body that suspends on a task
 abbrev pub suspends : ℕ → Body
 suspends t = current_scope (λ s. done (suspended s t))
-
--- a body that answers an error with this text
-abbrev pub fails : Text → Body
-fails text = captured text (λ o. elim o [ None ↦ gives_up | Some e ↦ done (failed e) ])
 
 -- a body that answers this tree
 abbrev pub shows : Tree R → Body
@@ -183,112 +178,25 @@ only nodes = block (template_with nodes) [] no_slots
 abbrev pub words : Text → Tree R
 words text = only (text_node text no_nodes)
 
--- an element without attributes in a row of nodes
-abbrev pub plain_node : Text → TemplateNodes → TemplateNodes → TemplateNodes
-plain_node tag children rest = element_node tag None [] children rest
-
 -- these slots, numbered in order
 abbrev pub slots : List (Slot R) → Slots R
 slots [] = no_slots
 slots (v ∷ vs) = more_slots v (slots vs)
 
--- a tree of these nodes, with slots
-abbrev pub with_slots : TemplateNodes → List (Slot R) → Tree R
-with_slots nodes vs = block (template_with nodes) [] (slots vs)
-
--- two slots side by side
-abbrev pub two_slots : Slot R → Slot R → Tree R
-two_slots a b = with_slots (slot_node 0 (slot_node 1 no_nodes)) (a ∷ b ∷ [])
-
 -- a component of the application as a slot
 abbrev pub use_of : Name → List Val → Slot R
 use_of name props = component_slot (Own name props)
 
--- the log of a build down to the application's root
-abbrev pub base : List Entry
-base = Build ∷ Made 1 ∷ Made 2 ∷ Made 3 ∷ []
+-- replay tells reports that pass the test of what is finished, with these edits
+abbrev pub told_with : Application R → List (List Edit) → Option (List (Told R)) → Bool
+told_with app edits None = false
+told_with app edits (Some told) = same_edits (edits_of told) edits && is_finished app told
 
--- the reports of an application with these logs
-abbrev pub reports_of : Programs R → List Val → List (Input R) → List (List Entry) → Option (List (Told R))
-reports_of a props inputs logs = tell_reports (application_of a) (start (application_of a) props inputs) logs
-
--- no input is left after the last report
-abbrev pub all_taken : List (Told R) → Bool
-all_taken [] = true
-all_taken (r ∷ []) = elim r.machine.inputs [ [] ↦ true | i ∷ rest ↦ false ]
-all_taken (r ∷ q ∷ rs) = all_taken (q ∷ rs)
-
--- every kept output is current after each report
-abbrev pub each_current : Application R → List (Told R) → Bool
-each_current app [] = true
-each_current app (r ∷ rs) = all_current app r.machine.state && each_current app rs
-
--- the reports have these edits, the document after each is what shows, nothing is owed, all is current
-abbrev pub finished : Application R → Option (List (Told R)) → List (List Edit) → Bool
-finished app None edits = false
-finished app (Some rs) edits = same_edits (edits_of rs) edits && all_shown Empty rs && each_current app rs
-
--- replay accepts the logs, and no input is left
-abbrev pub takes_all : Option (List (Told R)) → Bool
-takes_all None = false
-takes_all (Some rs) = all_taken rs
-
--- replay accepts each report's log, its edits are these, the document after it is what shows; all inputs are taken
+-- the logs are one for the build and one for each input, replay accepts them, the edits are these, and all is as the headline says
 abbrev pub RowOf : Programs R → List Val → List (Input R) → List (List Entry) → List (List Edit) → Type 0
 RowOf a props inputs logs edits =
-    finished (application_of a) (reports_of a props inputs logs) edits && takes_all (reports_of a props inputs logs) ≡ true
-
--- equal counters
-abbrev pub same_counter : Counter → Counter → Bool
-same_counter Scopes Scopes = true
-same_counter Tasks Tasks = true
-same_counter Cells Cells = true
-same_counter Contexts Contexts = true
-same_counter Elements Elements = true
-same_counter Errors Errors = true
-same_counter Renders Renders = true
-same_counter _ _ = false
-
--- equal faults
-abbrev pub same_fault : Fault → Fault → Bool
-same_fault (OutOfTurns a) (OutOfTurns b) = nat_eq a b
-same_fault (TooDeep a) (TooDeep b) = nat_eq a b
-same_fault (IdsExhausted a) (IdsExhausted b) = same_counter a b
-same_fault (HookChanged s i k a) (HookChanged r j l b) = nat_eq s r && nat_eq i j && nat_eq k l && nat_eq a b
-same_fault (NoSuchTask s t) (NoSuchTask r u) = nat_eq s r && nat_eq t u
-same_fault (BadNode s) (BadNode r) = nat_eq s r
-same_fault _ _ = false
-
--- the replay after the last report
-abbrev pub machine_after : Machine R → List (Told R) → Machine R
-machine_after m [] = m
-machine_after m (r ∷ rs) = machine_after r.machine rs
-
--- a log goes on to a refusal with this fault, and these edits were taken
-abbrev pub comes_to : Limits → Option (Telling R) → Application R → Fault → List Edit → Bool
-comes_to limits None app fault edits = false
-comes_to limits (Some t) app fault edits =
-    same_option (λ a b. same_fault a b) (refusal limits t.machine) (Some fault)
+    one_each inputs logs
     &&
-    same_list (λ a b. same_edit a b) (edits_at_refusal app limits t) edits
-
--- after these reports a log within the limits goes on to the refusal
-abbrev pub goes_on_to : Limits → Application R → Machine R → Option (List (Told R)) → List Entry → Fault → List Edit → Bool
-goes_on_to limits app m None log fault edits = false
-goes_on_to limits app m (Some rs) log fault edits =
-    comes_to limits (tell_log app (Some (telling (machine_after m rs))) log) app fault edits
-    &&
-    is_some (replay_within app limits (Some (machine_after m rs)) log)
-
--- after finished reports a log goes on to a fault
-abbrev pub FaultOf : Programs R → List (Input R) → Limits → List (List Entry) → List (List Edit) → List Entry → Fault → List Edit → Type 0
-FaultOf a inputs limits logs edits log fault last =
-    finished (application_of a) (reports_of a [] inputs logs) edits
-    &&
-    goes_on_to limits (application_of a) (start (application_of a) [] inputs) (reports_of a [] inputs logs) log fault last
+    told_with (application_of a) edits (tell_reports (application_of a) (start (application_of a) props inputs) logs)
     ≡
     true
-
--- the limits of a run that names none
-abbrev pub usual : Limits
-usual = record { units = 10000; height = 128; drain = 1024 }

@@ -77,11 +77,8 @@ module _ (K : Types) where
     pub hooks : List (Hook K)
     -- what it provides, by kind
     pub contexts : List (ℕ × K.Value)
-    -- of the last run: its world, its reads, those aside, its answer
-    pub given : Option (World K)
+    -- what its body or its fallback's body read last
     pub reads : List Source
-    pub aside : List Source
-    pub answer : Option (Element K)
     -- it was shown at the end of the build or of a unit, so its effects may be done
     pub mounted : Bool
     -- that it has queued, in order
@@ -96,6 +93,16 @@ module _ (K : Types) where
     pub frozen : Bool
     -- what is called when it turns to its children, with the scope of each
     pub callbacks : List (ℕ × K.Effect)
+
+  -- the last call of a scope's body, or of its fallback's: what only the law of current outputs speaks of
+  pub record LastCall : Type 0 where
+    -- the world that it was given
+    pub given : World K
+    -- what was read in it, but not recorded
+    pub aside : List Source
+    pub answer : Element K
+    -- the output that its scope had before it
+    pub before : Option (Tree K)
 
   -- a cell and the scope that it goes with
   pub record CellRow : Type 0 where
@@ -120,9 +127,11 @@ module _ (K : Types) where
     -- who may poll it in a suspended render
     pub kind : TaskKind
 
-  -- each part by number, the lists ascending; next numbers of all counters
+  -- each part by number, ascending but for the last calls, which stand as they first came; next numbers of all counters
   pub record State : Type 0 where
     pub scopes : List (ℕ × Scope)
+    -- by the scope
+    pub last_calls : List (ℕ × LastCall)
     pub cells : List (ℕ × CellRow)
     pub contexts : List (ℕ × ContextRow)
     pub tasks : List (ℕ × TaskRow)
@@ -137,6 +146,8 @@ module _ (K : Types) where
     pub skipped : List ℕ
     pub next_scope : ℕ
     pub next : Firsts
+    -- how often the application was called: bodies, polls, effects of each kind, listeners
+    pub calls : ℕ
 
   -- open work: a number to draw, a step of a boundary, a child to feed, to make or to drop
   pub data Item : Type 0 where
@@ -193,10 +204,7 @@ module _ {K : Types} where
         renders = 0;
         hooks = [];
         contexts = [];
-        given = None;
         reads = [];
-        aside = [];
-        answer = None;
         mounted = false;
         effects = [];
         error = None;
@@ -241,7 +249,7 @@ module _ {K : Types} where
   abbrev pub upwards : (Scope K → Bool) → State K → ℕ → Option ℕ
   upwards test w s = climb test w.scopes (height_of w.scopes s) s
 
-  -- the nearest error boundary, and the boundary that the location of a scope names
+  -- the nearest error boundary from s upwards
   abbrev pub error_context : State K → ℕ → Option ℕ
   error_context w s = upwards (λ x. is_error_boundary x.component) w s
 
@@ -264,7 +272,7 @@ module _ {K : Types} where
   location_from scopes (suc n) s =
       elim (at scopes s) [ None ↦ None | Some x ↦ location_at scopes (λ p. location_from scopes n p) x.below x.parent ]
 
-  -- where a scope stands: a boundary stands on its own, so it has no location among another's children
+  -- where a scope stands: the nearest suspense boundary above it, itself not counted, with that boundary's side on the way
   abbrev pub location : State K → ℕ → Option (ℕ × SideName)
   location w s = location_from w.scopes (height_of w.scopes s) s
 

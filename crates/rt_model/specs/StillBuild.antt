@@ -161,18 +161,18 @@ module _ {K : Types} (app : Application K) where
       → TookOf taken []
       → CameTo app props [] limits taken [] (IdsExhausted Elements)
 
-  -- where the build comes to a fault the inputs aren't valid
+  -- where a session comes to a fault, whatever it has finished, the inputs aren't valid
   abbrev pub FaultIsInvalid : Type 0
   FaultIsInvalid =
-      (props : K.Props) (inputs : List (Input K)) (limits : Limits) (taken : Option (List Edit)) (fault : Fault)
-      → CameTo app props inputs limits taken [] fault
+      (props : K.Props) (inputs : List (Input K)) (limits : Limits) (taken : Option (List Edit)) (reports : List Report) (fault : Fault)
+      → CameTo app props inputs limits taken reports fault
       → IsValid app props inputs limits
       → ⊥
 
-  -- the build comes to one fault at most
+  -- a session comes to one fault at most
   abbrev pub OneFault : Type 0
   OneFault =
-      (props : K.Props) (inputs : List (Input K)) (limits : Limits) (taken also : Option (List Edit)) (fault other : Fault)
-      → CameTo app props inputs limits taken [] fault
-      → CameTo app props inputs limits also [] other
+      (props : K.Props) (inputs : List (Input K)) (limits : Limits) (taken also : Option (List Edit)) (reports others : List Report) (fault other : Fault)
+      → CameTo app props inputs limits taken reports fault
+      → CameTo app props inputs limits also others other
       → fault ≡ other

@@ -4,9 +4,11 @@ ghost use Rattle.rt_model.specs.World.{Application};
 ghost use Rattle.rt_model.specs.OneLog.{types, OneLog};
 ghost use Rattle.rt_model.specs.Laws.{ProgramsAreLawful};
 ghost use Rattle.rt_model.specs.Lasting.{LawfulLogsLast};
+ghost use Rattle.rt_model.specs.Framed.{RemovalTakesOne};
 ghost use Rattle.rt_model.specs.Still.{SameCausesNothing, RestCausesNothing};
 ghost use Rattle.rt_model.specs.Once.{ShownOnce};
 ghost use Rattle.rt_model.specs.CurrentTest.{TestDecidesCurrent};
+ghost use Rattle.rt_model.specs.Finished.{FinishedIsHeadline, FinishedComesTo, ToldIsReplayed};
 
 /// For one list of inputs at most one log of each length is accepted.
 pub fn one_log<C, P, V, H, T, E, L>()
@@ -18,9 +20,15 @@ pub fn programs_are_lawful<C, P, V, H, T, E, L>()
     ensures { ProgramsAreLawful (types C P V H T E L) }
 {}
 
-/// Along an accepted log no number is drawn twice, no entry names a scope that was removed, no ended task is polled, and heights rise by one from parent to child.
+/// Along an accepted log of a lawful application each scope has a greater number than those made before it, no counter falls, no entry names a scope that was removed,
+/// no ended task is polled, and heights rise by one from a live parent to its child.
 pub fn lawful_logs_last<C, P, V, H, T, E, L>()
     ensures { (app : Application (types C P V H T E L)) → LawfulLogsLast app }
+{}
+
+/// A removal that isn't cut leads to no work and takes its scope alone: every other one keeps its component, parent, height and sides.
+pub fn removal_takes_one<C, P, V, H, T, E, L>()
+    ensures { (app : Application (types C P V H T E L)) → RemovalTakesOne app }
 {}
 
 /// Between a state and itself no edit is caused, where no attribute slot of a kept output has a name twice.
@@ -41,4 +49,19 @@ pub fn rest_causes_nothing<C, P, V, H, T, E, L>()
 /// The test that every scope is current says so exactly where it holds, where the application's tests decide.
 pub fn test_decides_current<C, P, V, H, T, E, L>()
     ensures { (app : Application (types C P V H T E L)) → TestDecidesCurrent app }
+{}
+
+/// Reports are told exactly of logs that replay accepts one after another, and lead to the same state.
+pub fn told_is_replayed<C, P, V, H, T, E, L>()
+    ensures { (app : Application (types C P V H T E L)) → ToldIsReplayed app }
+{}
+
+/// Reports that pass the computing test keep the headline, where the application's tests decide.
+pub fn finished_is_headline<C, P, V, H, T, E, L>()
+    ensures { (app : Application (types C P V H T E L)) → FinishedIsHeadline app }
+{}
+
+/// Reports that pass the computing test, and a log from there on within the limits, come to the fault of the refusal.
+pub fn finished_comes_to<C, P, V, H, T, E, L>()
+    ensures { (app : Application (types C P V H T E L)) → FinishedComesTo app }
 {}

@@ -28,12 +28,12 @@ pub fn spent_numbers_end<C, P, V, H, T, E, L>()
     ensures { (app : Application (types C P V H T E L)) → SpentNumbersEnd app }
 {}
 
-/// A build that comes to a fault has no valid inputs.
+/// A session that comes to a fault has no valid inputs.
 pub fn fault_is_invalid<C, P, V, H, T, E, L>()
     ensures { (app : Application (types C P V H T E L)) → FaultIsInvalid app }
 {}
 
-/// A build comes to one fault at most.
+/// A session comes to one fault at most.
 pub fn one_fault<C, P, V, H, T, E, L>()
     ensures { (app : Application (types C P V H T E L)) → OneFault app }
 {}
