@@ -5,3 +5,5 @@ pub mod Told
 pub mod Counts
 pub mod Left
 pub mod Order
+pub mod Rebuilding
+pub mod Mounted

@@ -1,11 +1,16 @@
 //! A mounted tree.
 
-ghost use Rattle.std.specs.Prelude.{◌≡◌, IfOk};
+ghost use Rattle.std.specs.Prelude.{◌≡◌, length, IfOk};
 
+use crate::builder::Builder;
+use crate::rebuild::Rebuild;
+use rt_edits::DocNode;
 use rt_nodes::VNode;
 use rt_parts::{ElementId, Parts};
+use rt_plan::plan_nodes;
 use rt_values::{List, OutOfMemory, ScopeId};
 use std::alloc::Global;
+use std::collections::VecDeque;
 
 /// A mounted tree, with the number of each of its nodes and the child scope in each of its component
 /// slots, both in the order of the tree.
@@ -17,6 +22,8 @@ pub struct Block<P: Parts> {
 }
 
 impl<P: Parts> Block<P> {
+    ghost use Rattle.rt_patch.specs.Rebuilding.{nodes_of_tree};
+
     pub fn tree(&self) -> &VNode<P>
         ensures tree { result.now ≡ self.now.tree }
     {
@@ -35,5 +42,29 @@ impl<P: Parts> Block<P> {
         ensures numbers { IfOk result (λ numbers. numbers ≡ self.now.numbers.items) }
     {
         List::from_slice(alloc, self.numbers.as_slice())
+    }
+
+    /// What it shows, with the numbers that its nodes have, where `children` are the nodes of each of
+    /// its child scopes.
+    pub fn nodes(
+        &self,
+        alloc: Global,
+        children: List<List<DocNode>>,
+    ) -> Result<List<DocNode>, OutOfMemory>
+        requires each { length children ≡ length self.now.children.items }
+        ensures nodes { IfOk result (λ nodes. nodes
+            ≡ nodes_of_tree self.now.tree self.now.numbers.items children) }
+    {
+        let plan = plan_nodes(alloc, &self.tree)?;
+        let numbers = self.numbers(alloc)?;
+        let mut rebuild = Rebuild {
+            built: Builder::new(alloc),
+            numbers: VecDeque::from_vec(numbers.into_vec()),
+            children: VecDeque::from_vec(children.into_vec()),
+        };
+        for instruction in plan {
+            rebuild.build(alloc, instruction)?;
+        }
+        Ok(rebuild.built.take(alloc))
     }
 }

@@ -3,14 +3,16 @@
 
 mod block;
 mod builder;
+mod mounted;
 mod order;
+mod passing;
 mod patch;
+mod rebuild;
 mod step;
-#[cfg(test)]
-mod tests;
 mod turning;
 
 pub use block::Block;
+pub use mounted::nodes_as_built;
 pub use order::steps_in_order;
 pub use patch::Patch;
 pub use rt_plan::{Place, Step};

@@ -1,23 +1,24 @@
 //! What each instruction of a plan leads to.
 
 ghost use Rattle.std.specs.Prelude.{◌≡◌, ◌++◌, ◌∷◌, [], true, false, List as Items, ◌^◌, ◌-◌, IfOk, IfErr, IfSome, IfNone, OnOk, OnSome, ◌+◌, suc};
-ghost use Rattle.std.specs.List.{slice_index_or};
+ghost use Rattle.rt_patch.specs.Building.{taken};
 ghost use Rattle.rt_patch.specs.Counts.{other_of, others_of};
-ghost use Rattle.rt_patch.specs.Gathered.{after_first, drawing, first_or, last_or, leaving, losing, no_number, no_scope, number_back, with_child, with_number};
-ghost use Rattle.rt_patch.specs.Steps.{Answer, adjusted, asking, asking_phase, told};
+ghost use Rattle.rt_patch.specs.Gathered.{drawing, last_or, no_scope, number_back};
+ghost use Rattle.rt_patch.specs.Steps.{Answer, told};
 ghost use Rattle.rt_patch.specs.Told.{IfDone, IfDrawn, IfEdit, UnlessDrawn};
 
 use crate::patch::{Patch, Phase};
 use crate::step::{PatchStep, TreeFault};
 use rt_edits::Edit;
+use rt_nodes::VComponent;
 use rt_parts::{ElementId, Parts};
-use rt_plan::{AttributeChange, Instruction, Shape};
+use rt_plan::{Instruction, Shape, Step};
 use rt_tracked::Serials;
-use rt_values::{OutOfMemory, ScopeId};
+use rt_values::{List, ScopeId};
 use std::alloc::Global;
 
 impl<P: Parts> Patch<P> {
-    ghost use Rattle.rt_patch.specs.Left.{ahead, awaited, awaits, due, due_ahead, kept, left, named, others, seen};
+    ghost use Rattle.rt_patch.specs.Left.{ahead, awaited, awaits, built_of, due, due_ahead, kept, left, named, others, seen};
 
     /// Does what an instruction says, and answers the step that it leads to.
     pub(crate) fn turn(
@@ -63,38 +64,19 @@ impl<P: Parts> Patch<P> {
                 self.keep()?;
                 Ok(None)
             }
-            Instruction::Rewrite(text) => {
-                let id = self.keep()?;
-                Ok(Some(PatchStep::Edit(Edit::SetNodeText { id, text })))
-            }
-            Instruction::Adjust { ahead, change } => {
-                let edit = adjusted(self.number_ahead(ahead), change);
-                Ok(Some(PatchStep::Edit(edit)))
-            }
-            Instruction::Feed(component) => {
-                let scope = self.keep_child()?;
-                Ok(Some(PatchStep::Feed { scope, component }))
-            }
-            Instruction::Lose { root } => {
-                self.lose(root)?;
-                Ok(None)
-            }
-            Instruction::Leave { root } => {
-                let scope = self.leave()?;
-                Ok(self.question(root, scope))
-            }
+            Instruction::Rewrite(text) => Ok(Some(self.rewrite(text)?)),
+            Instruction::Adjust { ahead, change } => Ok(Some(self.adjust(ahead, change))),
+            Instruction::Feed(component) => Ok(Some(self.feed(component)?)),
+            Instruction::Lose { root } => Ok(self.lose(root)?),
+            Instruction::Leave { root } => Ok(self.leave(root)?),
             Instruction::Draw { steps, path, shape } => {
-                let id = self.draw(alloc, shape, ids)?;
-                Ok(Some(PatchStep::Drawn { id, steps, path }))
+                Ok(Some(self.draw(alloc, steps, path, shape, ids)?))
             }
             Instruction::Close => {
                 self.built.close()?;
                 Ok(None)
             }
-            Instruction::Make(component) => {
-                self.phase = Phase::Make;
-                Ok(Some(PatchStep::Make(component)))
-            }
+            Instruction::Make(component) => Ok(Some(self.make(component))),
             Instruction::Replace => match self.replace(alloc) {
                 Some(edit) => Ok(Some(PatchStep::Edit(edit))),
                 None => Ok(None),
@@ -111,158 +93,34 @@ impl<P: Parts> Patch<P> {
                 self.neighbour = last_of(self.children.as_slice());
                 Ok(None)
             }
-            Instruction::Ask => {
-                self.phase = Phase::Last(self.neighbour);
-                Ok(Some(PatchStep::Nodes(self.neighbour)))
-            }
-            Instruction::Insert => {
-                let nodes = self.built.take(alloc);
-                let id = self.behind;
-                Ok(Some(PatchStep::Edit(Edit::InsertNodesAfter { id, nodes })))
-            }
+            Instruction::Ask => Ok(Some(self.ask())),
+            Instruction::Insert => Ok(Some(self.insert(alloc))),
         }
-    }
-
-    // The next old number. A block has one for each node of its tree.
-    fn next_number(&mut self) -> ElementId
-        ensures id { result ≡ first_or no_number self.old.old_numbers.items }
-        ensures rest { self.new.old_numbers.items ≡ after_first self.old.old_numbers.items }
-        ensures kept { kept self.new ≡ kept self.old }
-        ensures children { self.new.old_children.items ≡ self.old.old_children.items }
-        ensures phase { self.new.phase ≡ self.old.phase }
-        ensures plan { self.new.plan.items ≡ self.old.plan.items }
-        ensures tree { self.new.tree ≡ self.old.tree }
-    {
-        match self.old_numbers.pop_front() {
-            Some(id) => id,
-            None => ElementId(0),
-        }
-    }
-
-    // The next old child scope. A block has one for each component slot of its tree.
-    fn next_child(&mut self) -> ScopeId
-        ensures scope { result ≡ first_or no_scope self.old.old_children.items }
-        ensures rest { self.new.old_children.items ≡ after_first self.old.old_children.items }
-        ensures kept { kept self.new ≡ kept self.old }
-        ensures numbers { self.new.old_numbers.items ≡ self.old.old_numbers.items }
-        ensures phase { self.new.phase ≡ self.old.phase }
-        ensures plan { self.new.plan.items ≡ self.old.plan.items }
-        ensures tree { self.new.tree ≡ self.old.tree }
-    {
-        match self.old_children.pop_front() {
-            Some(scope) => scope,
-            None => ScopeId(0),
-        }
-    }
-
-    // The old number that comes after so many others.
-    fn number_ahead(&self, ahead: u64) -> ElementId
-        ensures { result ≡ slice_index_or self.now.old_numbers.items ahead no_number }
-    {
-        match self.old_numbers.get(ahead as usize) {
-            Some(id) => *id,
-            None => ElementId(0),
-        }
-    }
-
-    // The next old number is kept.
-    fn keep(&mut self) -> Result<ElementId, OutOfMemory>
-        ensures id { IfOk result (λ id. id ≡ first_or no_number self.old.old_numbers.items) }
-        ensures rest { self.new.old_numbers.items ≡ after_first self.old.old_numbers.items }
-        ensures kept { OnOk result (kept self.new
-            ≡ with_number (first_or no_number self.old.old_numbers.items) (kept self.old)) }
-        ensures children { self.new.old_children.items ≡ self.old.old_children.items }
-        ensures phase { self.new.phase ≡ self.old.phase }
-        ensures plan { self.new.plan.items ≡ self.old.plan.items }
-        ensures tree { self.new.tree ≡ self.old.tree }
-    {
-        let id = self.next_number();
-        self.numbers.push(id)?;
-        Ok(id)
-    }
-
-    // The next old child scope is kept.
-    fn keep_child(&mut self) -> Result<ScopeId, OutOfMemory>
-        ensures scope { IfOk result (λ scope.
-            scope ≡ first_or no_scope self.old.old_children.items) }
-        ensures rest { self.new.old_children.items ≡ after_first self.old.old_children.items }
-        ensures kept { OnOk result (kept self.new
-            ≡ with_child (first_or no_scope self.old.old_children.items) (kept self.old)) }
-        ensures numbers { self.new.old_numbers.items ≡ self.old.old_numbers.items }
-        ensures phase { self.new.phase ≡ self.old.phase }
-        ensures plan { self.new.plan.items ≡ self.old.plan.items }
-        ensures tree { self.new.tree ≡ self.old.tree }
-    {
-        let scope = self.next_child();
-        self.children.push(scope)?;
-        Ok(scope)
-    }
-
-    // The node with the next old number goes.
-    fn lose(&mut self, root: bool) -> Result<(), OutOfMemory>
-        ensures rest { self.new.old_numbers.items ≡ after_first self.old.old_numbers.items }
-        ensures kept { OnOk result (kept self.new
-            ≡ losing root (first_or no_number self.old.old_numbers.items) (kept self.old)) }
-        ensures children { self.new.old_children.items ≡ self.old.old_children.items }
-        ensures phase { self.new.phase ≡ self.old.phase }
-        ensures plan { self.new.plan.items ≡ self.old.plan.items }
-        ensures tree { self.new.tree ≡ self.old.tree }
-    {
-        let id = self.next_number();
-        self.gone.push_back(id)?;
-        if root {
-            self.roots.push_back(id)?;
-        }
-        Ok(())
-    }
-
-    // The next old child scope goes.
-    fn leave(&mut self) -> Result<ScopeId, OutOfMemory>
-        ensures scope { IfOk result (λ scope.
-            scope ≡ first_or no_scope self.old.old_children.items) }
-        ensures rest { self.new.old_children.items ≡ after_first self.old.old_children.items }
-        ensures kept { OnOk result (kept self.new
-            ≡ leaving (first_or no_scope self.old.old_children.items) (kept self.old)) }
-        ensures numbers { self.new.old_numbers.items ≡ self.old.old_numbers.items }
-        ensures phase { self.new.phase ≡ self.old.phase }
-        ensures plan { self.new.plan.items ≡ self.old.plan.items }
-        ensures tree { self.new.tree ≡ self.old.tree }
-    {
-        let scope = self.next_child();
-        self.drops.push_back(scope)?;
-        Ok(scope)
-    }
-
-    // A scope that goes is asked for its nodes if it is a root.
-    fn question(&mut self, root: bool, scope: ScopeId) -> Option<PatchStep<P>>
-        ensures step { result ≡ asking root scope }
-        ensures phase { self.new ≡ record self.old { phase = asking_phase root scope self.old.phase } }
-    {
-        if root {
-            self.phase = Phase::Roots(scope);
-            return Some(PatchStep::Nodes(scope));
-        }
-        None
     }
 
     // Draws a number for a new node of this shape.
     fn draw(
         &mut self,
         alloc: Global,
+        steps: List<Step>,
+        path: List<u8>,
         shape: Shape,
         ids: &mut Serials,
-    ) -> Result<ElementId, TreeFault>
-        ensures kept { IfOk result (λ id. kept self.new ≡ drawing id shape (kept self.old)) }
+    ) -> Result<PatchStep<P>, TreeFault>
+        ensures step { IfOk result (λ step. step
+            ≡ PatchStep.Drawn (record { 0 = ids.old }) steps path) }
+        ensures kept { OnOk result (kept self.new
+            ≡ drawing (record { 0 = ids.old }) shape (kept self.old)) }
         ensures numbers { self.new.old_numbers.items ≡ self.old.old_numbers.items }
         ensures children { self.new.old_children.items ≡ self.old.old_children.items }
         ensures phase { self.new.phase ≡ self.old.phase }
         ensures plan { self.new.plan.items ≡ self.old.plan.items }
         ensures tree { self.new.tree ≡ self.old.tree }
 
-        // The number is the next one; it stays drawn after a fault, which comes at the last one.
-        ensures drawn { IfOk result (λ id. id.0 ≡ ids.old) }
+        // The number stays drawn after a fault, which comes at the last one.
         ensures rises { OnOk result (ids.new ≡ ids.old + 1) }
-        ensures end { IfErr result (λ fault. fault ≡ TreeFault.IdsExhausted → ids.old ≡ 2 ^ 64 - 1) }
+        ensures end { IfErr result (λ fault.
+            fault ≡ TreeFault.IdsExhausted → ids.old ≡ 2 ^ 64 - 1) }
     {
         let Some(number) = ids.next() else {
             return Err(TreeFault::IdsExhausted);
@@ -270,7 +128,16 @@ impl<P: Parts> Patch<P> {
         let id = ElementId(number);
         self.numbers.push(id)?;
         self.built.draw(alloc, id, shape)?;
-        Ok(id)
+        Ok(PatchStep::Drawn { id, steps, path })
+    }
+
+    // A scope is to be made.
+    fn make(&mut self, component: VComponent<P>) -> PatchStep<P>
+        ensures step { result ≡ PatchStep.Make component }
+        ensures phase { self.new ≡ record self.old { phase = Phase.Make } }
+    {
+        self.phase = Phase::Make;
+        PatchStep::Make(component)
     }
 
     // The first root that goes is replaced by what was built.
@@ -319,25 +186,33 @@ impl<P: Parts> Patch<P> {
         self.phase = Phase::Removing;
         Some(Edit::RemoveNode { id })
     }
-}
 
-/// The edit by which an element's attributes or listeners change.
-fn adjusted(id: ElementId, change: AttributeChange) -> Edit
-    ensures { result ≡ adjusted id change }
-{
-    match change {
-        AttributeChange::Text {
-            name,
-            namespace,
-            text,
-        } => Edit::SetAttribute {
-            id,
-            name,
-            namespace,
-            value: text,
-        },
-        AttributeChange::Listen { name } => Edit::CreateEventListener { id, name },
-        AttributeChange::Unlisten { name } => Edit::RemoveEventListener { id, name },
+    // The scope behind which more is inserted is asked for its nodes.
+    fn ask(&mut self) -> PatchStep<P>
+        ensures step { result ≡ PatchStep.Nodes self.old.neighbour }
+        ensures phase { self.new ≡ record self.old { phase = Phase.Last self.old.neighbour } }
+    {
+        self.phase = Phase::Last(self.neighbour);
+        PatchStep::Nodes(self.neighbour)
+    }
+
+    // What was built is inserted.
+    fn insert(&mut self, alloc: Global) -> PatchStep<P>
+        ensures step { result
+            ≡ PatchStep.Edit (Edit.InsertNodesAfter self.old.behind self.old.built.row) }
+        ensures kept { kept self.new
+            ≡ record (kept self.old) { built = taken (built_of self.old.built) } }
+        ensures numbers { self.new.old_numbers.items ≡ self.old.old_numbers.items }
+        ensures children { self.new.old_children.items ≡ self.old.old_children.items }
+        ensures phase { self.new.phase ≡ self.old.phase }
+        ensures plan { self.new.plan.items ≡ self.old.plan.items }
+        ensures tree { self.new.tree ≡ self.old.tree }
+    {
+        let nodes = self.built.take(alloc);
+        PatchStep::Edit(Edit::InsertNodesAfter {
+            id: self.behind,
+            nodes,
+        })
     }
 }
 

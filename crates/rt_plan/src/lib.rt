@@ -4,20 +4,14 @@
 
 mod alike;
 mod anchor;
-mod attributes;
-mod counting;
-mod instruction;
+mod growing;
+mod keeping;
 mod losing;
 mod making;
-mod names;
 mod pairing;
-mod pieces;
-mod place;
-mod shapes;
-mod spot;
-mod tokens;
+mod replacing;
 
-pub use instruction::{AttributeChange, Instruction, Shape};
+pub use anchor::Anchor;
 pub use making::{plan_build, plan_nodes};
 pub use pairing::plan_over;
-pub use place::{Place, Step};
+pub use rt_shapes::{AttributeChange, Instruction, Place, Shape, Step};

@@ -1,8 +1,8 @@
 -- Slots that only one of two trees has, the walk through a template that stays, and the ends of two lists of items.
 use Rattle.std.specs.List.{slice_index_or}
-use Rattle.std.proofs.Common.{◌<◌, [], length, get_or, map, sym, ap, ◌∙◌, arith}
+use Rattle.std.proofs.Common.{◌<◌, [], length, get_or, map, refl, sym, ap, ◌∙◌, arith}
 use Rattle.rt_plan.specs.Pairing.{beside, pair_token, pair_tree, pair_value, paired}
-use Rattle.rt_plan.specs.Tokens.{tokens_in}
+use Rattle.rt_shapes.specs.Tokens.{tokens_in}
 use Rattle.rt_plan.proofs.LosingLemmas.{on_same}
 use Rattle.rt_plan.proofs.PairingLemmas.{nothing_more, pair_begun, pair_end, paired_all, beside_past, past_olds, slot_at, token_next}
 use Rattle.rt_plan.proofs.pairing.+pair.Goals as goal
@@ -48,12 +48,12 @@ pair_slot-returns-in-None g t c = λ equality.
     nothing_more c.args.plan.now.items _ (beside_past c.args.steps.now c.args.id (slice_index_or c.args.new.now.template.node_paths c.args.id []) (pair_value equality c.args.shown c.args.before.now) c.args.new.now.dynamic_nodes c.args.id
     (omega (arith, ap length c.as_slice.ensures.items, c.in-None.ensures.lookup)))
 
-pub pair_value-returns-else-len-eq0-3 : goal.pair_value-returns-else-len-eq0-3
-pair_value-returns-else-len-eq0-3 g t c = λ equality.
+pub pair_old_fragment-returns-else-len-eq0-2 : goal.pair_old_fragment-returns-else-len-eq0-2
+pair_old_fragment-returns-else-len-eq0-2 g t c = λ equality.
     let place = c.args.spot.now in
-    let olds = c.as_slice.result.now in
-    let news = c.as_slice-else-len-eq0-3.result.now in
+    let olds = c.args.before.now in
+    let news = c.as_slice.result.now in
     on_same c.pair_items.result c.pair_items.new.plan.items c.args.plan.now.items (pair_value equality c.args.shown c.args.old.now c.args.new.now place.steps.now place.slot place.path.now) (paired equality c.args.shown olds news place.steps.now place.slot)
-    (paired_all equality c.args.shown place.steps.now place.slot place.path.now c.args.old.now c.args.new.now c.in-Fragment.before c.in-Fragment-new-4.after olds news c.in-Fragment.is c.in-Fragment-new-4.is c.as_slice.ensures.items c.as_slice-else-len-eq0-3.ensures.items
-    (omega (arith, c.len.ensures.items, c.if-len-eq0.false)) (omega (arith, c.len-else-len-eq0.ensures.items, c.if-len-eq0-3.false)))
+    (paired_all equality c.args.shown place.steps.now place.slot place.path.now c.args.old.now c.args.new.now olds c.in-Fragment.after olds news c.requires c.in-Fragment.is refl c.as_slice.ensures.items
+    (omega (arith, c.if-before-eq0.false)) (omega (arith, c.len-else-before-eq0.ensures.items, c.if-len-eq0-2.false)))
     (c.pair_items.ensures equality)

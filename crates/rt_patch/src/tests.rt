@@ -1,5 +1,0 @@
-//! Builds by examples: each step is printed.
-
-mod cases;
-mod printing;
-mod trees;
