@@ -1,0 +1,9 @@
+pub mod Deeds
+pub mod Plans
+pub mod Taken
+pub mod Served
+pub mod Answered
+pub mod Kept
+pub mod Work
+pub mod Standing
+pub mod Built

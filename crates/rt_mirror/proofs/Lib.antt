@@ -1,0 +1,4 @@
+pub mod TreeOut
+pub mod SealedNodes
+pub mod SealedTrees
+pub mod SealedComponents

@@ -1,0 +1,13 @@
+//! Which value of the definitions each value of the code is: templates, trees, answers, nodes of the
+//! document and edits.
+//!
+//! The definitions stand in specs/; the function here claims what holds of them.
+#![tactic(auto)]
+
+ghost use Rattle.rt_mirror.specs.ByParts.{TreeByParts};
+ghost use Rattle.rt_nodes.specs.declared.vnode.VNode.{VNode};
+
+/// The value of a tree is made of those of its template, its attributes and what stands in its slots.
+pub fn tree_by_parts<P, C, Q, V, H, T, E, L>()
+    ensures { (tree : VNode P C Q V H T E L) → TreeByParts tree }
+{}
