@@ -1,0 +1,17 @@
+pub mod Joins
+pub mod OneMoveOnly
+pub mod Weights
+pub mod Leaves
+pub mod Fuel
+pub mod Settling
+pub mod Acceptance
+pub mod Logs
+pub mod Tellings
+pub mod Beginnings
+pub mod Items
+pub mod Pruning
+pub mod Insides
+pub mod ChildByChild
+pub mod Reports
+pub mod Always
+pub mod Woods
