@@ -13,3 +13,4 @@ pub mod ReadersOf
 pub mod ContextsOf
 pub mod DroppedContexts
 pub mod Members
+pub mod Lasting

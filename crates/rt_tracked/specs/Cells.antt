@@ -40,6 +40,13 @@ module _ {V : Type 0} where
     next_cell = state.next_cell + 1;
   }
 
+  -- A new cell of the scope, after the others, under a number that is no lower than the next one.
+  abbrev pub cell_entered : ScopeId → ℕ → V → State V → State V
+  cell_entered owner cell value state = record state {
+    cells = state.cells ++ (cell, record { owner = owner; value = value }) ∷ [];
+    next_cell = cell + 1;
+  }
+
   -- Another value in the cell, where it is kept.
   abbrev pub cell_written : ℕ → V → State V → State V
   cell_written cell value state = record state { cells = written cell value state.cells }
@@ -47,6 +54,10 @@ module _ {V : Type 0} where
   -- The cell isn't kept.
   abbrev pub cell_dropped : ℕ → State V → State V
   cell_dropped cell state = record state { cells = without cell state.cells }
+
+  -- No cell of the scope is kept.
+  abbrev pub cells_of_dropped : ScopeId → State V → State V
+  cells_of_dropped owner state = record state { cells = without_scope owner state.cells }
 
   -- The reader has just the sources that are named.
   abbrev pub reads_set : Reader → List Source → State V → State V

@@ -1,13 +1,14 @@
 //! Tracked cells with their readers: what a body reads, and whom a write tells.
 //! A cell, a reader and a reactive context are known by number; a number is never used again.
-ghost use Rattle.std.specs.Prelude.{◌≡◌, ◌↔◌, ◌-◌, ◌^◌, ◌++◌, ◌∷◌, ℕ, [], IfOk, OnOk, OnErr, is_some};
+ghost use Rattle.std.specs.Prelude.{◌≡◌, ◌↔◌, ◌⊎◌, ◌-◌, ◌^◌, ◌<◌, ◌++◌, ◌∷◌, ℕ, [], IfOk, OnOk, OnErr, is_some, not, nat_eq};
 ghost use Rattle.std.specs.Option.{option_copied};
+ghost use Rattle.std.specs.List.{filter};
 ghost use Rattle.std.specs.List.Sorted.{IsStrictlySortedBy};
 ghost use Rattle.std.specs.Ordering.{nat_cmp};
 ghost use Rattle.rt_tracked.specs.Orders.{reader_cmp, source_cmp};
 ghost use Rattle.rt_tracked.specs.Held.{held_at, owner_at, value_at, numbers_of};
 ghost use Rattle.rt_tracked.specs.Reads.{in_order, reads_of, readers_of, context_sources};
-ghost use Rattle.rt_tracked.specs.Cells.{started, cell_made, cell_written, cell_dropped, reads_set, read_added, reader_dropped, context_made, contexts_dropped};
+ghost use Rattle.rt_tracked.specs.Cells.{started, cell_made, cell_entered, cell_written, cell_dropped, cells_of_dropped, reads_set, read_added, reader_dropped, context_made, contexts_dropped};
 
 use crate::faults::CellsFault;
 use crate::numbered::Numbered;
@@ -192,6 +193,17 @@ impl<V: Drop> Cells<V> {
         self.cells.insert(owner, value)
     }
 
+    /// Enters a cell of the scope under a number that was drawn elsewhere. A number below the next
+    /// one is refused as one that is used up.
+    pub fn enter_cell(&mut self, owner: ScopeId, cell: u64, value: V) -> Result<(), CellsFault>
+        ensures ok { OnOk result (self.new ≡ cell_entered owner cell value self.old) }
+        ensures used { (result ≡ Err CellsFault.IdsExhausted)
+            ↔ ((cell < self.old.next_cell) ⊎ (cell ≡ 2 ^ 64 - 1)) }
+        ensures err { OnErr result (self.new ≡ self.old) }
+    {
+        self.cells.enter(owner, cell, value)
+    }
+
     /// Replaces the value of a cell. False where there is no such cell; the value is dropped then.
     pub fn write(&mut self, cell: u64, value: V) -> bool
         ensures live { result ≡ is_some (held_at cell self.old.cells) }
@@ -204,7 +216,15 @@ impl<V: Drop> Cells<V> {
     pub fn drop_cell(&mut self, cell: u64) -> Option<V>
         ensures value { result ≡ value_at cell self.old.cells }
         ensures dropped { self.new ≡ cell_dropped cell self.old }
+        ensures gone { self.new.cells ≡ filter (λ kept. not (nat_eq kept.0 cell)) self.old.cells }
     {
         self.cells.remove(cell)
+    }
+
+    /// Removes the cells of the scope. Who reads them goes on reading them.
+    pub fn drop_cells(&mut self, owner: ScopeId)
+        ensures dropped { self.new ≡ cells_of_dropped owner self.old }
+    {
+        self.cells.remove_owned(owner);
     }
 }

@@ -1,15 +1,15 @@
 //! Things under numbers that are never used again, each made for a scope and found by it.
-ghost use Rattle.std.specs.Prelude.{◌≡◌, ◌↔◌, ℕ, ◌+◌, ◌-◌, ◌^◌, [], List, IfOk, OnOk, OnErr, is_some, Option};
+ghost use Rattle.std.specs.Prelude.{◌≡◌, ◌↔◌, ◌⊎◌, ℕ, ◌+◌, ◌-◌, ◌^◌, ◌<◌, ◌++◌, ◌∷◌, [], List, IfOk, OnOk, OnErr, is_some, Option, not, nat_eq};
 ghost use Rattle.std.specs.Option.{option_copied};
 ghost use Rattle.std.specs.Prelude.{map};
-ghost use Rattle.std.specs.List.{take_while, slice_get};
+ghost use Rattle.std.specs.List.{take_while, slice_get, filter};
 ghost use Rattle.std.specs.Map.{keys_of};
 ghost use Rattle.std.specs.Ordering.{nat_cmp};
 ghost use Rattle.std.specs.List.Sorted.{IsStrictlySortedBy};
 ghost use Rattle.std.specs.BTreeSet.{keys_between};
 ghost use Rattle.std.specs.declared.ops.Bound.TheVariants.{Included, Unbounded};
 ghost use Rattle.rt_tracked.specs.Orders.{same_scope};
-ghost use Rattle.rt_tracked.specs.Held.{owner_cmp, held_at, value_at, owner_at, entered, without, written, numbers_of};
+ghost use Rattle.rt_tracked.specs.Held.{owner_cmp, held_at, value_at, owner_at, entered, without, without_scope, written, numbers_of};
 
 use crate::faults::CellsFault;
 use rt_values::{List, OutOfMemory, ScopeId};
@@ -117,6 +117,8 @@ impl<T: Drop> Numbered<T> {
         ensures fresh { held_at self.old.next self.old.held ≡ None }
         ensures kept { OnOk result (held_at self.old.next self.new.held
             ≡ Some (record { owner = owner; value = value })) }
+        ensures last { OnOk result (self.new.held
+            ≡ self.old.held ++ (self.old.next, record { owner = owner; value = value }) ∷ []) }
         ensures at_end { (result ≡ Err CellsFault.IdsExhausted) ↔ (self.old.next ≡ 2 ^ 64 - 1) }
         ensures err { OnErr result (self.new ≡ self.old) }
     {
@@ -133,6 +135,31 @@ impl<T: Drop> Numbered<T> {
         };
         self.next = next;
         Ok(number)
+    }
+
+    /// Keeps one more thing, under a number that was drawn elsewhere. The numbers after it are next
+    /// then. A number below the next one is refused as one that is used up.
+    pub fn enter(&mut self, owner: ScopeId, number: u64, value: T) -> Result<(), CellsFault>
+        ensures ok { OnOk result (self.new ≡ record {
+          held = self.old.held ++ (number, record { owner = owner; value = value }) ∷ [];
+          next = number + 1;
+        }) }
+        ensures used { (result ≡ Err CellsFault.IdsExhausted)
+            ↔ ((number < self.old.next) ⊎ (number ≡ 2 ^ 64 - 1)) }
+        ensures err { OnErr result (self.new ≡ self.old) }
+    {
+        let before = self.next;
+        if number < before {
+            return Err(CellsFault::IdsExhausted);
+        }
+        self.next = number;
+        match self.insert(owner, value) {
+            Ok(_drawn) => Ok(()),
+            Err(fault) => {
+                self.next = before;
+                Err(fault)
+            }
+        }
     }
 
     /// Puts another value under a number; false where nothing is kept there.
@@ -153,10 +180,20 @@ impl<T: Drop> Numbered<T> {
     pub fn remove(&mut self, number: u64) -> Option<T>
         ensures value { result ≡ value_at number self.old.held }
         ensures others { self.new ≡ record self.old { held = without number self.old.held } }
+        ensures gone { self.new.held ≡ filter (λ thing. not (nat_eq thing.0 number)) self.old.held }
     {
         let Held { owner, value } = self.held.remove(&number)?;
         self.owners.remove(&(owner, number));
         Some(value)
+    }
+
+    /// Takes out the things that were made for the scope.
+    pub fn remove_owned(&mut self, owner: ScopeId)
+        ensures others { self.new ≡ record self.old { held = without_scope owner self.old.held } }
+    {
+        while let Some(number) = self.first_of(owner) {
+            self.remove(number);
+        }
     }
 }
 
