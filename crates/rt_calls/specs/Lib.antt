@@ -1,0 +1,11 @@
+pub mod World
+pub mod Turn
+pub mod Enter
+pub mod Calls
+pub mod Answers
+pub mod Steps
+pub mod Reads
+pub mod Contexts
+pub mod Hooks
+pub mod GoesOn
+pub mod Kept

@@ -1,0 +1,30 @@
+-- What a call of an application can look at, as the code holds it.
+use Rattle.std.specs.Prelude.{ℕ, Bool, List, [], ◌∷◌, Option, Some, None, nat_eq, if◌then◌else◌}
+use Rattle.rt_tracked.specs.declared.numbered.Held.{Held}
+use Rattle.rt_values.specs.declared.names.ScopeId.{ScopeId}
+use Rattle.rt_values.specs.declared.names.Task.{Task}
+use Rattle.rt_calls.specs.declared.world.Firsts.{Firsts}
+use Rattle.rt_calls.specs.declared.rows.ScopeRow.{ScopeRow}
+use Rattle.rt_calls.specs.declared.rest.Scope.{Scope}
+use Rattle.rt_calls.specs.declared.rows.Provided.{Provided}
+
+module _ (P Component Props Value Handler TaskState Effect Payload : Type 0) where
+  -- the caller's scope, the live scopes and cells by number, the next numbers, the task that is polled, and whether a patch is running
+  pub record CallWorld : Type 0 where
+    pub scope : ScopeId
+    pub rows : List (ℕ × ScopeRow P Component Props Value Handler TaskState Effect Payload)
+    pub cells : List (ℕ × Held Value)
+    pub next : Firsts
+    pub task : Option Task
+    pub rendering : Bool
+
+module _ {P Component Props Value Handler TaskState Effect Payload : Type 0} where
+  -- the rows alone, of all that is kept of scopes
+  abbrev pub rows_in : List (ℕ × Scope P Component Props Value Handler TaskState Effect Payload) → List (ℕ × ScopeRow P Component Props Value Handler TaskState Effect Payload)
+  rows_in [] = []
+  rows_in (entry ∷ scopes) = (entry.0, (entry.1).row) ∷ rows_in scopes
+
+  -- what is provided of a kind in a list
+  abbrev pub provided : List (Provided P Component Props Value Handler TaskState Effect Payload) → ℕ → Option Value
+  provided [] kind = None
+  provided (p ∷ ps) kind = if nat_eq p.kind kind then Some p.value else provided ps kind

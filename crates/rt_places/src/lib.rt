@@ -1,0 +1,12 @@
+//! The places of a scope's tree, what stands at each, and what a scope keeps of it.
+#![tactic(auto)]
+
+mod piece;
+mod place;
+mod side;
+mod spot;
+
+pub use piece::{Piece, path_below, pieces_of};
+pub use place::{Kind, Place, Step, is_same_kind, is_same_place, place_inside, place_of_item};
+pub use side::{Child, Numbered, Side, SideName};
+pub use spot::{Spot, spots};

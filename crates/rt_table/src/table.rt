@@ -1,0 +1,182 @@
+//! A table of numbered values, in the order in which they came.
+ghost use Rattle.std.specs.Prelude.{◌≡◌, ℕ, [], ◌∷◌, ◌++◌, ◌<◌, length, get_or, remove, slice_set, Option, Some, None, IfSome, IfNone, OnOk, OnErr};
+ghost use Rattle.std.specs.Option.{option_copied};
+ghost use Rattle.std.specs.Fn.{FnOnceReturnsAtMut};
+ghost use Rattle.rt_model.specs.Lists.{at, put, without};
+ghost use Rattle.rt_table.specs.Found.{IsFirst};
+
+use rt_values::OutOfMemory;
+use std::alloc::Global;
+use std::marker::Model;
+use std::mem;
+
+/// Values under numbers, in the order in which they came.
+#[derive(Drop)]
+pub struct Table<T> {
+    rows: Vec<(u64, T)>,
+}
+
+impl<T> Model for Table<T> {
+    ghost use Rattle.std.specs.Prelude.{List, ℕ};
+    ghost use Rattle.std.specs.Coded.{coded_list, coded×, coded_ℕ};
+
+    ghost Value = { List (ℕ × T) };
+
+    ghost coded = { coded_list (coded× coded_ℕ T.code) };
+
+    ghost view = { λ table. table.rows.items };
+}
+
+impl<T> Table<T> {
+    /// No value.
+    pub fn new(alloc: Global) -> Table<T>
+        ensures empty { result ≡ [] }
+    {
+        Table {
+            rows: Vec::new(alloc),
+        }
+    }
+
+    /// The values with their numbers, in order.
+    pub fn as_slice(&self) -> &[(u64, T)]
+        ensures rows { result.now ≡ self.now }
+    {
+        self.rows.as_slice()
+    }
+
+    /// The first value under a number. Walks the table.
+    pub fn get(&self, number: u64) -> Option<&T>
+        ensures value { option_copied result ≡ at self.now number }
+    {
+        let rows = self.rows.as_slice();
+        match first_of(rows, number) {
+            Some(index) => Some(&rows[index].1),
+            None => None,
+        }
+    }
+}
+
+impl<T: Drop> Table<T> {
+    /// Puts one more value at the end.
+    pub fn push(&mut self, number: u64, value: T) -> Result<(), OutOfMemory>
+        ensures ok { OnOk result (self.new ≡ self.old ++ (number, value) ∷ []) }
+        ensures err { OnErr result (self.new ≡ self.old) }
+    {
+        self.rows.push((number, value))?;
+        Ok(())
+    }
+
+    /// Puts a value in the place of the first one under its number, or at the end.
+    pub fn put(&mut self, number: u64, value: T) -> Result<(), OutOfMemory>
+        ensures ok { OnOk result (self.new ≡ put self.old number value) }
+        ensures err { OnErr result (self.new ≡ self.old) }
+    {
+        match first_of(self.rows.as_slice(), number) {
+            Some(index) => {
+                self.rows[index] = (number, value);
+                Ok(())
+            }
+            None => self.push(number, value),
+        }
+    }
+
+    /// Takes out every value under a number.
+    pub fn remove(&mut self, number: u64)
+        ensures others { self.new ≡ without self.old number }
+    {
+        take_out(&mut self.rows, number);
+    }
+
+    /// Takes out every value under a number, and gives the first one.
+    pub fn take(&mut self, number: u64) -> Option<T>
+        ensures first { result ≡ at self.old number }
+        ensures others { self.new ≡ without self.old number }
+    {
+        let index = first_of(self.rows.as_slice(), number)?;
+        let (_number, value) = self.rows.remove(index);
+        take_out(&mut self.rows, number);
+        Some(value)
+    }
+
+    /// Puts a value in the place of the first one under its number, and gives that one. Where there is
+    /// none, nothing is put.
+    pub fn replace(&mut self, number: u64, value: T) -> Option<T>
+        ensures former { result ≡ at self.old number }
+        ensures put { IfSome result (λ _. self.new ≡ put self.old number value) }
+        ensures absent { IfNone result (self.new ≡ self.old) }
+    {
+        match first_of(self.rows.as_slice(), number) {
+            Some(index) => {
+                let (_number, former) = mem::replace(&mut self.rows[index], (number, value));
+                Some(former)
+            }
+            None => None,
+        }
+    }
+
+    /// Takes out the value at an index from 0.
+    pub fn remove_at(&mut self, index: usize)
+        requires within { index < length self.old }
+        ensures others { self.new ≡ remove self.old index }
+    {
+        let _row = self.rows.remove(index);
+    }
+
+    /// Changes the first value under a number, where there is one, and else does nothing.
+    pub fn change<F: FnOnce(&mut T) -> Result<(), OutOfMemory>>(
+        &mut self,
+        number: u64,
+        change: F,
+    ) -> Result<(), OutOfMemory>
+        requires { F.IsAlwaysCallable change }
+        ensures absent { at self.old number ≡ None → self.new ≡ self.old }
+        ensures changed { (old : T) → at self.old number ≡ Some old →
+            (new : T) × FnOnceReturnsAtMut F.FnOnce change old result new
+            × (self.new ≡ put self.old number new) }
+    {
+        match first_of(self.rows.as_slice(), number) {
+            Some(index) => change(&mut self.rows[index].1),
+            None => Ok(()),
+        }
+    }
+
+    /// Changes the value at an index from 0. Its number stays.
+    pub fn change_at<F: FnOnce(&mut T) -> Result<(), OutOfMemory>>(
+        &mut self,
+        index: usize,
+        change: F,
+    ) -> Result<(), OutOfMemory>
+        requires callable { F.IsAlwaysCallable change }
+        requires within { index < length self.old }
+        ensures { (row : ℕ × T) → (new : T)
+            × FnOnceReturnsAtMut F.FnOnce change (get_or self.old index row).1 result new
+            × (self.new ≡ slice_set self.old index ((get_or self.old index row).0, new)) }
+    {
+        change(&mut self.rows[index].1)
+    }
+}
+
+/// The index of the first row of a number.
+fn first_of<T>(rows: &[(u64, T)], number: u64) -> Option<usize>
+    ensures within { IfSome result (λ index. index < length rows.now) }
+    ensures first { IfSome result (λ index. IsFirst rows.now number index) }
+    ensures own { IfSome result (λ index.
+        (row : ℕ × T) → (get_or rows.now index row).0 ≡ number) }
+    ensures absent { IfNone result (at rows.now number ≡ None) }
+{
+    for index in 0..rows.len() {
+        if rows[index].0 == number {
+            return Some(index);
+        }
+    }
+    None
+}
+
+/// Takes out every row of a number.
+fn take_out<T: Drop>(rows: &mut Vec<(u64, T)>, number: u64)
+    ensures { rows.new.items ≡ without rows.old.items number }
+{
+    while let Some(index) = first_of(rows.as_slice(), number) {
+        rows.remove(index);
+    }
+}
