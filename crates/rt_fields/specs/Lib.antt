@@ -1,0 +1,4 @@
+pub mod Keys
+pub mod Fields
+pub mod Names
+pub mod Lists

@@ -1,0 +1,12 @@
+//! A source as it is once it was checked: every name is a place, counted from 0.
+#![tactic(auto)]
+
+mod expression;
+mod source;
+mod statement;
+mod view;
+
+pub use expression::{Expression, Literal};
+pub use source::{ComponentSource, InputSource, PostSource, Source};
+pub use statement::{HookTime, SpawnKind, Statement, TaskAct};
+pub use view::{ComponentUse, ViewAttribute, ViewNode, ViewSlot};

@@ -1,0 +1,4 @@
+pub mod Forms
+pub mod Attributes
+pub mod Parts
+pub mod Views

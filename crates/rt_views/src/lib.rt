@@ -1,0 +1,9 @@
+//! Views of the JSON application language, read with the names in reach as places.
+#![tactic(auto)]
+
+mod attributes;
+mod forms;
+mod parts;
+mod views;
+
+pub use views::read_view;
