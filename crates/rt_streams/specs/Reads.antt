@@ -1,5 +1,6 @@
 -- What one read moves, and what reading to the end gives.
 use Rattle.std.specs.Prelude.{◌≡◌, ℕ, ◌<◌, ◌≤◌, List, [], ◌++◌, take, drop, length, Option, Some, None}
+use Rattle.rt_streams.specs.declared.reading.TheConstants.{MOST_BYTES}
 
 -- so many bytes have moved from the front of what is left, where it is told, to the front of the room
 abbrev pub Moved : ℕ → List ℕ → Option (List ℕ) → Option (List ℕ) → Type 0
@@ -16,10 +17,17 @@ abbrev pub preceded : List ℕ → Option (List ℕ) → Option (List ℕ)
 preceded bytes None = None
 preceded bytes (Some rest) = Some (bytes ++ rest)
 
+-- at most so many bytes were read from the front of what is left, where it is told
+pub record Advances (most : ℕ) (old new : Option (List ℕ)) : Type 0 where
+  -- the bytes that were read
+  pub front : List ℕ
+  pub within : length front ≤ most
+  pub moved : old ≡ preceded front new
+
 -- the bytes are not too many, and all that was left, where that is told; nothing is left then
 abbrev pub IsWhole : List ℕ → Option (List ℕ) → Option (List ℕ) → Type 0
-IsWhole bytes None new = (length bytes ≤ 16777216) × (new ≡ None)
-IsWhole bytes (Some all) new = (length bytes ≤ 16777216) × (all ≡ bytes) × (new ≡ Some [])
+IsWhole bytes None new = (length bytes ≤ MOST_BYTES) × (new ≡ None)
+IsWhole bytes (Some all) new = (length bytes ≤ MOST_BYTES) × (all ≡ bytes) × (new ≡ Some [])
 
 -- more bytes are left than that, where they are told
 abbrev pub IsLonger : ℕ → Option (List ℕ) → Type 0

@@ -1,6 +1,6 @@
 //! Reading a source to its end.
 ghost use Rattle.std.specs.Prelude.{◌≡◌, ◌<◌, ◌≤◌, IfOk, IsErrOf};
-ghost use Rattle.rt_streams.specs.Reads.{IsWhole, IsLonger};
+ghost use Rattle.rt_streams.specs.Reads.{IsWhole, IsLonger, Advances};
 
 use crate::source::Source;
 use rt_values::List;
@@ -31,12 +31,14 @@ impl From<AllocError> for ReadError {
     }
 }
 
-/// The bytes of a source up to its end, of which there may be 16,777,216.
+/// The bytes of a source up to its end, of which there may be `MOST_BYTES`.
 pub fn read_all<S: Source>(alloc: Global, source: &mut S) -> Result<List<u8>, ReadError>
     ensures whole { IfOk result (λ bytes. IsWhole bytes (S.left source.old) (S.left source.new)) }
     ensures too_long { IsErrOf result ReadError.TooLong → IsLonger MOST_BYTES (S.left source.old) }
     ensures later { S.faults source.old ≤ S.faults source.new }
     ensures cause { IsErrOf result ReadError.Failed → S.faults source.old < S.faults source.new }
+    ensures failed { IsErrOf result ReadError.Failed →
+        Advances MOST_BYTES (S.left source.old) (S.left source.new) }
 {
     let mut bytes = Vec::new(alloc);
     let mut room = [0u8; 4096];

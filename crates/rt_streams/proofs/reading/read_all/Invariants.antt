@@ -1,6 +1,7 @@
 -- What was read so far stands before what is left.
-use Rattle.std.proofs.Common.{◌≡◌, ◌≤◌, ◌-◌, vec_len}
+use Rattle.std.proofs.Common.{◌≡◌, ◌≤◌, ◌+◌, ◌-◌, vec_len}
 use Rattle.rt_streams.specs.Reads.{preceded}
+use Rattle.rt_streams.specs.declared.reading.TheConstants.{MOST_BYTES}
 use Rattle.rt_streams.proofs.reading.read_all.Given as goal
 
 abbrev pub invariant-loop-room : goal.invariant-loop-room
@@ -10,4 +11,4 @@ invariant-loop-room g l = record {
 }
 
 abbrev pub decreases-loop-room : goal.decreases-loop-room
-decreases-loop-room g l = 16777217 - vec_len l.bytes
+decreases-loop-room g l = MOST_BYTES + 1 - vec_len l.bytes
