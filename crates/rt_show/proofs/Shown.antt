@@ -38,7 +38,7 @@ not_described bytes (Some all) after told (inr is) =
 
 never_to : (app : Application) (rest : Rest ScriptTypes) (fault : Option model.Fault) → NeverFaults app → ComesTo app rest fault → ⊥
 never_to app rest None never comes = absurd comes
-never_to app rest (Some fault) never comes = fault_is_invalid (meant_by app rest) no_props [] unworded (Some []) fault comes (never rest)
+never_to app rest (Some fault) never comes = fault_is_invalid (meant_by app rest) no_props [] unworded (Some []) [] fault comes (never rest)
 
 -- a run that never comes to a fault doesn't end in one
 no_fault : (app : Application) (text : List ℕ) → NeverFaults app → IsFaultText app text → ⊥

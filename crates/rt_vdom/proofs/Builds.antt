@@ -136,7 +136,7 @@ module _ {C Q V H T E L : Type 0} (root : C) (body : C → Q → BodyMeaning C Q
 
   either : (limits : Limits) (rest : Rest (types C Q V H T E L)) (fault : state.Fault) → IsValid (filled root body rest) props limits
       → CameTo (filled root body rest) props [] (limits_of limits) (Some []) [] fault ⊎ AnswersMore (body root props first_world) → AnswersMore (body root props first_world)
-  either limits rest fault valid (inl came) = absurd (fault_is_invalid (filled root body rest) props [] (limits_of limits) (Some []) fault came valid)
+  either limits rest fault valid (inl came) = absurd (fault_is_invalid (filled root body rest) props [] (limits_of limits) (Some []) [] fault came valid)
   either limits rest fault valid (inr more) = more
 
   -- where no log comes to a fault, one came from outside
@@ -144,7 +144,7 @@ module _ {C Q V H T E L : Type 0} (root : C) (body : C → Q → BodyMeaning C Q
   completes limits before after OutOfMemory cause = λ rest valid. tt
   completes limits before after SinkFault cause = λ rest valid. tt
   completes limits before after (IdsExhausted what) cause = λ rest valid.
-      fault_is_invalid (filled root body rest) props [] (limits_of limits) (Some []) _ (cause rest) valid
+      fault_is_invalid (filled root body rest) props [] (limits_of limits) (Some []) [] _ (cause rest) valid
   completes limits before after (BadNode scope) cause = λ rest valid. either limits rest _ valid (cause rest).1
 
 -- the numbers that were drawn, in words of the tree's own roots
