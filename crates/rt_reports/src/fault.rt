@@ -44,7 +44,7 @@ pub enum Fault {
         task: Task,
     },
     /// Number 8: the body of this scope answered what can't be shown.
-    #[error("scope {} answered a tree that fails the node test", scope.0)]
+    #[error("scope {} answered a tree that does not fit", scope.0)]
     BadNode {
         scope: ScopeId,
     },
