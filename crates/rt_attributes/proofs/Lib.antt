@@ -1,0 +1,4 @@
+pub mod Orders
+pub mod Contents
+pub mod Slots
+pub mod Passes
