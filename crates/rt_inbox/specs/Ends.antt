@@ -8,7 +8,6 @@ use Rattle.rt_inbox.specs.declared.inbox.Inbox.{Inbox}
 use Rattle.rt_inbox.specs.declared.notifier.Notifier.{Notifier}
 use Rattle.rt_inbox.specs.declared.owner.Owner.{Owner}
 use Rattle.rt_inbox.specs.declared.taken.Taken.{Taken}
-use Rattle.rt_inbox.specs.Rule.{WasAt}
 
 -- how many posters the inbox has
 abbrev pub posters_of : Inbox → ℕ
@@ -26,7 +25,7 @@ posts_of n = n.accepted.items
 abbrev pub taken_of : Owner → List Msg
 taken_of o = o.taken.items
 
--- how many of the owner's pops found none
+-- the owner's count of pops that found none, as the owner keeps it
 abbrev pub nones_of : Owner → ℕ
 nones_of o = o.nones
 
@@ -52,10 +51,6 @@ IsNotifierOf i n =
 abbrev pub IsOwnerOf : Inbox → Owner → Type 0
 IsOwnerOf i o =
     IsSegPassOf i.line o.pass × (o.pass.me.view.client ≡ Owning (taken_of o) (posters_of i) [])
-
--- at one moment the queue held nothing, and the owner had taken what it has taken
-abbrev pub FoundNone : Owner → Type 0
-FoundNone o = WasAt [] o.pass.me.view.client
 
 -- the fact holds of each item and its index
 abbrev pub EachAt : {A : Type 0} → (ℕ → A → Type 0) → List A → Type 0

@@ -64,7 +64,7 @@ pub record Delivers (items : List Msg) (views : List View) : Type 0 where
       → AllPosted (taken ++ items) (entries v)
   pub no_other : (p : ℕ) → made ≤ p → of_poster p (taken ++ items) ≡ []
 
--- at one moment the queue held the items, and a pass had this view
+-- the rule allows that the queue holds the items while a pass has this view
 abbrev pub WasAt : List Msg → View → Type 0
 WasAt items v =
     (pass : ℕ) × (views : List View) × Delivers items views × (get_elem? views pass ≡ some v)

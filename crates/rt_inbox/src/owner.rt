@@ -1,7 +1,7 @@
 //! The owner's end: it takes messages, and keeps what it took.
 ghost use Rattle.std.specs.Prelude.{◌≡◌, ◌<◌, ◌≤◌, ◌+◌, ◌-◌, ◌^◌, ◌++◌, ◌∷◌, ◌↔◌, [], length, false};
 ghost use Rattle.std.specs.Prelude.{vec_capacity, vec_len, IfNone, IfOk, IfSome, IsTrue, OnErr};
-ghost use Rattle.rt_inbox.specs.Ends.{FoundNone, IsOwnerOf, nones_of, taken_of};
+ghost use Rattle.rt_inbox.specs.Ends.{IsOwnerOf, nones_of, taken_of};
 
 use crate::inbox::Inbox;
 use crate::line::{Seat, pop};
@@ -28,7 +28,7 @@ impl Owner {
         ensures some { IfSome result (λ m. (taken_of self.new ≡ taken_of self.old ++ m ∷ [])
             × (nones_of self.new ≡ nones_of self.old)) }
         ensures none { IfNone result ((taken_of self.new ≡ taken_of self.old)
-            × (nones_of self.new ≡ nones_of self.old + 1) × FoundNone self.new) }
+            × (nones_of self.new ≡ nones_of self.old + 1)) }
         ensures capacity { vec_capacity self.new.taken ≡ vec_capacity self.old.taken }
     {
         match pop(rt, &inbox.line, &mut self.pass) {
@@ -60,7 +60,6 @@ impl Owner {
         ensures emptied { IfOk result
             (λ d. IsTrue d.emptied ↔ (nones_of self.old < nones_of self.new)) }
         ensures counted { IfOk result (λ d. nones_of self.new ≤ nones_of self.old + 1) }
-        ensures found_none { IfOk result (λ d. IsTrue d.emptied → FoundNone self.new) }
         ensures err { OnErr result ((taken_of self.new ≡ taken_of self.old)
             × (nones_of self.new ≡ nones_of self.old)) }
     {

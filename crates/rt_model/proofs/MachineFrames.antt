@@ -134,7 +134,7 @@ module _ {K : Types} where
   look_later : (w : State K) → Later w (look w)
   look_later w = later_same w (look w) (look_same w.next.tasks w)
 
-  rest_later : (w : State K) → Later w (at_rest w)
+  pub rest_later : (w : State K) → Later w (at_rest w)
   rest_later w = later_same w (at_rest w) (rest_same w.next.tasks w)
 
   post_all_later : (es : List (ℕ × Scope K)) (w : State K) → Later w (post_all es w)
@@ -165,7 +165,7 @@ module _ {K : Types} where
   taken_in_later m (MarkOf s) = post_later m.state (Mark s)
   taken_in_later m (Drain messages) = messages_later m.state messages
 
-  take_next_later : (m : Machine K) (is : List (Input K)) → Later m.state (take_next m is).state
+  pub take_next_later : (m : Machine K) (is : List (Input K)) → Later m.state (take_next m is).state
   take_next_later m [] = later_refl m.state
   take_next_later m (i ∷ rest) =
       let v : Machine K = taken_in (record m { inputs = rest; taken = m.taken + 1; units = 0; default_enabled = true; listeners = [] }) i in
@@ -272,7 +272,7 @@ module _ {K : Types} (app : Application K) (lawful : IsLawful K app) where
       let v : Machine K = served app (rows_left m.work) m in
       later_trans m.state v.state (closed v).state (served_later (rows_left m.work) m) (closed_later v)
 
-  with_props_later : (w : State K) (t : ℕ) (c : VComponent K) → Later w (with_props app w t c)
+  pub with_props_later : (w : State K) (t : ℕ) (c : VComponent K) → Later w (with_props app w t c)
   with_props_later w t c = change_later w t (λ x. record x { component = c }) (λ x. refl)
 
   made_in_follows : (w : State K) (s : ℕ) (side : SideName) (p : Place) (c : VComponent K) (x : Scope K) (end : Bool) → at w.scopes s ≡ Some x
@@ -316,7 +316,7 @@ module _ {K : Types} (app : Application K) (lawful : IsLawful K app) where
       let m : Meaning K (TaskStep K) = app.poll x.state (world_of w x.scope (Some t) false) in
       from_later w (called_once w) (polled_at app w t (Some x)) (once_later app lawful w) (polled_by_later (called_once w) t x m m.fault (lawful.polls_number x.state (world_of w x.scope (Some t) false)) h)
 
-  polled_later : (w : State K) (t : ℕ) → LaterO w (polled app w t)
+  pub polled_later : (w : State K) (t : ℕ) → LaterO w (polled app w t)
   polled_later w t =
       let v : State K = unqueued w t in
       later_trans w v (state_of (polled_at app v t (at w.tasks t))) (later_same w v (same_rest w.next.tasks w v refl refl refl refl)) (polled_at_later v t (at w.tasks t) refl)
@@ -325,7 +325,7 @@ module _ {K : Types} (app : Application K) (lawful : IsLawful K app) where
   batch_later w s [] = look_later w
   batch_later w s (e ∷ es) = onward_later w (acted app w s e false) (λ v. batch app v s es) (acted_later app lawful w s e false) (λ v. batch_later v s es)
 
-  effects_later : (w : State K) (s : ℕ) → LaterO w (effects_run app w s)
+  pub effects_later : (w : State K) (s : ℕ) → LaterO w (effects_run app w s)
   effects_later w s =
       let v : State K = change w s (λ x. record x { effects = [] }) in
       later_trans w v (state_of (batch app v s (effects_of app w s))) (change_later w s (λ x. record x { effects = [] }) (λ x. refl)) (batch_later v s (effects_of app w s))
@@ -353,7 +353,7 @@ module _ {K : Types} (app : Application K) (lawful : IsLawful K app) where
       later_trans m.state v.state (then_looked v).state (called app lawful m.state l.origin None meaning n) (then_looked_later v)
   heard_at_later m l ls meaning (Some f) n = next_later app lawful m.state meaning n
 
-  heard_event_later : (m : Machine K) (l : Listener K) (ls : List (Listener K)) (o : Option (Event K)) → Later m.state (heard_event app m l ls o).state
+  pub heard_event_later : (m : Machine K) (l : Listener K) (ls : List (Listener K)) (o : Option (Event K)) → Later m.state (heard_event app m l ls o).state
   heard_event_later m l ls None = later_refl m.state
   heard_event_later m l ls (Some event) =
       let meaning : Meaning K (Event K) = app.handle l.handler event (world_of m.state l.origin None false) in

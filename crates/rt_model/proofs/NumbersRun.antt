@@ -138,7 +138,7 @@ module _ {K : Types} (app : Application K) (lawful : IsLawful K app) where
   acted_idle w s m None = refl
   acted_idle w s m (Some f) = tt
 
-  called_back_idle : (w : State K) (es : List (ℕ × K.Effect)) → Idle (called_back app w es)
+  pub called_back_idle : (w : State K) (es : List (ℕ × K.Effect)) → Idle (called_back app w es)
   called_back_idle w [] = refl
   called_back_idle w (e ∷ es) =
       either_idle (is_live w e.0) (onward (acted app w e.0 e.1 false) (λ v. called_back app v es)) (called_back app w es)
@@ -204,7 +204,7 @@ module _ {K : Types} (app : Application K) (lawful : IsLawful K app) where
   polled_idle_by w t x m None = refl
   polled_idle_by w t x m (Some f) = tt
 
-  polled_idle : (w : State K) (t : ℕ) (o : Option (TaskRow K)) → Idle (polled_at app w t o)
+  pub polled_idle : (w : State K) (t : ℕ) (o : Option (TaskRow K)) → Idle (polled_at app w t o)
   polled_idle w t None = refl
   polled_idle w t (Some x) = let m : Meaning K (TaskStep K) = app.poll x.state (world_of w x.scope (Some t) false) in polled_idle_by (called_once w) t x m m.fault
 

@@ -160,7 +160,7 @@ module _ {K : Types} (app : Application K) (lawful : IsLawful K app) where
       (commands_same app w.next.tasks (with_next w m.next) s polled m.commands (fresh w.next.tasks m.next.tasks w.next.tasks m.commands least n.tasks))
 
   -- and after another change of one scope
-  called_after : {A : Type 0} (w : State K) (s : ℕ) (polled : Option ℕ) (m : Meaning K A) (v : State K) → IsNumbered w.next m.commands m.next → Same w.next.tasks (with_next w m.next) v → Later w (commands app v s polled m.commands)
+  pub called_after : {A : Type 0} (w : State K) (s : ℕ) (polled : Option ℕ) (m : Meaning K A) (v : State K) → IsNumbered w.next m.commands m.next → Same w.next.tasks (with_next w m.next) v → Later w (commands app v s polled m.commands)
   called_after w s polled m v n h =
       let least : w.next.tasks ≤ w.next.tasks = omega arith in
       after_next w m.next _ (numbered_rises w.next m.commands m.next n)
@@ -187,14 +187,14 @@ module _ {K : Types} (app : Application K) (lawful : IsLawful K app) where
   hook_later w s (HookValue k v) = later_refl w
   hook_later w s (HookEffect k e) = acted_later w s e true
 
-  hooks_later : (kind : ℕ) (w : State K) (s : ℕ) (hs : List (Hook K)) → LaterO w (hooks_called app kind w s hs)
+  pub hooks_later : (kind : ℕ) (w : State K) (s : ℕ) (hs : List (Hook K)) → LaterO w (hooks_called app kind w s hs)
   hooks_later kind w s [] = later_refl w
   hooks_later kind w s (h ∷ hs) =
       later_either w (is_kind kind h) (onward (hook_called app w s h) (λ v. hooks_called app kind v s hs)) (hooks_called app kind w s hs)
       (onward_later w (hook_called app w s h) (λ v. hooks_called app kind v s hs) (hook_later w s h) (λ v. hooks_later kind v s hs))
       (hooks_later kind w s hs)
 
-  after_hooks_later : (w : State K) (s : ℕ) → LaterO w (after_hooks app w s)
+  pub after_hooks_later : (w : State K) (s : ℕ) → LaterO w (after_hooks app w s)
   after_hooks_later w s = hooks_later after_render_kind w s (hooks_of w s)
 
   caught_numbered : (children : Element K) (handler : Option (K.Component × K.Props)) (w : World K) (o : Option CapturedError) → IsNumbered w.given.next (caught app children handler w o).commands (caught app children handler w o).next
@@ -210,7 +210,7 @@ module _ {K : Types} (app : Application K) (lawful : IsLawful K app) where
   body_numbered (SuspenseBoundary children None) w = plain_numbered w [] (rendered placeholder_tree)
   body_numbered (SuspenseBoundary children (Some f)) w = lawful.bodies_number f.0 f.1 w
 
-  kept_same : (w : State K) (s : ℕ) (world : World K) (m : Meaning K (Element K)) → Same w.next.tasks (with_next w m.next) (kept_call w s world m)
+  pub kept_same : (w : State K) (s : ℕ) (world : World K) (m : Meaning K (Element K)) → Same w.next.tasks (with_next w m.next) (kept_call w s world m)
   kept_same w s world m =
       let v : State K = with_next w m.next in
       let u : State K = change v s (λ x. record x { reads = m.reads }) in
@@ -257,7 +257,7 @@ module _ {K : Types} (app : Application K) (lawful : IsLawful K app) where
   pub agenda_later : (w : State K) (s : ℕ) (side : SideName) (tree : Tree K) → LaterO w (start_agenda app w s side tree)
   agenda_later w s side tree = agenda_at w s side tree (at w.scopes s) refl
 
-  settled_later : (w : State K) (s : ℕ) (a : Element K) → LaterO w (settled_answer app w s a)
+  pub settled_later : (w : State K) (s : ℕ) (a : Element K) → LaterO w (settled_answer app w s a)
   settled_later w s (rendered tree) = raised_later w s
   settled_later w s (failed e) = later_same w (throw_error w s e) (throw_same w.next.tasks w s e)
   settled_later w s (suspended origin t) = suspends_later w s origin t (at w.tasks t) refl
@@ -299,7 +299,7 @@ module _ {K : Types} (app : Application K) (lawful : IsLawful K app) where
   pub run_later : (w : State K) (s : ℕ) → LaterO w (run app w s)
   run_later w s = run_at w s (at w.scopes s)
 
-  counted_later : (w : State K) (b : ℕ) (c : Bool) → LaterO w (counted_render app w b c)
+  pub counted_later : (w : State K) (b : ℕ) (c : Bool) → LaterO w (counted_render app w b c)
   counted_later w b true = raised_later w b
   counted_later w b false = later_refl w
 
@@ -309,7 +309,7 @@ module _ {K : Types} (app : Application K) (lawful : IsLawful K app) where
       (onward_later w (counted_render app w b (counts_render c a)) (λ v. after_hooks app v b) (counted_later w b (counts_render c a)) (λ v. after_hooks_later v b))
       (λ v. agenda_later v b FallbackSide (tree_or_placeholder a))
 
-  called_back_later : (w : State K) (es : List (ℕ × K.Effect)) → LaterO w (called_back app w es)
+  pub called_back_later : (w : State K) (es : List (ℕ × K.Effect)) → LaterO w (called_back app w es)
   called_back_later w [] = later_refl w
   called_back_later w (e ∷ es) =
       later_either w (is_live w e.0) (onward (acted app w e.0 e.1 false) (λ v. called_back app v es)) (called_back app w es)

@@ -6,4 +6,5 @@ mod forms;
 mod parts;
 mod views;
 
+pub use forms::{Form, Leaf, form_in};
 pub use views::read_view;
