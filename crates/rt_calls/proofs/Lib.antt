@@ -1,5 +1,6 @@
 pub mod Gathered
 pub mod RowsAt
+pub mod Boundaries
 pub mod Piled
 pub mod Climbs
 pub mod Lookups

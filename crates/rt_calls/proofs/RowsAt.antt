@@ -5,8 +5,10 @@ use Rattle.std.proofs.lemmas.List.{drop_more}
 use Rattle.std.proofs.lemmas.Grind.{common_steps}
 use Rattle.rt_model.specs.Lists.{at, put, without, has}
 use Rattle.rt_model.specs.Program.{parent_in}
-use Rattle.rt_calls.specs.Calls.{number_of, parents_of, boundaries_of}
-use Rattle.rt_calls.specs.World.{rows_in}
+use Rattle.rt_model.specs.Tree.{is_error_boundary}
+use Rattle.rt_mirror.specs.Sealed.{component_of}
+use Rattle.rt_calls.specs.Calls.{number_of, parents_of}
+use Rattle.rt_calls.specs.World.{rows_in, boundaries_in}
 use Rattle.rt_calls.specs.declared.rest.Scope.{Scope}
 use Rattle.rt_calls.specs.declared.rows.ScopeRow.{ScopeRow}
 
@@ -74,35 +76,36 @@ module _ {P C Q V H T E L : Type 0} where
   parent-found [] n = refl
   parent-found (e ∷ rows) n = parent-either (nat_eq e.0 n) e.1 (at (parents_of rows) n) (at rows n) (parent-found rows n)
 
+  -- a scope is the one, and a boundary
+  abbrev pub bounds : ℕ → ℕ × Scope P C Q V H T E L → Bool
+  bounds n e = nat_eq e.0 n && is_error_boundary (component_of (e.1.rest).component)
+
   -- whether a scope is among the boundaries, by the first row and those after it
   pub bound-step : (scopes : List (ℕ × Scope P C Q V H T E L)) (n i : ℕ) (d : ℕ × Scope P C Q V H T E L) → i < length scopes
-      → has (boundaries_of (rows_in (drop i scopes))) n
-      ≡ (nat_eq (get_or scopes i d).0 n && ((get_or scopes i d).1.row).boundary) || has (boundaries_of (rows_in (drop (i + 1) scopes))) n
+      → has (boundaries_in (drop i scopes)) n
+      ≡ bounds n (get_or scopes i d) || has (boundaries_in (drop (i + 1) scopes)) n
   bound-step scopes n i d within =
-      ap (λ rest. has (boundaries_of (rows_in rest)) n) (drop_more scopes i d within)
-      ∙ bound-either ((get_or scopes i d).1.row).boundary (get_or scopes i d).0 n (boundaries_of (rows_in (drop (i + 1) scopes)))
-
-  abbrev pub bounds : ℕ → ℕ × Scope P C Q V H T E L → Bool
-  bounds n e = nat_eq e.0 n && ((e.1).row).boundary
+      ap (λ rest. has (boundaries_in rest) n) (drop_more scopes i d within)
+      ∙ bound-either (is_error_boundary (component_of ((get_or scopes i d).1.rest).component)) (get_or scopes i d).0 n (boundaries_in (drop (i + 1) scopes))
 
   -- a scope that isn't the one is passed
   pub bound-past : (scopes : List (ℕ × Scope P C Q V H T E L)) (n i : ℕ) (e : ℕ × Scope P C Q V H T E L) → i < length scopes → e ≡ get_or scopes i e → bounds n e ≡ false
-      → has (boundaries_of (rows_in (drop (i + 1) scopes))) n ≡ has (boundaries_of (rows_in (drop i scopes))) n
+      → has (boundaries_in (drop (i + 1) scopes)) n ≡ has (boundaries_in (drop i scopes)) n
   bound-past scopes n i e within is other =
-      ap (λ b. b || has (boundaries_of (rows_in (drop (i + 1) scopes))) n) (sym (ap (bounds n) (sym is) ∙ other)) ∙ sym (bound-step scopes n i e within)
+      ap (λ b. b || has (boundaries_in (drop (i + 1) scopes)) n) (sym (ap (bounds n) (sym is) ∙ other)) ∙ sym (bound-step scopes n i e within)
 
   -- the one is found
   pub bound-here : (scopes : List (ℕ × Scope P C Q V H T E L)) (n i : ℕ) (e : ℕ × Scope P C Q V H T E L) → i < length scopes → e ≡ get_or scopes i e → bounds n e ≡ true
-      → true ≡ has (boundaries_of (rows_in (drop i scopes))) n
+      → true ≡ has (boundaries_in (drop i scopes)) n
   bound-here scopes n i e within is own =
-      ap (λ b. b || has (boundaries_of (rows_in (drop (i + 1) scopes))) n) (sym (ap (bounds n) (sym is) ∙ own)) ∙ sym (bound-step scopes n i e within)
+      ap (λ b. b || has (boundaries_in (drop (i + 1) scopes)) n) (sym (ap (bounds n) (sym is) ∙ own)) ∙ sym (bound-step scopes n i e within)
 
   drop-all : (scopes : List (ℕ × Scope P C Q V H T E L)) (i : ℕ) → length scopes ≤ i → drop i scopes ≡ []
   drop-all scopes i end = grind (arith, common_steps)
 
   -- past the last one
-  pub bound-end : (scopes : List (ℕ × Scope P C Q V H T E L)) (n i : ℕ) → length scopes ≤ i → false ≡ has (boundaries_of (rows_in (drop i scopes))) n
-  bound-end scopes n i end = ap (λ rest. has (boundaries_of (rows_in rest)) n) (sym (drop-all scopes i end))
+  pub bound-end : (scopes : List (ℕ × Scope P C Q V H T E L)) (n i : ℕ) → length scopes ≤ i → false ≡ has (boundaries_in (drop i scopes)) n
+  bound-end scopes n i end = ap (λ rest. has (boundaries_in rest) n) (sym (drop-all scopes i end))
 
 -- what is found in the rows
 pub ruleset found = (row-found, row-put, row-without, parent-found, length-parents)

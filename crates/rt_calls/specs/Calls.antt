@@ -138,11 +138,6 @@ module _ {P C Q V H T E L : Type 0} where
   parents_of [] = []
   parents_of (entry ∷ rows) = (entry.0, number_of (entry.1).parent) ∷ parents_of rows
 
-  -- the live scopes that are error boundaries
-  abbrev pub boundaries_of : List (ℕ × ScopeRow P C Q V H T E L) → List ℕ
-  boundaries_of [] = []
-  boundaries_of (entry ∷ rows) = if (entry.1).boundary then entry.0 ∷ boundaries_of rows else boundaries_of rows
-
   -- how often a scope's body answered a tree
   abbrev pub renders_of : Option (ScopeRow P C Q V H T E L) → ℕ
   renders_of None = 0
@@ -159,7 +154,7 @@ module _ {P C Q V H T E L : Type 0} where
       record {
         scope = (w.scope).0;
         parents = parents_of w.rows;
-        boundaries = boundaries_of w.rows;
+        boundaries = w.boundaries;
         renders = renders_of (at w.rows (w.scope).0);
         hooks = hooks_of (at w.rows (w.scope).0);
         next = firsts_of w.next;

@@ -63,12 +63,12 @@ pub type BodyCx<'a, P> = Cx<'a, P, InBody>;
 
 impl<'a, P: Parts, K> Model for Cx<'a, P, K> {
     ghost use Rattle.rt_calls.specs.Turn.{Call};
-    ghost use Rattle.rt_calls.specs.World.{rows_in};
+    ghost use Rattle.rt_calls.specs.World.{rows_in, boundaries_in};
 
     ghost Value = { Call P P.Component P.Props P.Value P.Handler P.TaskState P.Effect P.Payload };
 
     ghost view = { λ c. record {
-      world = record { scope = c.scope; rows = rows_in c.rows.now.table; cells = c.cells.now.cells; next = c.first; task = c.task; rendering = c.rendering };
+      world = record { scope = c.scope; rows = rows_in c.rows.now.table; boundaries = boundaries_in c.rows.now.table; cells = c.cells.now.cells; next = c.first; task = c.task; rendering = c.rendering };
       in_body = c.in_body;
       index = c.index;
       into = c.into;

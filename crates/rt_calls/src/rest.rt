@@ -1,4 +1,7 @@
 //! What the runtime keeps of a scope, beside what a call can see of it.
+ghost use Rattle.std.specs.Prelude.{◌≡◌};
+ghost use Rattle.rt_model.specs.Tree.{is_error_boundary};
+ghost use Rattle.rt_mirror.specs.Sealed.{component_of};
 
 use crate::rows::ScopeRow;
 use rt_nodes::{FragmentProps, VComponent};
@@ -67,6 +70,20 @@ impl<P: Parts> Rest<P> {
             frozen: false,
             callbacks: List::new(alloc),
         }
+    }
+}
+
+/// Whether a component is an error boundary.
+#[tactic(auto, using(crate::proofs::Boundaries::boundaries))]
+pub fn is_error_boundary<P: Parts>(component: &VComponent<P>) -> bool
+    ensures { result ≡ is_error_boundary (component_of component.now) }
+{
+    match component {
+        VComponent::ErrorBoundary(_) => true,
+        VComponent::App { .. } => false,
+        VComponent::Fragment(_) => false,
+        VComponent::SuspenseBoundary(_) => false,
+        VComponent::Root(_) => false,
     }
 }
 

@@ -3,10 +3,12 @@ ghost use Rattle.std.specs.Prelude.{◌≡◌, ◌&&◌, [], nat_eq, length, map
 ghost use Rattle.std.specs.Option.{option_copied};
 ghost use Rattle.rt_model.specs.Lists.{at, put, without, has};
 ghost use Rattle.rt_model.specs.Program.{parent_in};
-ghost use Rattle.rt_calls.specs.World.{provided, rows_in};
-ghost use Rattle.rt_calls.specs.Calls.{number_of, parents_of, boundaries_of, renders_of, hook_of, hooks_of};
+ghost use Rattle.rt_model.specs.Tree.{is_error_boundary};
+ghost use Rattle.rt_mirror.specs.Sealed.{component_of};
+ghost use Rattle.rt_calls.specs.World.{provided, rows_in, boundaries_in};
+ghost use Rattle.rt_calls.specs.Calls.{number_of, parents_of, renders_of, hook_of, hooks_of};
 
-use crate::rest::{Rest, Scope, no_component};
+use crate::rest::{Rest, Scope, is_error_boundary, no_component};
 use rt_parts::{CapturedError, Parts};
 use rt_places::SideName;
 use rt_table::Table;
@@ -35,8 +37,6 @@ pub struct ScopeRow<P: Parts> {
     pub renders: u64,
     pub hooks: List<Hook<P>>,
     pub contexts: List<Provided<P>>,
-    /// Whether it is an error boundary.
-    pub boundary: bool,
     /// The error that an error boundary keeps.
     pub error: Option<CapturedError>,
 }
@@ -115,7 +115,7 @@ impl<P: Parts> Rows<P> {
 
     /// Whether a scope is an error boundary.
     pub(crate) fn is_boundary(&self, id: ScopeId) -> bool
-        ensures { result ≡ has (boundaries_of (rows_in self.now.table)) id.0 }
+        ensures { result ≡ has (boundaries_in self.now.table) id.0 }
     {
         is_boundary_in(self.table.as_slice(), id.0)
     }
@@ -177,7 +177,7 @@ fn first_of<P: Parts>(contexts: &[Provided<P>], kind: u32) -> Option<&P::Value>
 
 /// Whether a scope of this number is an error boundary.
 fn is_boundary_in<P: Parts>(scopes: &[(u64, Scope<P>)], number: u64) -> bool
-    ensures { result ≡ has (boundaries_of (rows_in scopes.now)) number }
+    ensures { result ≡ has (boundaries_in scopes.now) number }
 {
     for entry in scopes {
         if bounds(entry, number) {
@@ -189,7 +189,8 @@ fn is_boundary_in<P: Parts>(scopes: &[(u64, Scope<P>)], number: u64) -> bool
 
 /// Whether a scope has this number and is an error boundary.
 fn bounds<P: Parts>(entry: &(u64, Scope<P>), number: u64) -> bool
-    ensures { result ≡ (nat_eq entry.now.0 number && entry.now.1.row.boundary) }
+    ensures { result ≡ (nat_eq entry.now.0 number
+        && is_error_boundary (component_of entry.now.1.rest.component)) }
 {
-    entry.0 == number && entry.1.row.boundary
+    entry.0 == number && is_error_boundary(&entry.1.rest.component)
 }

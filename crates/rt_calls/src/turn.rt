@@ -45,13 +45,13 @@ pub struct TurnParts<P: Parts, T> {
 
 impl<P: Parts, T> Model for Turn<P, T> {
     ghost use Rattle.rt_calls.specs.Turn.{Left};
-    ghost use Rattle.rt_calls.specs.World.{rows_in};
+    ghost use Rattle.rt_calls.specs.World.{rows_in, boundaries_in};
     ghost use Rattle.rt_calls.specs.declared.command.Command.{Command};
 
     ghost Value = { Left P P.Component P.Props P.Value P.Handler P.TaskState P.Effect P.Payload T };
 
     ghost view = { λ t. record {
-      world = record { scope = t.scope; rows = rows_in t.rows.value.table; cells = t.cells.value.cells; next = t.first; task = t.task; rendering = t.rendering };
+      world = record { scope = t.scope; rows = rows_in t.rows.value.table; boundaries = boundaries_in t.rows.value.table; cells = t.cells.value.cells; next = t.first; task = t.task; rendering = t.rendering };
       meaning = record { answer = t.parts.answer; reads = t.parts.reads; aside = t.aside; commands = t.parts.commands; next = t.parts.next; fault = t.parts.fault };
     } };
 }
