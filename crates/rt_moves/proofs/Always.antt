@@ -34,7 +34,7 @@ module _ {K : Types} where
     pub idle : m.built && m.unit ≡ false → m.work ≡ []
 
   -- where work is open the build or a unit is at work
-  at_work_where : (P : State K → List (Item K) → Type 0) (m : Machine K) (item : Item K) (rest : List (Item K)) → Steady P m → m.dead ≡ None → m.work ≡ item ∷ rest → AtWork m
+  pub at_work_where : (P : State K → List (Item K) → Type 0) (m : Machine K) (item : Item K) (rest : List (Item K)) → Steady P m → m.dead ≡ None → m.work ≡ item ∷ rest → AtWork m
   at_work_where P m item rest s alive open_work =
       by_both m.built m.unit
       (λ q. let both = both_true m.built m.unit q in record { alive = alive; built = both.0; unit = both.1 })
@@ -61,7 +61,7 @@ module _ {K : Types} where
   taken_work m (MarkOf s) = refl
   taken_work m (Drain messages) = refl
 
-  take_work : (m : Machine K) (inputs : List (Input K)) → (take_next m inputs).work ≡ m.work
+  pub take_work : (m : Machine K) (inputs : List (Input K)) → (take_next m inputs).work ≡ m.work
   take_work m [] = refl
   take_work m (input ∷ more) =
       let u : Machine K = record m { inputs = more; taken = m.taken + 1; units = 0; default_enabled = true; listeners = [] } in
@@ -73,7 +73,7 @@ module _ {K : Types} (app : Application K) where
   heard_work_at m quiet None faulted p q = looked_work quiet (waiting quiet) ∙ p
   heard_work_at m quiet (Some f) faulted p q = q f
 
-  heard_work : (m : Machine K) (l : Listener K) (ls : List (Listener K)) (o : Option (Event K)) → (heard_event app m l ls o).work ≡ m.work
+  pub heard_work : (m : Machine K) (l : Listener K) (ls : List (Listener K)) (o : Option (Event K)) → (heard_event app m l ls o).work ≡ m.work
   heard_work m l ls None = refl
   heard_work m l ls (Some event) =
       let meaning : Meaning K (Event K) = app.handle l.handler event (world_of m.state l.origin None false) in

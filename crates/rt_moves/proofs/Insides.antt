@@ -52,12 +52,12 @@ module _ {K : Types} (app : Application K) where
       (λ q. let absurdity : None ≡ Some e = sym (pick_false (Some d) None q) ∙ h in cc)
 
   -- the entry of a make
-  made_due : (w : State K) (live : Bool) (n : ℕ) (e : Entry) → if_live w (if live then Some (Made n) else None) ≡ Some e → (live ≡ true) × (e ≡ Made n)
+  pub made_due : (w : State K) (live : Bool) (n : ℕ) (e : Entry) → if_live w (if live then Some (Made n) else None) ≡ Some e → (live ≡ true) × (e ≡ Made n)
   made_due w true n e h = (refl, cc)
   made_due w false n e h = cc
 
   -- the entry of a feed
-  fed_due : (w : State K) (c : VComponent K) (o : Option ℕ) (e : Entry) → if_live w (due_feed app w c o) ≡ Some e
+  pub fed_due : (w : State K) (c : VComponent K) (o : Option ℕ) (e : Entry) → if_live w (due_feed app w c o) ≡ Some e
       → (t : ℕ) × (o ≡ Some t) × (e ≡ (if keeps app w t c then Kept t else Fed t)) × (is_live w t ≡ true)
   fed_due w c None e h = cc
   fed_due w c (Some t) e h =
@@ -68,7 +68,7 @@ module _ {K : Types} (app : Application K) where
       names true q = q
       names false q = q
 
-  fed_change : (m : Machine K) (s : ℕ) (side : SideName) (p : Place) (c : VComponent K) (rest : List (Item K)) (t : ℕ) (b : Bool)
+  pub fed_change : (m : Machine K) (s : ℕ) (side : SideName) (p : Place) (c : VComponent K) (rest : List (Item K)) (t : ℕ) (b : Bool)
       → change_by app m (Feed s side p c ∷ rest) (if b then Kept t else Fed t) ≡ ended_by m (Some (Feed s side p c)) rest (outcome_of app m.state (Feed s side p c))
   fed_change m s side p c rest t true = refl
   fed_change m s side p c rest t false = refl

@@ -91,7 +91,7 @@ module _ {K : Types} where
   children_live w s = below_live w (at w.scopes s)
 
   -- how many scopes of a list stand higher than this
-  abbrev above : ℕ → List (ℕ × Scope K) → ℕ
+  abbrev pub above : ℕ → List (ℕ × Scope K) → ℕ
   above h [] = 0
   above h (e ∷ es) = one_if (nat_lt h (e.1).height) + above h es
 
@@ -99,7 +99,7 @@ module _ {K : Types} where
   above_less h [] = omega arith
   above_less h (e ∷ es) = let here = higher_falls h (e.1).height in let tail = above_less h es in omega (arith, here, tail)
 
-  above_all : (h : ℕ) (es : List (ℕ × Scope K)) → above h es ≤ length es
+  pub above_all : (h : ℕ) (es : List (ℕ × Scope K)) → above h es ≤ length es
   above_all h [] = omega arith
   above_all h (e ∷ es) = let here = one_at_most (nat_lt h (e.1).height) in let tail = above_all h es in omega (arith, here, tail)
 
@@ -140,10 +140,10 @@ module _ {K : Types} where
 
   module _ (w : State K) (wood : Wooded w) where
     -- how many scopes are higher than this one
-    abbrev above_scope : ℕ → ℕ
+    abbrev pub above_scope : ℕ → ℕ
     above_scope s = above (height_of w.scopes s) w.scopes
 
-    child_falls : (s child : ℕ) (others : List ℕ) → children_at w s ≡ child ∷ others → above_scope child + 1 ≤ above_scope s
+    pub child_falls : (s child : ℕ) (others : List ℕ) → children_at w s ≡ child ∷ others → above_scope child + 1 ≤ above_scope s
     child_falls s child others e =
         let up : height_of w.scopes child ≡ height_of w.scopes s + 1 = first_height w wood s child others e in
         subst (λ (n : ℕ). above n w.scopes + 1 ≤ above_scope s) (sym up)

@@ -8,7 +8,7 @@ use Rattle.rt_model.specs.Lists.{at}
 use Rattle.rt_model.specs.Tree.{Types, Tree, Place, Spot, node_at, component_at}
 use Rattle.rt_model.specs.World.{Elements, at_end, Application}
 use Rattle.rt_model.specs.Laws.{IsLawful}
-use Rattle.rt_model.specs.State.{SideName, MainSide, ChildrenSide, FallbackSide, Fault, IdsExhausted, Side, Scope, State, Item, Draw, Row, Feed, Make, Drop, Outcome, Done, Cut, side_of, is_live, height_of}
+use Rattle.rt_model.specs.State.{SideName, MainSide, ChildrenSide, FallbackSide, Fault, IdsExhausted, Side, Scope, State, Item, Draw, Row, Feed, Make, Drop, Outcome, Done, Cut, side_of, is_live, parent_of, height_of}
 use Rattle.rt_model.specs.Run.{child_at, spots_of}
 use Rattle.rt_model.specs.Boundary.{live_child, children_among, side_scopes, boundary_step}
 use Rattle.rt_model.specs.Removal.{children_below}
@@ -28,7 +28,7 @@ use Rattle.rt_model.proofs.NumbersRun.{step_leads}
 use Rattle.rt_model.proofs.Begun.{Good, ended_good, row_done}
 use Rattle.rt_model.proofs.NumbersStand.{Awaits, due_match, change_good, Sound, start_sound, child_among}
 use Rattle.rt_moves.specs.Moves.{Move, Silent, Closed, Logged, is_silent, Moves, Leads}
-use Rattle.rt_moves.specs.Removals.{Apart, Wooded}
+use Rattle.rt_moves.specs.Removals.{children_at, Apart, Wooded}
 use Rattle.rt_moves.specs.Reached.{Reached, ReachedAreWooded}
 use Rattle.rt_moves.proofs.Leaves.{all_joined}
 use Rattle.rt_moves.proofs.Acceptance.{same_as_itself}
@@ -53,10 +53,10 @@ module _ {K : Types} where
   found_where (Some x) h = (x, refl)
 
   -- a live child of a side, and the place where it stands
-  record ChildOf (w : State K) (side : Side K) (t : ℕ) : Type 0 where
-    place : Place
-    child : child_at side.children place ≡ Some t
-    live : is_live w t ≡ true
+  pub record ChildOf (w : State K) (side : Side K) (t : ℕ) : Type 0 where
+    pub place : Place
+    pub child : child_at side.children place ≡ Some t
+    pub live : is_live w t ≡ true
 
   child_if : (w : State K) (side : Side K) (p : Place) (t : ℕ) (b : Bool) → child_at side.children p ≡ Some t → is_live w t ≡ b → AllByRecursion (λ (n : ℕ). ChildOf w side n) (if b then t ∷ [] else [])
   child_if w side p t true e live = (record { place = p; child = e; live = live }, tt)
@@ -74,7 +74,7 @@ module _ {K : Types} where
       (child_option w side p (child_at side.children p) refl)
       (among_children w side ss)
 
-  side_children : (w : State K) (side : Side K) → AllByRecursion (λ (n : ℕ). ChildOf w side n) (side_scopes w side)
+  pub side_children : (w : State K) (side : Side K) → AllByRecursion (λ (n : ℕ). ChildOf w side n) (side_scopes w side)
   side_children w side = among_children w side (spots_of side.output)
 
   -- the first child of a place, and those of other places
@@ -144,7 +144,7 @@ module _ {K : Types} where
     side_knows s x a e =
         all_weaker (λ (t : ℕ). ChildOf w (side_of x a) t) (λ (t : ℕ). Knows s a t) (side_scopes w (side_of x a)) (λ t c. knows s x a t e c) (side_children w (side_of x a))
 
-    side_apart : (s : ℕ) (x : Scope K) (a : SideName) → at w.scopes s ≡ Some x → Apart (side_scopes w (side_of x a))
+    pub side_apart : (s : ℕ) (x : Scope K) (a : SideName) → at w.scopes s ≡ Some x → Apart (side_scopes w (side_of x a))
     side_apart s x a e =
         apart_among w (side_of x a)
         (λ t p q f g. h.slot s t x a p q e (child_among (side_of x a).children p t f) (child_among (side_of x a).children q t g))
@@ -185,6 +185,23 @@ module _ {K : Types} where
         all_joined Up (side_scopes w x.fallback_side ++ side_scopes w x.children_side) (side_scopes w x.main_side)
         (all_joined Up (side_scopes w x.fallback_side) (side_scopes w x.children_side) (up FallbackSide) (up ChildrenSide))
         (up MainSide)
+
+    parent_found : (t : ℕ) (x : Scope K) → at w.scopes t ≡ Some x → parent_of w.scopes t ≡ x.parent
+    parent_found t x e = ap (λ (o : Option (Scope K)). elim o as (λ z. Option ℕ) [ None ↦ None | Some y ↦ y.parent ]) e
+
+    know_at : (s : ℕ) (o : Option (Scope K)) → at w.scopes s ≡ o → AllByRecursion (λ (t : ℕ). parent_of w.scopes t ≡ Some s) (children_below w o)
+    know_at s None e = tt
+    know_at s (Some x) e =
+        let Of : ℕ → Type 0 = λ (t : ℕ). parent_of w.scopes t ≡ Some s in
+        let of : (a : SideName) → AllByRecursion Of (side_scopes w (side_of x a)) =
+        λ a. all_weaker (λ (t : ℕ). Knows s a t) Of (side_scopes w (side_of x a)) (λ t k. parent_found t k.scope k.found ∙ k.parent) (side_knows s x a e) in
+        all_joined Of (side_scopes w x.fallback_side ++ side_scopes w x.children_side) (side_scopes w x.main_side)
+        (all_joined Of (side_scopes w x.fallback_side) (side_scopes w x.children_side) (of FallbackSide) (of ChildrenSide))
+        (of MainSide)
+
+    -- each child of a scope has it as its parent
+    pub children_know : (s : ℕ) → AllByRecursion (λ (t : ℕ). parent_of w.scopes t ≡ Some s) (children_at w s)
+    children_know s = know_at s (at w.scopes s) refl
 
     apart_at : (s : ℕ) (o : Option (Scope K)) → at w.scopes s ≡ o → Apart (children_below w o)
     apart_at s None e = tt
@@ -248,7 +265,7 @@ module _ {K : Types} (app : Application K) (lawful : IsLawful K app) where
   silent_item_sound m (Drop t s side) rest silent built rooted h = cc
 
   -- what stands before a move stands after it
-  move_sound : (limits : Limits) (m u : Machine K) (move : Move) → Moves app limits m move u → Sound app lawful m → Sound app lawful u
+  pub move_sound : (limits : Limits) (m u : Machine K) (move : Move) → Moves app limits m move u → Sound app lawful m → Sound app lawful u
   move_sound limits m u Silent h s =
       let stands : Stands m.state (h.item ∷ h.later) = subst (λ (items : List (Item K)). Stands m.state items) h.next (s.stands h.alive) in
       subst (λ (x : Machine K). Sound app lawful x) (sym h.gives)

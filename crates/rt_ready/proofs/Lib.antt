@@ -1,0 +1,10 @@
+pub mod Twigs
+pub mod Woven
+pub mod Lists
+pub mod Patched
+pub mod Made
+pub mod Taken
+pub mod Opens
+pub mod Weaves
+pub mod Everywhere
+pub mod Served
