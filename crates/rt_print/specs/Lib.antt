@@ -1,5 +1,1 @@
-pub mod Nodes
-pub mod Lines
-pub mod Reports
-pub mod Faults
-pub mod Texts
+pub mod Messages

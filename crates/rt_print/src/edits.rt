@@ -1,54 +1,46 @@
 //! The lines of edits.
-ghost use Rattle.std.specs.Prelude.{◌≡◌, ◌++◌, IfOk, OnOk, string_bytes};
-ghost use Rattle.rt_print.specs.Lines.{value_text, edit_text, line_of};
+ghost use Rattle.std.specs.Prelude.{◌≡◌, ◌++◌, IfOk, OnOk};
+ghost use Rattle.rt_mirror.specs.Mirror.{edit_of};
+ghost use Rattle.rt_language.specs.Lines.{numbered, value_text, edit_text};
+ghost use Rattle.rt_language.specs.Lines as language;
 
+use crate::line::Line;
 use crate::nodes::put_nodes;
-use crate::pieces::{put_name, put_number, put_quoted};
-use rt_tree::Edit;
-use rt_values::{OutOfMemory, Text};
-use std::alloc::{AllocError, Global};
+use rt_edits::Edit;
+use rt_values::{List, OutOfMemory, Text};
+use std::alloc::Global;
 
-// Appends what an attribute becomes.
-fn put_value(alloc: Global, line: &mut String, value: &Option<Text>) -> Result<(), AllocError>
-    ensures value { OnOk result (string_bytes line.new ≡ string_bytes line.old ++ value_text value.now) }
+/// The line of an edit.
+pub fn edit_line(alloc: Global, edit: &Edit) -> Result<List<u8>, OutOfMemory>
+    ensures line { IfOk result (λ line. line ≡ language.line (edit_text (edit_of edit.now))) }
 {
-    match value {
-        Some(value) => {
-            line.push_str("=")?;
-            put_quoted(alloc, line, value)
-        }
-        None => line.push_str(" none"),
-    }
+    let mut line = Line::new(alloc);
+    put_edit(alloc, &mut line, edit)?;
+    line.end()
 }
 
-fn put_edit(alloc: Global, line: &mut String, edit: &Edit) -> Result<(), AllocError>
-    ensures edit { OnOk result (string_bytes line.new ≡ string_bytes line.old ++ edit_text edit.now) }
+/// Appends an edit.
+fn put_edit(alloc: Global, line: &mut Line, edit: &Edit) -> Result<(), OutOfMemory>
+    ensures edit { OnOk result (line.new ≡ line.old ++ edit_text (edit_of edit.now)) }
 {
     match edit {
         Edit::AppendChildren { id, nodes } => {
-            line.push_str("append ")?;
-            put_number(line, id.0)?;
+            put_place(alloc, line, "append ", id.0)?;
             put_nodes(alloc, line, nodes.as_slice())
         }
         Edit::ReplaceNodeWith { id, nodes } => {
-            line.push_str("replace ")?;
-            put_number(line, id.0)?;
+            put_place(alloc, line, "replace ", id.0)?;
             put_nodes(alloc, line, nodes.as_slice())
         }
         Edit::InsertNodesAfter { id, nodes } => {
-            line.push_str("after ")?;
-            put_number(line, id.0)?;
+            put_place(alloc, line, "after ", id.0)?;
             put_nodes(alloc, line, nodes.as_slice())
         }
-        Edit::RemoveNode { id } => {
-            line.push_str("remove ")?;
-            put_number(line, id.0)
-        }
+        Edit::RemoveNode { id } => put_place(alloc, line, "remove ", id.0),
         Edit::SetNodeText { id, text } => {
-            line.push_str("text ")?;
-            put_number(line, id.0)?;
-            line.push_str(" ")?;
-            put_quoted(alloc, line, text)
+            put_place(alloc, line, "text ", id.0)?;
+            line.word(" ")?;
+            line.quoted(alloc, text)
         }
         Edit::SetAttribute {
             id,
@@ -56,33 +48,41 @@ fn put_edit(alloc: Global, line: &mut String, edit: &Edit) -> Result<(), AllocEr
             namespace,
             value,
         } => {
-            line.push_str("attr ")?;
-            put_number(line, id.0)?;
-            line.push_str(" ")?;
-            put_name(line, namespace, name)?;
+            put_place(alloc, line, "attr ", id.0)?;
+            line.word(" ")?;
+            line.name(namespace, name)?;
             put_value(alloc, line, value)
         }
         Edit::CreateEventListener { id, name } => {
-            line.push_str("listen ")?;
-            put_number(line, id.0)?;
-            line.push_str(" ")?;
-            line.push_str(name.as_str())
+            put_place(alloc, line, "listen ", id.0)?;
+            line.word(" ")?;
+            line.word(name.as_str())
         }
         Edit::RemoveEventListener { id, name } => {
-            line.push_str("unlisten ")?;
-            put_number(line, id.0)?;
-            line.push_str(" ")?;
-            line.push_str(name.as_str())
+            put_place(alloc, line, "unlisten ", id.0)?;
+            line.word(" ")?;
+            line.word(name.as_str())
         }
     }
 }
 
-/// The line of an edit, with the newline that ends it.
-pub fn edit_line(alloc: Global, edit: &Edit) -> Result<Text, OutOfMemory>
-    ensures line { IfOk result (λ line. line ≡ line_of edit.now) }
+/// Appends the word of an edit, and the node that it names.
+fn put_place(alloc: Global, line: &mut Line, word: &str, number: u64) -> Result<(), OutOfMemory>
+    ensures place { OnOk result (line.new ≡ line.old ++ (word.now ++ numbered number)) }
 {
-    let mut line = String::new(alloc);
-    put_edit(alloc, &mut line, edit)?;
-    line.push_str("\n")?;
-    Ok(Text::from_string(line))
+    line.word(word)?;
+    line.numbered(alloc, number)
+}
+
+/// Appends what an attribute becomes.
+fn put_value(alloc: Global, line: &mut Line, value: &Option<Text>) -> Result<(), OutOfMemory>
+    ensures value { OnOk result (line.new ≡ line.old ++ value_text value.now) }
+{
+    match value {
+        Some(value) => {
+            line.word("=")?;
+            line.quoted(alloc, value)
+        }
+        None => line.word(" none"),
+    }
 }

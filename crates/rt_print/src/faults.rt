@@ -1,14 +1,60 @@
 //! The lines of faults.
-ghost use Rattle.std.specs.Prelude.{◌≡◌, ◌++◌, IfOk, OnOk, string_bytes, codes};
-ghost use Rattle.rt_print.specs.Faults.{counter_text, fault_line_of};
+ghost use Rattle.std.specs.Prelude.{◌≡◌, ◌++◌, IfOk, OnOk, Some, option_map};
+ghost use Rattle.rt_language.specs.Lines.{counter_text, fault_text};
+ghost use Rattle.rt_language.specs.Lines as language;
+ghost use Rattle.rt_calls.specs.Calls.{counter_of};
+ghost use Rattle.rt_reports.specs.Seen.{fault_of};
 
-use rt_values::{OutOfMemory, Text};
-use rt_vdom::{Counter, Fault};
+use crate::line::Line;
+use crate::reports::put_word;
+use rt_calls::Counter;
+use rt_reports::Fault;
+use rt_values::{List, OutOfMemory};
 use std::alloc::Global;
 
-// The name of a counter.
+/// The line of a fault. Want of memory and a failed sink have none.
+pub fn fault_line(alloc: Global, fault: Fault) -> Result<Option<List<u8>>, OutOfMemory>
+    ensures line { IfOk result (λ line. line
+        ≡ option_map (λ fault. language.line (fault_text fault)) (fault_of fault)) }
+{
+    let mut line = Line::new(alloc);
+    match fault {
+        Fault::OutOfMemory | Fault::SinkFault => return Ok(None),
+        Fault::OutOfTurns { units } => {
+            put_word(alloc, &mut line, "fault 3 OutOfTurns ", units)?;
+        }
+        Fault::TooDeep { height } => {
+            put_word(alloc, &mut line, "fault 4 TooDeep ", height)?;
+        }
+        Fault::IdsExhausted { what } => {
+            line.word("fault 5 IdsExhausted ")?;
+            line.word(counter_name(what))?;
+        }
+        Fault::HookChanged {
+            scope,
+            index,
+            kept,
+            asked,
+        } => {
+            put_word(alloc, &mut line, "fault 6 HookChanged ", scope.0)?;
+            put_word(alloc, &mut line, " ", index)?;
+            put_word(alloc, &mut line, " ", kept as u64)?;
+            put_word(alloc, &mut line, " ", asked as u64)?;
+        }
+        Fault::NoSuchTask { scope, task } => {
+            put_word(alloc, &mut line, "fault 7 NoSuchTask ", scope.0)?;
+            put_word(alloc, &mut line, " ", task.0)?;
+        }
+        Fault::BadNode { scope } => {
+            put_word(alloc, &mut line, "fault 8 BadNode ", scope.0)?;
+        }
+    }
+    Ok(Some(line.end()?))
+}
+
+/// The name of a counter.
 fn counter_name(counter: Counter) -> &'static str
-    ensures name { result.now ≡ counter_text counter }
+    ensures name { result.now ≡ counter_text (counter_of counter) }
 {
     match counter {
         Counter::Scopes => "scopes",
@@ -19,24 +65,4 @@ fn counter_name(counter: Counter) -> &'static str
         Counter::Errors => "errors",
         Counter::Renders => "renders",
     }
-}
-
-/// The line of a fault, with the newline that ends it. Want of memory and a failed sink have none.
-pub fn fault_line(alloc: Global, fault: &Fault) -> Result<Option<Text>, OutOfMemory>
-    ensures line { IfOk result (λ line. line ≡ fault_line_of fault.now) }
-{
-    let mut line = String::new(alloc);
-    match fault {
-        Fault::OutOfMemory | Fault::SinkFault => return Ok(None),
-        Fault::IdsExhausted { what } => {
-            line.push_str("fault 5 IdsExhausted ")?;
-            line.push_str(counter_name(*what))?;
-        }
-        Fault::BadNode { scope } => {
-            line.push_str("fault 8 BadNode ")?;
-            line.write(scope.0)?;
-        }
-    }
-    line.push_str("\n")?;
-    Ok(Some(Text::from_string(line)))
 }

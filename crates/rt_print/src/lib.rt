@@ -1,14 +1,15 @@
-//! What the program prints: a line of text for each edit, for each report, and for a fault.
+//! What the program prints: a line for each edit, for each report, for each message that was taken,
+//! and for a fault. Each line is bytes of UTF-8, with the newline that ends it.
 #![tactic(auto)]
 
 mod edits;
 mod faults;
+mod line;
+mod messages;
 mod nodes;
-mod pieces;
 mod reports;
-#[cfg(test)]
-mod tests;
 
 pub use edits::edit_line;
 pub use faults::fault_line;
+pub use messages::taken_line;
 pub use reports::report_line;

@@ -1,45 +1,43 @@
 //! The text of document nodes.
-ghost use Rattle.std.specs.Prelude.{◌≡◌, ◌++◌, OnOk, string_bytes, map};
-ghost use Rattle.rt_print.specs.Nodes.{spaced, attr_text, listener_text, kind_text, node_text};
+ghost use Rattle.std.specs.Prelude.{◌≡◌, ◌++◌, OnOk, map};
+ghost use Rattle.rt_mirror.specs.Mirror.{doc_attribute_of, content_of, forest_below, forest_of};
+ghost use Rattle.rt_language.specs.Lines.{spaced, attribute_text, listener_text, node_text, node_texts};
 
-use crate::pieces::{put_name, put_number, put_quoted};
-use rt_tree::{DocAttr, DocKind, DocNode, ElementId};
-use rt_values::Text;
-use std::alloc::{AllocError, Global};
+use crate::line::Line;
+use rt_edits::{DocAttr, DocKind, DocNode};
+use rt_values::{OutOfMemory, Text};
+use std::alloc::Global;
 
-fn put_attrs(alloc: Global, line: &mut String, attrs: &[DocAttr]) -> Result<(), AllocError>
-    ensures attrs { OnOk result
-        (string_bytes line.new ≡ string_bytes line.old ++ spaced (map attr_text attrs.now)) }
+/// Appends each attribute with a space before it.
+fn put_attributes(alloc: Global, line: &mut Line, attributes: &[DocAttr]) -> Result<(), OutOfMemory>
+    ensures attributes { OnOk result (line.new
+        ≡ line.old ++ spaced (map attribute_text (map doc_attribute_of attributes.now))) }
 {
-    for attr in attrs {
-        line.push_str(" ")?;
-        put_name(line, &attr.namespace, &attr.name)?;
-        line.push_str("=")?;
-        put_quoted(alloc, line, &attr.value)?;
+    for attribute in attributes {
+        line.word(" ")?;
+        line.name(&attribute.namespace, &attribute.name)?;
+        line.word("=")?;
+        line.quoted(alloc, &attribute.value)?;
     }
     Ok(())
 }
 
-fn put_listeners(line: &mut String, listeners: &[Text]) -> Result<(), AllocError>
-    ensures listeners { OnOk result
-        (string_bytes line.new ≡ string_bytes line.old ++ spaced (map listener_text listeners.now)) }
+/// Appends the name of each listener with a space before it.
+fn put_listeners(line: &mut Line, listeners: &[Text]) -> Result<(), OutOfMemory>
+    ensures listeners { OnOk result (line.new ≡ line.old ++ spaced (map listener_text listeners.now)) }
 {
     for name in listeners {
-        line.push_str(" @")?;
-        line.push_str(name.as_str())?;
+        line.word(" @")?;
+        line.word(name.as_str())?;
     }
     Ok(())
 }
 
+/// Appends a node of this kind and number.
 #[cycle(node)]
-fn put_kind(
-    alloc: Global,
-    line: &mut String,
-    id: ElementId,
-    kind: &DocKind,
-) -> Result<(), AllocError>
-    ensures kind { OnOk result
-        (string_bytes line.new ≡ string_bytes line.old ++ kind_text kind.now id.0) }
+fn put_kind(alloc: Global, line: &mut Line, number: u64, kind: &DocKind) -> Result<(), OutOfMemory>
+    ensures node { OnOk result (line.new
+        ≡ line.old ++ node_text number (content_of kind.now) (node_texts (forest_below kind.now))) }
 {
     match kind {
         DocKind::Element {
@@ -49,34 +47,37 @@ fn put_kind(
             listeners,
             children,
         } => {
-            line.push_str("(")?;
-            put_name(line, namespace, tag)?;
-            put_number(line, id.0)?;
-            put_attrs(alloc, line, attrs.as_slice())?;
+            line.word("(")?;
+            line.name(namespace, tag)?;
+            line.numbered(alloc, number)?;
+            put_attributes(alloc, line, attrs.as_slice())?;
             put_listeners(line, listeners.as_slice())?;
             put_nodes(alloc, line, children.as_slice())?;
-            line.push_str(")")
+            line.word(")")
         }
         DocKind::Text(text) => {
-            put_quoted(alloc, line, text)?;
-            put_number(line, id.0)
+            line.quoted(alloc, text)?;
+            line.numbered(alloc, number)
         }
         DocKind::Placeholder => {
-            line.push_str("_")?;
-            put_number(line, id.0)
+            line.word("_")?;
+            line.numbered(alloc, number)
         }
     }
 }
 
 /// Appends each node with a space before it.
 #[cycle(node)]
-pub fn put_nodes(alloc: Global, line: &mut String, nodes: &[DocNode]) -> Result<(), AllocError>
-    ensures nodes { OnOk result
-        (string_bytes line.new ≡ string_bytes line.old ++ spaced (map node_text nodes.now)) }
+pub(crate) fn put_nodes(
+    alloc: Global,
+    line: &mut Line,
+    nodes: &[DocNode],
+) -> Result<(), OutOfMemory>
+    ensures nodes { OnOk result (line.new ≡ line.old ++ spaced (node_texts (forest_of nodes.now))) }
 {
     for node in nodes {
-        line.push_str(" ")?;
-        put_kind(alloc, line, node.id, &node.kind)?;
+        line.word(" ")?;
+        put_kind(alloc, line, node.id.0, &node.kind)?;
     }
     Ok(())
 }

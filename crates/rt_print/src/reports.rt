@@ -1,59 +1,83 @@
 //! The lines of reports.
-ghost use Rattle.std.specs.Prelude.{◌≡◌, ◌++◌, IfOk, OnOk, map, string_bytes};
-ghost use Rattle.rt_print.specs.Nodes.{spaced};
-ghost use Rattle.rt_print.specs.Reports.{entry_text, counts_text, report_line_of};
+ghost use Rattle.std.specs.Prelude.{◌≡◌, ◌++◌, IfOk, OnOk, decimal, map};
+ghost use Rattle.rt_language.specs.Lines.{spaced, entry_text, counts_text};
+ghost use Rattle.rt_language.specs.Lines as language;
+ghost use Rattle.rt_reports.specs.Seen.{entry_of, report_of};
 
-use rt_values::{OutOfMemory, Text};
-use rt_vdom::{Entry, Report};
-use std::alloc::{AllocError, Global};
+use crate::line::Line;
+use rt_reports::{Entry, Report};
+use rt_values::{List, OutOfMemory};
+use std::alloc::Global;
 
-// Appends the word of an entry.
-fn put_entry(line: &mut String, entry: &Entry) -> Result<(), AllocError>
-    ensures entry { OnOk result (string_bytes line.new ≡ string_bytes line.old ++ entry_text entry.now) }
+/// The line of a report, whose number is that of its input; the report of the build has number 0.
+pub fn report_line(alloc: Global, number: u64, report: &Report) -> Result<List<u8>, OutOfMemory>
+    ensures line { IfOk result (λ line. line ≡ language.report_line number (report_of report.now)) }
 {
-    match entry {
-        Entry::Build => line.push_str("build"),
-        Entry::Made(scope) => {
-            line.push_str("made:")?;
-            line.write(scope.0)
-        }
-    }
+    let mut line = Line::new(alloc);
+    put_counts(alloc, &mut line, number, report)?;
+    line.word(" log")?;
+    put_log(alloc, &mut line, report.log.as_slice())?;
+    line.end()
 }
 
-fn put_log(line: &mut String, log: &[Entry]) -> Result<(), AllocError>
-    ensures log { OnOk result
-        (string_bytes line.new ≡ string_bytes line.old ++ spaced (map entry_text log.now)) }
+/// Appends what a report counts, with its number before it.
+fn put_counts(
+    alloc: Global,
+    line: &mut Line,
+    number: u64,
+    report: &Report,
+) -> Result<(), OutOfMemory>
+    ensures counts { OnOk result (line.new ≡ line.old ++ counts_text number (report_of report.now)) }
+{
+    line.word("report ")?;
+    line.decimal(alloc, number)?;
+    line.word(" units ")?;
+    line.decimal(alloc, report.units)?;
+    line.word(" bodies ")?;
+    line.decimal(alloc, report.bodies)?;
+    line.word(" edits ")?;
+    line.decimal(alloc, report.edits)
+}
+
+/// Appends the word of each entry with a space before it.
+fn put_log(alloc: Global, line: &mut Line, log: &[Entry]) -> Result<(), OutOfMemory>
+    ensures log { OnOk result (line.new
+        ≡ line.old ++ spaced (map entry_text (map entry_of log.now))) }
 {
     for entry in log {
-        line.push_str(" ")?;
-        put_entry(line, entry)?;
+        line.word(" ")?;
+        put_entry(alloc, line, *entry)?;
     }
     Ok(())
 }
 
-// Appends what a report counts, with its number before it.
-fn put_counts(line: &mut String, number: u64, report: &Report) -> Result<(), AllocError>
-    ensures counts { OnOk result
-        (string_bytes line.new ≡ string_bytes line.old ++ counts_text number report.now) }
+/// Appends the word of an entry.
+fn put_entry(alloc: Global, line: &mut Line, entry: Entry) -> Result<(), OutOfMemory>
+    ensures entry { OnOk result (line.new ≡ line.old ++ entry_text (entry_of entry)) }
 {
-    line.push_str("report ")?;
-    line.write(number)?;
-    line.push_str(" units ")?;
-    line.write(report.units)?;
-    line.push_str(" bodies ")?;
-    line.write(report.bodies)?;
-    line.push_str(" edits ")?;
-    line.write(report.edits)
+    match entry {
+        Entry::Build => line.word("build"),
+        Entry::Input(number) => put_word(alloc, line, "input:", number),
+        Entry::Heard(scope) => put_word(alloc, line, "heard:", scope.0),
+        Entry::Rerun(scope) => put_word(alloc, line, "rerun:", scope.0),
+        Entry::Poll(task) => put_word(alloc, line, "poll:", task.0),
+        Entry::Effects(scope) => put_word(alloc, line, "effects:", scope.0),
+        Entry::Made(scope) => put_word(alloc, line, "made:", scope.0),
+        Entry::Fed(scope) => put_word(alloc, line, "fed:", scope.0),
+        Entry::Kept(scope) => put_word(alloc, line, "kept:", scope.0),
+        Entry::Removed(scope) => put_word(alloc, line, "removed:", scope.0),
+    }
 }
 
-/// The line of a report, with the newline that ends it. The report of the build has number 0.
-pub fn report_line(alloc: Global, number: u64, report: &Report) -> Result<Text, OutOfMemory>
-    ensures line { IfOk result (λ line. line ≡ report_line_of number report.now) }
+/// Appends a word and a number.
+pub(crate) fn put_word(
+    alloc: Global,
+    line: &mut Line,
+    word: &str,
+    number: u64,
+) -> Result<(), OutOfMemory>
+    ensures word { OnOk result (line.new ≡ line.old ++ (word.now ++ decimal number)) }
 {
-    let mut line = String::new(alloc);
-    put_counts(&mut line, number, report)?;
-    line.push_str(" log")?;
-    put_log(&mut line, report.log.as_slice())?;
-    line.push_str("\n")?;
-    Ok(Text::from_string(line))
+    line.word(word)?;
+    line.decimal(alloc, number)
 }

@@ -1,7 +1,9 @@
 -- What the line has, with the nodes that are still to come, is what it is to have.
-use Rattle.std.proofs.Common.{◌≡◌, ◌++◌, drop, map, string_bytes}
-use Rattle.rt_print.specs.Nodes.{spaced, node_text}
+use Rattle.std.proofs.Common.{◌≡◌, ◌++◌, drop}
+use Rattle.rt_mirror.specs.Mirror.{forest_of}
+use Rattle.rt_language.specs.Lines.{spaced, node_texts}
 use Rattle.rt_print.proofs.nodes.+node.Given as goal
 
 abbrev pub invariant-put_nodes-loop-node : goal.invariant-put_nodes-loop-node
-invariant-put_nodes-loop-node l = string_bytes l.line ++ spaced (map node_text (drop l.node-index l.nodes)) ≡ string_bytes l.fn.line ++ spaced (map node_text l.nodes)
+invariant-put_nodes-loop-node l =
+    l.line ++ spaced (node_texts (forest_of (drop l.node-index l.nodes))) ≡ l.fn.line ++ spaced (node_texts (forest_of l.nodes))

@@ -1,0 +1,5 @@
+//! Tests of the printed lines, as tables.
+#![tactic(auto)]
+
+#[cfg(test)]
+mod tests;
