@@ -1,0 +1,13 @@
+//! From the bytes of a source to the checked source that they are, exactly where they are in its form.
+#![tactic(auto)]
+
+mod definitions;
+mod inputs;
+mod reading;
+mod signatures;
+#[cfg(test)]
+mod tests;
+mod whole;
+
+pub use reading::{SOURCE_LIMIT, read_source};
+pub use signatures::names_in;
