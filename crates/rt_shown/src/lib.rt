@@ -1,0 +1,16 @@
+//! What shows of the scopes of a component runtime: the document, the listeners that an event calls,
+//! and the edits that a unit writes.
+#![tactic(auto)]
+
+mod climb;
+mod hearing;
+mod levels;
+mod look;
+mod showing;
+mod way;
+mod writing;
+
+pub use hearing::{Listener, heard};
+pub use look::{Look, Stood};
+pub use showing::{nodes_of, view};
+pub use writing::{built, written, written_until};
