@@ -1,0 +1,5 @@
+mod Marks
+mod Calm
+mod Commanded
+mod Leaving
+mod Again
