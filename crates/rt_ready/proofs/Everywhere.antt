@@ -83,7 +83,7 @@ module _ {K : Types} where
   step_aside w b step (Make s a p c) (inr same) = absurd same.1
   step_aside w b step (Drop t s a) (inr same) = absurd same.1
 
-  steps_idle : (w : State K) (b : ℕ) (step : RowStep) (rest : List (Item K)) → AllByRecursion (λ (j : Item K). After w (Row b step) j) rest → Idle w b rest
+  pub steps_idle : (w : State K) (b : ℕ) (step : RowStep) (rest : List (Item K)) → AllByRecursion (λ (j : Item K). After w (Row b step) j) rest → Idle w b rest
   steps_idle w b step [] h = tt
   steps_idle w b step (j ∷ rest) h = (step_aside w b step j h.0, steps_idle w b step rest h.1)
 
@@ -92,7 +92,7 @@ module _ {K : Types} where
   feed_aside w s t a p c j step (inl low) = inl (omega (arith, low, step))
   feed_aside w s t a p c j step (inr same) = let level : height_of w.scopes (owner j) ≡ height_of w.scopes s = ap (λ (n : ℕ). height_of w.scopes n) same.0 in inl (omega (arith, level, step))
 
-  feeds_idle : (w : State K) (s t : ℕ) (a : SideName) (p : Place) (c : VComponent K) (rest : List (Item K)) → height_of w.scopes t ≡ height_of w.scopes s + 1
+  pub feeds_idle : (w : State K) (s t : ℕ) (a : SideName) (p : Place) (c : VComponent K) (rest : List (Item K)) → height_of w.scopes t ≡ height_of w.scopes s + 1
       → AllByRecursion (λ (j : Item K). After w (Feed s a p c) j) rest
       → Idle w t rest
   feeds_idle w s t a p c [] step h = tt
@@ -204,7 +204,7 @@ module _ {K : Types} (app : Application K) (lawful : IsLawful K app) where
   onward_quiet (Done v work) f h = h v
   onward_quiet (Cut v fault) f h = tt
 
-  batch_quiet : (w : State K) (s : ℕ) (es : List K.Effect) → IdleO (batch app w s es)
+  pub batch_quiet : (w : State K) (s : ℕ) (es : List K.Effect) → IdleO (batch app w s es)
   batch_quiet w s [] = refl
   batch_quiet w s (e ∷ es) = onward_quiet (acted app w s e false) (λ v. batch app v s es) (λ v. batch_quiet v s es)
 
@@ -258,7 +258,7 @@ module _ {K : Types} (app : Application K) (lawful : IsLawful K app) where
       stay_trans m.state v.state (then_looked v).state (called_stay app lawful m.state l.origin None meaning n) (then_looked_calm v).stays
   heard_stays_at m l ls meaning (Some f) n alive = let absurdity : Some (fault_of f) ≡ None = alive in cc
 
-  heard_stays : (m : Machine K) (l : Listener K) (ls : List (Listener K)) (o : Option (Event K)) → (heard_event app m l ls o).dead ≡ None → Stay m.state (heard_event app m l ls o).state
+  pub heard_stays : (m : Machine K) (l : Listener K) (ls : List (Listener K)) (o : Option (Event K)) → (heard_event app m l ls o).dead ≡ None → Stay m.state (heard_event app m l ls o).state
   heard_stays m l ls None alive = stay_refl m.state
   heard_stays m l ls (Some event) alive =
       let world : World K = world_of m.state l.origin None false in

@@ -123,7 +123,7 @@ module _ {K : Types} where
         (λ q. let absurdity : None ≡ Some x = sym fresh ∙ ap (λ (i : ℕ). at w.scopes i) (eqb-true n s q) ∙ found in cc)
         (λ q. q)
 
-    at_parent : at v.scopes s ≡ Some y
+    pub at_parent : at v.scopes s ≡ Some y
     at_parent = at_joined (put w.scopes s y) n (new_scope c (Some s) (x.height + 1) a) s differs ∙ at_put_here w.scopes s y s (eq_same s)
 
     at_other : (t : ℕ) → nat_eq n t ≡ false → nat_eq s t ≡ false → at v.scopes t ≡ at w.scopes t
@@ -138,7 +138,7 @@ module _ {K : Types} where
     pub at_child : at v.scopes n ≡ Some (new_scope c (Some s) (x.height + 1) a)
     at_child = at_new (put w.scopes s y) n (new_scope c (Some s) (x.height + 1) a) (at_put_other w.scopes s y n differs_back ∙ fresh)
 
-    is_new : (t : ℕ) → is_live w t ≡ true → nat_eq n t ≡ false
+    pub is_new : (t : ℕ) → is_live w t ≡ true → nat_eq n t ≡ false
     is_new t live =
         by_test (nat_eq n t)
         (
@@ -151,7 +151,7 @@ module _ {K : Types} where
 
     -- any scope but the new one is as it was, but for the one slot
 
-    part : {A : Type 0} (g : Option (Scope K) → A) (t : ℕ) → nat_eq n t ≡ false → g (Some y) ≡ g (Some x) → g (at v.scopes t) ≡ g (at w.scopes t)
+    pub part : {A : Type 0} (g : Option (Scope K) → A) (t : ℕ) → nat_eq n t ≡ false → g (Some y) ≡ g (Some x) → g (at v.scopes t) ≡ g (at w.scopes t)
     part g t old e =
         by_test (nat_eq s t)
         (
@@ -178,7 +178,7 @@ module _ {K : Types} where
     side_here : side_at v s a ≡ bare z
     side_here = side_found v s a y at_parent ∙ ap (λ (i : Side K). bare i) (that_side x a z)
 
-    side_else : (t : ℕ) (b : SideName) → nat_eq n t ≡ false → (t ≡ s → b ≡ a → ⊥) → side_at v t b ≡ side_at w t b
+    pub side_else : (t : ℕ) (b : SideName) → nat_eq n t ≡ false → (t ≡ s → b ≡ a → ⊥) → side_at v t b ≡ side_at w t b
     side_else t b old other =
         by_test (nat_eq s t)
         (
@@ -192,14 +192,14 @@ module _ {K : Types} where
         )
         (λ q. ap (λ (o : Option (Scope K)). twig_side b (twig o)) (at_other t old q))
 
-    side_child : (b : SideName) → side_at v n b ≡ empty_side
+    pub side_child : (b : SideName) → side_at v n b ≡ empty_side
     side_child b = side_found v n b (new_scope c (Some s) (x.height + 1) a) at_child ∙ ap (λ (i : Side K). bare i) (new_side c (Some s) (x.height + 1) a b)
 
-    kids_here : kids v s a ≡ kids w s a ++ (p, n) ∷ []
+    pub kids_here : kids v s a ≡ kids w s a ++ (p, n) ∷ []
     kids_here =
         ap (λ (i : Side K). i.children) side_here ∙ sym (ap (λ (i : Side K). i.children ++ (p, n) ∷ []) (side_found w s a x found))
 
-    slots_else : (t : ℕ) (b : SideName) → nat_eq n t ≡ false → slots v t b ≡ slots w t b
+    pub slots_else : (t : ℕ) (b : SideName) → nat_eq n t ≡ false → slots v t b ≡ slots w t b
     slots_else t b old =
         by_side t s b a
         (

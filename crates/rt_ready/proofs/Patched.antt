@@ -64,7 +64,7 @@ module _ {K : Types} where
   abbrev pub Idle : State K → ℕ → List (Item K) → Type 0
   Idle w u rest = AllByRecursion (λ (j : Item K). Aside w u j) rest
 
-  aside_row : (w : State K) (u : ℕ) (j : Item K) → Aside w u j → owner j ≡ u → IsRow j
+  pub aside_row : (w : State K) (u : ℕ) (j : Item K) → Aside w u j → owner j ≡ u → IsRow j
   aside_row w u j (inl low) same = let level : height_of w.scopes (owner j) ≡ height_of w.scopes u = ap (λ (n : ℕ). height_of w.scopes n) same in absurd (omega (arith, low, level))
   aside_row w u j (inr row) same = row.1
 

@@ -177,7 +177,7 @@ module _ {K : Types} where
     pub kids_same : (s : ℕ) (a : SideName) → kids v s a ≡ kids w s a
     kids_same s a = ap (λ z. z.children) (side_by w v s a (same s))
 
-    slots_same : (s : ℕ) (a : SideName) → slots v s a ≡ slots w s a
+    pub slots_same : (s : ℕ) (a : SideName) → slots v s a ≡ slots w s a
     slots_same s a = ap (λ z. Rattle.rt_model.specs.Run.spots_of z.output) (side_by w v s a (same s))
 
     kid_same : (s t : ℕ) (a : SideName) (p : Place) (o : Option ℕ) → child_at (kids w s a) p ≡ o → child_at (kids v s a) p ≡ o
