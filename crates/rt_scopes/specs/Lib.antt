@@ -1,0 +1,9 @@
+pub mod Names
+pub mod Mirror
+pub mod Climbs
+pub mod Sources
+pub mod Looks
+pub mod Provided
+pub mod Effects
+pub mod Holders
+pub mod Sides
