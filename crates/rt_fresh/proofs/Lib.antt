@@ -3,3 +3,13 @@ mod Calm
 mod Commanded
 mod Leaving
 mod Again
+mod Ran
+mod Owed
+mod Called
+mod Runs
+mod Stages
+mod Steps
+mod ChildKinds
+mod Removed
+mod Moving
+mod Settled

@@ -4,5 +4,9 @@
 #![tactic(auto)]
 
 mod heeding;
+mod settling;
 
 pub use heeding::{commands_heed, fresh_repeats, removal_heeds};
+pub use settling::{
+    all_are_current_or_owed, others_are_current_or_owed, settled_are_current, settled_show_held,
+};

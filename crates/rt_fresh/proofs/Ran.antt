@@ -1,0 +1,461 @@
+-- What calls, looks and inputs leave: all of them are calm.
+use Rattle.std.proofs.Common.{ℕ, zero, suc, ◌+◌, Bool, true, false, List, [], ◌∷◌, ◌++◌, ◌≡◌, ◌≤◌, ◌<◌, ◌⊎◌, ◌&&◌, ◌||◌, not, refl, sym, ap, ◌∙◌, subst, nat_eq, arith, inl, inr}
+use Rattle.std.proofs.lemmas.Bool.{eqb-true}
+use Rattle.std.specs.Prelude.{Option, Some, None, if◌then◌else◌, is_some}
+use Rattle.std.specs.List.{AllByRecursion}
+use Rattle.rt_model.specs.Lists.{at, put, drop_number, has, join}
+use Rattle.rt_model.specs.Tree.{Types, Element, rendered, failed, suspended}
+use Rattle.rt_model.specs.World.{Source, Cell, Error, Context, Renders, Firsts, at_end, after_render_kind, CallFault, Hook, HookValue, HookEffect, Event, Command, NewCell, Meaning, Nothing, TaskStep, pending, ready, World, Application}
+use Rattle.rt_model.specs.Laws as laws
+use Rattle.rt_model.specs.Laws.{CountUp, drawn, IsNumbered, IsLawful}
+use Rattle.rt_model.specs.State.{SideName, MainSide, ChildrenSide, FallbackSide, Posted, Mark, Woken, SuspendedTask, IdsExhausted, Scope, LastCall, TaskRow, State, Outcome, Done, Cut, onward, is_live, change, changed_scope, location, holds, is_held, hooks_of, renders_of, is_shown, world_of}
+use Rattle.rt_model.specs.Commands.{drop_posted, post, write_cell, unqueued, end, throw_error, commands}
+use Rattle.rt_model.specs.Next.{Work, look_on, look, found, paused, drop_then, drops, looked, at_rest}
+use Rattle.rt_model.specs.Run.{fault_of, with_next, called_once, raised, joins, suspends_on, unmarked, is_kind, acted, hook_called, hooks_called, after_hooks, settled_answer}
+use Rattle.rt_model.specs.Boundary.{counted_render, called_back}
+use Rattle.rt_model.specs.Replay.{Post, MarkScope, WakeTask, AllDirty, Message, Input, EventAt, WakeOf, WriteOf, MarkOf, Drain, Machine, mounted, mounted_state, waiting, post_all, post_message, post_messages, looked_where_quiet, then_looked, taken_in, take_next, left_by_poll, polled_to, polled_at, polled, batch, effects_of, effects_run, further, heard_event}
+use Rattle.rt_model.specs.Heard.{Listener}
+use Rattle.rt_model.proofs.Maps.{by_test, pick_true, pick_false, eq_same, at_here, at_there, at_put_here, at_put_other, none_some}
+use Rattle.rt_model.proofs.RunFrames.{numbered_rises}
+use Rattle.rt_fresh.specs.Heeds.{Low, HasMark, is_past, leavings, Marked, SameOf, Heeds, NewFrom, AllFrom}
+use Rattle.rt_fresh.proofs.Marks.{clash, turned_round, mark_first, mark_last, mark_split, mark_stays, number_stays, join_keeps, join_has}
+use Rattle.rt_fresh.proofs.Calm.{standing, error_of, context_of, holders_of, leavings_by, holders_by, there_of, held_by, same_scope, same_then, same_quiet, HoldersLive, Unique, unique_put, Calm, calm_then, calm_past, calm_to, calm_if, calm_refl, Quiet, quiet_then, quiet_rest, quiet_if, quiet_refl, quiet_calm, no_fall, held_stays, holders_stay, post_quiet, change_quiet, put_by, CalmO, onward_calm, from_calm, calm_o_if}
+use Rattle.rt_fresh.proofs.Commanded.{written_calm, throw_calm, end_calm, task_quiet, commands_calm}
+
+all_join : (P : ℕ × ℕ → Type 0) (xs : List (ℕ × ℕ)) (y : ℕ × ℕ) → AllByRecursion (λ (h : ℕ × ℕ). P h) xs → P y → AllByRecursion (λ (h : ℕ × ℕ). P h) (xs ++ y ∷ [])
+all_join P [] y h p = (p, tt)
+all_join P (x ∷ xs) y h p = (h.0, all_join P xs y h.1 p)
+
+module _ {K : Types} where
+  -- the new cells of a call are at least the world's next one
+  from_first : (first k n : ℕ) (cs : List (Command K)) → n ≤ first → CountUp first (drawn laws.new_cell cs) k → AllFrom n cs
+  from_first first k n [] low h = tt
+  from_first first k n (NewCell m v ∷ cs) low h =
+      let here : n ≤ m = omega (arith, low, h.0) in
+      let more : n ≤ first + 1 = omega (arith, low) in
+      (here, from_first (first + 1) k n cs more h.1)
+  from_first first k n (c ∷ cs) low h = (tt, from_first first k n cs low h)
+
+  pub all_from : (n : ℕ) (f g : Firsts) (cs : List (Command K)) → n ≤ f.cells → IsNumbered f cs g → AllFrom n cs
+  all_from n f g cs low h = from_first f.cells g.cells n cs low h.cells
+
+  pub cells_rise : (f g : Firsts) (cs : List (Command K)) → IsNumbered f cs g → f.cells ≤ g.cells
+  cells_rise f g cs h = (numbered_rises f cs g h).cells
+
+  pub next_quiet : (w : State K) (next : Firsts) → w.next.cells ≤ next.cells → Quiet w (with_next w next)
+  next_quiet w next up = quiet_rest w (with_next w next) refl refl refl refl refl refl up
+
+  pub once_quiet : (w : State K) → Quiet w (called_once w)
+  once_quiet w = quiet_rest w (called_once w) refl refl refl refl refl refl (no_fall w)
+
+  -- the marks of one scope go
+  pub unmarked_calm : (n : ℕ) (w : State K) (s : ℕ) → Calm (Some s) n w (unmarked w s)
+  unmarked_calm n w s =
+      record {
+        heeds =
+            record {
+              stays = λ t p. refl;
+              calls = λ t p. refl;
+              marks = λ t x p e h. elim h [ inl m ↦ inl (mark_stays w.posted (Mark s) t (turned_round s t p) m) | inr m ↦ inr (number_stays w.seen s t p m) ];
+              told = λ t x i p e reads low. inl (alike i);
+              held = λ t x y p e d. inl (held_by x y (ap (λ (o : Option (Scope K)). holders_of o) (sym d ∙ e)));
+            };
+        orderly = λ h. record { holders = h.holders; unique = h.unique };
+        rises = no_fall w;
+      }
+    where
+      alike : (i : Source) → SameOf w (unmarked w s) i
+      alike (Cell m) = refl
+      alike (Error t) = refl
+      alike (Context k t) = refl
+
+  -- a task holds a boundary, which is marked
+
+  joined_marks : (w : State K) (b : ℕ) → is_live w b ≡ true → HasMark (post w (Mark b)).posted b
+  joined_marks w b live = subst (λ (v : State K). HasMark v.posted b) (sym (pick_true (record w { posted = w.posted ++ Mark b ∷ [] }) w live)) (mark_last w.posted (Mark b ∷ []) b (inl refl))
+
+  module _ (n : ℕ) (w : State K) (origin t b : ℕ) (x : Scope K) (live : at w.scopes b ≡ Some x) (task : is_some (at w.tasks t) ≡ true) where
+    abbrev joined : Scope K
+    joined = record x { holders = x.holders ++ (t, origin) ∷ [] }
+
+    abbrev with_joined : State K
+    with_joined = record w { scopes = put w.scopes b joined }
+
+    joined_alike : (i : Source) → SameOf w with_joined i
+    joined_alike (Cell m) = refl
+    joined_alike (Error s) = sym (put_by (λ o. error_of o) w.scopes b x joined live refl s)
+    joined_alike (Context k s) = sym (put_by (λ o. context_of k o) w.scopes b x joined live refl s)
+
+    here_live : is_live with_joined b ≡ true
+    here_live = ap (λ (o : Option (Scope K)). is_some o) (at_put_here w.scopes b joined b (eq_same b))
+
+    abbrev posted_joined : State K
+    posted_joined = post with_joined (Mark b)
+
+    posted : Quiet with_joined posted_joined
+    posted = post_quiet with_joined (Mark b)
+
+    holders_joined : HoldersLive w → HoldersLive with_joined
+    holders_joined h s =
+        by_test (nat_eq b s)
+        (
+        λ q.
+        subst (λ (o : Option (Scope K)). AllByRecursion (λ (d : ℕ × ℕ). is_some (at w.tasks d.0) ≡ true) (holders_of o)) (sym (at_put_here w.scopes b joined s q))
+        (all_join (λ d. is_some (at w.tasks d.0) ≡ true) x.holders (t, origin)
+        (subst (λ (o : Option (Scope K)). AllByRecursion (λ (d : ℕ × ℕ). is_some (at w.tasks d.0) ≡ true) (holders_of o)) live (h b)) task)
+        )
+        (
+        λ q.
+        subst (λ (o : Option (Scope K)). AllByRecursion (λ (d : ℕ × ℕ). is_some (at w.tasks d.0) ≡ true) (holders_of o)) (sym (at_put_other w.scopes b joined s q)) (h s)
+        )
+
+    there_joined : (s : ℕ) (y : Scope K) → at w.scopes s ≡ Some y → (z : Scope K) × (at with_joined.scopes s ≡ Some z) × (leavings (Some z) ≡ leavings (Some y))
+    there_joined s y e = there_of (at with_joined.scopes s) (at w.scopes s) y (put_by (λ o. leavings o) w.scopes b x joined live refl s) e
+
+    joined_calm : Calm None n w posted_joined
+    joined_calm =
+        record {
+          heeds =
+              record {
+                stays = λ s p. leavings_by (at posted_joined.scopes s) (at with_joined.scopes s) (posted.stand s) ∙ put_by (λ o. leavings o) w.scopes b x joined live refl s;
+                calls = λ s p. ap (λ (ls : List (ℕ × LastCall K)). at ls s) posted.calls;
+                marks = λ s y p e h. let z = there_joined s y e in posted.marks s z.0 z.1 h;
+                told = λ s y i p e reads low. inl (same_then w with_joined posted_joined i (joined_alike i) (same_quiet with_joined posted_joined i posted));
+                held = λ s y z p e d. held s y z e d;
+              };
+          orderly =
+              λ h.
+              record {
+                holders = holders_stay with_joined posted_joined (λ s. holders_by (at posted_joined.scopes s) (at with_joined.scopes s) (posted.stand s)) posted.tasks (holders_joined h.holders);
+                unique = posted.unique (unique_put w.scopes b x joined live h.unique);
+              };
+          rises = posted.rises;
+        }
+      where
+        held : (s : ℕ) (y z : Scope K) → at w.scopes s ≡ Some y → at posted_joined.scopes s ≡ Some z → (is_held z ≡ is_held y) ⊎ Marked posted_joined s
+        held s y z e d =
+            by_test (nat_eq b s)
+            (λ q. inr (inl (subst (λ (k : ℕ). HasMark posted_joined.posted k) (eqb-true b s q) (joined_marks with_joined b here_live))))
+            (
+            λ q.
+            inl (held_stays w posted_joined s y z (holders_by (at posted_joined.scopes s) (at with_joined.scopes s) (posted.stand s) ∙ ap (λ (o : Option (Scope K)). holders_of o) (at_put_other w.scopes b joined s q)) e d)
+            )
+
+  joins_found : (n : ℕ) (w : State K) (origin t b : ℕ) (o : Option (Scope K)) → at w.scopes b ≡ o → is_some (at w.tasks t) ≡ true
+      → Calm None n w (elim o as (λ z. State K) [
+        | None ↦ w
+        | Some x ↦ if holds x t then w else post (changed_scope w b (λ y. record y { holders = y.holders ++ (t, origin) ∷ [] }) o) (Mark b)
+      ])
+  joins_found n w origin t b None live task = calm_refl None n w
+  joins_found n w origin t b (Some x) live task = calm_if None n w w (posted_joined n w origin t b x live task) (holds x t) (calm_refl None n w) (joined_calm n w origin t b x live task)
+
+  joins_calm : (n : ℕ) (w : State K) (origin t : ℕ) (o : Option (ℕ × SideName)) → is_some (at w.tasks t) ≡ true → Calm None n w (joins w origin t o)
+  joins_calm n w origin t None task = calm_refl None n w
+  joins_calm n w origin t (Some (b, MainSide)) task = calm_refl None n w
+  joins_calm n w origin t (Some (b, FallbackSide)) task = calm_refl None n w
+  joins_calm n w origin t (Some (b, ChildrenSide)) task = joins_found n w origin t b (at w.scopes b) refl task
+
+  suspends_calm : (n : ℕ) (w : State K) (s origin t : ℕ) (o : Option (TaskRow K)) → at w.tasks t ≡ o → CalmO None n w (suspends_on w s origin t o)
+  suspends_calm n w s origin t None e = tt
+  suspends_calm n w s origin t (Some x) e =
+      let row : TaskRow K = record x { kind = SuspendedTask } in
+      let v : State K = record w { tasks = put w.tasks t row } in
+      let there : is_some (at v.tasks t) ≡ true = ap (λ (o : Option (TaskRow K)). is_some o) (at_put_here w.tasks t row t (eq_same t)) in
+      calm_then None n w v (joins v origin t (location w s)) (quiet_calm None n w v (task_quiet w t row)) (joins_calm n v origin t (location w s) there)
+
+  raised_calm : (n : ℕ) (w : State K) (s : ℕ) → CalmO None n w (raised w s)
+  raised_calm n w s =
+      let v : State K = change w s (λ x. record x { renders = x.renders + 1 }) in
+      calm_o_if None n w (at_end (renders_of w s)) (Cut w (IdsExhausted Renders)) (Done v []) tt (quiet_calm None n w v (change_quiet w s (λ x. record x { renders = x.renders + 1 }) (λ x. refl)))
+
+  -- looks
+
+  look_one : (w : State K) (s : ℕ) → Quiet w (record w { seen = join w.seen s })
+  look_one w s =
+      record {
+        stand = λ t. refl;
+        cells = refl;
+        calls = refl;
+        tasks = λ t h. h;
+        unique = λ h. h;
+        marks = λ t x e h. elim h [ inl m ↦ inl m | inr m ↦ inr (join_keeps w.seen s t m) ];
+        rises = no_fall w;
+      }
+
+  look_other : (w : State K) (t : ℕ) → Quiet w (record w { queued = join w.queued t })
+  look_other w t = quiet_rest w (record w { queued = join w.queued t }) refl refl refl refl refl refl (no_fall w)
+
+  look_on_quiet : (ps : List Posted) (w : State K) → Quiet w (look_on ps w)
+  look_on_quiet [] w = quiet_refl w
+  look_on_quiet (Mark s ∷ ps) w =
+      let v : State K = if is_live w s then record w { seen = join w.seen s } else w in
+      quiet_then w v (look_on ps v) (quiet_if w (record w { seen = join w.seen s }) w (is_live w s) (look_one w s) (quiet_refl w)) (look_on_quiet ps v)
+  look_on_quiet (Woken t ∷ ps) w =
+      let v : State K = if is_some (at w.tasks t) then record w { queued = join w.queued t } else w in
+      quiet_then w v (look_on ps v) (quiet_if w (record w { queued = join w.queued t }) w (is_some (at w.tasks t)) (look_other w t) (quiet_refl w)) (look_on_quiet ps v)
+
+  -- what was posted of a live scope is seen
+  pub look_sees : (ps : List Posted) (w : State K) (t : ℕ) (x : Scope K) → at w.scopes t ≡ Some x → HasMark ps t → Marked (look_on ps w) t
+  look_sees [] w t x e h = absurd h
+  look_sees (Mark s ∷ ps) w t x e (inl h) =
+      let same : s ≡ t = mark_of s t h in
+      let here : is_live w s ≡ true = ap (λ (k : ℕ). is_live w k) same ∙ ap (λ (o : Option (Scope K)). is_some o) e in
+      let v : State K = record w { seen = join w.seen s } in
+      let seen : Marked v t = inr (subst (λ (k : ℕ). has (join w.seen s) k ≡ true) same (join_has w.seen s)) in
+      subst (λ (u : State K). Marked (look_on ps u) t) (sym (pick_true v w here)) ((look_on_quiet ps v).marks t x e seen)
+    where
+      mark_of : (a b : ℕ) → Mark a ≡ Mark b → a ≡ b
+      mark_of a b h = cc
+  look_sees (Mark s ∷ ps) w t x e (inr h) =
+      let v : State K = if is_live w s then record w { seen = join w.seen s } else w in
+      let f : Quiet w v = quiet_if w (record w { seen = join w.seen s }) w (is_live w s) (look_one w s) (quiet_refl w) in
+      let y = there_of (at v.scopes t) (at w.scopes t) x (leavings_by (at v.scopes t) (at w.scopes t) (f.stand t)) e in
+      look_sees ps v t y.0 y.1 h
+  look_sees (Woken u ∷ ps) w t x e (inl h) = cc
+  look_sees (Woken u ∷ ps) w t x e (inr h) =
+      let v : State K = if is_some (at w.tasks u) then record w { queued = join w.queued u } else w in
+      let f : Quiet w v = quiet_if w (record w { queued = join w.queued u }) w (is_some (at w.tasks u)) (look_other w u) (quiet_refl w) in
+      let y = there_of (at v.scopes t) (at w.scopes t) x (leavings_by (at v.scopes t) (at w.scopes t) (f.stand t)) e in
+      look_sees ps v t y.0 y.1 h
+
+  pub look_quiet : (w : State K) → Quiet w (look w)
+  look_quiet w =
+      let u : State K = record w { posted = [] } in
+      let f : Quiet u (look w) = look_on_quiet w.posted u in
+      record {
+        stand = f.stand;
+        cells = f.cells;
+        calls = f.calls;
+        tasks = f.tasks;
+        unique = f.unique;
+        marks = λ t x e h. elim h [ inl m ↦ look_sees w.posted u t x e m | inr m ↦ f.marks t x e (inr m) ];
+        rises = f.rises;
+      }
+
+  drop_quiet : (go : State K → State K) (w : State K) (o : Option ℕ) → ((v : State K) → Quiet v (go v)) → Quiet w (drop_then go w o)
+  drop_quiet go w None h = quiet_refl w
+  drop_quiet go w (Some t) h =
+      let v : State K = record w { queued = drop_number w.queued t } in
+      quiet_then w v (go v) (quiet_rest w v refl refl refl refl refl refl (no_fall w)) (h v)
+
+  pub drops_quiet : (qs : List ℕ) (w : State K) → Quiet w (drops qs w)
+  drops_quiet [] w = quiet_refl w
+  drops_quiet (q ∷ qs) w = drop_quiet (λ v. drops qs v) w (paused w (found w)) (λ v. drops_quiet qs v)
+
+  looked_quiet : (w : State K) (o : Option Work) → Quiet w (looked w o)
+  looked_quiet w (Some x) = quiet_refl w
+  looked_quiet w None = let v : State K = look w in quiet_then w v (drops v.queued v) (look_quiet w) (drops_quiet v.queued v)
+
+  pub rest_quiet : (w : State K) → Quiet w (at_rest w)
+  rest_quiet w = let v : State K = drops w.queued w in quiet_then w v (looked v (found v)) (drops_quiet w.queued w) (looked_quiet v (found v))
+
+  mounted_by : (w : State K) (es : List (ℕ × Scope K)) (t : ℕ) → standing (at (mounted w es) t) ≡ standing (at es t)
+  mounted_by w [] t = refl
+  mounted_by w (e ∷ es) t =
+      let y : Scope K = record (e.1) { mounted = (e.1).mounted || is_shown w e.0 } in
+      by_test (nat_eq e.0 t)
+      (λ q. ap (λ (o : Option (Scope K)). standing o) (at_here e.0 y (mounted w es) t q) ∙ sym (ap (λ (o : Option (Scope K)). standing o) (at_here e.0 e.1 es t q)))
+      (
+      λ q.
+      ap (λ (o : Option (Scope K)). standing o) (at_there e.0 y (mounted w es) t q)
+      ∙ mounted_by w es t
+      ∙ sym (ap (λ (o : Option (Scope K)). standing o) (at_there e.0 e.1 es t q))
+      )
+
+  mounted_none : (w : State K) (es : List (ℕ × Scope K)) (t : ℕ) → at es t ≡ None → at (mounted w es) t ≡ None
+  mounted_none w [] t h = refl
+  mounted_none w (e ∷ es) t h =
+      let y : Scope K = record (e.1) { mounted = (e.1).mounted || is_shown w e.0 } in
+      by_test (nat_eq e.0 t)
+      (λ q. none_some h (at_here e.0 e.1 es t q))
+      (λ q. at_there e.0 y (mounted w es) t q ∙ mounted_none w es t (sym (at_there e.0 e.1 es t q) ∙ h))
+
+  mounted_unique : (w : State K) (es : List (ℕ × Scope K)) → Unique es → Unique (mounted w es)
+  mounted_unique w [] h = tt
+  mounted_unique w (e ∷ es) h = (mounted_none w es e.0 h.0, mounted_unique w es h.1)
+
+  pub mounted_quiet : (w : State K) → Quiet w (mounted_state w)
+  mounted_quiet w = record { stand = mounted_by w w.scopes; cells = refl; calls = refl; tasks = λ t h. h; unique = λ h. mounted_unique w w.scopes h; marks = λ t x e h. h; rises = no_fall w }
+
+  -- inputs
+
+  all_posted : (es : List (ℕ × Scope K)) (w : State K) → Quiet w (post_all es w)
+  all_posted [] w = quiet_refl w
+  all_posted (e ∷ es) w = quiet_then w (post w (Mark e.0)) (post_all es (post w (Mark e.0))) (post_quiet w (Mark e.0)) (all_posted es (post w (Mark e.0)))
+
+  message_quiet : (w : State K) (p : Post) → Quiet w (post_message w p)
+  message_quiet w (MarkScope s) = post_quiet w (Mark s)
+  message_quiet w (WakeTask t) = post_quiet w (Woken t)
+  message_quiet w AllDirty = all_posted w.scopes w
+
+  messages_quiet : (w : State K) (ms : List Message) → Quiet w (post_messages w ms)
+  messages_quiet w [] = quiet_refl w
+  messages_quiet w (m ∷ ms) =
+      let v : State K = post_message w m.what in
+      quiet_then w v (post_messages v ms) (message_quiet w m.what) (messages_quiet v ms)
+
+  taken_calm : (n : ℕ) (m : Machine K) (input : Input K) → Calm None n m.state (taken_in m input).state
+  taken_calm n m (EventAt name payload element bubbles) = calm_refl None n m.state
+  taken_calm n m (WakeOf t) = quiet_calm None n m.state (post m.state (Woken t)) (post_quiet m.state (Woken t))
+  taken_calm n m (WriteOf c v) = written_calm n m.state c v (at m.state.cells c)
+  taken_calm n m (MarkOf s) = quiet_calm None n m.state (post m.state (Mark s)) (post_quiet m.state (Mark s))
+  taken_calm n m (Drain messages) = quiet_calm None n m.state (post_messages m.state messages) (messages_quiet m.state messages)
+
+  looked_where : (m : Machine K) (ls : List (Listener K)) → Quiet m.state (looked_where_quiet m ls).state
+  looked_where m [] = look_quiet m.state
+  looked_where m (l ∷ ls) = quiet_refl m.state
+
+  pub then_looked_quiet : (m : Machine K) → Quiet m.state (then_looked m).state
+  then_looked_quiet m = looked_where m (waiting m)
+
+  pub take_calm : (n : ℕ) (m : Machine K) (inputs : List (Input K)) → Calm None n m.state (take_next m inputs).state
+  take_calm n m [] = calm_refl None n m.state
+  take_calm n m (input ∷ rest) =
+      let u : Machine K = record m { inputs = rest; taken = m.taken + 1; units = 0; default_enabled = true; listeners = [] } in
+      let v : Machine K = taken_in u input in
+      calm_then None n m.state v.state (then_looked v).state (taken_calm n u input) (quiet_calm None n v.state (then_looked v).state (then_looked_quiet v))
+
+module _ {K : Types} (app : Application K) (lawful : IsLawful K app) where
+  -- the commands of a call, after its next numbers
+  pub called_calm : {A : Type 0} (n : ℕ) (w : State K) (s : ℕ) (polled : Option ℕ) (m : Meaning K A) → n ≤ w.next.cells → IsNumbered w.next m.commands m.next
+      → Calm None n w (commands app (with_next w m.next) s polled m.commands)
+  called_calm n w s polled m low numbered =
+      calm_then None n w (with_next w m.next) (commands app (with_next w m.next) s polled m.commands)
+      (quiet_calm None n w (with_next w m.next) (next_quiet w m.next (cells_rise w.next m.next m.commands numbered)))
+      (commands_calm app lawful.tests_values n (with_next w m.next) s polled m.commands (all_from n w.next m.next m.commands low numbered))
+
+  acted_at : (n : ℕ) (w : State K) (s : ℕ) (m : Meaning K Nothing) (o : Option CallFault) → n ≤ w.next.cells → IsNumbered w.next m.commands m.next
+      → CalmO None n w (elim o [ None ↦ Done (commands app (with_next w m.next) s None m.commands) [] | Some f ↦ Cut (with_next w m.next) (fault_of f) ])
+  acted_at n w s m None low numbered = called_calm n w s None m low numbered
+  acted_at n w s m (Some f) low numbered = tt
+
+  pub acted_calm : (n : ℕ) (w : State K) (s : ℕ) (e : K.Effect) (rendering : Bool) → n ≤ w.next.cells → CalmO None n w (acted app w s e rendering)
+  acted_calm n w s e rendering low =
+      let u : State K = called_once w in
+      let m : Meaning K Nothing = app.effect e (world_of w s None rendering) in
+      from_calm None n w u (acted app w s e rendering) (quiet_calm None n w u (once_quiet w)) (acted_at n u s m m.fault low (lawful.effects_number e (world_of w s None rendering)))
+
+  hook_calm : (n : ℕ) (w : State K) (s : ℕ) (h : Hook K) → n ≤ w.next.cells → CalmO None n w (hook_called app w s h)
+  hook_calm n w s (HookValue k v) low = calm_refl None n w
+  hook_calm n w s (HookEffect k e) low = acted_calm n w s e true low
+
+  pub hooks_calm : (n kind : ℕ) (w : State K) (s : ℕ) (hs : List (Hook K)) → n ≤ w.next.cells → CalmO None n w (hooks_called app kind w s hs)
+  hooks_calm n kind w s [] low = calm_refl None n w
+  hooks_calm n kind w s (h ∷ hs) low =
+      calm_o_if None n w (is_kind kind h) (onward (hook_called app w s h) (λ v. hooks_called app kind v s hs)) (hooks_called app kind w s hs)
+      (onward_calm None n w (hook_called app w s h) (λ v. hooks_called app kind v s hs) low (hook_calm n w s h low) (λ v more. hooks_calm n kind v s hs more))
+      (hooks_calm n kind w s hs low)
+
+  pub after_hooks_calm : (n : ℕ) (w : State K) (s : ℕ) → n ≤ w.next.cells → CalmO None n w (after_hooks app w s)
+  after_hooks_calm n w s low = hooks_calm n after_render_kind w s (hooks_of w s) low
+
+  settled_calm : (n : ℕ) (w : State K) (s : ℕ) (a : Element K) → CalmO None n w (settled_answer app w s a)
+  settled_calm n w s (rendered tree) = raised_calm n w s
+  settled_calm n w s (failed e) = throw_calm n w s e
+  settled_calm n w s (suspended origin t) = suspends_calm n w s origin t (at w.tasks t) refl
+
+  -- an answer settles, and then the hooks are called
+  pub answered_calm : (n : ℕ) (w : State K) (s : ℕ) (a : Element K) → n ≤ w.next.cells → CalmO None n w (onward (settled_answer app w s a) (λ v. after_hooks app v s))
+  answered_calm n w s a low = onward_calm None n w (settled_answer app w s a) (λ v. after_hooks app v s) low (settled_calm n w s a) (λ v more. after_hooks_calm n v s more)
+
+  counted_calm : (n : ℕ) (w : State K) (b : ℕ) (counts : Bool) → CalmO None n w (counted_render app w b counts)
+  counted_calm n w b true = raised_calm n w b
+  counted_calm n w b false = calm_refl None n w
+
+  pub fallback_calm : (n : ℕ) (w : State K) (b : ℕ) (counts : Bool) → n ≤ w.next.cells → CalmO None n w (onward (counted_render app w b counts) (λ v. after_hooks app v b))
+  fallback_calm n w b counts low = onward_calm None n w (counted_render app w b counts) (λ v. after_hooks app v b) low (counted_calm n w b counts) (λ v more. after_hooks_calm n v b more)
+
+  pub called_back_calm : (n : ℕ) (w : State K) (es : List (ℕ × K.Effect)) → n ≤ w.next.cells → CalmO None n w (called_back app w es)
+  called_back_calm n w [] low = calm_refl None n w
+  called_back_calm n w (e ∷ es) low =
+      calm_o_if None n w (is_live w e.0) (onward (acted app w e.0 e.1 false) (λ v. called_back app v es)) (called_back app w es)
+      (onward_calm None n w (acted app w e.0 e.1 false) (λ v. called_back app v es) low (acted_calm n w e.0 e.1 false low) (λ v more. called_back_calm n v es more))
+      (called_back_calm n w es low)
+
+  -- polls, effects, listeners
+
+  left_calm : (n : ℕ) (w : State K) (t : ℕ) (x : TaskRow K) (m : Meaning K (TaskStep K)) (a : TaskStep K) → n ≤ w.next.cells → IsNumbered w.next m.commands m.next
+      → Calm None n w (left_by_poll app (with_next w m.next) t x m a)
+  left_calm n w t x m (pending a) low numbered =
+      let v : State K = record w { tasks = put w.tasks t (record x { state = a }) } in
+      calm_then None n w v (left_by_poll app (with_next w m.next) t x m (pending a)) (quiet_calm None n w v (task_quiet w t (record x { state = a }))) (called_calm n v x.scope (Some t) m low numbered)
+  left_calm n w t x m ready low numbered =
+      let v : State K = commands app (with_next w m.next) x.scope (Some t) m.commands in
+      calm_then None n w v (end v t) (called_calm n w x.scope (Some t) m low numbered) (end_calm n v t)
+
+  polled_by_calm : (n : ℕ) (w : State K) (t : ℕ) (x : TaskRow K) (m : Meaning K (TaskStep K)) (o : Option CallFault) → n ≤ w.next.cells → IsNumbered w.next m.commands m.next
+      → CalmO None n w (elim o as (λ z. Outcome K) [
+        | None ↦ Done (polled_to app (with_next w m.next) t x m m.answer) []
+        | Some f ↦ Cut (with_next w m.next) (fault_of f)
+      ])
+  polled_by_calm n w t x m None low numbered =
+      let v : State K = left_by_poll app (with_next w m.next) t x m m.answer in
+      calm_then None n w v (look v) (left_calm n w t x m m.answer low numbered) (quiet_calm None n v (look v) (look_quiet v))
+  polled_by_calm n w t x m (Some f) low numbered = tt
+
+  polled_at_calm : (n : ℕ) (w : State K) (t : ℕ) (o : Option (TaskRow K)) → n ≤ w.next.cells → CalmO None n w (polled_at app w t o)
+  polled_at_calm n w t None low = calm_refl None n w
+  polled_at_calm n w t (Some x) low =
+      let u : State K = called_once w in
+      let m : Meaning K (TaskStep K) = app.poll x.state (world_of w x.scope (Some t) false) in
+      from_calm None n w u (polled_at app w t (Some x)) (quiet_calm None n w u (once_quiet w)) (polled_by_calm n u t x m m.fault low (lawful.polls_number x.state (world_of w x.scope (Some t) false)))
+
+  unqueued_quiet : (w : State K) (t : ℕ) → Quiet w (unqueued w t)
+  unqueued_quiet w t =
+      record {
+        stand = λ s. refl;
+        cells = refl;
+        calls = refl;
+        tasks = λ s h. h;
+        unique = λ h. h;
+        marks = λ s x e h. elim h [ inl m ↦ inl (mark_stays w.posted (Woken t) s refl m) | inr m ↦ inr m ];
+        rises = no_fall w;
+      }
+
+  pub polled_calm : (n : ℕ) (w : State K) (t : ℕ) → n ≤ w.next.cells → CalmO None n w (polled app w t)
+  polled_calm n w t low =
+      let v : State K = unqueued w t in
+      from_calm None n w v (polled app w t) (quiet_calm None n w v (unqueued_quiet w t)) (polled_at_calm n v t (at w.tasks t) low)
+
+  batch_calm : (n : ℕ) (w : State K) (s : ℕ) (es : List K.Effect) → n ≤ w.next.cells → CalmO None n w (batch app w s es)
+  batch_calm n w s [] low = quiet_calm None n w (look w) (look_quiet w)
+  batch_calm n w s (e ∷ es) low = onward_calm None n w (acted app w s e false) (λ v. batch app v s es) low (acted_calm n w s e false low) (λ v more. batch_calm n v s es more)
+
+  pub effects_calm : (n : ℕ) (w : State K) (s : ℕ) → n ≤ w.next.cells → CalmO None n w (effects_run app w s)
+  effects_calm n w s low =
+      let v : State K = change w s (λ x. record x { effects = [] }) in
+      let f : Quiet w v = change_quiet w s (λ x. record x { effects = [] }) (λ x. refl) in
+      let rises = f.rises in
+      let more : n ≤ v.next.cells = omega (arith, low, rises) in
+      from_calm None n w v (effects_run app w s) (quiet_calm None n w v f) (batch_calm n v s (effects_of app w s) more)
+
+  heard_at : (n : ℕ) (m : Machine K) (l : Listener K) (ls : List (Listener K)) (meaning : Meaning K (Event K)) (o : Option CallFault) → n ≤ m.state.next.cells → IsNumbered m.state.next meaning.commands meaning.next
+      → Calm None n m.state (elim o as (λ z. Machine K) [
+        | None ↦
+            then_looked
+            (record m {
+              state = commands app (with_next m.state meaning.next) l.origin None meaning.commands;
+              event = Some meaning.answer;
+              default_enabled = not meaning.answer.prevented;
+              listeners = further app m meaning.answer ls;
+            })
+        | Some f ↦ record m { state = with_next m.state meaning.next; listeners = ls; dead = Some (fault_of f); refused = None }
+      ]).state
+  heard_at n m l ls meaning None low numbered =
+      let v : Machine K = record m {
+        state = commands app (with_next m.state meaning.next) l.origin None meaning.commands;
+        event = Some meaning.answer;
+        default_enabled = not meaning.answer.prevented;
+        listeners = further app m meaning.answer ls;
+      } in
+      calm_then None n m.state v.state (then_looked v).state (called_calm n m.state l.origin None meaning low numbered) (quiet_calm None n v.state (then_looked v).state (then_looked_quiet v))
+  heard_at n m l ls meaning (Some f) low numbered = quiet_calm None n m.state (with_next m.state meaning.next) (next_quiet m.state meaning.next (cells_rise m.state.next meaning.next meaning.commands numbered))
+
+  pub heard_calm : (n : ℕ) (m : Machine K) (l : Listener K) (ls : List (Listener K)) (o : Option (Event K)) → n ≤ m.state.next.cells → Calm None n m.state (heard_event app m l ls o).state
+  heard_calm n m l ls None low = calm_refl None n m.state
+  heard_calm n m l ls (Some event) low =
+      let world : World K = world_of m.state l.origin None false in
+      let meaning : Meaning K (Event K) = app.handle l.handler event world in
+      let u : Machine K = record m { state = called_once m.state } in
+      calm_then None n m.state u.state (heard_event app m l ls (Some event)).state (quiet_calm None n m.state u.state (once_quiet m.state))
+      (heard_at n u l ls meaning meaning.fault low (lawful.handlers_number l.handler event world))
