@@ -13,3 +13,4 @@ mod ChildKinds
 mod Removed
 mod Moving
 mod Settled
+mod Reported

@@ -702,18 +702,22 @@ module _ {K : Types} (app : Application K) (lawful : IsLawful K app) where
         let found = live_due app m.state Build e due_is in
         subst (λ (x : Entry). HoldingOn (change_by app m [] x)) (sym found.0) (ended (record m { built = true; unit = true }) None [] (run app first 0) first_run)
 
-    -- from the start on: nothing has happened, or it holds
-    from_start : (limits : Limits) (inputs : List (Input K)) (v : Machine K) (moves : List Move) → Leads app limits (start app props inputs) moves v → (v ≡ start app props inputs) ⊎ HoldingOn v
-    from_start limits inputs v [] leads = inl leads
-    from_start limits inputs v (Silent ∷ moves) leads = let move = leads.1 in let absurdity : [] ≡ move.item ∷ move.later = move.next in cc
-    from_start limits inputs v (Closed ∷ moves) leads = let move = leads.1 in let absurdity : false ≡ true = move.at_work in cc
-    from_start limits inputs v (Logged e ∷ moves) leads =
+    -- after the first move from the start it holds
+    pub begun_holds : (limits : Limits) (inputs : List (Input K)) (v : Machine K) (move : Move) (moves : List Move) → Leads app limits (start app props inputs) (move ∷ moves) v → HoldingOn v
+    begun_holds limits inputs v Silent moves leads = let move = leads.1 in let absurdity : [] ≡ move.item ∷ move.later = move.next in cc
+    begun_holds limits inputs v Closed moves leads = let move = leads.1 in let absurdity : false ≡ true = move.at_work in cc
+    begun_holds limits inputs v (Logged e) moves leads =
         let m : Machine K = start app props inputs in
         let move = leads.1 in
         let u : Machine K = leads.0 in
         let after : ReadyAt app lawful u = move_ready app lawful limits m u (Logged e) move (start_ready app lawful props inputs) in
         let now : HoldingOn u = subst (λ (x : Machine K). HoldingOn x) (sym move.gives) (first_entry inputs e move.due_is) in
-        inr (moves_hold limits u v moves leads.2 after now)
+        moves_hold limits u v moves leads.2 after now
+
+    -- from the start on: nothing has happened, or it holds
+    from_start : (limits : Limits) (inputs : List (Input K)) (v : Machine K) (moves : List Move) → Leads app limits (start app props inputs) moves v → (v ≡ start app props inputs) ⊎ HoldingOn v
+    from_start limits inputs v [] leads = inl leads
+    from_start limits inputs v (move ∷ moves) leads = inr (begun_holds limits inputs v move moves leads)
 
   -- once the build has begun it holds wherever moves lead, until a fault ends the run
   pub reached_holds : (limits : Limits) (props : K.Props) (inputs : List (Input K)) (m : Machine K) → Reached app limits props inputs m → m.built ≡ true → m.dead ≡ None → Holding m.state m.work

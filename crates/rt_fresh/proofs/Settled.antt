@@ -222,7 +222,7 @@ module _ {K : Types} (app : Application K) (lawful : IsLawful K app) where
   held_shown w x last (ErrorBoundary children handler) h true_is = let absurdity : false ≡ true = true_is in cc
 
   -- nothing is at work, nothing is owed
-  settled_dead : (m : Machine K) → is_settled m ≡ true → m.dead ≡ None
+  pub settled_dead : (m : Machine K) → is_settled m ≡ true → m.dead ≡ None
   settled_dead m h =
       let quiet : is_quiet m ≡ true = and-left (is_quiet m) (not (owes m.state)) h in
       alive_of m.dead (and-left (not (is_some m.dead)) (no_work m.work) (and-left (not (is_some m.dead) && no_work m.work) (no_listener (waiting m)) quiet))
@@ -254,15 +254,22 @@ module _ {K : Types} (app : Application K) (lawful : IsLawful K app) where
     subst (λ (o : Option (Scope K)). AllByRecursion (λ (d : ℕ × ℕ). is_some (at m.state.tasks d.0) ≡ true) (holders_of o)) live (h.orderly.holders s),
   )
 
+  -- so all are
+  pub holding_current : (m : Machine K) → is_settled m ≡ true → Holding app lawful m.state m.work → AllCurrent app m.state
+  holding_current m settled h =
+      each_entry (λ (e : ℕ × Scope K). IsCurrent app m.state e.0 e.1) m.state.scopes h.orderly.unique (λ s x live. settled_each m settled h s x live)
+
+  pub holding_shown : (m : Machine K) → is_settled m ≡ true → Holding app lawful m.state m.work → AllHeldShown m.state
+  holding_shown m settled h =
+      each_entry (λ (e : ℕ × Scope K). HeldIsShown m.state e.1) m.state.scopes h.orderly.unique (λ s x live. held_each m settled h s x live)
+
 pub settled_are_current : {K : Types} (app : Application K) → SettledAreCurrent app
-settled_are_current {K = K} app lawful limits props inputs m reached built settled =
-    let h : Holding app lawful m.state m.work = reached_holds app lawful limits props inputs m reached built (settled_dead app lawful m settled) in
-    each_entry (λ (e : ℕ × Scope K). IsCurrent app m.state e.0 e.1) m.state.scopes h.orderly.unique (λ s x live. settled_each app lawful m settled h s x live)
+settled_are_current app lawful limits props inputs m reached built settled =
+    holding_current app lawful m settled (reached_holds app lawful limits props inputs m reached built (settled_dead app lawful m settled))
 
 pub settled_show_held : {K : Types} (app : Application K) → SettledShowHeld app
-settled_show_held {K = K} app lawful limits props inputs m reached built settled =
-    let h : Holding app lawful m.state m.work = reached_holds app lawful limits props inputs m reached built (settled_dead app lawful m settled) in
-    each_entry (λ (e : ℕ × Scope K). HeldIsShown m.state e.1) m.state.scopes h.orderly.unique (λ s x live. held_each app lawful m settled h s x live)
+settled_show_held app lawful limits props inputs m reached built settled =
+    holding_shown app lawful m settled (reached_holds app lawful limits props inputs m reached built (settled_dead app lawful m settled))
 
 pub others_are_current_or_owed : {K : Types} (app : Application K) → OthersAreCurrentOrOwed app
 others_are_current_or_owed {K = K} app lawful limits props inputs m reached built alive =
