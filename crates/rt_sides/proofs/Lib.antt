@@ -1,0 +1,3 @@
+pub mod Spots
+pub mod Put
+pub mod Agendas

@@ -1,0 +1,35 @@
+-- The sides of scopes, as the model has them.
+use Rattle.std.specs.Prelude.{ℕ, List, [], ◌∷◌, ◌++◌, map, Some, None}
+use Rattle.rt_model.specs.Tree as tree
+use Rattle.rt_model.specs.OneLog.{types}
+use Rattle.rt_model.specs.State as state
+use Rattle.rt_model.specs.Lists.{at}
+use Rattle.rt_model.specs.Boundary.{children_among, side_scopes}
+use Rattle.rt_places.specs.declared.side.Child.{Child}
+use Rattle.rt_places.specs.declared.side.Side.{Side}
+use Rattle.rt_places.specs.declared.side.SideName.{SideName}
+use Rattle.rt_places.specs.declared.side.SideName.TheVariants as sides
+use Rattle.rt_places.specs.declared.spot.Spot.{Spot}
+use Rattle.rt_places.specs.Places.{child_of, spot_of}
+use Rattle.rt_calls.specs.declared.rest.Scope.{Scope}
+
+module _ {K : tree.Types} where
+  -- the scopes on the fallback's side of a live boundary
+  abbrev pub fallback_scopes_in : state.State K → ℕ → List ℕ
+  fallback_scopes_in w b = elim (at w.scopes b) [ None ↦ [] | Some x ↦ side_scopes w x.fallback_side ]
+
+module _ {P C Q V H T E L : Type 0} where
+  -- the live child scope at a spot, if there is one
+  unfoldable pub child_here : state.State (types C Q V H T E L) → List Child → Spot P C Q V H T E L → List ℕ
+  child_here w children spot = children_among w (map child_of children) (spot_of spot ∷ [])
+
+  -- the live child scopes at these spots
+  abbrev pub children_at : state.State (types C Q V H T E L) → List Child → List (Spot P C Q V H T E L) → List ℕ
+  children_at w children [] = []
+  children_at w children (spot ∷ spots) = child_here w children spot ++ children_at w children spots
+
+  -- a scope with another side
+  abbrev pub side_put : SideName → Side P C Q V H T E L → Scope P C Q V H T E L → Scope P C Q V H T E L
+  side_put sides.Main side x = record x { rest = record (x.rest) { main_side = side } }
+  side_put sides.Children side x = record x { rest = record (x.rest) { children_side = side } }
+  side_put sides.Fallback side x = record x { rest = record (x.rest) { fallback_side = side } }
