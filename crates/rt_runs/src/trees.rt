@@ -1,0 +1,135 @@
+//! The trees that built-in components answer.
+
+use rt_nodes::{
+    DynamicNode, Element, ErrorBoundaryProps, ErrorHandler, Fallback, SuspenseBoundaryProps,
+    VComponent, VNode,
+};
+use rt_parts::{Parts, Template, TemplateAttribute, TemplateNode};
+use rt_values::{Boxed, List, OutOfMemory, Text};
+use std::alloc::Global;
+
+/// A list of one item.
+fn list_of<T: Drop>(alloc: Global, item: T) -> Result<List<T>, OutOfMemory> {
+    let mut list = List::new(alloc);
+    list.push(item)?;
+    Ok(list)
+}
+
+/// The tree of this template, whose one slot has this value.
+fn tree_of<P: Parts>(
+    alloc: Global,
+    root: TemplateNode,
+    path: &[u8],
+    value: DynamicNode<P>,
+) -> Result<VNode<P>, OutOfMemory> {
+    let path = List::from_slice(alloc, path)?;
+    Ok(VNode {
+        template: Template {
+            roots: list_of(alloc, root)?,
+            node_paths: list_of(alloc, path)?,
+            attr_paths: List::new(alloc),
+        },
+        dynamic_nodes: list_of(alloc, value)?,
+        dynamic_attrs: List::new(alloc),
+    })
+}
+
+/// The tree that is one slot.
+fn one_slot<P: Parts>(alloc: Global, value: DynamicNode<P>) -> Result<VNode<P>, OutOfMemory> {
+    tree_of(alloc, TemplateNode::Dynamic { id: 0 }, &[0], value)
+}
+
+/// A static attribute.
+fn fixed(
+    alloc: Global,
+    namespace: &str,
+    name: &str,
+    value: &str,
+) -> Result<TemplateAttribute, OutOfMemory> {
+    Ok(TemplateAttribute::Static {
+        name: Text::from_str(alloc, name)?,
+        namespace: Some(Text::from_str(alloc, namespace)?),
+        value: Text::from_str(alloc, value)?,
+    })
+}
+
+/// An element whose one child is its tree's slot.
+fn element_round_slot(
+    alloc: Global,
+    tag: &str,
+    attrs: List<TemplateAttribute>,
+) -> Result<TemplateNode, OutOfMemory> {
+    Ok(TemplateNode::Element {
+        tag: Text::from_str(alloc, tag)?,
+        namespace: None,
+        attrs,
+        children: list_of(alloc, TemplateNode::Dynamic { id: 0 })?,
+    })
+}
+
+/// The tree that shows an error where a boundary names no handler: its text, in red.
+pub(crate) fn error_tree<P: Parts>(alloc: Global, text: Text) -> Result<VNode<P>, OutOfMemory> {
+    let root = element_round_slot(alloc, "pre", List::new(alloc))?;
+    let inner = tree_of(alloc, root, &[0, 0], DynamicNode::Text(text))?;
+    let red = list_of(alloc, fixed(alloc, "style", "color", "red")?)?;
+    let root = element_round_slot(alloc, "div", red)?;
+    let items = list_of(alloc, inner)?;
+    tree_of(alloc, root, &[0, 0], DynamicNode::Fragment(items))
+}
+
+/// The tree that a root wrapper answers: a suspense boundary round an error boundary round the
+/// application's root.
+pub(crate) fn root_tree<P: Parts>(
+    alloc: Global,
+    component: P::Component,
+    props: P::Props,
+) -> Result<VNode<P>, OutOfMemory> {
+    let own = VComponent::App { component, props };
+    let inner = one_slot(alloc, DynamicNode::Component(own))?;
+    let errors = VComponent::ErrorBoundary(ErrorBoundaryProps {
+        children: Boxed::new(alloc, Ok(inner))?,
+        handle_error: ErrorHandler::Default,
+    });
+    let middle = one_slot(alloc, DynamicNode::Component(errors))?;
+    let suspense = VComponent::SuspenseBoundary(SuspenseBoundaryProps {
+        children: Boxed::new(alloc, Ok(middle))?,
+        fallback: Fallback::Placeholder,
+    });
+    one_slot(alloc, DynamicNode::Component(suspense))
+}
+
+/// The tree of an error boundary without an error: a fragment of its children.
+pub(crate) fn children_tree<P: Parts>(
+    alloc: Global,
+    children: &Element<P>,
+) -> Result<VNode<P>, OutOfMemory> {
+    match children {
+        Ok(tree) => {
+            let items = list_of(alloc, tree.copy(alloc)?)?;
+            one_slot(alloc, DynamicNode::Fragment(items))
+        }
+        Err(_) => VNode::placeholder(alloc),
+    }
+}
+
+/// A copy of an answer.
+pub(crate) fn copy_of<P: Parts>(
+    alloc: Global,
+    answer: &Element<P>,
+) -> Result<Element<P>, OutOfMemory> {
+    match answer {
+        Ok(tree) => Ok(Ok(tree.copy(alloc)?)),
+        Err(error) => Ok(Err(error.copy(alloc)?)),
+    }
+}
+
+/// The tree of an answer, or one placeholder.
+pub fn placeholder_or<P: Parts>(
+    alloc: Global,
+    answer: Element<P>,
+) -> Result<VNode<P>, OutOfMemory> {
+    match answer {
+        Ok(tree) => Ok(tree),
+        Err(_) => VNode::placeholder(alloc),
+    }
+}
