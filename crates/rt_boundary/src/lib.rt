@@ -1,0 +1,6 @@
+//! The runs of suspense boundaries, step by step.
+#![tactic(auto)]
+
+mod steps;
+
+pub use steps::boundary_step;
