@@ -1,0 +1,11 @@
+//! What a unit writes makes of the document that showed the one that shows.
+//!
+//! The functions have empty bodies: what each claims of the definitions is its contract.
+#![tactic(auto)]
+
+mod rows;
+
+pub use rows::{
+    both_bring, children_bring, document_brought, element_brings, inserted_brings, joined_bring,
+    nothing_brings, removed_brings, replaced_brings, text_brings,
+};
