@@ -18,7 +18,7 @@ use Rattle.rt_ready.proofs.Patched.{IsRow}
 use Rattle.rt_ready.proofs.Lists.{IsServe, IsDrop, serves_are, drops_are}
 use Rattle.rt_fresh.specs.Heeds.{Low, HasMark, is_past, leavings, Marked, SameOf, Heeds}
 use Rattle.rt_fresh.specs.Fresh.{CallStands, Fresh}
-use Rattle.rt_fresh.proofs.Calm.{standing, error_of, context_of, holders_of, there_of, held_by, held_stays, holders_stay, reads_by, Unique, unique_put, Calm, calm_then, calm_to, calm_refl, Quiet, quiet_calm, quiet_rest, no_fall, put_by, change_quiet, CalmO, onward_calm, from_calm, calm_o_to, calm_o_if}
+use Rattle.rt_fresh.proofs.Calm.{standing, error_of, context_of, holders_of, there_of, held_by, held_stays, holders_stay, reads_by, Unique, unique_put, listed_same, Calm, calm_then, calm_to, calm_refl, Quiet, quiet_calm, quiet_rest, no_fall, put_by, change_quiet, CalmO, onward_calm, from_calm, calm_o_to, calm_o_if}
 use Rattle.rt_fresh.proofs.Commanded.{commands_calm}
 use Rattle.rt_fresh.proofs.Ran.{all_from, cells_rise, next_quiet, once_quiet, unmarked_calm, hooks_calm, after_hooks_calm, answered_calm, fallback_calm, called_back_calm}
 use Rattle.rt_fresh.proofs.Owed.{rows_of, rows_join, rows_here, NoRows, Kept, kept_by, kept_then, now_of, Alike, Called, called_again, called_stays, BodyCurrent, FallbackCurrent}
@@ -34,6 +34,7 @@ module _ {K : Types} where
     pub unique : Unique w.scopes → Unique v.scopes
     pub posted : v.posted ≡ w.posted
     pub seen : v.seen ≡ w.seen
+    pub queued : v.queued ≡ w.queued
     pub next : v.next ≡ w.next
 
   pub alone_marks : (s : ℕ) (w v : State K) (t : ℕ) → Alone s w v → Marked w t → Marked v t
@@ -53,6 +54,7 @@ module _ {K : Types} where
               told = λ t x i p e reads low. inl (f.alike i);
               held = λ t x y p e d. inl (held_stays w v t x y (f.holders t) e d);
             };
+        lists = listed_same (Some s) w v f.seen f.queued (λ u e. ap (λ (ts : List (ℕ × TaskRow K)). is_some (at ts u)) f.tasks ∙ e);
         orderly = λ h. record { holders = holders_stay w v f.holders (λ u e. ap (λ (ts : List (ℕ × TaskRow K)). is_some (at ts u)) f.tasks ∙ e) h.holders; unique = f.unique h.unique };
         rises = up;
       }
@@ -69,6 +71,7 @@ module _ {K : Types} where
         unique = λ h. unique_put w.scopes s x y live h;
         posted = refl;
         seen = refl;
+        queued = refl;
         next = refl;
       }
     where
@@ -78,7 +81,7 @@ module _ {K : Types} where
       alike (Context k t) = sym (put_by (λ o. context_of k o) w.scopes s x y live (ap (λ (es : List (ℕ × K.Value)). at es k) contexts) t)
 
   own_refl : (s : ℕ) (w : State K) → Alone s w w
-  own_refl s w = record { others = λ t p. refl; calls = λ t p. refl; alike = alike; holders = λ t. refl; tasks = refl; unique = λ h. h; posted = refl; seen = refl; next = refl }
+  own_refl s w = record { others = λ t p. refl; calls = λ t p. refl; alike = alike; holders = λ t. refl; tasks = refl; unique = λ h. h; posted = refl; seen = refl; queued = refl; next = refl }
     where
       alike : (i : Source) → SameOf w w i
       alike (Cell m) = refl
@@ -96,7 +99,7 @@ module _ {K : Types} where
 
   call_own : (w : State K) (s : ℕ) (last : LastCall K) → Alone s w (with_last_call w s last)
   call_own w s last =
-      record { others = λ t p. refl; calls = λ t p. at_put_other w.last_calls s last t p; alike = alike; holders = λ t. refl; tasks = refl; unique = λ h. h; posted = refl; seen = refl; next = refl }
+      record { others = λ t p. refl; calls = λ t p. at_put_other w.last_calls s last t p; alike = alike; holders = λ t. refl; tasks = refl; unique = λ h. h; posted = refl; seen = refl; queued = refl; next = refl }
     where
       alike : (i : Source) → SameOf w (with_last_call w s last) i
       alike (Cell m) = refl
@@ -105,7 +108,7 @@ module _ {K : Types} where
 
   no_call_own : (w : State K) (s : ℕ) → Alone s w (record w { last_calls = without w.last_calls s })
   no_call_own w s =
-      record { others = λ t p. refl; calls = λ t p. at_without_other w.last_calls s t p; alike = alike; holders = λ t. refl; tasks = refl; unique = λ h. h; posted = refl; seen = refl; next = refl }
+      record { others = λ t p. refl; calls = λ t p. at_without_other w.last_calls s t p; alike = alike; holders = λ t. refl; tasks = refl; unique = λ h. h; posted = refl; seen = refl; queued = refl; next = refl }
     where
       alike : (i : Source) → SameOf w (record w { last_calls = without w.last_calls s }) i
       alike (Cell m) = refl
@@ -357,7 +360,7 @@ module _ {K : Types} (app : Application K) (lawful : IsLawful K app) where
   row_calm n w b x ShowFallback low =
       let v : State K = record w { resolved = drop_number w.resolved b } in
       let u : State K = change v b (λ y. record y { shows = Some FallbackSide }) in
-      calm_then (Some b) n w v u (quiet_calm (Some b) n w v (quiet_rest w v refl refl refl refl refl refl (no_fall w)))
+      calm_then (Some b) n w v u (quiet_calm (Some b) n w v (quiet_rest w v refl refl refl refl refl refl refl (no_fall w)))
       (alone_calm n b v u (change_alone v b (λ y. record y { shows = Some FallbackSide }) (λ y. refl) (λ y. refl) (λ y. refl)))
   row_calm n w b x ShowChildren low =
       let v : State K = record w { last_calls = without w.last_calls b } in
@@ -373,7 +376,7 @@ module _ {K : Types} (app : Application K) (lawful : IsLawful K app) where
           let v : State K = record w { resolved = w.resolved ++ b ∷ [] } in
           let u : State K = change v b (λ y. record y { callbacks = [] }) in
           let f : Calm None n w u =
-          calm_then None n w v u (quiet_calm None n w v (quiet_rest w v refl refl refl refl refl refl (no_fall w)))
+          calm_then None n w v u (quiet_calm None n w v (quiet_rest w v refl refl refl refl refl refl refl (no_fall w)))
           (quiet_calm None n v u (change_quiet v b (λ y. record y { callbacks = [] }) (λ y. refl))) in
           let rises = f.rises in
           let more : n ≤ u.next.cells = omega (arith, low, rises) in

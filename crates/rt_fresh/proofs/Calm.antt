@@ -138,8 +138,45 @@ module _ {K : Types} where
     pub holders : HoldersLive w
     pub unique : Unique w.scopes
 
+  -- who is seen was so or is live, and what is queued was so, and is there if it was, or is there
+  pub record Listed (past : Option ℕ) (w v : State K) : Type 0 where
+    pub seen : (s : ℕ) → is_past past s ≡ false → has v.seen s ≡ true → (has w.seen s ≡ true) ⊎ (is_live v s ≡ true)
+    pub queued :
+        (t : ℕ) → has v.queued t ≡ true
+        → ((has w.queued t ≡ true) × (is_some (at w.tasks t) ≡ true → is_some (at v.tasks t) ≡ true)) ⊎ (is_some (at v.tasks t) ≡ true)
+
+  pub listed_same : (past : Option ℕ) (w v : State K) → v.seen ≡ w.seen → v.queued ≡ w.queued → ((t : ℕ) → is_some (at w.tasks t) ≡ true → is_some (at v.tasks t) ≡ true) → Listed past w v
+  listed_same past w v seen queued tasks =
+      record {
+        seen = λ s p h. inl (sym (ap (λ (xs : List ℕ). has xs s) seen) ∙ h);
+        queued = λ t h. inl (sym (ap (λ (xs : List ℕ). has xs t) queued) ∙ h, tasks t);
+      }
+
+  pub listed_then : (past : Option ℕ) (u v w : State K) → ((s : ℕ) → is_past past s ≡ false → is_live v s ≡ true → is_live w s ≡ true) → Listed past u v → Listed past v w → Listed past u w
+  listed_then past u v w lives f g =
+      record {
+        seen = λ s p h. elim (g.seen s p h) [ inl a ↦ elim (f.seen s p a) [ inl b ↦ inl b | inr b ↦ inr (lives s p b) ] | inr b ↦ inr b ];
+        queued =
+            λ t h.
+            elim (g.queued t h) [
+              | inl a ↦ elim (f.queued t a.0) [ inl b ↦ inl (b.0, λ i. a.1 (b.1 i)) | inr b ↦ inr (a.1 b) ]
+              | inr b ↦ inr b
+            ];
+      }
+
+  pub listed_to : (past : Option ℕ) (w v : State K) → Listed None w v → Listed past w v
+  listed_to past w v f = record { seen = λ s p h. f.seen s refl h; queued = f.queued }
+
+  live_left : (o : Option (Scope K)) → is_some o ≡ is_some (leavings o)
+  live_left None = refl
+  live_left (Some x) = refl
+
+  pub live_by : (o p : Option (Scope K)) → leavings o ≡ leavings p → is_some p ≡ true → is_some o ≡ true
+  live_by o p h live = live_left o ∙ ap (λ (f : Option (Leavings K)). is_some f) h ∙ sym (live_left p) ∙ live
+
   pub record Calm (past : Option ℕ) (n : ℕ) (w v : State K) : Type 0 where
     pub heeds : Heeds past n w v
+    pub lists : Listed past w v
     pub orderly : Orderly w → Orderly v
     pub rises : w.next.cells ≤ v.next.cells
 
@@ -182,7 +219,7 @@ module _ {K : Types} where
   pub calm_then : (past : Option ℕ) (n : ℕ) (u v w : State K) → Calm past n u v → Calm past n v w → Calm past n u w
   calm_then past n u v w f g =
       let up : u.next.cells ≤ w.next.cells = omega (arith, f.rises, g.rises) in
-      record { heeds = heeds_then past n u v w f.heeds g.heeds; orderly = λ h. g.orderly (f.orderly h); rises = up }
+      record { heeds = heeds_then past n u v w f.heeds g.heeds; lists = listed_then past u v w (λ s p live. live_by (at w.scopes s) (at v.scopes s) (g.heeds.stays s p) live) f.lists g.lists; orderly = λ h. g.orderly (f.orderly h); rises = up }
 
   -- what heeds all heeds all but one
   pub calm_past : (s n : ℕ) (w v : State K) → Calm None n w v → Calm (Some s) n w v
@@ -196,6 +233,7 @@ module _ {K : Types} where
               told = λ t x i p e reads low. (f.heeds).told t x i refl e reads low;
               held = λ t x y p e d. (f.heeds).held t x y refl e d;
             };
+        lists = listed_to (Some s) w v f.lists;
         orderly = f.orderly;
         rises = f.rises;
       }
@@ -215,6 +253,7 @@ module _ {K : Types} where
     pub calls : v.last_calls ≡ w.last_calls
     pub tasks : (u : ℕ) → is_some (at w.tasks u) ≡ true → is_some (at v.tasks u) ≡ true
     pub unique : Unique w.scopes → Unique v.scopes
+    pub lists : Listed None w v
     pub marks : (t : ℕ) (x : Scope K) → at w.scopes t ≡ Some x → Marked w t → Marked v t
     pub rises : w.next.cells ≤ v.next.cells
 
@@ -227,6 +266,7 @@ module _ {K : Types} where
         calls = g.calls ∙ f.calls;
         tasks = λ t e. g.tasks t (f.tasks t e);
         unique = λ h. g.unique (f.unique h);
+        lists = listed_then None u v w (λ s p live. live_by (at w.scopes s) (at v.scopes s) (leavings_by (at w.scopes s) (at v.scopes s) (g.stand s)) live) f.lists g.lists;
         marks =
             λ t x e h.
             let y = there_of (at v.scopes t) (at u.scopes t) x (leavings_by (at v.scopes t) (at u.scopes t) (f.stand t)) e in
@@ -235,14 +275,15 @@ module _ {K : Types} where
       }
 
   -- the scopes, cells, calls and tasks stand, and so do marks
-  pub quiet_rest : (w v : State K) → v.scopes ≡ w.scopes → v.cells ≡ w.cells → v.last_calls ≡ w.last_calls → v.tasks ≡ w.tasks → v.posted ≡ w.posted → v.seen ≡ w.seen → w.next.cells ≤ v.next.cells → Quiet w v
-  quiet_rest w v a b c d e f g =
+  pub quiet_rest : (w v : State K) → v.scopes ≡ w.scopes → v.cells ≡ w.cells → v.last_calls ≡ w.last_calls → v.tasks ≡ w.tasks → v.posted ≡ w.posted → v.seen ≡ w.seen → v.queued ≡ w.queued → w.next.cells ≤ v.next.cells → Quiet w v
+  quiet_rest w v a b c d e f q g =
       record {
         stand = λ t. ap (λ (es : List (ℕ × Scope K)). standing (at es t)) a;
         cells = b;
         calls = c;
         tasks = λ t h. ap (λ (ts : List (ℕ × TaskRow K)). is_some (at ts t)) d ∙ h;
         unique = λ h. subst (λ (es : List (ℕ × Scope K)). Unique es) (sym a) h;
+        lists = listed_same None w v f q (λ t h. ap (λ (ts : List (ℕ × TaskRow K)). is_some (at ts t)) d ∙ h);
         marks =
             λ t x live h.
             elim h [
@@ -256,7 +297,7 @@ module _ {K : Types} where
   no_fall w = omega arith
 
   pub quiet_refl : (w : State K) → Quiet w w
-  quiet_refl w = quiet_rest w w refl refl refl refl refl refl (no_fall w)
+  quiet_refl w = quiet_rest w w refl refl refl refl refl refl refl (no_fall w)
 
   pub quiet_if : (w x y : State K) (b : Bool) → Quiet w x → Quiet w y → Quiet w (if b then x else y)
   quiet_if w x y true f g = f
@@ -300,6 +341,7 @@ module _ {K : Types} where
               told = λ t x i p e reads low. inl (same_quiet w v i f);
               held = λ t x y p e d. inl (held_stays w v t x y (holders t) e d);
             };
+        lists = listed_to past w v f.lists;
         orderly = λ h. record { holders = holders_stay w v holders f.tasks h.holders; unique = f.unique h.unique };
         rises = f.rises;
       }
@@ -317,6 +359,7 @@ module _ {K : Types} where
         calls = refl;
         tasks = λ t h. h;
         unique = λ h. h;
+        lists = listed_same None w (record w { posted = w.posted ++ ps }) refl refl (λ t h. h);
         marks = λ t x e h. elim h [ inl m ↦ inl (mark_first w.posted ps t m) | inr m ↦ inr m ];
         rises = no_fall w;
       }
@@ -369,6 +412,7 @@ module _ {K : Types} where
     pub unique : Unique w.scopes → Unique v.scopes
     pub posted : v.posted ≡ w.posted
     pub seen : v.seen ≡ w.seen
+    pub queued : v.queued ≡ w.queued
     pub next : v.next ≡ w.next
 
   pub turned_calm : (n : ℕ) (i : Source) (w v : State K) → Turned n i w v → Calm None n w (tell v i)
@@ -382,6 +426,9 @@ module _ {K : Types} where
               told = λ t x j p e reads low. by_source t x j e reads low;
               held = λ t x y p e d. inl (held_stays w u t x y (holders t) e d);
             };
+        lists =
+            listed_then None w v u (λ s p live. live_by (at u.scopes s) (at v.scopes s) (leavings_by (at u.scopes s) (at v.scopes s) (q.stand s)) live)
+            (listed_same None w v f.seen f.queued (λ t e. ap (λ (ts : List (ℕ × TaskRow K)). is_some (at ts t)) f.tasks ∙ e)) q.lists;
         orderly =
             λ h.
             record {
@@ -435,7 +482,7 @@ module _ {K : Types} where
   put_quiet : (w : State K) (s : ℕ) (f : Scope K → Scope K) (o : Option (Scope K)) → at w.scopes s ≡ o → ((x : Scope K) → standing (Some (f x)) ≡ standing (Some x)) → Quiet w (changed_scope w s f o)
   put_quiet w s f None e same = quiet_refl w
   put_quiet w s f (Some x) e same =
-      record { stand = put_by (λ o. standing o) w.scopes s x (f x) e (same x); cells = refl; calls = refl; tasks = λ t h. h; unique = λ h. unique_put w.scopes s x (f x) e h; marks = λ t y d h. h; rises = no_fall w }
+      record { stand = put_by (λ o. standing o) w.scopes s x (f x) e (same x); cells = refl; calls = refl; tasks = λ t h. h; lists = listed_same None w (changed_scope w s f (Some x)) refl refl (λ t h. h); unique = λ h. unique_put w.scopes s x (f x) e h; marks = λ t y d h. h; rises = no_fall w }
 
   pub change_quiet : (w : State K) (s : ℕ) (f : Scope K → Scope K) → ((x : Scope K) → standing (Some (f x)) ≡ standing (Some x)) → Quiet w (change w s f)
   change_quiet w s f same = put_quiet w s f (at w.scopes s) refl same

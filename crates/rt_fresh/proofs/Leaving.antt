@@ -12,7 +12,7 @@ use Rattle.rt_model.specs.Removal.{kinds_in, cell_sources, context_sources, cell
 use Rattle.rt_model.proofs.Maps.{by_test, pick_true, pick_false, at_without_none, eq_same, at_here, at_there, at_without_here, at_without_other, none_some}
 use Rattle.rt_fresh.specs.Heeds.{is_past, leavings, Marked, SameOf, Heeds}
 use Rattle.rt_fresh.proofs.Marks.{clash, or_left, or_right, by_either, source_is}
-use Rattle.rt_fresh.proofs.Calm.{standing, error_of, context_of, holders_of, cell_in, there_of, leavings_by, reads_by, held_stays, same_scope, HoldersLive, Unique, Calm, Quiet, quiet_then, quiet_refl, tell_quiet, tell_marks, same_quiet, holders_by, holders_stay}
+use Rattle.rt_fresh.proofs.Calm.{standing, error_of, context_of, holders_of, cell_in, there_of, leavings_by, reads_by, held_stays, same_scope, HoldersLive, Unique, listed_same, listed_then, listed_to, live_by, Calm, Quiet, quiet_then, quiet_refl, tell_quiet, tell_marks, same_quiet, holders_by, holders_stay}
 
 -- a number joins an ascending list
 inserted : (ks : List ℕ) (k : ℕ) → has (insert_number ks k) k ≡ true
@@ -167,6 +167,9 @@ module _ {K : Types} where
               told = λ t x i p e reads low. by_source t x i p e reads;
               held = λ t x y p e d. inl (held_stays w (gone w s) t x y (holders t p) e d);
             };
+        lists =
+            listed_then (Some s) w u (gone w s) (λ t p live. live_by (at (gone w s).scopes t) (at u.scopes t) (leavings_by (at (gone w s).scopes t) (at u.scopes t) (m.stand t)) live)
+            (listed_same (Some s) w u refl refl (λ t h. h)) (listed_to (Some s) u (gone w s) m.lists);
         orderly =
             λ h.
             record {

@@ -11,6 +11,8 @@ mod Stages
 mod Steps
 mod ChildKinds
 mod Removed
+mod Seen
 mod Moving
 mod Settled
 mod Reported
+mod Due

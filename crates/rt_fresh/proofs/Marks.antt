@@ -150,3 +150,50 @@ pub each_or : {Q : Type 0} (P : Source → Type 0) (xs : List Source) → AllByR
 each_or P [] h = inl tt
 each_or P (x ∷ xs) (inr q, rest) = inr q
 each_or P (x ∷ xs) (inl p, rest) = elim (each_or P xs rest) [ inl g ↦ inl (p, g) | inr g ↦ inr g ]
+
+-- what is left after a number was taken out was there, and is another one
+pub number_left : (xs : List ℕ) (n s : ℕ) → has (drop_number xs n) s ≡ true → (has xs s ≡ true) × (nat_eq n s ≡ false)
+number_left [] n s h = clash h refl
+number_left (x ∷ xs) n s h =
+    by_test (nat_eq x n)
+    (
+    λ q.
+    let rest = number_left xs n s (sym (ap (λ (ys : List ℕ). has ys s) (pick_true (drop_number xs n) (x ∷ drop_number xs n) q)) ∙ h) in
+    (or_right (nat_eq x s) (has xs s) rest.0, rest.1)
+    )
+    (
+    λ q.
+    by_either (nat_eq x s) (has (drop_number xs n) s) (sym (ap (λ (ys : List ℕ). has ys s) (pick_false (drop_number xs n) (x ∷ drop_number xs n) q)) ∙ h)
+    (
+    λ g.
+    let same : x ≡ s = eqb-true x s g in
+    (or_left (nat_eq x s) (has xs s) g, turned_round s n (ap (λ (k : ℕ). nat_eq k n) (sym same) ∙ q))
+    )
+    (λ g. let rest = number_left xs n s g in (or_right (nat_eq x s) (has xs s) rest.0, rest.1))
+    )
+
+pub number_gone : (xs : List ℕ) (n : ℕ) → has (drop_number xs n) n ≡ false
+number_gone xs n =
+    by_test (has (drop_number xs n) n)
+    (λ q. clash (eq_same n) (number_left xs n n q).1)
+    (λ q. q)
+
+has_split : (xs ys : List ℕ) (s : ℕ) → has (xs ++ ys) s ≡ true → (has xs s ≡ true) ⊎ (has ys s ≡ true)
+has_split [] ys s h = inr h
+has_split (x ∷ xs) ys s h =
+    by_either (nat_eq x s) (has (xs ++ ys) s) h
+    (λ g. inl (or_left (nat_eq x s) (has xs s) g))
+    (λ g. elim (has_split xs ys s g) [ inl a ↦ inl (or_right (nat_eq x s) (has xs s) a) | inr b ↦ inr b ])
+
+-- what is there after a number joined was there, or is that number
+pub join_left : (xs : List ℕ) (n s : ℕ) → has (join xs n) s ≡ true → (has xs s ≡ true) ⊎ (n ≡ s)
+join_left xs n s h =
+    by_test (has xs n)
+    (λ q. inl (sym (ap (λ (ys : List ℕ). has ys s) (pick_true xs (xs ++ n ∷ []) q)) ∙ h))
+    (
+    λ q.
+    elim (has_split xs (n ∷ []) s (sym (ap (λ (ys : List ℕ). has ys s) (pick_false xs (xs ++ n ∷ []) q)) ∙ h)) [
+      | inl a ↦ inl a
+      | inr b ↦ inr (by_either (nat_eq n s) false b (λ g. eqb-true n s g) (λ g. clash g refl))
+    ]
+    )

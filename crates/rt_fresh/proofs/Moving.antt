@@ -4,7 +4,7 @@ use Rattle.std.proofs.lemmas.Bool.{eqb-true}
 use Rattle.std.proofs.lemmas.List.{append-nil}
 use Rattle.std.specs.Prelude.{Option, Some, None, is_some, if◌then◌else◌}
 use Rattle.std.specs.List.{AllByRecursion}
-use Rattle.rt_model.specs.Lists.{at, put}
+use Rattle.rt_model.specs.Lists.{at, put, has}
 use Rattle.rt_model.specs.Tree.{Types, Place, Kind, VComponent, Root, is_suspense_boundary}
 use Rattle.rt_model.specs.World.{Source, Cell, Error, Context, Firsts, Scopes, Elements, at_end, before_render_kind, Event, Application}
 use Rattle.rt_model.specs.Laws.{IsLawful}
@@ -42,8 +42,8 @@ use Rattle.rt_ready.proofs.Made.{at_child, part, made_idle}
 use Rattle.rt_ready.proofs.Opens.{Opens, calm_twigs, run_opens, row_opens}
 use Rattle.rt_ready.proofs.Weaves.{knows_of, idle_same, put_side, numbered_twigs, props_twigs}
 use Rattle.rt_ready.proofs.Everywhere.{Anything, WovenOn, steps_idle, feeds_idle, fed_kid, batch_quiet, heard_stays, ReadyAt, work_state, move_ready, start_ready, reached_ready}
-use Rattle.rt_fresh.specs.Heeds.{leavings, Marked, SameOf}
-use Rattle.rt_fresh.proofs.Calm.{standing, error_of, context_of, holders_of, there_of, Unique, unique_put, Orderly, Calm, calm_then, Quiet, quiet_then, quiet_calm, change_quiet, CalmO}
+use Rattle.rt_fresh.specs.Heeds.{is_past, leavings, Marked, SameOf}
+use Rattle.rt_fresh.proofs.Calm.{live_by, standing, error_of, context_of, holders_of, there_of, Unique, unique_put, Orderly, Calm, calm_then, Quiet, quiet_then, quiet_calm, change_quiet, CalmO}
 use Rattle.rt_fresh.proofs.Ran.{next_quiet, rest_quiet, mounted_quiet, take_calm, polled_calm, effects_calm, heard_calm}
 use Rattle.rt_fresh.proofs.Owed.{Stage, still_at, rows_of, after_none, Alike, Called, called_again, BodyCurrent, FallbackCurrent, StageHolds, AtStage, AtBody, OwesAs, ScopeOwes, Owes}
 use Rattle.rt_fresh.proofs.Called.{Alone, alone_calm, change_alone, Then, then_if, run_calm, step_calm}
@@ -51,6 +51,7 @@ use Rattle.rt_fresh.proofs.Runs.{called_put, Starts, starts_of, OthersOwe, other
 use Rattle.rt_fresh.proofs.Steps.{step_component, step_owes}
 use Rattle.rt_fresh.proofs.ChildKinds.{kind_of, kind_by, Placed, KindsBy, Kinds, kinds_alike, kinds_later, kinds_same, kinds_emptied, kinds_left, kinds_made, kinds_opened, keeps_all}
 use Rattle.rt_fresh.proofs.Removed.{removed_calm}
+use Rattle.rt_fresh.proofs.Seen.{removed_unseen}
 
 not_one : (a b : ℕ) → (a ≡ b → ⊥) → nat_eq a b ≡ false
 not_one a b h = by_test (nat_eq a b) (λ q. absurd (h (eqb-true a b q))) (λ q. q)
@@ -174,15 +175,47 @@ module _ {K : Types} where
               (unique_put w.scopes s x (with_child a p n x) found h);
           posted = refl;
           seen = refl;
+          queued = refl;
           next = refl;
         }
 
 module _ {K : Types} (app : Application K) (lawful : IsLawful K app) where
+  -- what is seen is live, and what is queued hasn't ended
+  pub record Scheduled (w : State K) : Type 0 where
+    pub seen : (s : ℕ) → has w.seen s ≡ true → is_live w s ≡ true
+    pub queued : (t : ℕ) → has w.queued t ≡ true → is_some (at w.tasks t) ≡ true
+
+  still_queued : (past : Option ℕ) (n : ℕ) (w v : State K) → Calm past n w v → Scheduled w → (t : ℕ) → has v.queued t ≡ true → is_some (at v.tasks t) ≡ true
+  still_queued past n w v f h t q = elim (f.lists.queued t q) [ inl a ↦ a.1 (h.queued t a.0) | inr b ↦ b ]
+
+  still_seen : (past : Option ℕ) (n : ℕ) (w v : State K) → Calm past n w v → Scheduled w → (s : ℕ) → is_past past s ≡ false → has v.seen s ≡ true → is_live v s ≡ true
+  still_seen past n w v f h s p q = elim (f.lists.seen s p q) [ inl a ↦ live_by (at v.scopes s) (at w.scopes s) (f.heeds.stays s p) (h.seen s a) | inr b ↦ b ]
+
+  pub calm_scheduled : (n : ℕ) (w v : State K) → Calm None n w v → Scheduled w → Scheduled v
+  calm_scheduled n w v f h = record { seen = λ s q. still_seen None n w v f h s refl q; queued = λ t q. still_queued None n w v f h t q }
+
+  -- where one scope is passed over, it is live if it is seen
+  but_scheduled : (n s : ℕ) (w v : State K) → Calm (Some s) n w v → (has v.seen s ≡ true → is_live v s ≡ true) → Scheduled w → Scheduled v
+  but_scheduled n s w v f own h =
+      record {
+        seen =
+            λ t q.
+            by_test (nat_eq s t)
+            (
+            λ p.
+            let same : s ≡ t = eqb-true s t p in
+            subst (λ (k : ℕ). is_live v k ≡ true) same (own (ap (λ (k : ℕ). has v.seen k) same ∙ q))
+            )
+            (λ p. still_seen (Some s) n w v f h t p q);
+        queued = λ t q. still_queued (Some s) n w v f h t q;
+      }
+
   -- what holds of a state and its open work
   pub record Holding (w : State K) (work : List (Item K)) : Type 0 where
     pub owes : Owes app w work
     pub kinds : Kinds w work
     pub orderly : Orderly w
+    pub scheduled : Scheduled w
 
   abbrev pub HoldingOn : Machine K → Type 0
   HoldingOn m = m.dead ≡ None → Holding m.state m.work
@@ -206,6 +239,7 @@ module _ {K : Types} (app : Application K) (lawful : IsLawful K app) where
             kinds_alike (λ t. kind_of (at w.scopes t)) (λ t. kind_of (at v.scopes t)) v work (λ t. kind_by (at v.scopes t) (at w.scopes t) (calm.heeds.stays t refl))
             (kinds_same w v same (λ t. kind_of (at w.scopes t)) work h.kinds);
         orderly = calm.orderly h.orderly;
+        scheduled = calm_scheduled w.next.cells w v calm h.scheduled;
       }
 
   -- the first item goes, where it is no step
@@ -215,6 +249,7 @@ module _ {K : Types} (app : Application K) (lawful : IsLawful K app) where
         owes = λ t x e. subst (λ (steps : List RowStep). ScopeOwes app w steps t x) (rows t) (h.owes t x e);
         kinds = kinds_later (λ t. kind_of (at w.scopes t)) w i rest h.kinds;
         orderly = h.orderly;
+        scheduled = h.scheduled;
       }
 
   -- kinds stay where one scope alone changes, and keeps its own
@@ -232,9 +267,9 @@ module _ {K : Types} (app : Application K) (lawful : IsLawful K app) where
       ap (λ (o : Option (Scope K)). kind_of o) d ∙ ap (λ (c : VComponent K). Some (is_suspense_boundary c)) same ∙ sym (ap (λ (o : Option (Scope K)). kind_of o) e)
 
   -- a run
-  run_holding : (w : State K) (rest : List (Item K)) (s : ℕ) (x : Scope K) → at w.scopes s ≡ Some x → rows_of s rest ≡ [] → OthersOwe app lawful s w rest → (is_suspense_boundary x.component ≡ true → Starts app x) → Idle w s rest → Kinds w rest → Orderly w
+  run_holding : (w : State K) (rest : List (Item K)) (s : ℕ) (x : Scope K) → at w.scopes s ≡ Some x → rows_of s rest ≡ [] → OthersOwe app lawful s w rest → (is_suspense_boundary x.component ≡ true → Starts app x) → Idle w s rest → Kinds w rest → Orderly w → Scheduled w
       → HoldingO rest (run app w s)
-  run_holding w rest s x live none others starts idle kinds orderly =
+  run_holding w rest s x live none others starts idle kinds orderly scheduled =
       then_is (λ v work. Holding v (work ++ rest)) (run app w s)
       (
       λ v work is.
@@ -247,6 +282,7 @@ module _ {K : Types} (app : Application K) (lawful : IsLawful K app) where
             kinds_alike (λ t. kind_of (at w.scopes t)) (λ t. kind_of (at v.scopes t)) v (work ++ rest) (kinds_stay s w v calm (own_kind w v s x y.0 live y.1 y.2))
             (kinds_opened app w s v work rest (λ t. kind_of (at w.scopes t)) opens (live_found w s x live) idle kinds);
         orderly = calm.orderly orderly;
+        scheduled = but_scheduled w.next.cells s w v calm (λ q. ap (λ (o : Option (Scope K)). is_some o) y.1) scheduled;
       }
       )
 
@@ -267,7 +303,7 @@ module _ {K : Types} (app : Application K) (lawful : IsLawful K app) where
       ]))
       (sym none) h
       )
-      (λ x live. run_holding w [] s x live refl (λ t y q e. h.owes t y e) (starts_here w [] s x refl (h.owes s x live)) tt h.kinds h.orderly)
+      (λ x live. run_holding w [] s x live refl (λ t y q e. h.owes t y e) (starts_here w [] s x refl (h.owes s x live)) tt h.kinds h.orderly h.scheduled)
 
   -- a step of a boundary's run
 
@@ -286,6 +322,7 @@ module _ {K : Types} (app : Application K) (lawful : IsLawful K app) where
             kinds_alike (λ t. kind_of (at w.scopes t)) (λ t. kind_of (at v.scopes t)) v (work ++ rest) (kinds_stay b w v calm (own_kind w v b x y.0 live y.1 y.2))
             (opened (λ t. kind_of (at w.scopes t)) v work is (kinds_later (λ t. kind_of (at w.scopes t)) w (Row b step) rest h.kinds));
         orderly = calm.orderly h.orderly;
+        scheduled = but_scheduled w.next.cells b w v calm (λ q. ap (λ (o : Option (Scope K)). is_some o) y.1) h.scheduled;
       }
       )
 
@@ -356,6 +393,7 @@ module _ {K : Types} (app : Application K) (lawful : IsLawful K app) where
       (made_idle w s a p c x found fresh rest (woven_whole w (Make s a p c) rest tt woven))
       (kinds_made w s a p c x found fresh rest st h.kinds woven.stack.3)
       (calm.orderly h.orderly)
+      (but_scheduled w.next.cells n w v calm (λ q. ap (λ (o : Option (Scope K)). is_some o) (at_child w s a p c x found fresh)) h.scheduled)
 
   make_holds : (m : Machine K) (rest : List (Item K)) (s : ℕ) (a : SideName) (p : Place) (c : VComponent K) → is_live m.state s ≡ true → IsRooted m.state → Stands m.state (Make s a p c ∷ rest) → Woven m.state (Make s a p c ∷ rest) → Holding m.state (Make s a p c ∷ rest)
       → HoldingOn (ended_by m (Some (Make s a p c)) rest (outcome_of app m.state (Make s a p c)))
@@ -402,10 +440,13 @@ module _ {K : Types} (app : Application K) (lawful : IsLawful K app) where
     given_starts : is_suspense_boundary c ≡ true → Starts app y2
     given_starts true_is = starts_here w (rows_of t rest) t y none (h.owes t y live) (sym kind ∙ true_is)
 
+    given_scheduled : Scheduled given
+    given_scheduled = but_scheduled w.next.cells t w given given_calm (λ q. ap (λ (o : Option (Scope K)). is_some o) given_there) h.scheduled
+
     -- it is run
     run_handed : HoldingO rest (run app given t)
     run_handed =
-        run_holding given rest t y2 given_there none given_others given_starts (idle_same w given t rest (props_twigs app w t c) idle) given_kinds (given_calm.orderly h.orderly)
+        run_holding given rest t y2 given_there none given_others given_starts (idle_same w given t rest (props_twigs app w t c) idle) given_kinds (given_calm.orderly h.orderly) given_scheduled
 
     -- or it keeps its output
     module _ (keeps_it : keeps_output app y.component c ≡ true) where
@@ -458,6 +499,7 @@ module _ {K : Types} (app : Application K) (lawful : IsLawful K app) where
                 (subst (λ (b : Bool). OwesAs app b given (rows_of t rest) t y2) (sym kind) (owes_on (is_suspense_boundary y.component) (rows_of t rest) (h.owes t y live)));
             kinds = given_kinds;
             orderly = given_calm.orderly h.orderly;
+            scheduled = given_scheduled;
           }
 
     keeps_found : keeps app w t c ≡ keeps_output app y.component c
@@ -503,10 +545,16 @@ module _ {K : Types} (app : Application K) (lawful : IsLawful K app) where
       let took = removal_takes_one app lawful w v l work is in
       let one : TookOne w l v = took.1 in
       let calm : Calm (Some l) w.next.cells w v = subst (λ (o : Outcome K). CalmO (Some l) w.next.cells w o) is (removed_calm app lawful w.next.cells w l (level w)) in
+      let unseen : has v.seen l ≡ false = subst (λ (o : Outcome K). Then (λ z more. has z.seen l ≡ false) o) is (removed_unseen app w l) in
       λ alive.
       let after : Woven v rest = subst (λ (xs : List (Item K)). Woven v (xs ++ rest)) took.0 (woven alive) in
       subst (λ (xs : List (Item K)). Holding v (xs ++ rest)) (sym took.0)
-      (record { owes = gone_owes w v l rest calm one.gone h.owes; kinds = kinds_left w v l one rest after.stack h.kinds; orderly = calm.orderly h.orderly })
+      (record {
+        owes = gone_owes w v l rest calm one.gone h.owes;
+        kinds = kinds_left w v l one rest after.stack h.kinds;
+        orderly = calm.orderly h.orderly;
+        scheduled = but_scheduled w.next.cells l w v calm (λ q. let absurdity : true ≡ false = sym q ∙ unseen in cc) h.scheduled;
+      })
 
   drop_holds : (m : Machine K) (rest : List (Item K)) (top parent : ℕ) (a : SideName) → Holding m.state (Drop top parent a ∷ rest) → WovenOn (dropped app m (next_removed m.state top) top (Drop top parent a) rest)
       → HoldingOn (dropped app m (next_removed m.state top) top (Drop top parent a) rest)
@@ -689,12 +737,15 @@ module _ {K : Types} (app : Application K) (lawful : IsLawful K app) where
           unique = (refl, tt);
         }
 
+    first_scheduled : Scheduled first
+    first_scheduled = record { seen = λ s h. let absurdity : false ≡ true = h in cc; queued = λ t h. let absurdity : false ≡ true = h in cc }
+
     first_run : HoldingO [] (run app first 0)
     first_run =
         run_holding first [] 0 root first_here refl
         (λ t y q e. let absurdity : None ≡ Some y = sym (first_other t q) ∙ e in cc)
         (λ true_is. let absurdity : false ≡ true = true_is in cc)
-        tt first_kinds first_orderly
+        tt first_kinds first_orderly first_scheduled
 
     first_entry : (inputs : List (Input K)) (e : Entry) → due app (start app props inputs) ≡ Some e → HoldingOn (change_by app (start app props inputs) [] e)
     first_entry inputs e due_is =

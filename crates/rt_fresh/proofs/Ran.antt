@@ -18,8 +18,8 @@ use Rattle.rt_model.specs.Heard.{Listener}
 use Rattle.rt_model.proofs.Maps.{by_test, pick_true, pick_false, eq_same, at_here, at_there, at_put_here, at_put_other, none_some}
 use Rattle.rt_model.proofs.RunFrames.{numbered_rises}
 use Rattle.rt_fresh.specs.Heeds.{Low, HasMark, is_past, leavings, Marked, SameOf, Heeds, NewFrom, AllFrom}
-use Rattle.rt_fresh.proofs.Marks.{clash, turned_round, mark_first, mark_last, mark_split, mark_stays, number_stays, join_keeps, join_has}
-use Rattle.rt_fresh.proofs.Calm.{standing, error_of, context_of, holders_of, leavings_by, holders_by, there_of, held_by, same_scope, same_then, same_quiet, HoldersLive, Unique, unique_put, Calm, calm_then, calm_past, calm_to, calm_if, calm_refl, Quiet, quiet_then, quiet_rest, quiet_if, quiet_refl, quiet_calm, no_fall, held_stays, holders_stay, post_quiet, change_quiet, put_by, CalmO, onward_calm, from_calm, calm_o_if}
+use Rattle.rt_fresh.proofs.Marks.{clash, number_left, join_left, turned_round, mark_first, mark_last, mark_split, mark_stays, number_stays, join_keeps, join_has}
+use Rattle.rt_fresh.proofs.Calm.{standing, error_of, context_of, holders_of, leavings_by, holders_by, there_of, held_by, same_scope, same_then, same_quiet, HoldersLive, Unique, unique_put, listed_same, listed_then, live_by, Calm, calm_then, calm_past, calm_to, calm_if, calm_refl, Quiet, quiet_then, quiet_rest, quiet_if, quiet_refl, quiet_calm, no_fall, held_stays, holders_stay, post_quiet, change_quiet, put_by, CalmO, onward_calm, from_calm, calm_o_if}
 use Rattle.rt_fresh.proofs.Commanded.{written_calm, throw_calm, end_calm, task_quiet, commands_calm}
 
 all_join : (P : ℕ × ℕ → Type 0) (xs : List (ℕ × ℕ)) (y : ℕ × ℕ) → AllByRecursion (λ (h : ℕ × ℕ). P h) xs → P y → AllByRecursion (λ (h : ℕ × ℕ). P h) (xs ++ y ∷ [])
@@ -43,10 +43,10 @@ module _ {K : Types} where
   cells_rise f g cs h = (numbered_rises f cs g h).cells
 
   pub next_quiet : (w : State K) (next : Firsts) → w.next.cells ≤ next.cells → Quiet w (with_next w next)
-  next_quiet w next up = quiet_rest w (with_next w next) refl refl refl refl refl refl up
+  next_quiet w next up = quiet_rest w (with_next w next) refl refl refl refl refl refl refl up
 
   pub once_quiet : (w : State K) → Quiet w (called_once w)
-  once_quiet w = quiet_rest w (called_once w) refl refl refl refl refl refl (no_fall w)
+  once_quiet w = quiet_rest w (called_once w) refl refl refl refl refl refl refl (no_fall w)
 
   -- the marks of one scope go
   pub unmarked_calm : (n : ℕ) (w : State K) (s : ℕ) → Calm (Some s) n w (unmarked w s)
@@ -60,6 +60,7 @@ module _ {K : Types} where
               told = λ t x i p e reads low. inl (alike i);
               held = λ t x y p e d. inl (held_by x y (ap (λ (o : Option (Scope K)). holders_of o) (sym d ∙ e)));
             };
+        lists = record { seen = λ t p h. inl (number_left w.seen s t h).0; queued = λ t h. inl (h, λ i. i) };
         orderly = λ h. record { holders = h.holders; unique = h.unique };
         rises = no_fall w;
       }
@@ -123,6 +124,10 @@ module _ {K : Types} where
                 told = λ s y i p e reads low. inl (same_then w with_joined posted_joined i (joined_alike i) (same_quiet with_joined posted_joined i posted));
                 held = λ s y z p e d. held s y z e d;
               };
+          lists =
+              listed_then None w with_joined posted_joined
+              (λ s p live. live_by (at posted_joined.scopes s) (at with_joined.scopes s) (leavings_by (at posted_joined.scopes s) (at with_joined.scopes s) (posted.stand s)) live)
+              (listed_same None w with_joined refl refl (λ t h. h)) posted.lists;
           orderly =
               λ h.
               record {
@@ -170,29 +175,52 @@ module _ {K : Types} where
 
   -- looks
 
-  look_one : (w : State K) (s : ℕ) → Quiet w (record w { seen = join w.seen s })
-  look_one w s =
+  look_one : (w : State K) (s : ℕ) → is_live w s ≡ true → Quiet w (record w { seen = join w.seen s })
+  look_one w s live =
       record {
         stand = λ t. refl;
         cells = refl;
         calls = refl;
         tasks = λ t h. h;
         unique = λ h. h;
+        lists =
+            record {
+              seen = λ t p h. elim (join_left w.seen s t h) [ inl g ↦ inl g | inr same ↦ inr (subst (λ (k : ℕ). is_live w k ≡ true) same live) ];
+              queued = λ t h. inl (h, λ i. i);
+            };
         marks = λ t x e h. elim h [ inl m ↦ inl m | inr m ↦ inr (join_keeps w.seen s t m) ];
         rises = no_fall w;
       }
 
-  look_other : (w : State K) (t : ℕ) → Quiet w (record w { queued = join w.queued t })
-  look_other w t = quiet_rest w (record w { queued = join w.queued t }) refl refl refl refl refl refl (no_fall w)
+  look_other : (w : State K) (t : ℕ) → is_some (at w.tasks t) ≡ true → Quiet w (record w { queued = join w.queued t })
+  look_other w t there =
+      record {
+        stand = λ s. refl;
+        cells = refl;
+        calls = refl;
+        tasks = λ u h. h;
+        unique = λ h. h;
+        lists =
+            record {
+              seen = λ s p h. inl h;
+              queued = λ u h. elim (join_left w.queued t u h) [ inl g ↦ inl (g, λ i. i) | inr same ↦ inr (subst (λ (k : ℕ). is_some (at w.tasks k) ≡ true) same there) ];
+            };
+        marks = λ s x e h. h;
+        rises = no_fall w;
+      }
+
+  quiet_where : (w x : State K) (b : Bool) → (b ≡ true → Quiet w x) → Quiet w (if b then x else w)
+  quiet_where w x true f = f refl
+  quiet_where w x false f = quiet_refl w
 
   look_on_quiet : (ps : List Posted) (w : State K) → Quiet w (look_on ps w)
   look_on_quiet [] w = quiet_refl w
   look_on_quiet (Mark s ∷ ps) w =
       let v : State K = if is_live w s then record w { seen = join w.seen s } else w in
-      quiet_then w v (look_on ps v) (quiet_if w (record w { seen = join w.seen s }) w (is_live w s) (look_one w s) (quiet_refl w)) (look_on_quiet ps v)
+      quiet_then w v (look_on ps v) (quiet_where w (record w { seen = join w.seen s }) (is_live w s) (λ q. look_one w s q)) (look_on_quiet ps v)
   look_on_quiet (Woken t ∷ ps) w =
       let v : State K = if is_some (at w.tasks t) then record w { queued = join w.queued t } else w in
-      quiet_then w v (look_on ps v) (quiet_if w (record w { queued = join w.queued t }) w (is_some (at w.tasks t)) (look_other w t) (quiet_refl w)) (look_on_quiet ps v)
+      quiet_then w v (look_on ps v) (quiet_where w (record w { queued = join w.queued t }) (is_some (at w.tasks t)) (λ q. look_other w t q)) (look_on_quiet ps v)
 
   -- what was posted of a live scope is seen
   pub look_sees : (ps : List Posted) (w : State K) (t : ℕ) (x : Scope K) → at w.scopes t ≡ Some x → HasMark ps t → Marked (look_on ps w) t
@@ -208,13 +236,13 @@ module _ {K : Types} where
       mark_of a b h = cc
   look_sees (Mark s ∷ ps) w t x e (inr h) =
       let v : State K = if is_live w s then record w { seen = join w.seen s } else w in
-      let f : Quiet w v = quiet_if w (record w { seen = join w.seen s }) w (is_live w s) (look_one w s) (quiet_refl w) in
+      let f : Quiet w v = quiet_where w (record w { seen = join w.seen s }) (is_live w s) (λ q. look_one w s q) in
       let y = there_of (at v.scopes t) (at w.scopes t) x (leavings_by (at v.scopes t) (at w.scopes t) (f.stand t)) e in
       look_sees ps v t y.0 y.1 h
   look_sees (Woken u ∷ ps) w t x e (inl h) = cc
   look_sees (Woken u ∷ ps) w t x e (inr h) =
       let v : State K = if is_some (at w.tasks u) then record w { queued = join w.queued u } else w in
-      let f : Quiet w v = quiet_if w (record w { queued = join w.queued u }) w (is_some (at w.tasks u)) (look_other w u) (quiet_refl w) in
+      let f : Quiet w v = quiet_where w (record w { queued = join w.queued u }) (is_some (at w.tasks u)) (λ q. look_other w u q) in
       let y = there_of (at v.scopes t) (at w.scopes t) x (leavings_by (at v.scopes t) (at w.scopes t) (f.stand t)) e in
       look_sees ps v t y.0 y.1 h
 
@@ -228,15 +256,29 @@ module _ {K : Types} where
         calls = f.calls;
         tasks = f.tasks;
         unique = f.unique;
+        lists = record { seen = f.lists.seen; queued = f.lists.queued };
         marks = λ t x e h. elim h [ inl m ↦ look_sees w.posted u t x e m | inr m ↦ f.marks t x e (inr m) ];
         rises = f.rises;
+      }
+
+  unqueue : (w : State K) (t : ℕ) → Quiet w (record w { queued = drop_number w.queued t })
+  unqueue w t =
+      record {
+        stand = λ s. refl;
+        cells = refl;
+        calls = refl;
+        tasks = λ u h. h;
+        unique = λ h. h;
+        lists = record { seen = λ s p h. inl h; queued = λ u h. inl ((number_left w.queued t u h).0, λ i. i) };
+        marks = λ s x e h. h;
+        rises = no_fall w;
       }
 
   drop_quiet : (go : State K → State K) (w : State K) (o : Option ℕ) → ((v : State K) → Quiet v (go v)) → Quiet w (drop_then go w o)
   drop_quiet go w None h = quiet_refl w
   drop_quiet go w (Some t) h =
       let v : State K = record w { queued = drop_number w.queued t } in
-      quiet_then w v (go v) (quiet_rest w v refl refl refl refl refl refl (no_fall w)) (h v)
+      quiet_then w v (go v) (unqueue w t) (h v)
 
   pub drops_quiet : (qs : List ℕ) (w : State K) → Quiet w (drops qs w)
   drops_quiet [] w = quiet_refl w
@@ -275,7 +317,7 @@ module _ {K : Types} where
   mounted_unique w (e ∷ es) h = (mounted_none w es e.0 h.0, mounted_unique w es h.1)
 
   pub mounted_quiet : (w : State K) → Quiet w (mounted_state w)
-  mounted_quiet w = record { stand = mounted_by w w.scopes; cells = refl; calls = refl; tasks = λ t h. h; unique = λ h. mounted_unique w w.scopes h; marks = λ t x e h. h; rises = no_fall w }
+  mounted_quiet w = record { stand = mounted_by w w.scopes; cells = refl; calls = refl; tasks = λ t h. h; unique = λ h. mounted_unique w w.scopes h; lists = listed_same None w (mounted_state w) refl refl (λ t h. h); marks = λ t x e h. h; rises = no_fall w }
 
   -- inputs
 
@@ -408,6 +450,7 @@ module _ {K : Types} (app : Application K) (lawful : IsLawful K app) where
         calls = refl;
         tasks = λ s h. h;
         unique = λ h. h;
+        lists = record { seen = λ s p h. inl h; queued = λ u h. inl ((number_left w.queued t u h).0, λ i. i) };
         marks = λ s x e h. elim h [ inl m ↦ inl (mark_stays w.posted (Woken t) s refl m) | inr m ↦ inr m ];
         rises = no_fall w;
       }

@@ -267,7 +267,7 @@ module _ {K : Types} (app : Application K) (lawful : IsLawful K app) where
 
       f : Calm None w.next.cells w u
       f =
-          calm_then None w.next.cells w v u (quiet_calm None w.next.cells w v (quiet_rest w v refl refl refl refl refl refl (no_fall w)))
+          calm_then None w.next.cells w v u (quiet_calm None w.next.cells w v (quiet_rest w v refl refl refl refl refl refl refl (no_fall w)))
           (quiet_calm None w.next.cells v u (change_quiet v b (λ y. record y { callbacks = [] }) (λ y. refl)))
 
       more : w.next.cells ≤ u.next.cells

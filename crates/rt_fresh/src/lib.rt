@@ -10,5 +10,6 @@ mod settling;
 pub use heeding::{commands_heed, fresh_repeats, removal_heeds};
 pub use reporting::{ran_is_current, ran_to_is_current};
 pub use settling::{
-    all_are_current_or_owed, others_are_current_or_owed, settled_are_current, settled_show_held,
+    all_are_current_or_owed, due_is_any, others_are_current_or_owed, settled_are_current,
+    settled_show_held,
 };

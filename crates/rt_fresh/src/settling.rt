@@ -1,5 +1,6 @@
 //! What is current, and what is owed, wherever moves lead from a replay's start.
 
+ghost use Rattle.rt_fresh.specs.Due.{DueIsAny};
 ghost use Rattle.rt_fresh.specs.Settled.{AllAreCurrentOrOwed, OthersAreCurrentOrOwed, SettledAreCurrent, SettledShowHeld};
 ghost use Rattle.rt_model.specs.OneLog.{types};
 ghost use Rattle.rt_model.specs.World.{Application};
@@ -22,4 +23,9 @@ pub fn settled_are_current<C, P, V, H, T, E, L>()
 /// There a boundary shows its fallback just while live tasks hold it.
 pub fn settled_show_held<C, P, V, H, T, E, L>()
     ensures { (app : Application (types C P V H T E L)) → SettledShowHeld app }
+{}
+
+/// What comes next names what is live, so it is due: the test for that refuses nothing.
+pub fn due_is_any<C, P, V, H, T, E, L>()
+    ensures { (app : Application (types C P V H T E L)) → DueIsAny app }
 {}
