@@ -1,12 +1,3 @@
-pub mod Forests
-pub mod Stands
-pub mod Meets
-pub mod Levels
-pub mod Depths
-pub mod TemplateTest
-pub mod TreeOut
-pub mod StillPasses
-pub mod StillMirror
-pub mod StillAgrees
-pub mod FirstCall
-pub mod Builds
+mod Openings
+mod Sinks
+mod Reports

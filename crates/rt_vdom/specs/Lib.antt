@@ -1,13 +1,2 @@
-pub mod World
-pub mod Turn
-pub mod Enter
-pub mod Mirror
-pub mod Calls
-pub mod Outcomes
-pub mod Promised
-pub mod Still
-pub mod Numbered
-pub mod Drawn
-pub mod First
-pub mod Report
-pub mod Sample
+pub mod Ends
+pub mod Turns

@@ -1,20 +1,18 @@
-//! The component runtime: what an application is, and the session that builds and runs one.
+//! The component runtime: a session builds an application, and then takes in one input after
+//! another.
 #![tactic(auto)]
 
+mod agenda;
 pub mod app;
-mod build;
-mod fault;
-mod first;
+mod course;
+mod ended;
 mod input;
-mod limits;
-mod report;
+mod keeping;
+mod machine;
 mod runner;
+mod turn;
+mod unit;
+mod writing;
 
-pub use fault::{Counter, Fault, SessionFault};
-pub use input::Input;
-pub use limits::Limits;
-pub use report::{Entry, Report};
+pub use rt_reports::{Counter, Entry, Fault, Input, Limits, Msg, Post, Report, SessionFault};
 pub use runner::session;
-
-#[cfg(test)]
-mod tests;

@@ -1,95 +1,22 @@
 //! A session: the build of an application, and the inputs that follow it.
-ghost use Rattle.std.specs.Prelude.{◌≡◌, ◌≤◌, [], ◌∷◌, IfOk, IfErr, OnOk, OnErr, is_ok, if◌then◌else◌};
-ghost use Rattle.rt_edits.specs.Sinks.{grown};
-ghost use Rattle.rt_edits.specs.declared.edit.Edit.TheVariants as edits;
-ghost use Rattle.rt_vdom.specs.Promised.{WasBuilt, CameFrom, NeverFaults, Completes, SinkRefuses};
-ghost use Rattle.rt_vdom.specs.Report.{build_report};
+ghost use Rattle.std.specs.Prelude.{◌≡◌, ℕ, [], map, IfOk, IfErr, OnOk};
+ghost use Rattle.rt_model.specs.Headline.{OneEach, OpensWith};
+ghost use Rattle.rt_reports.specs.Seen.{entry_of, input_of};
+ghost use Rattle.rt_reports.specs.Counted.{logs_in, edits_in, CountsLog, AllCountLogs, BeginsOneEach};
+ghost use Rattle.rt_reports.specs.declared.entry.Entry.TheVariants as entries;
+ghost use Rattle.rt_vdom.specs.Ends.{Took, Ends, Faulted};
 
-use crate::app::App;
-use crate::build::build_all;
-use crate::fault::{Fault, SessionFault};
-use crate::first::first_tree;
-use crate::input::Input;
-use crate::limits::Limits;
-use crate::report::{Entry, Report};
-use rt_cells::{List, OutOfMemory, ScopeId, Serials};
-use rt_tree::{DocNode, ElementId, SinkError, WriteMutations};
+use crate::ended::Ended;
+use crate::machine::Machine;
+use crate::turn::sum;
+use rt_calls::App;
+use rt_edits::WriteMutations;
+use rt_reports::{Entry, Input, Limits, Report, SessionFault};
+use rt_values::List;
 use std::alloc::Global;
 
-/// The report of the build, in a list of its own.
-fn first_report(alloc: Global) -> Result<List<Report>, OutOfMemory>
-    ensures { IfOk result (λ reports. reports ≡ build_report ∷ []) }
-{
-    let log = List::from_slice(
-        alloc,
-        &[
-            Entry::Build,
-            Entry::Made(ScopeId::ROOT_SUSPENSE_BOUNDARY),
-            Entry::Made(ScopeId::ROOT_ERROR_BOUNDARY),
-            Entry::Made(ScopeId::APP),
-        ],
-    )?;
-    let mut reports = List::new(alloc);
-    reports.push(Report {
-        log,
-        units: 0,
-        bodies: 4,
-        edits: 1,
-        default_enabled: true,
-    })?;
-    Ok(reports)
-}
-
-/// Writes the one edit of the build.
-fn append_to_root<M: WriteMutations>(
-    alloc: Global,
-    sink: &mut M,
-    nodes: &List<DocNode>,
-) -> Result<(), Fault>
-    ensures taken { M.taken sink.new ≡ grown (M.taken sink.old)
-        (if is_ok result then edits.AppendChildren (record { 0 = 0 }) nodes.now ∷ [] else []) }
-    ensures later { M.faults sink.old ≤ M.faults sink.new }
-    ensures cause { IfErr result (SinkRefuses (M.faults sink.old) (M.faults sink.new)) }
-{
-    match sink.append_children(alloc, &ElementId(0), nodes) {
-        Ok(()) => Ok(()),
-        Err(SinkError::Failed) => Err(Fault::SinkFault),
-        Err(SinkError::OutOfMemory) => Err(Fault::OutOfMemory),
-    }
-}
-
-/// Runs the scopes that every application has, and writes what they show. All memory is taken before
-/// the one edit is written.
-fn build<A: App, M: WriteMutations>(
-    alloc: Global,
-    app: &A,
-    props: &A::Props,
-    sink: &mut M,
-) -> Result<List<Report>, Fault>
-    ensures built { IfOk result (WasBuilt
-        (A.root_component app.now) (A.body app.now) props.now
-        (M.taken sink.old) (M.taken sink.new)) }
-    ensures valid { OnOk result ((limits : Limits) → 3 ≤ limits.height →
-        NeverFaults (A.root_component app.now) (A.body app.now) props.now limits) }
-    ensures cause { IfErr result (λ fault. (limits : Limits) → 3 ≤ limits.height →
-        CameFrom (A.root_component app.now) (A.body app.now) props.now limits
-        (M.faults sink.old) (M.faults sink.new) fault) }
-    ensures untaken { OnErr result (M.taken sink.new ≡ M.taken sink.old) }
-    ensures later { M.faults sink.old ≤ M.faults sink.new }
-{
-    let tree = first_tree(alloc, app, props)?;
-    let mut ids = Serials::starting(1);
-    let nodes = build_all(alloc, tree.template.roots.as_slice(), &mut ids)?;
-    let reports = first_report(alloc)?;
-    append_to_root(alloc, sink, &nodes)?;
-    Ok(reports)
-}
-
-/// Builds the application's root component with its props, and writes the edits to the sink.
-///
-/// The build takes trees of static elements without attributes and of static texts, of a call that
-/// asks for nothing; any other answer of the root component's body is the fault `BadNode`. No input is
-/// taken yet.
+/// Builds an application and settles, and then takes in each input and settles. The edits go to the
+/// sink. The reports of the build and of each input; a fault comes with those that were finished.
 pub fn session<A: App, M: WriteMutations>(
     alloc: Global,
     app: A,
@@ -98,32 +25,93 @@ pub fn session<A: App, M: WriteMutations>(
     sink: &mut M,
     limits: Limits,
 ) -> Result<List<Report>, SessionFault>
-    requires no_inputs { inputs ≡ [] }
-    requires height { 3 ≤ limits.height }
+    // The log of the build and of each input is opened by it, and by nothing else.
+    ensures one_each { IfOk result (λ reports. OneEach (map input_of inputs) (logs_in reports)) }
+    ensures counts { IfOk result (λ reports. AllCountLogs reports) }
 
-    ensures built { IfOk result (WasBuilt
-        (A.root_component app) (A.body app) root_props
-        (M.taken sink.old) (M.taken sink.new)) }
-
-    // A fault other than want of memory and the sink's comes exactly where the run ends in it.
-    ensures cause { IfErr result (λ refused. CameFrom
-        (A.root_component app) (A.body app) root_props limits
-        (M.faults sink.old) (M.faults sink.new) refused.fault) }
-    ensures valid { OnOk result (NeverFaults
-        (A.root_component app) (A.body app) root_props limits) }
-    ensures complete { IfErr result (λ refused. Completes
-        (A.root_component app) (A.body app) root_props limits refused.fault) }
-
-    // No report is finished before the build is, and a build that is refused writes nothing.
-    ensures refused { IfErr result (λ refused.
-        (refused.reports ≡ []) × (M.taken sink.new ≡ M.taken sink.old)) }
-    ensures later { M.faults sink.old ≤ M.faults sink.new }
+    // The sink took as many edits as the reports count.
+    ensures took { IfOk result (λ reports. Took (M.taken sink.old) (M.taken sink.new)
+        (M.faults sink.old) (M.faults sink.new) (edits_in reports)) }
+    ensures refused { IfErr result (λ refused. Faulted limits (map input_of inputs)
+        (M.taken sink.old) (M.taken sink.new) (M.faults sink.old) (M.faults sink.new) refused) }
 {
-    match build(alloc, &app, &root_props, sink) {
-        Ok(reports) => Ok(reports),
-        Err(fault) => Err(SessionFault {
-            fault,
-            reports: List::new(alloc),
+    let mut reports = List::new(alloc);
+    match run_all(alloc, app, root_props, inputs, sink, limits, &mut reports) {
+        Ok(()) => Ok(reports),
+        Err(ended) => Err(SessionFault {
+            fault: ended.fault(),
+            reports,
         }),
+    }
+}
+
+/// The build and all inputs, each with its report.
+fn run_all<A: App, M: WriteMutations>(
+    alloc: Global,
+    app: A,
+    root_props: A::Props,
+    inputs: List<Input<A>>,
+    sink: &mut M,
+    limits: Limits,
+    reports: &mut List<Report>,
+) -> Result<(), Ended>
+    requires empty { reports.old ≡ [] }
+    ensures one_each { OnOk result (OneEach (map input_of inputs) (logs_in reports.new)) }
+    ensures begins { BeginsOneEach (map input_of inputs) (logs_in reports.new) }
+    ensures counts { AllCountLogs reports.new }
+    ensures took { OnOk result (Took (M.taken sink.old) (M.taken sink.new)
+        (M.faults sink.old) (M.faults sink.new) (edits_in reports.new)) }
+    ensures err { IfErr result (λ ended. Ends limits (edits_in reports.new)
+        (M.taken sink.old) (M.taken sink.new) (M.faults sink.old) (M.faults sink.new) ended) }
+{
+    let mut machine = Machine::start(alloc, app, root_props)?;
+    reports.push(machine.first_report(limits, sink)?)?;
+    let mut number = 0u64;
+    for input in inputs.into_vec() {
+        number = sum(number, 1)?;
+        reports.push(machine.next_report(number, input, limits, sink)?)?;
+    }
+    Ok(())
+}
+
+impl<A: App> Machine<A> {
+    /// The report of the build.
+    fn first_report<M: WriteMutations>(
+        &mut self,
+        limits: Limits,
+        sink: &mut M,
+    ) -> Result<Report, Ended>
+        ensures opens { IfOk result (λ report.
+            OpensWith (entry_of entries.Build) (map entry_of report.log)) }
+        ensures counts { IfOk result (λ report. CountsLog report) }
+        ensures took { IfOk result (λ report. Took (M.taken sink.old) (M.taken sink.new)
+            (M.faults sink.old) (M.faults sink.new) report.edits) }
+        ensures err { IfErr result (λ ended. Ends limits 0
+            (M.taken sink.old) (M.taken sink.new) (M.faults sink.old) (M.faults sink.new) ended) }
+    {
+        self.build()?;
+        let edits = self.settle(limits, sink)?;
+        Ok(self.report(Entry::Build, edits)?)
+    }
+
+    /// The report of an input, by its number from 1.
+    fn next_report<M: WriteMutations>(
+        &mut self,
+        number: u64,
+        input: Input<A>,
+        limits: Limits,
+        sink: &mut M,
+    ) -> Result<Report, Ended>
+        ensures opens { IfOk result (λ report.
+            OpensWith (entry_of (entries.Input number)) (map entry_of report.log)) }
+        ensures counts { IfOk result (λ report. CountsLog report) }
+        ensures took { IfOk result (λ report. Took (M.taken sink.old) (M.taken sink.new)
+            (M.faults sink.old) (M.faults sink.new) report.edits) }
+        ensures err { IfErr result (λ ended. Ends limits 0
+            (M.taken sink.old) (M.taken sink.new) (M.faults sink.old) (M.faults sink.new) ended) }
+    {
+        self.take_in(input)?;
+        let edits = self.settle(limits, sink)?;
+        Ok(self.report(Entry::Input(number), edits)?)
     }
 }

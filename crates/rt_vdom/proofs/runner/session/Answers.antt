@@ -1,10 +1,14 @@
--- Where no log comes to a fault, memory or the sink was wanting.
-use Rattle.rt_vdom.proofs.Builds.{completes}
 use Rattle.rt_vdom.proofs.runner.session.Goals as goal
 
-pub returns-clause-complete : goal.returns-clause-complete
-returns-clause-complete g c =
-    completes (g.A.App.root_component c.args.app) (g.A.App.body c.args.app) c.args.root_props c.args.limits _ _ c.in-Err.fault (c.in-Err.ensures.cause c.args.limits c.requires.height)
-
-pub returns-clause-cause : goal.returns-clause-cause
-returns-clause-cause g c = c.in-Err.ensures.cause c.args.limits c.requires.height
+pub returns-in-Err-clause-refused : goal.returns-in-Err-clause-refused
+returns-in-Err-clause-refused g c =
+    let e = c.in-Err.ensures.err in
+    record {
+      begins = c.in-Err.ensures.begins;
+      counts = c.in-Err.ensures.counts;
+      edits = e.edits;
+      told = e.told;
+      counted = e.counted;
+      later = e.later;
+      cause = c.fault.ensures c.args.limits (g.M.WriteMutations.faults c.args.sink.now) (g.M.WriteMutations.faults c.run_all.new.sink) e.cause;
+    }

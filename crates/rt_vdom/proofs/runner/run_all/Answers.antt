@@ -1,0 +1,95 @@
+-- One report after another.
+use Rattle.std.proofs.Common.{◌≡◌, ◌∷◌, [], List, length, map, sym, ap, ◌∙◌, arith, rules}
+use Rattle.std.specs.Vec.Iter.{into_iter_items, into_iter_len}
+use Rattle.std.proofs.lemmas.Result.{err_from_is_err_and}
+use Rattle.rt_reports.specs.Seen.{input_of}
+use Rattle.rt_reports.specs.Counted.{edits_in}
+use Rattle.rt_vdom.proofs.Sinks.{took-to, took-same, took-ends, ends-low, ends-run, run-after}
+use Rattle.rt_vdom.proofs.Reports.{begins-none, sofar-begin, sofar-next, sofar-begins, sofar-end, edits-first, edits-pushed, nothing_left}
+use Rattle.rt_vdom.proofs.runner.run_all.Goals as goal
+
+pub returns-in_err-machine-clause-begins : goal.returns-in_err-machine-clause-begins
+returns-in_err-machine-clause-begins g c = begins-none _ _ c.requires.empty
+
+pub returns-in_err-machine-clause-err : goal.returns-in_err-machine-clause-err
+returns-in_err-machine-clause-err g c =
+    let p = err_from_is_err_and c.from_residual.result c.from_residual.ensures.1 in
+    rw (p.1, p.2, c.requires.empty) (ends-run c.args.limits _ _ _)
+
+pub returns-in_err-first_report-clause-begins : goal.returns-in_err-first_report-clause-begins
+returns-in_err-first_report-clause-begins g c = begins-none _ _ c.requires.empty
+
+pub returns-in_err-first_report-clause-err : goal.returns-in_err-first_report-clause-err
+returns-in_err-first_report-clause-err g c =
+    let p = err_from_is_err_and c.from_residual-in_err-first_report.result c.from_residual-in_err-first_report.ensures.1 in
+    rw (p.1, p.2, c.requires.empty) c.in_err-first_report.ensures.err
+
+pub returns-in_err-push-clause-err : goal.returns-in_err-push-clause-err
+returns-in_err-push-clause-err g c =
+    let p = err_from_is_err_and c.from_residual-in_err-push.result c.from_residual-in_err-push.ensures.1 in
+    rw (p.1, p.2, c.in_err-push.ensures.err, c.requires.empty)
+    (ends-low c.args.limits _ _ _ _ _ _ (run-after c.args.limits _ _ _ _ _ _ c.in_ok-first_report.ensures.took))
+
+pub returns-in_err-push-clause-begins : goal.returns-in_err-push-clause-begins
+returns-in_err-push-clause-begins g c = begins-none _ _ (c.in_err-push.ensures.err ∙ c.requires.empty)
+
+pub loop-input-init : goal.loop-input-init
+loop-input-init g c =
+    let items = c.into_iter-input-iterator.ensures.into_iter_gives in
+    record {
+      sofar =
+          sofar-begin _ _ _ _ _ (ap (map input_of) (items.0 ∙ c.into_vec-input-items.ensures.items)) c.requires.empty c.in_ok-push.ensures.ok
+          c.in_ok-first_report.ensures.opens c.in_ok-first_report.ensures.counts;
+      took = took-same _ _ _ _ _ _ (edits-first _ _ _ c.requires.empty c.in_ok-push.ensures.ok) c.in_ok-first_report.ensures.took;
+      count = search rules;
+    }
+
+pub returns-in_err-number-clause-begins : goal.returns-in_err-number-clause-begins
+returns-in_err-number-clause-begins g c = sofar-begins _ _ _ _ c.loop-input.invariant.sofar
+
+pub returns-in_err-number-clause-err : goal.returns-in_err-number-clause-err
+returns-in_err-number-clause-err g c =
+    let p = err_from_is_err_and c.from_residual-in_err-number.result c.from_residual-in_err-number.ensures.1 in
+    rw (p.1, p.2) (run-after c.args.limits _ _ _ _ _ _ c.loop-input.invariant.took)
+
+pub returns-in_err-next_report-clause-begins : goal.returns-in_err-next_report-clause-begins
+returns-in_err-next_report-clause-begins g c = sofar-begins _ _ _ _ c.loop-input.invariant.sofar
+
+pub returns-in_err-next_report-clause-err : goal.returns-in_err-next_report-clause-err
+returns-in_err-next_report-clause-err g c =
+    let p = err_from_is_err_and c.from_residual-in_err-next_report.result c.from_residual-in_err-next_report.ensures.1 in
+    rw (p.1, p.2) (took-ends c.args.limits _ _ _ _ _ _ _ _ _ c.loop-input.invariant.took c.in_err-next_report.ensures.err)
+
+pub loop-input-preserved : goal.loop-input-preserved
+loop-input-preserved g c =
+    let steps : into_iter_items c.loop-input.input-iterator ≡ c.in-Some.input ∷ into_iter_items c.next.new.self = c.in-Some.ensures.steps.0 in
+    record {
+      sofar =
+          sofar-next _ _ _ _ _ _ _ _ _ (ap (map input_of) steps) c.in_ok-number.ensures c.in_ok-push-2.ensures.ok c.loop-input.invariant.sofar
+          c.in_ok-next_report.ensures.opens c.in_ok-next_report.ensures.counts;
+      took =
+          took-to _ _ _ _ _ _ _ _ _ (edits-pushed _ _ _ c.in_ok-push-2.ensures.ok) c.loop-input.invariant.took c.in_ok-next_report.ensures.took;
+      count =
+          let was = c.loop-input.invariant.count in
+          let gone = c.in-Some.ensures.steps.1 in
+          let short = ap length steps in
+          omega arith;
+    }
+
+pub returns-in_err-push-2-clause-begins : goal.returns-in_err-push-2-clause-begins
+returns-in_err-push-2-clause-begins g c = rw c.in_err-push-2.ensures.err (sofar-begins _ _ _ _ c.loop-input.invariant.sofar)
+
+pub returns-in_err-push-2-clause-err : goal.returns-in_err-push-2-clause-err
+returns-in_err-push-2-clause-err g c =
+    let p = err_from_is_err_and c.from_residual-in_err-push-2.result c.from_residual-in_err-push-2.ensures.1 in
+    rw (p.1, p.2, c.in_err-push-2.ensures.err)
+    (took-ends c.args.limits _ _ _ _ _ _ _ _ _ c.loop-input.invariant.took (run-after c.args.limits _ _ _ _ _ _ c.in_ok-next_report.ensures.took))
+
+pub returns-clause-one_each : goal.returns-clause-one_each
+returns-clause-one_each g c =
+    let none = c.in-None.ensures.steps in
+    let empty = nothing_left _ (sym c.loop-input.invariant.count ∙ none.0) in
+    sofar-end _ _ _ _ (ap (map input_of) empty) c.loop-input.invariant.sofar
+
+pub returns-clause-begins : goal.returns-clause-begins
+returns-clause-begins g c = sofar-begins _ _ _ _ c.loop-input.invariant.sofar

@@ -1,0 +1,16 @@
+-- The reports so far are those of the build and of the inputs that were taken, and the sink took their edits.
+use Rattle.std.proofs.Common.{◌≡◌, length, map}
+use Rattle.std.specs.Vec.Iter.{into_iter_items, into_iter_len}
+use Rattle.rt_reports.specs.Counted.{edits_in}
+use Rattle.rt_reports.specs.Seen.{input_of}
+use Rattle.rt_vdom.specs.Ends.{Took}
+use Rattle.rt_vdom.proofs.Reports.{Sofar}
+use Rattle.rt_vdom.proofs.runner.run_all.Given as goal
+
+abbrev pub invariant-loop-input : goal.invariant-loop-input
+invariant-loop-input g l = record {
+  sofar : Sofar (map input_of l.fn.inputs) (map input_of (into_iter_items l.input-iterator)) l.number l.reports;
+  took :
+      Took (g.M.WriteMutations.taken l.fn.sink) (g.M.WriteMutations.taken l.sink) (g.M.WriteMutations.faults l.fn.sink) (g.M.WriteMutations.faults l.sink) (edits_in l.reports);
+  count : into_iter_len l.input-iterator ≡ length (into_iter_items l.input-iterator);
+}

@@ -1,9 +1,0 @@
--- The world that a call is begun in.
-use Rattle.rt_values.specs.declared.names.ScopeId.{ScopeId}
-use Rattle.rt_vdom.specs.World.{CallWorld}
-use Rattle.rt_vdom.specs.declared.app.world.World.{World}
-
-module _ {P Component Props Value Handler TaskState Effect Payload : Type 0} where
-  -- what a call in a scope can look at
-  abbrev pub world_of : World P Component Props Value Handler TaskState Effect Payload → ScopeId → CallWorld P Component Props Value Handler TaskState Effect Payload
-  world_of w s = record { scope = s; rows = w.rows.now; cells = w.cells.now.cells; next = w.next; task = w.task; rendering = w.rendering }

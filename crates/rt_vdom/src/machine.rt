@@ -1,0 +1,102 @@
+//! A session under way: the state of the runtime with what is open beside it.
+ghost use Rattle.std.specs.Prelude.{◌≡◌, map, IfOk};
+ghost use Rattle.rt_model.specs.Headline.{OpensWith};
+ghost use Rattle.rt_reports.specs.Seen.{entry_of};
+ghost use Rattle.rt_reports.specs.Counted.{CountsLog};
+
+use crate::course::Course;
+use rt_calls::{App, Firsts};
+use rt_parts::Event;
+use rt_reports::{Entry, Report, bodies_in, units_in};
+use rt_runs::Runtime;
+use rt_shown::{Listener, Stood};
+use rt_values::{List, OutOfMemory};
+use rt_work::Item;
+use std::alloc::Global;
+use std::mem;
+
+/// The number that each counter draws first.
+const FIRST: u64 = 1;
+
+/// A session under way.
+#[derive(Drop)]
+pub(crate) struct Machine<A: App> {
+    pub runtime: Runtime<A>,
+    /// The open work. The last item is served first.
+    pub work: List<Item<A>>,
+    /// The listeners that wait. The last one is called first.
+    pub listeners: List<Listener<A>>,
+    /// The event on its way, and whether it bubbles.
+    pub event: Option<Event<A::Payload>>,
+    pub bubbles: bool,
+    /// The entry that began the build or the unit at work.
+    pub first: Option<Entry>,
+    /// What the scopes that a rerun has changed were before it, with none for each that it made.
+    pub stood: List<(u64, Option<Stood<A>>)>,
+    /// How many scopes were live before it.
+    pub scopes: u64,
+    /// Of the report on its way: its entries after the first, its units, and whether no listener
+    /// prevented the default.
+    pub course: Course,
+    pub units: u64,
+    pub default_enabled: bool,
+}
+
+/// Puts items on a stack, so that the first one is taken first.
+pub(crate) fn stack<T: Drop>(onto: &mut List<T>, items: List<T>) -> Result<(), OutOfMemory> {
+    let mut items = items;
+    for _item in 0..items.len() {
+        if let Some(item) = items.pop() {
+            onto.push(item)?;
+        }
+    }
+    Ok(())
+}
+
+impl<A: App> Machine<A> {
+    /// A session at its start.
+    pub fn start(alloc: Global, app: A, props: A::Props) -> Result<Machine<A>, OutOfMemory> {
+        let firsts = Firsts {
+            tasks: FIRST,
+            cells: FIRST,
+            contexts: FIRST,
+            elements: FIRST,
+            errors: FIRST,
+        };
+        let runtime = Runtime::start(alloc, app, props, firsts)?;
+        Ok(Machine {
+            runtime,
+            work: List::new(alloc),
+            listeners: List::new(alloc),
+            event: None,
+            bubbles: false,
+            first: None,
+            stood: List::new(alloc),
+            scopes: 0,
+            course: Course::new(alloc),
+            units: 0,
+            default_enabled: true,
+        })
+    }
+
+    /// The report of what was done since the last one, opened by an entry, with so many edits.
+    pub fn report(&mut self, first: Entry, edits: u64) -> Result<Report, OutOfMemory>
+        ensures opens { IfOk result (λ report.
+            OpensWith (entry_of first) (map entry_of report.log)) }
+        ensures counts { IfOk result (λ report. CountsLog report) }
+        ensures edits { IfOk result (λ report. report.edits ≡ edits) }
+    {
+        let alloc = self.runtime.alloc;
+        let course = mem::replace(&mut self.course, Course::new(alloc));
+        let log = course.opened_by(alloc, first)?;
+        let units = units_in(log.as_slice());
+        let bodies = bodies_in(log.as_slice());
+        Ok(Report {
+            log,
+            units,
+            bodies,
+            edits,
+            default_enabled: self.default_enabled,
+        })
+    }
+}
