@@ -1,2 +1,5 @@
 pub mod Settings
 pub mod Rules
+pub mod Meets
+pub mod Passes
+pub mod Trees

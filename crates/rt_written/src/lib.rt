@@ -3,8 +3,10 @@
 //! The functions have empty bodies: what each claims of the definitions is its contract.
 #![tactic(auto)]
 
+mod outputs;
 mod rows;
 
+pub use outputs::{outputs_bring, outputs_claim, passes_bring, trees_unfold};
 pub use rows::{
     both_bring, children_bring, document_brought, element_brings, inserted_brings, joined_bring,
     nothing_brings, removed_brings, replaced_brings, text_brings,
