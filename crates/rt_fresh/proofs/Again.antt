@@ -1,14 +1,13 @@
 -- Where nothing that a body read has changed it would answer the same again.
-use Rattle.std.proofs.Common.{ℕ, Bool, true, false, List, [], ◌∷◌, ◌≡◌, ◌<◌, ◌&&◌, not, refl, sym, ap, ◌∙◌, subst}
-use Rattle.std.specs.Prelude.{Option, Some, None, if◌then◌else◌}
-use Rattle.std.specs.List.{AllByRecursion}
+use Rattle.std.proofs.Common.{ℕ, Bool, true, false, List, [], ◌∷◌, ◌≡◌, ◌&&◌, not, refl, sym, ap, ◌∙◌, subst}
+use Rattle.std.specs.Prelude.{Option, Some, None}
 use Rattle.rt_model.specs.Tree.{Types, VComponent, Own, Root, Fragment, ErrorBoundary, SuspenseBoundary, CapturedError, Element, rendered, placeholder_tree}
-use Rattle.rt_model.specs.World.{Source, Cell, Error, Context, Given, Values, World, Meaning, Application}
+use Rattle.rt_model.specs.World.{Source, Cell, Error, Context, Given, World, Meaning, Application}
 use Rattle.rt_model.specs.Laws.{SameAt, Agree, ReadsDecide, IsLawful}
 use Rattle.rt_model.specs.State.{Scope, LastCall, State, values_of}
 use Rattle.rt_model.specs.Commands.{names_source}
 use Rattle.rt_model.specs.Run.{plain, also_read, caught, body_of, children_tree, error_tree, root_tree}
-use Rattle.rt_model.specs.Current.{is_aside, values_again, world_again, Repeats, again}
+use Rattle.rt_model.specs.Current.{is_aside, world_again, Repeats, again}
 use Rattle.rt_model.proofs.Maps.{by_test, pick_true, pick_false}
 use Rattle.rt_fresh.specs.Fresh.{CallStands, Fresh}
 use Rattle.rt_fresh.proofs.Marks.{all_named}

@@ -1,27 +1,23 @@
 -- What the call of a scope's body leaves of that scope, and what a run leaves of all others.
-use Rattle.std.proofs.Common.{ℕ, ◌+◌, Bool, true, false, List, [], ◌∷◌, ◌++◌, ◌≡◌, ◌≤◌, ◌<◌, ◌⊎◌, refl, sym, ap, ◌∙◌, subst, nat_eq, arith, inl, inr}
-use Rattle.std.proofs.lemmas.Bool.{eqb-true}
+use Rattle.std.proofs.Common.{ℕ, Bool, true, false, List, [], ◌∷◌, ◌++◌, ◌≡◌, ◌≤◌, ◌⊎◌, refl, sym, ap, ◌∙◌, subst, nat_eq, arith, inl, inr}
 use Rattle.std.specs.Prelude.{Option, Some, None, if◌then◌else◌, is_some}
 use Rattle.std.specs.List.{AllByRecursion}
 use Rattle.rt_model.specs.Lists.{at, put, without, drop_number, has}
-use Rattle.rt_model.specs.Tree.{Types, Tree, placeholder_tree, VComponent, Own, Root, Fragment, ErrorBoundary, SuspenseBoundary, is_suspense_boundary, Element, rendered, failed, suspended, spots}
+use Rattle.rt_model.specs.Tree.{Types, Tree, placeholder_tree, VComponent, Own, Root, Fragment, ErrorBoundary, SuspenseBoundary, Element, rendered, failed, suspended, spots}
 use Rattle.rt_model.specs.World.{Source, Cell, Error, Context, Firsts, CallFault, before_render_kind, Meaning, World, Application}
 use Rattle.rt_model.specs.Laws.{SameAt, IsNumbered, IsLawful}
-use Rattle.rt_model.specs.State.{SideName, MainSide, ChildrenSide, FallbackSide, RowStep, PatchChildren, MadeChildren, RunFallback, ShowFallback, ShowChildren, DropFallback, Resolve, Fault, BadNode, Side, Posted, Scope, LastCall, TaskRow, State, Item, Draw, Row, Feed, Make, Drop, Outcome, Done, Cut, onward, side_of, with_side, empty_side, change, changed_scope, is_held, values_of, world_of}
+use Rattle.rt_model.specs.State.{SideName, MainSide, ChildrenSide, FallbackSide, RowStep, PatchChildren, MadeChildren, RunFallback, ShowFallback, ShowChildren, DropFallback, Resolve, BadNode, Side, Posted, Scope, LastCall, TaskRow, State, Item, Draw, Row, Feed, Make, Drop, Outcome, Done, Cut, onward, side_of, with_side, empty_side, change, changed_scope, is_held, world_of}
 use Rattle.rt_model.specs.Commands.{commands}
 use Rattle.rt_model.specs.Run.{fault_of, with_next, called_once, called_where, is_own, answer_fits, output_of, with_last_call, kept_call, spots_of, has_output, row_of, runs_fallback, row_items, body_of, hooks_called, after_hooks, answered_with, call_body, kept_numbers, kept_children, serves, drops_of, patched, start_agenda, settled_answer, new_output, after_answer, boundary_run, run_as, run, unmarked}
-use Rattle.rt_model.specs.Boundary.{tree_or_placeholder, children_of, counts_render, counted_render, fallback_answered, side_scopes, drop_items, row_step, boundary_step, called_back}
-use Rattle.rt_model.specs.Current.{KeepsAnswer}
-use Rattle.rt_model.proofs.Maps.{by_test, pick_true, eq_same, at_put_here, at_put_other, at_without_other}
+use Rattle.rt_model.specs.Boundary.{tree_or_placeholder, children_of, counts_render, counted_render, fallback_answered, drop_items, row_step, boundary_step, called_back}
+use Rattle.rt_model.proofs.Maps.{eq_same, at_put_here, at_put_other, at_without_other}
 use Rattle.rt_model.proofs.RunFrames.{body_numbered}
-use Rattle.rt_ready.proofs.Patched.{IsRow}
 use Rattle.rt_ready.proofs.Lists.{IsServe, IsDrop, serves_are, drops_are}
-use Rattle.rt_fresh.specs.Heeds.{Low, HasMark, is_past, leavings, Marked, SameOf, Heeds}
-use Rattle.rt_fresh.specs.Fresh.{CallStands, Fresh}
-use Rattle.rt_fresh.proofs.Calm.{standing, error_of, context_of, holders_of, there_of, held_by, held_stays, holders_stay, reads_by, Unique, unique_put, listed_same, Calm, calm_then, calm_to, calm_refl, Quiet, quiet_calm, quiet_rest, no_fall, put_by, change_quiet, CalmO, onward_calm, from_calm, calm_o_to, calm_o_if}
+use Rattle.rt_fresh.specs.Heeds.{HasMark, leavings, Marked, SameOf}
+use Rattle.rt_fresh.proofs.Calm.{error_of, context_of, holders_of, there_of, held_stays, holders_stay, Unique, unique_put, listed_same, Calm, calm_then, calm_to, calm_refl, quiet_calm, quiet_rest, no_fall, put_by, change_quiet, CalmO, onward_calm, from_calm, calm_o_to, calm_o_if}
 use Rattle.rt_fresh.proofs.Commanded.{commands_calm}
 use Rattle.rt_fresh.proofs.Ran.{all_from, cells_rise, next_quiet, once_quiet, unmarked_calm, hooks_calm, after_hooks_calm, answered_calm, fallback_calm, called_back_calm}
-use Rattle.rt_fresh.proofs.Owed.{rows_of, rows_join, rows_here, NoRows, Kept, kept_by, kept_then, now_of, Alike, Called, called_again, called_stays, BodyCurrent, FallbackCurrent}
+use Rattle.rt_fresh.proofs.Owed.{rows_of, rows_join, NoRows, Kept, kept_by, kept_then, now_of, Called, called_stays}
 
 module _ {K : Types} where
   -- only one scope's component, reads, side that shows or outputs change, and its last call; no source does

@@ -1,14 +1,14 @@
 -- What is fed is of the kind of the scope that it is fed to: both a suspense boundary, or neither.
-use Rattle.std.proofs.Common.{ℕ, ◌+◌, Bool, true, false, ◌&&◌, List, [], ◌∷◌, ◌++◌, ◌≡◌, ◌≤◌, ◌<◌, ◌⊎◌, refl, sym, ap, ◌∙◌, subst, nat_eq, arith, inl, inr}
+use Rattle.std.proofs.Common.{ℕ, Bool, true, false, ◌&&◌, List, [], ◌∷◌, ◌++◌, ◌≡◌, ◌<◌, ◌⊎◌, refl, sym, ap, ◌∙◌, subst, nat_eq, arith, inl, inr}
 use Rattle.std.proofs.lemmas.Bool.{eqb-true}
-use Rattle.std.specs.Prelude.{Option, Some, None, if◌then◌else◌, is_some}
+use Rattle.std.specs.Prelude.{Option, Some, None, is_some}
 use Rattle.std.specs.List.{AllByRecursion}
-use Rattle.rt_model.specs.Lists.{at, put, same_option}
-use Rattle.rt_model.specs.Tree.{Types, Tree, Place, same_place, Kind, VComponent, Own, Root, Fragment, ErrorBoundary, SuspenseBoundary, is_suspense_boundary, Element, Spot, component_at, spots}
+use Rattle.rt_model.specs.Lists.{at, same_option}
+use Rattle.rt_model.specs.Tree.{Types, Tree, Place, same_place, VComponent, Own, Root, Fragment, ErrorBoundary, SuspenseBoundary, is_suspense_boundary, Element, Spot, component_at, spots}
 use Rattle.rt_model.specs.World.{World, Application}
 use Rattle.rt_model.specs.Laws.{MeanAlike, IsLawful}
 use Rattle.rt_model.specs.Values.{same_call, same_element, is_same_component, keeps_output}
-use Rattle.rt_model.specs.State.{SideName, MainSide, ChildrenSide, FallbackSide, Side, Scope, State, Item, Draw, Row, Feed, Make, Drop, Outcome, Done, Cut, side_of, with_side, empty_side, new_scope, is_live, height_of}
+use Rattle.rt_model.specs.State.{SideName, MainSide, ChildrenSide, FallbackSide, Side, Scope, State, Item, Draw, Row, Feed, Make, Drop, Outcome, Done, side_of, with_side, empty_side, is_live}
 use Rattle.rt_model.specs.Run.{child_at, spots_of, component_in, is_fed, kept_children, serves, drops_of, start_agenda, body_of}
 use Rattle.rt_model.specs.Boundary.{children_of, drop_items}
 use Rattle.rt_model.specs.Replay.{with_new_scope}
@@ -18,14 +18,14 @@ use Rattle.rt_model.proofs.Among.{Among}
 use Rattle.rt_model.proofs.StillFits.{and-left, and-right}
 use Rattle.rt_model.proofs.SameTrees.{option_tests, element_tests}
 use Rattle.rt_model.proofs.SamePlaces.{same_place-true}
-use Rattle.rt_model.proofs.Places.{Distinct, spots_distinct}
+use Rattle.rt_model.proofs.Places.{spots_distinct}
 use Rattle.rt_model.proofs.NumbersStand.{child_among}
 use Rattle.rt_model.proofs.Stands.{Stands}
-use Rattle.rt_ready.proofs.Twigs.{bare, twig, twig_side, side_at, kids, slots, SameTwigs, live_by, side_by, same_framed, side_found, by_scope, found_live}
+use Rattle.rt_ready.proofs.Twigs.{twig, twig_side, kids, slots, SameTwigs, live_by, side_by, same_framed, side_found, by_scope, found_live}
 use Rattle.rt_ready.proofs.Woven.{owner, Stack, kids_same, slots_same}
 use Rattle.rt_ready.proofs.Lists.{some_number, every_join, component_is, fed_at, kept_at, kept_fed, serves_every, drops_every}
 use Rattle.rt_ready.proofs.Patched.{by_side, Turns, IsRow, Aside, Idle, aside_row}
-use Rattle.rt_ready.proofs.Made.{at_child, at_parent, part, side_else, side_child, kids_here, slots_else, is_new}
+use Rattle.rt_ready.proofs.Made.{at_child, part, side_else, side_child, kids_here, slots_else, is_new}
 use Rattle.rt_ready.proofs.Opens.{Opens, OwnRows}
 use Rattle.rt_ready.proofs.Weaves.{put_side, put_turns, idle_same}
 use Rattle.rt_fresh.specs.Heeds.{Leavings, leavings}

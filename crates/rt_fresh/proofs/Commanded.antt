@@ -1,18 +1,18 @@
 -- Each command is calm.
-use Rattle.std.proofs.Common.{ℕ, ◌+◌, Bool, true, false, List, [], ◌∷◌, ◌++◌, ◌≡◌, ◌≤◌, ◌<◌, ◌⊎◌, ◌&&◌, ◌||◌, not, refl, sym, ap, ◌∙◌, subst, nat_eq, arith, inl, inr}
+use Rattle.std.proofs.Common.{ℕ, Bool, true, false, List, [], ◌∷◌, ◌++◌, ◌≡◌, ◌≤◌, ◌⊎◌, ◌&&◌, ◌||◌, not, refl, sym, ap, ◌∙◌, subst, nat_eq, inl, inr}
 use Rattle.std.proofs.lemmas.Bool.{eqb-true}
 use Rattle.std.specs.Prelude.{Option, Some, None, if◌then◌else◌, is_some}
 use Rattle.std.specs.List.{AllByRecursion, list_any}
-use Rattle.rt_model.specs.Lists.{at, put, without, kept_by, drop_number, has}
+use Rattle.rt_model.specs.Lists.{at, put, without, kept_by, drop_number}
 use Rattle.rt_model.specs.Tree.{Types, CapturedError}
 use Rattle.rt_model.specs.World.{Source, Cell, Error, Context, same_source, Command, KeepHook, NewCell, Write, DropCell, NewContext, Reset, ReadInto, Spawn, RemoveFuture, Wake, SetActive, QueueEffect, Provide, Update, Throw, ClearErrors, Resolved, Freeze, Application}
 use Rattle.rt_model.specs.Laws.{Tests}
-use Rattle.rt_model.specs.State.{Posted, Mark, Woken, ClientOnly, Isomorphic, Scope, CellRow, ContextRow, TaskRow, State, is_live, changed_scope, change, is_held, holds, error_context, suspense_context, values_of}
-use Rattle.rt_model.specs.Commands.{drop_posted, one_more_source, holding, post, names_source, tell, released, end, written_at, drop_cell_row, caught_at, thrown_to, throw_error, cleared_at, activated, spawned, registered, frozen_at, change_context, provided_at, provide_context, command, commands}
-use Rattle.rt_model.proofs.Maps.{by_test, pick_true, pick_false, eq_same, at_here, at_there, at_put_here, at_put_other, at_append_none, at_without_other, none_some}
+use Rattle.rt_model.specs.State.{Mark, Woken, ClientOnly, Isomorphic, Scope, CellRow, ContextRow, TaskRow, State, is_live, changed_scope, change, is_held, holds, error_context, suspense_context}
+use Rattle.rt_model.specs.Commands.{drop_posted, one_more_source, holding, post, tell, released, end, written_at, drop_cell_row, caught_at, thrown_to, throw_error, cleared_at, activated, spawned, registered, frozen_at, provided_at, command, commands}
+use Rattle.rt_model.proofs.Maps.{by_test, eq_same, at_here, at_there, at_put_here, at_put_other, at_append_none, at_without_other, none_some}
 use Rattle.rt_fresh.specs.Heeds.{Low, HasMark, leavings, Marked, SameOf, Heeds, NewFrom, AllFrom}
-use Rattle.rt_fresh.proofs.Marks.{clash, number_left, turned_round, from_apart, mark_first, mark_last, mark_stays, by_either}
-use Rattle.rt_fresh.proofs.Calm.{standing, error_of, context_of, holders_of, mark_where, cell_in, there_of, there_by, held_by, same_scope, HoldersLive, Unique, unique_put, listed_same, Calm, calm_then, calm_if, calm_refl, Quiet, quiet_then, quiet_rest, quiet_if, quiet_refl, quiet_calm, no_fall, post_quiet, change_quiet, Turned, turned_calm, put_by, cells_alike}
+use Rattle.rt_fresh.proofs.Marks.{clash, number_left, turned_round, from_apart, mark_first, mark_last, mark_stays}
+use Rattle.rt_fresh.proofs.Calm.{error_of, context_of, holders_of, mark_where, cell_in, held_by, same_scope, HoldersLive, Unique, unique_put, listed_same, Calm, calm_then, calm_if, calm_refl, Quiet, quiet_then, quiet_rest, quiet_if, quiet_refl, quiet_calm, no_fall, post_quiet, change_quiet, Turned, turned_calm, put_by}
 
 -- a task that isn't among the holders is none of those that go
 none_go : (hs : List (ℕ × ℕ)) (t : ℕ) → list_any (λ h. nat_eq h.0 t) hs ≡ false → kept_by (λ h. not (nat_eq h.0 t)) hs ≡ hs

@@ -1,13 +1,12 @@
 -- What comes next names what is live.
-use Rattle.std.proofs.Common.{ℕ, ◌+◌, Bool, true, false, ◌&&◌, ◌||◌, List, [], ◌∷◌, ◌≡◌, refl, sym, ap, ◌∙◌, subst, nat_eq}
-use Rattle.std.proofs.lemmas.Bool.{eqb-true}
+use Rattle.std.proofs.Common.{ℕ, ◌+◌, Bool, true, false, List, [], ◌∷◌, ◌≡◌, refl, sym, ap, ◌∙◌, subst, nat_eq}
 use Rattle.std.specs.Prelude.{Option, Some, None, is_some, if◌then◌else◌}
 use Rattle.rt_model.specs.Lists.{at, kept_by, has, drop_number, join}
 use Rattle.rt_model.specs.Tree.{Types}
 use Rattle.rt_model.specs.World.{Application}
 use Rattle.rt_model.specs.Laws.{IsLawful}
 use Rattle.rt_model.specs.State.{Posted, Mark, Woken, Fault, Scope, TaskRow, State, Item, Draw, Row, Feed, Make, Drop, is_live}
-use Rattle.rt_model.specs.Next.{Work, RerunScope, PollTask, RunEffects, least_from, least, is_before, scope_of_task, first_task, first_seen, chosen, found, look_on, look, paused, drop_then, drops, looked, at_rest, with_effects, or_effects, next_at_rest, next}
+use Rattle.rt_model.specs.Next.{Work, RerunScope, PollTask, RunEffects, least_from, least, is_before, scope_of_task, first_task, first_seen, chosen, found, look_on, look, paused, drop_then, drops, looked, at_rest, with_effects, or_effects, next}
 use Rattle.rt_model.specs.Heard.{Listener}
 use Rattle.rt_model.specs.Replay.{Entry, Build, Taken, Heard, Rerun, Poll, Effects, Input, Machine, names_live, if_live, waiting, due_item, due_heard, due_work, due_any, due}
 use Rattle.rt_model.specs.Causes.{Limits}

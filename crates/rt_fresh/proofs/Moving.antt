@@ -1,22 +1,21 @@
 -- Every move keeps what is owed, the kinds of children, and the order of holders and numbers.
-use Rattle.std.proofs.Common.{ℕ, ◌+◌, ◌≤◌, ◌<◌, Bool, true, false, not, List, [], ◌∷◌, ◌++◌, ◌≡◌, ◌⊎◌, inl, inr, refl, sym, ap, ◌∙◌, subst, arith, nat_eq}
+use Rattle.std.proofs.Common.{ℕ, ◌+◌, ◌≤◌, Bool, true, false, List, [], ◌∷◌, ◌++◌, ◌≡◌, ◌⊎◌, inl, inr, refl, sym, ap, ◌∙◌, subst, arith, nat_eq}
 use Rattle.std.proofs.lemmas.Bool.{eqb-true}
-use Rattle.std.proofs.lemmas.List.{append-nil}
 use Rattle.std.specs.Prelude.{Option, Some, None, is_some, if◌then◌else◌}
 use Rattle.std.specs.List.{AllByRecursion}
 use Rattle.rt_model.specs.Lists.{at, put, has}
 use Rattle.rt_model.specs.Tree.{Types, Place, Kind, VComponent, Root, is_suspense_boundary}
-use Rattle.rt_model.specs.World.{Source, Cell, Error, Context, Firsts, Scopes, Elements, at_end, before_render_kind, Event, Application}
+use Rattle.rt_model.specs.World.{Source, Cell, Error, Context, Firsts, Scopes, Elements, at_end, before_render_kind, Application}
 use Rattle.rt_model.specs.Laws.{IsLawful}
 use Rattle.rt_model.specs.Values.{keeps_output}
-use Rattle.rt_model.specs.State.{SideName, MainSide, ChildrenSide, FallbackSide, RowStep, PatchChildren, MadeChildren, RunFallback, ShowFallback, ShowChildren, DropFallback, Resolve, Fault, IdsExhausted, Side, Scope, LastCall, State, Item, Draw, Row, Feed, Make, Drop, Outcome, Done, Cut, onward, side_of, with_side, empty_side, new_scope, change, changed_scope, is_live, height_of, is_held}
+use Rattle.rt_model.specs.State.{SideName, MainSide, ChildrenSide, FallbackSide, RowStep, PatchChildren, MadeChildren, RunFallback, ShowFallback, ShowChildren, DropFallback, Resolve, Fault, IdsExhausted, Side, Scope, LastCall, State, Item, Draw, Row, Feed, Make, Drop, Outcome, Done, Cut, onward, side_of, with_side, empty_side, new_scope, change, changed_scope, is_live, height_of}
 use Rattle.rt_model.specs.Next.{Work, RerunScope, PollTask, RunEffects, at_rest, next}
 use Rattle.rt_model.specs.Run.{child_at, with_next, unmarked, hooks_called, run_as, run}
 use Rattle.rt_model.specs.Commands.{unqueued}
 use Rattle.rt_model.specs.Boundary.{children_of, side_scopes, drop_items, row_step, boundary_step}
 use Rattle.rt_model.specs.Removal.{next_removed, removed}
 use Rattle.rt_model.specs.Heard.{Listener}
-use Rattle.rt_model.specs.Replay.{Entry, Build, Taken, Heard, Rerun, Poll, Effects, Removed, Input, Machine, ended_by, numbered, draw_number, mounted_state, if_live, waiting, take_next, one_more_unit, with_child, with_new_scope, fed_child, keeps, due_item, due_heard, due_work, due, made_in, with_props, handed, outcome_of, polled, effects_of, effects_run, heard_event, heard_first, rested, dropped, change_by, first_state, ones, start}
+use Rattle.rt_model.specs.Replay.{Entry, Build, Taken, Heard, Rerun, Poll, Effects, Removed, Input, Machine, ended_by, numbered, mounted_state, if_live, waiting, take_next, one_more_unit, with_child, with_new_scope, fed_child, keeps, due_item, due_heard, due_work, due, made_in, with_props, handed, outcome_of, polled, effects_of, effects_run, heard_event, heard_first, rested, dropped, change_by, first_state, ones, start}
 use Rattle.rt_model.specs.Causes.{Limits}
 use Rattle.rt_model.specs.Framed.{TookOne}
 use Rattle.rt_model.specs.Lasting.{IsRooted}
@@ -35,21 +34,21 @@ use Rattle.rt_moves.proofs.OneMoveOnly.{unsettled}
 use Rattle.rt_moves.proofs.Items.{due_at_work}
 use Rattle.rt_moves.proofs.Insides.{alive_before, live_due, made_due, fed_due, fed_change}
 use Rattle.rt_moves.proofs.Always.{take_work, heard_work}
-use Rattle.rt_ready.proofs.Twigs.{twig, twig_side, side_found, up, kids, SameTwigs, by_scope, found_live, live_found, up_height}
-use Rattle.rt_ready.proofs.Woven.{owner, After, Stack, Woven, Whole, woven_whole}
+use Rattle.rt_ready.proofs.Twigs.{twig, twig_side, side_found, kids, SameTwigs, by_scope, found_live, live_found, up_height}
+use Rattle.rt_ready.proofs.Woven.{owner, After, Stack, Woven, woven_whole}
 use Rattle.rt_ready.proofs.Patched.{Idle}
 use Rattle.rt_ready.proofs.Made.{at_child, part, made_idle}
 use Rattle.rt_ready.proofs.Opens.{Opens, calm_twigs, run_opens, row_opens}
 use Rattle.rt_ready.proofs.Weaves.{knows_of, idle_same, put_side, numbered_twigs, props_twigs}
-use Rattle.rt_ready.proofs.Everywhere.{Anything, WovenOn, steps_idle, feeds_idle, fed_kid, batch_quiet, heard_stays, ReadyAt, work_state, move_ready, start_ready, reached_ready}
+use Rattle.rt_ready.proofs.Everywhere.{WovenOn, steps_idle, feeds_idle, fed_kid, batch_quiet, heard_stays, ReadyAt, work_state, move_ready, start_ready}
 use Rattle.rt_fresh.specs.Heeds.{is_past, leavings, Marked, SameOf}
-use Rattle.rt_fresh.proofs.Calm.{live_by, standing, error_of, context_of, holders_of, there_of, Unique, unique_put, Orderly, Calm, calm_then, Quiet, quiet_then, quiet_calm, change_quiet, CalmO}
+use Rattle.rt_fresh.proofs.Calm.{live_by, standing, error_of, context_of, holders_of, Unique, unique_put, Orderly, Calm, Quiet, quiet_then, quiet_calm, change_quiet, CalmO}
 use Rattle.rt_fresh.proofs.Ran.{next_quiet, rest_quiet, mounted_quiet, take_calm, polled_calm, effects_calm, heard_calm}
-use Rattle.rt_fresh.proofs.Owed.{Stage, still_at, rows_of, after_none, Alike, Called, called_again, BodyCurrent, FallbackCurrent, StageHolds, AtStage, AtBody, OwesAs, ScopeOwes, Owes}
+use Rattle.rt_fresh.proofs.Owed.{Stage, still_at, rows_of, Alike, Called, called_again, BodyCurrent, StageHolds, OwesAs, ScopeOwes, Owes}
 use Rattle.rt_fresh.proofs.Called.{Alone, alone_calm, change_alone, Then, then_if, run_calm, step_calm}
-use Rattle.rt_fresh.proofs.Runs.{called_put, Starts, starts_of, OthersOwe, others_stay, all_owe, stay_all, run_component, run_owes}
+use Rattle.rt_fresh.proofs.Runs.{Starts, starts_of, OthersOwe, others_stay, all_owe, stay_all, run_component, run_owes}
 use Rattle.rt_fresh.proofs.Steps.{step_component, step_owes}
-use Rattle.rt_fresh.proofs.ChildKinds.{kind_of, kind_by, Placed, KindsBy, Kinds, kinds_alike, kinds_later, kinds_same, kinds_emptied, kinds_left, kinds_made, kinds_opened, keeps_all}
+use Rattle.rt_fresh.proofs.ChildKinds.{kind_of, kind_by, KindsBy, Kinds, kinds_alike, kinds_later, kinds_same, kinds_emptied, kinds_left, kinds_made, kinds_opened, keeps_all}
 use Rattle.rt_fresh.proofs.Removed.{removed_calm}
 use Rattle.rt_fresh.proofs.Seen.{removed_unseen}
 

@@ -1,19 +1,17 @@
 -- What is owed to a scope, or what is current of it, with the steps of its run that are left; calm changes keep it.
-use Rattle.std.proofs.Common.{ℕ, ◌+◌, Bool, true, false, List, [], ◌∷◌, ◌++◌, ◌≡◌, ◌≤◌, ◌<◌, ◌⊎◌, refl, sym, ap, ◌∙◌, subst, nat_eq, nat_lt, arith, inl, inr}
-use Rattle.std.proofs.lemmas.Bool.{eqb-true}
-use Rattle.std.specs.Prelude.{Option, Some, None, if◌then◌else◌, is_some}
-use Rattle.std.specs.List.{AllByRecursion}
+use Rattle.std.proofs.Common.{ℕ, Bool, true, false, List, [], ◌∷◌, ◌++◌, ◌≡◌, ◌≤◌, ◌<◌, ◌⊎◌, refl, sym, ap, ◌∙◌, subst, nat_eq, nat_lt, arith, inl, inr}
+use Rattle.std.specs.Prelude.{Option, Some, None, if◌then◌else◌}
 use Rattle.rt_model.specs.Lists.{at}
 use Rattle.rt_model.specs.Tree.{Types, Tree, VComponent, is_suspense_boundary, Element}
 use Rattle.rt_model.specs.World.{Source, Cell, Error, Context, World, Application}
 use Rattle.rt_model.specs.Laws.{SameAt}
-use Rattle.rt_model.specs.State.{SideName, MainSide, ChildrenSide, FallbackSide, RowStep, PatchChildren, MadeChildren, RunFallback, ShowFallback, ShowChildren, DropFallback, Resolve, Scope, LastCall, State, Item, Draw, Row, Feed, Make, Drop, is_held, values_of}
+use Rattle.rt_model.specs.State.{SideName, ChildrenSide, FallbackSide, RowStep, PatchChildren, MadeChildren, RunFallback, ShowFallback, ShowChildren, DropFallback, Resolve, Scope, LastCall, State, Item, Draw, Row, Feed, Make, Drop, is_held, values_of}
 use Rattle.rt_model.specs.Commands.{names_source}
 use Rattle.rt_model.specs.Run.{body_of, row_items}
 use Rattle.rt_model.specs.Boundary.{tree_or_placeholder, children_of}
 use Rattle.rt_model.specs.Current.{KeepsAnswer}
 use Rattle.rt_model.proofs.Maps.{by_test, pick_true, pick_false, eq_same}
-use Rattle.rt_fresh.specs.Heeds.{Low, is_past, Leavings, leavings, Marked, SameOf, Heeds}
+use Rattle.rt_fresh.specs.Heeds.{is_past, Leavings, leavings, Marked, SameOf, Heeds}
 use Rattle.rt_fresh.specs.Fresh.{CallStands, Fresh}
 use Rattle.rt_fresh.proofs.Marks.{all_named, named_of, each_or}
 use Rattle.rt_fresh.proofs.Calm.{Calm, reads_by}

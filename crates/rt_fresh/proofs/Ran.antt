@@ -1,5 +1,5 @@
 -- What calls, looks and inputs leave: all of them are calm.
-use Rattle.std.proofs.Common.{ℕ, zero, suc, ◌+◌, Bool, true, false, List, [], ◌∷◌, ◌++◌, ◌≡◌, ◌≤◌, ◌<◌, ◌⊎◌, ◌&&◌, ◌||◌, not, refl, sym, ap, ◌∙◌, subst, nat_eq, arith, inl, inr}
+use Rattle.std.proofs.Common.{ℕ, ◌+◌, Bool, true, false, List, [], ◌∷◌, ◌++◌, ◌≡◌, ◌≤◌, ◌⊎◌, ◌||◌, not, refl, sym, ap, ◌∙◌, subst, nat_eq, arith, inl, inr}
 use Rattle.std.proofs.lemmas.Bool.{eqb-true}
 use Rattle.std.specs.Prelude.{Option, Some, None, if◌then◌else◌, is_some}
 use Rattle.std.specs.List.{AllByRecursion}
@@ -9,17 +9,17 @@ use Rattle.rt_model.specs.World.{Source, Cell, Error, Context, Renders, Firsts, 
 use Rattle.rt_model.specs.Laws as laws
 use Rattle.rt_model.specs.Laws.{CountUp, drawn, IsNumbered, IsLawful}
 use Rattle.rt_model.specs.State.{SideName, MainSide, ChildrenSide, FallbackSide, Posted, Mark, Woken, SuspendedTask, IdsExhausted, Scope, LastCall, TaskRow, State, Outcome, Done, Cut, onward, is_live, change, changed_scope, location, holds, is_held, hooks_of, renders_of, is_shown, world_of}
-use Rattle.rt_model.specs.Commands.{drop_posted, post, write_cell, unqueued, end, throw_error, commands}
+use Rattle.rt_model.specs.Commands.{post, unqueued, end, commands}
 use Rattle.rt_model.specs.Next.{Work, look_on, look, found, paused, drop_then, drops, looked, at_rest}
 use Rattle.rt_model.specs.Run.{fault_of, with_next, called_once, raised, joins, suspends_on, unmarked, is_kind, acted, hook_called, hooks_called, after_hooks, settled_answer}
 use Rattle.rt_model.specs.Boundary.{counted_render, called_back}
 use Rattle.rt_model.specs.Replay.{Post, MarkScope, WakeTask, AllDirty, Message, Input, EventAt, WakeOf, WriteOf, MarkOf, Drain, Machine, mounted, mounted_state, waiting, post_all, post_message, post_messages, looked_where_quiet, then_looked, taken_in, take_next, left_by_poll, polled_to, polled_at, polled, batch, effects_of, effects_run, further, heard_event}
 use Rattle.rt_model.specs.Heard.{Listener}
-use Rattle.rt_model.proofs.Maps.{by_test, pick_true, pick_false, eq_same, at_here, at_there, at_put_here, at_put_other, none_some}
+use Rattle.rt_model.proofs.Maps.{by_test, pick_true, eq_same, at_here, at_there, at_put_here, at_put_other, none_some}
 use Rattle.rt_model.proofs.RunFrames.{numbered_rises}
-use Rattle.rt_fresh.specs.Heeds.{Low, HasMark, is_past, leavings, Marked, SameOf, Heeds, NewFrom, AllFrom}
-use Rattle.rt_fresh.proofs.Marks.{clash, number_left, join_left, turned_round, mark_first, mark_last, mark_split, mark_stays, number_stays, join_keeps, join_has}
-use Rattle.rt_fresh.proofs.Calm.{standing, error_of, context_of, holders_of, leavings_by, holders_by, there_of, held_by, same_scope, same_then, same_quiet, HoldersLive, Unique, unique_put, listed_same, listed_then, live_by, Calm, calm_then, calm_past, calm_to, calm_if, calm_refl, Quiet, quiet_then, quiet_rest, quiet_if, quiet_refl, quiet_calm, no_fall, held_stays, holders_stay, post_quiet, change_quiet, put_by, CalmO, onward_calm, from_calm, calm_o_if}
+use Rattle.rt_fresh.specs.Heeds.{HasMark, leavings, Marked, SameOf, AllFrom}
+use Rattle.rt_fresh.proofs.Marks.{number_left, join_left, turned_round, mark_last, mark_stays, number_stays, join_keeps, join_has}
+use Rattle.rt_fresh.proofs.Calm.{standing, error_of, context_of, holders_of, leavings_by, holders_by, there_of, held_by, same_then, same_quiet, HoldersLive, Unique, unique_put, listed_same, listed_then, live_by, Calm, calm_then, calm_if, calm_refl, Quiet, quiet_then, quiet_rest, quiet_refl, quiet_calm, no_fall, held_stays, holders_stay, post_quiet, change_quiet, put_by, CalmO, onward_calm, from_calm, calm_o_if}
 use Rattle.rt_fresh.proofs.Commanded.{written_calm, throw_calm, end_calm, task_quiet, commands_calm}
 
 all_join : (P : ℕ × ℕ → Type 0) (xs : List (ℕ × ℕ)) (y : ℕ × ℕ) → AllByRecursion (λ (h : ℕ × ℕ). P h) xs → P y → AllByRecursion (λ (h : ℕ × ℕ). P h) (xs ++ y ∷ [])

@@ -1,11 +1,10 @@
 -- A removal heeds all scopes but the one that goes.
-use Rattle.std.proofs.Common.{ℕ, ◌+◌, Bool, true, false, List, [], ◌∷◌, ◌++◌, ◌≡◌, ◌≤◌, ◌<◌, refl, sym, ap, ◌∙◌, arith}
+use Rattle.std.proofs.Common.{ℕ, true, List, [], ◌∷◌, ◌++◌, ◌≤◌, refl, arith}
 use Rattle.std.specs.Prelude.{Option, Some, None}
-use Rattle.rt_model.specs.Lists.{at}
 use Rattle.rt_model.specs.Tree.{Types}
 use Rattle.rt_model.specs.World.{CallFault, Command, Meaning, Nothing, Application}
 use Rattle.rt_model.specs.Laws.{IsNumbered, IsLawful}
-use Rattle.rt_model.specs.State.{Scope, State, Outcome, Done, Cut, change, hooks_of, world_of}
+use Rattle.rt_model.specs.State.{State, Outcome, Cut, hooks_of, world_of}
 use Rattle.rt_model.specs.Commands.{end, commands}
 use Rattle.rt_model.specs.Run.{fault_of, with_next, called_once, unmarked}
 use Rattle.rt_model.specs.Removal.{tasks_in, end_all, clean_ups, gone, stopped, cleaned, removed}

@@ -1,5 +1,5 @@
 -- The states after the reports of a session are reached, so they are current.
-use Rattle.std.proofs.Common.{ℕ, ◌+◌, Bool, true, false, List, [], ◌∷◌, ◌++◌, ◌≡◌, ◌⊎◌, inl, inr, refl, sym, ap, ◌∙◌, subst, append_assoc}
+use Rattle.std.proofs.Common.{ℕ, ◌+◌, true, List, [], ◌∷◌, ◌++◌, ◌≡◌, refl, sym, ap, ◌∙◌, subst, append_assoc}
 use Rattle.std.proofs.lemmas.List.{append-nil}
 use Rattle.std.specs.Prelude.{Option, Some, None}
 use Rattle.std.specs.List.{AllByRecursion}
@@ -7,13 +7,13 @@ use Rattle.rt_model.specs.Lists.{joined}
 use Rattle.rt_model.specs.Tree.{Types}
 use Rattle.rt_model.specs.World.{Application}
 use Rattle.rt_model.specs.Laws.{IsLawful}
-use Rattle.rt_model.specs.Replay.{Entry, Build, Taken, Input, Machine, replay_on, start}
+use Rattle.rt_model.specs.Replay.{Entry, Build, Taken, Input, Machine, start}
 use Rattle.rt_model.specs.Causes.{Limits, accepts_within, replay_within}
-use Rattle.rt_model.specs.Told.{Told, Telling, told_by, telling, tell_log, tell_reports, is_settled}
+use Rattle.rt_model.specs.Told.{Told, telling, tell_reports, is_settled}
 use Rattle.rt_model.specs.Current.{AllCurrent}
-use Rattle.rt_model.specs.Headline.{OpensWith, InputsFrom, OneEach, CutFrom, OneEachThen, logs_of, last_machine, AllHeldShown, Ran, RanTo}
+use Rattle.rt_model.specs.Headline.{OpensWith, InputsFrom, OneEach, CutFrom, OneEachThen, logs_of, last_machine, AllHeldShown}
 use Rattle.rt_model.proofs.ToldReplayed.{First, first-of, log-replays, within-replays}
-use Rattle.rt_moves.specs.Moves.{Move, Silent, Closed, Logged, entries, Leads}
+use Rattle.rt_moves.specs.Moves.{Move, entries, Leads}
 use Rattle.rt_moves.proofs.Joins.{logs_join}
 use Rattle.rt_moves.proofs.Logs.{logs_are_moves}
 use Rattle.rt_fresh.specs.Reported.{EachIsCurrent, RanIsCurrent, RanToIsCurrent}

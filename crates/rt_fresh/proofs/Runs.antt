@@ -1,22 +1,22 @@
 -- What a run leaves of its own scope, and so of all scopes.
-use Rattle.std.proofs.Common.{ℕ, ◌+◌, Bool, true, false, List, [], ◌∷◌, ◌++◌, ◌≡◌, ◌≤◌, ◌<◌, ◌⊎◌, refl, sym, ap, ◌∙◌, subst, nat_eq, arith, inl, inr}
+use Rattle.std.proofs.Common.{ℕ, Bool, true, false, List, [], ◌++◌, ◌≡◌, ◌≤◌, ◌⊎◌, refl, sym, ap, ◌∙◌, subst, nat_eq, arith, inl, inr}
 use Rattle.std.proofs.lemmas.Bool.{eqb-true}
 use Rattle.std.proofs.lemmas.List.{append-nil}
 use Rattle.std.specs.Prelude.{Option, Some, None, if◌then◌else◌, is_some}
 use Rattle.rt_model.specs.Lists.{at, or_else}
 use Rattle.rt_model.specs.Tree.{Types, Tree, placeholder_tree, VComponent, Own, Root, Fragment, ErrorBoundary, SuspenseBoundary, is_suspense_boundary, Element, rendered, failed, suspended}
-use Rattle.rt_model.specs.World.{Source, Cell, Error, Context, Firsts, before_render_kind, Application}
+use Rattle.rt_model.specs.World.{Source, before_render_kind, Application}
 use Rattle.rt_model.specs.Laws.{IsLawful}
-use Rattle.rt_model.specs.State.{SideName, MainSide, ChildrenSide, FallbackSide, RowStep, Scope, LastCall, State, Item, Outcome, Done, Cut, onward, side_of, with_side, is_held}
+use Rattle.rt_model.specs.State.{SideName, MainSide, ChildrenSide, FallbackSide, RowStep, Scope, LastCall, State, Item, Outcome, Done, onward, with_side, is_held}
 use Rattle.rt_model.specs.Commands.{names_source}
 use Rattle.rt_model.specs.Run.{call_body, has_output, row_of, runs_fallback, row_items, hooks_called, after_hooks, start_agenda, settled_answer, new_output, after_answer, boundary_run, run_as, run, unmarked}
 use Rattle.rt_model.specs.Current.{stayed, KeepsAnswer}
 use Rattle.rt_model.proofs.Maps.{by_test, pick_true, pick_false}
-use Rattle.rt_fresh.specs.Heeds.{is_past, leavings, Marked, SameOf, Heeds}
+use Rattle.rt_fresh.specs.Heeds.{leavings, Marked, SameOf}
 use Rattle.rt_fresh.proofs.Calm.{there_of, reads_by, Calm, calm_then, CalmO}
 use Rattle.rt_fresh.proofs.Ran.{hooks_calm, after_hooks_calm, answered_calm}
-use Rattle.rt_fresh.proofs.Owed.{Stage, Making, Asking, FirstCalls, FirstTurns, OpensFirst, Waits, CallsAgain, PatchesHidden, Frees, TurnsBack, Rests, Patches, Covers, Hides, Clears, Resolves, shows_at, steps_at, held_at, called_at, patched_at, unread_at, rows_of, rows_join, rows_here, rows_there, NoRows, after_none, Kept, kept_by, still_at, Alike, alike_by, Called, called_again, BodyCurrent, FallbackCurrent, StageHolds, AtStage, AtBody, OwesAs, ScopeOwes, Owes, owes_stays}
-use Rattle.rt_fresh.proofs.Called.{Alone, alone_marks, Then, then_if, then_onward, new_side, with_tree, agenda_of, agenda_is, tree_own, tree_there, agenda_rows, CallAt, call_stays, run_calm, call_then}
+use Rattle.rt_fresh.proofs.Owed.{Stage, Making, Asking, FirstCalls, FirstTurns, OpensFirst, Waits, CallsAgain, PatchesHidden, Frees, TurnsBack, Rests, Patches, Covers, Hides, Clears, Resolves, shows_at, steps_at, unread_at, rows_of, rows_join, rows_here, rows_there, NoRows, after_none, Kept, kept_by, still_at, alike_by, Called, called_again, BodyCurrent, AtStage, AtBody, OwesAs, ScopeOwes, Owes, owes_stays}
+use Rattle.rt_fresh.proofs.Called.{Alone, Then, then_if, then_onward, new_side, with_tree, agenda_is, tree_own, tree_there, agenda_rows, CallAt, call_stays, run_calm, call_then}
 
 pub some_bool : (a b : Bool) → Some a ≡ Some b → a ≡ b
 some_bool a b h = cc

@@ -1,11 +1,11 @@
 -- Commands let no scope be seen, so a scope that is gone isn't.
-use Rattle.std.proofs.Common.{ℕ, Bool, true, false, ◌&&◌, not, List, [], ◌∷◌, ◌++◌, ◌≡◌, refl, sym, ap, ◌∙◌}
+use Rattle.std.proofs.Common.{ℕ, Bool, true, false, ◌&&◌, not, List, [], ◌∷◌, ◌++◌, ◌≡◌, refl, ap, ◌∙◌}
 use Rattle.std.specs.Prelude.{Option, Some, None, if◌then◌else◌, is_some}
 use Rattle.rt_model.specs.Lists.{at, put, without, has, drop_number}
 use Rattle.rt_model.specs.Tree.{Types, CapturedError}
 use Rattle.rt_model.specs.World.{Source, Cell, Error, Context, Target, ScopeTarget, TaskTarget, Command, KeepHook, NewCell, Write, DropCell, NewContext, Reset, ReadInto, Spawn, RemoveFuture, Wake, SetActive, QueueEffect, Provide, Update, Throw, ClearErrors, Resolved, Freeze, CallFault, Meaning, Nothing, Application}
-use Rattle.rt_model.specs.State.{Mark, Woken, Posted, ClientOnly, Isomorphic, Scope, CellRow, ContextRow, TaskRow, State, Item, Outcome, Done, Cut, is_live, changed_scope, change, hooks_of, world_of, error_context, suspense_context}
-use Rattle.rt_model.specs.Commands.{drop_posted, holding, released, one_more_source, post, post_target, names_source, readers, tell_contexts, tell, end, written_at, drop_cell_row, caught_at, thrown_to, throw_error, cleared_at, activated, spawned, registered, frozen_at, change_context, provided_at, provide_context, command, commands}
+use Rattle.rt_model.specs.State.{Mark, Woken, Posted, ClientOnly, Isomorphic, Scope, CellRow, ContextRow, TaskRow, State, Outcome, Cut, is_live, changed_scope, change, hooks_of, world_of, error_context, suspense_context}
+use Rattle.rt_model.specs.Commands.{drop_posted, holding, released, one_more_source, post, post_target, names_source, readers, tell_contexts, tell, end, written_at, caught_at, thrown_to, cleared_at, activated, spawned, registered, frozen_at, provided_at, command, commands}
 use Rattle.rt_model.specs.Run.{fault_of, with_next, called_once, unmarked}
 use Rattle.rt_model.specs.Removal.{tasks_in, cell_sources, cells_in, read_contexts, end_all, tell_all, clean_ups, without_scope, gone, stopped, cleaned, removed}
 use Rattle.rt_fresh.proofs.Marks.{number_gone}

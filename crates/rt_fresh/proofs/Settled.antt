@@ -1,5 +1,5 @@
 -- What is owed to no scope is current.
-use Rattle.std.proofs.Common.{ℕ, Bool, true, false, not, ◌&&◌, ◌||◌, List, [], ◌∷◌, ◌++◌, ◌≡◌, ◌⊎◌, inl, inr, refl, sym, ap, ◌∙◌, subst, nat_eq}
+use Rattle.std.proofs.Common.{ℕ, Bool, true, false, not, ◌&&◌, ◌||◌, List, [], ◌∷◌, ◌≡◌, ◌⊎◌, inl, inr, refl, sym, ap, ◌∙◌, subst, nat_eq}
 use Rattle.std.proofs.lemmas.Bool.{eqb-true}
 use Rattle.std.specs.Prelude.{Option, Some, None, is_some, if◌then◌else◌}
 use Rattle.std.specs.List.{AllByRecursion, list_any}
@@ -9,25 +9,22 @@ use Rattle.rt_model.specs.World.{Meaning, Application}
 use Rattle.rt_model.specs.Laws.{IsLawful}
 use Rattle.rt_model.specs.State.{SideName, FallbackSide, RowStep, Posted, Mark, Woken, Fault, Scope, LastCall, State, Item, Draw, Row, Feed, Make, Drop, is_live, is_side, is_held}
 use Rattle.rt_model.specs.Commands.{same_posted}
-use Rattle.rt_model.specs.Next.{Work, RerunScope, PollTask, RunEffects, is_before, scope_of_task, look_on, look, least, first_task, first_seen, chosen, found, paused, drop_then, drops, looked, at_rest, or_effects, next_at_rest, next, owes}
-use Rattle.rt_model.specs.Run.{body_of}
+use Rattle.rt_model.specs.Next.{Work, RerunScope, PollTask, is_before, scope_of_task, look_on, look, least, first_task, first_seen, chosen, found, paused, drop_then, drops, looked, or_effects, next_at_rest, next, owes}
 use Rattle.rt_model.specs.Boundary.{tree_or_placeholder}
-use Rattle.rt_model.specs.Replay.{Input, Machine, waiting, fed_child, no_listener, no_work, is_quiet}
-use Rattle.rt_model.specs.Causes.{Limits}
+use Rattle.rt_model.specs.Replay.{Machine, waiting, fed_child, no_listener, no_work, is_quiet}
 use Rattle.rt_model.specs.Told.{is_settled}
 use Rattle.rt_model.specs.Current.{Repeats, KeepsAnswer, again, world_again, BodyIsCurrent, FallbackIsCurrent, ShownSideIsCurrent, BoundaryIsCurrent, CurrentAs, IsCurrent, AllCurrent}
 use Rattle.rt_model.specs.Headline.{HeldIsShown, AllHeldShown}
-use Rattle.rt_model.specs.Sentences.{is_marked, is_open, CurrentOrOwed, AllCurrentOrOwed, OthersCurrentOrOwed}
+use Rattle.rt_model.specs.Sentences.{is_marked, is_open, CurrentOrOwed}
 use Rattle.rt_model.proofs.Maps.{by_test, eq_same, at_here, at_there, none_some}
 use Rattle.rt_model.proofs.StillFits.{and-left, and-right}
-use Rattle.rt_moves.specs.Reached.{Reached}
-use Rattle.rt_fresh.specs.Heeds.{HasMark, leavings, Marked}
+use Rattle.rt_fresh.specs.Heeds.{HasMark, Marked}
 use Rattle.rt_fresh.specs.Settled.{OthersAreCurrentOrOwed, AllAreCurrentOrOwed, SettledAreCurrent, SettledShowHeld}
 use Rattle.rt_fresh.proofs.Marks.{or_left, or_right, clash}
-use Rattle.rt_fresh.proofs.Calm.{there_of, leavings_by, holders_of, Unique, Orderly, Quiet}
+use Rattle.rt_fresh.proofs.Calm.{there_of, leavings_by, holders_of, Unique, Quiet}
 use Rattle.rt_fresh.proofs.Again.{means_again}
 use Rattle.rt_fresh.proofs.Ran.{look_quiet, drops_quiet}
-use Rattle.rt_fresh.proofs.Owed.{Stage, Making, Asking, FirstCalls, FirstTurns, OpensFirst, Waits, CallsAgain, PatchesHidden, Frees, TurnsBack, Rests, Patches, Covers, Hides, Clears, Resolves, shows_at, steps_at, held_at, patched_at, called_at, unread_at, rows_of, Called, BodyCurrent, FallbackCurrent, StageHolds, AtStage, AtBody, OwesAs, ScopeOwes, Owes}
+use Rattle.rt_fresh.proofs.Owed.{Stage, Making, Asking, FirstCalls, FirstTurns, OpensFirst, Waits, CallsAgain, PatchesHidden, Frees, TurnsBack, Rests, Patches, Covers, Hides, Clears, Resolves, shows_at, steps_at, unread_at, rows_of, Called, BodyCurrent, FallbackCurrent, StageHolds, OwesAs, Owes}
 use Rattle.rt_fresh.proofs.Moving.{Holding, reached_holds}
 
 neither : (a b : Bool) → a || b ≡ false → (a ≡ false) × (b ≡ false)

@@ -1,7 +1,7 @@
 -- Which stage of a boundary's run comes after a step.
-use Rattle.std.proofs.Common.{ℕ, Bool, true, false, List, [], ◌∷◌, ◌≡◌, refl, sym, ap, ◌∙◌}
-use Rattle.std.specs.Prelude.{Option, Some, None}
-use Rattle.rt_model.specs.State.{SideName, ChildrenSide, FallbackSide, RowStep, PatchChildren, MadeChildren, RunFallback, ShowFallback, ShowChildren, DropFallback, Resolve}
+use Rattle.std.proofs.Common.{false, List, [], ◌∷◌, ◌≡◌, refl, ap}
+use Rattle.std.specs.Prelude.{Some}
+use Rattle.rt_model.specs.State.{ChildrenSide, FallbackSide, RowStep, PatchChildren, MadeChildren, RunFallback, ShowFallback, ShowChildren, DropFallback, Resolve}
 use Rattle.rt_fresh.proofs.Owed.{Stage, Making, Asking, FirstCalls, FirstTurns, OpensFirst, Waits, CallsAgain, PatchesHidden, Frees, TurnsBack, Rests, Patches, Covers, Hides, Clears, Resolves, shows_at, steps_at, patched_at, held_at, called_at, unread_at}
 
 abbrev tail : List RowStep → List RowStep

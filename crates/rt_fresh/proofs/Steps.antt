@@ -1,20 +1,20 @@
 -- What a step of a boundary's run leaves of the boundary, and so of all scopes.
-use Rattle.std.proofs.Common.{ℕ, ◌+◌, Bool, true, false, List, [], ◌∷◌, ◌++◌, ◌≡◌, ◌≤◌, ◌<◌, ◌⊎◌, refl, sym, ap, ◌∙◌, subst, nat_eq, arith, inl, inr}
-use Rattle.std.specs.Prelude.{Option, Some, None, if◌then◌else◌, is_some}
+use Rattle.std.proofs.Common.{ℕ, Bool, true, false, List, [], ◌∷◌, ◌++◌, ◌≡◌, ◌≤◌, ◌⊎◌, refl, sym, ap, ◌∙◌, subst, nat_eq, arith, inl, inr}
+use Rattle.std.specs.Prelude.{Option, Some, None, if◌then◌else◌}
 use Rattle.std.proofs.lemmas.List.{append-nil}
 use Rattle.rt_model.specs.Lists.{at, put, without, drop_number}
 use Rattle.rt_model.specs.Tree.{Types, Tree, VComponent, is_suspense_boundary, Element}
 use Rattle.rt_model.specs.World.{Source, Cell, Error, Context, Application}
 use Rattle.rt_model.specs.Laws.{IsLawful}
-use Rattle.rt_model.specs.State.{SideName, MainSide, ChildrenSide, FallbackSide, RowStep, PatchChildren, MadeChildren, RunFallback, ShowFallback, ShowChildren, DropFallback, Resolve, Scope, LastCall, State, Item, Row, Outcome, Done, Cut, onward, side_of, with_side, empty_side, change, changed_scope, is_held}
-use Rattle.rt_model.specs.Run.{row_items, after_hooks, call_body, start_agenda}
+use Rattle.rt_model.specs.State.{ChildrenSide, FallbackSide, RowStep, PatchChildren, MadeChildren, RunFallback, ShowFallback, ShowChildren, DropFallback, Resolve, Scope, LastCall, State, Item, Row, Outcome, Done, Cut, onward, with_side, empty_side, change, changed_scope, is_held}
+use Rattle.rt_model.specs.Run.{row_items, after_hooks, start_agenda}
 use Rattle.rt_model.specs.Boundary.{tree_or_placeholder, children_of, counts_render, counted_render, fallback_answered, side_scopes, drop_items, row_step, boundary_step, called_back}
-use Rattle.rt_model.proofs.Maps.{by_test, eq_same, at_put_here}
+use Rattle.rt_model.proofs.Maps.{eq_same, at_put_here}
 use Rattle.rt_model.proofs.NumbersRun.{Idle, called_back_idle}
-use Rattle.rt_fresh.specs.Heeds.{leavings, Marked, SameOf}
-use Rattle.rt_fresh.proofs.Calm.{there_of, reads_by, Calm, calm_then, Quiet, quiet_calm, quiet_rest, no_fall, change_quiet, CalmO}
+use Rattle.rt_fresh.specs.Heeds.{Marked, SameOf}
+use Rattle.rt_fresh.proofs.Calm.{there_of, reads_by, Calm, calm_then, quiet_calm, quiet_rest, no_fall, change_quiet, CalmO}
 use Rattle.rt_fresh.proofs.Ran.{fallback_calm, called_back_calm}
-use Rattle.rt_fresh.proofs.Owed.{Stage, Asking, FirstCalls, OpensFirst, shows_at, steps_at, patched_at, held_at, called_at, unread_at, rows_of, rows_join, rows_first, rows_other, rows_here, rows_there, NoRows, after_none, Kept, kept_by, Called, BodyCurrent, FallbackCurrent, StageHolds, AtStage, AtBody, OwesAs, ScopeOwes, Owes, stage_stays}
+use Rattle.rt_fresh.proofs.Owed.{Stage, Asking, FirstCalls, OpensFirst, shows_at, patched_at, held_at, called_at, unread_at, rows_of, rows_join, rows_first, rows_other, rows_here, rows_there, NoRows, after_none, Kept, kept_by, Called, FallbackCurrent, StageHolds, AtStage, OwesAs, Owes, stage_stays}
 use Rattle.rt_fresh.proofs.Called.{Alone, put_alone, Then, then_onward, dropped_rows, new_side, with_tree, agenda_of, agenda_is, tree_own, tree_there, agenda_rows, CallAt, call_stays, step_calm, call_then}
 use Rattle.rt_fresh.proofs.Runs.{some_bool, called_put, OthersOwe, others_stay, all_owe}
 use Rattle.rt_fresh.proofs.Stages.{Patching, patching, Calling, calling, Hiding, hiding, Showing, showing, Clearing, clearing, Resolving, resolving, asking}

@@ -1,7 +1,7 @@
 -- Where nothing that a body read has changed it would answer the same again.
-use Rattle.std.specs.Prelude.{ℕ, true, ◌≡◌}
+use Rattle.std.specs.Prelude.{true, ◌≡◌}
 use Rattle.rt_model.specs.Tree.{Types, Element}
-use Rattle.rt_model.specs.World.{Source, Meaning, World, Application}
+use Rattle.rt_model.specs.World.{Source, Meaning, Application}
 use Rattle.rt_model.specs.Laws.{SameAt, IsLawful}
 use Rattle.rt_model.specs.State.{Scope, LastCall, State, values_of}
 use Rattle.rt_model.specs.Commands.{names_source}

@@ -1,5 +1,5 @@
 -- What is current and what is owed, wherever moves lead.
-use Rattle.std.specs.Prelude.{Bool, true, List, [], None, ◌≡◌}
+use Rattle.std.specs.Prelude.{true, List, [], None, ◌≡◌}
 use Rattle.rt_model.specs.Tree.{Types}
 use Rattle.rt_model.specs.World.{Application}
 use Rattle.rt_model.specs.Laws.{IsLawful}
