@@ -6,3 +6,4 @@ pub mod Sweep
 pub mod Claims
 pub mod Heights
 pub mod Unfolding
+pub mod Descent

@@ -3,3 +3,4 @@ pub mod Rules
 pub mod Meets
 pub mod Passes
 pub mod Trees
+pub mod Scopes

@@ -6,7 +6,9 @@
 mod outputs;
 mod rows;
 
-pub use outputs::{outputs_bring, outputs_claim, passes_bring, trees_unfold};
+pub use outputs::{
+    outputs_bring, outputs_claim, passes_bring, scopes_bring, trees_unfold, written_brings,
+};
 pub use rows::{
     both_bring, children_bring, document_brought, element_brings, inserted_brings, joined_bring,
     nothing_brings, removed_brings, replaced_brings, text_brings,
