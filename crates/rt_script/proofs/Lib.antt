@@ -1,1 +1,9 @@
-pub mod ViewsStand
+pub mod Goes
+pub mod Places
+pub mod Steps
+pub mod Expressions
+pub mod Statements
+pub mod Heard
+pub mod Meant
+pub mod Hooks
+pub mod Fills

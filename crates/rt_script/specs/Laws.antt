@@ -1,21 +1,38 @@
--- A body meets the laws of an application, as every program in data does.
-use Rattle.std.specs.Prelude.{ℕ}
-use Rattle.rt_model.specs.Laws.{ReadsDecide, Numbered, Refuses}
-use Rattle.rt_model.proofs.Decides.{body_decides}
-use Rattle.rt_model.proofs.Numbers.{body_numbers}
-use Rattle.rt_model.proofs.Refusals.{body_refuses}
-use Rattle.rt_script.specs.Body.{program, body}
+-- A script is lawful, and means what its source does.
+use Rattle.std.specs.Prelude.{ℕ, List, [], ◌≡◌}
+use Rattle.std.proofs.Common.{ap}
+use Rattle.rt_model.specs.Laws.{IsLawful}
+use Rattle.rt_model.specs.Program.{body_means}
+use Rattle.rt_model.specs.World.{Event}
+use Rattle.rt_model.proofs.Lawful.{mean_alike, programs_are_lawful}
+use Rattle.rt_language.specs.Values.{Value}
+use Rattle.rt_language.specs.Expressions.{Doing, Standing, SourceTypes}
+use Rattle.rt_language.specs.Meaning.{programs_of, meaning_of}
+use Rattle.rt_language.specs.Syntax as language
+use Rattle.rt_language.proofs.Lawful.{sources_are_lawful}
+use Rattle.rt_script.specs.Applications.{programs_of_script, meaning_of_script}
 use Rattle.rt_script.specs.declared.script.Script.{Script}
-use Rattle.rt_script.specs.declared.value.Props.{Props}
 
--- what was given and what was read decide what a body means
-pub reads_decide : (script : Script) (place : ℕ) (props : Props) → ReadsDecide (body script place props)
-reads_decide script place props = body_decides (program script place props)
+-- each call of the script is the program that the source's call is
+pub record MeansSource (script : Script) (source : language.Source) : Type 0 where
+  pub root : script.root ≡ source.root
+  pub body : (c : ℕ) (p : List Value) → (programs_of_script script).body c p ≡ (programs_of source).body c p
+  pub poll : (a : Standing) → (programs_of_script script).poll a ≡ (programs_of source).poll a
+  pub effect : (d : Doing) → (programs_of_script script).effect d ≡ (programs_of source).effect d
+  pub handle : (d : Doing) (e : Event SourceTypes) → (programs_of_script script).handle d e ≡ (programs_of source).handle d e
 
--- the numbers that a body draws are its world's next ones
-pub is_numbered : (script : Script) (place : ℕ) (props : Props) → Numbered (body script place props)
-is_numbered script place props = body_numbers (program script place props)
+-- a source of nothing
+abbrev no_source : language.Source
+no_source = record { components = []; root = 0; props = []; actions = []; tasks = []; inputs = []; posts = [] }
 
--- a refusal that a body met is one of its world
-pub refuses : (script : Script) (place : ℕ) (props : Props) → Refuses (body script place props)
-refuses script place props = body_refuses (program script place props)
+-- the application of every script obeys the laws
+pub scripts_are_lawful : (s : Script) → IsLawful SourceTypes (meaning_of_script s)
+scripts_are_lawful s =
+    let laws : IsLawful SourceTypes (meaning_of no_source) = sources_are_lawful no_source in
+    programs_are_lawful SourceTypes (programs_of_script s)
+    (λ c p q h w. mean_alike (body_means ((programs_of_script s).body c p) w) (body_means ((programs_of_script s).body c q) w)
+    (ap (λ (props : List Value). body_means ((programs_of_script s).body c props) w) (laws.tests_props.0 p q h)))
+    laws.tests_components
+    laws.tests_props
+    laws.tests_values
+    laws.tests_handlers

@@ -1,3 +1,7 @@
-pub mod Trees
-pub mod Body
+pub mod Came
+pub mod Held
+pub mod Seen
+pub mod Plans
+pub mod Fills
+pub mod Applications
 pub mod Laws

@@ -1,13 +1,20 @@
-//! The application that a source describes, as the runtime runs it: what its bodies answer, and the laws of an application.
+//! The application that a source describes, as the runtime runs it.
 #![tactic(auto)]
 
-mod nothing;
+mod answers;
+mod attributes;
+mod bodies;
+mod caller;
+mod evaluation;
+mod filling;
+mod inputs;
+mod plan;
+mod planning;
+mod running;
 mod script;
-#[cfg(test)]
-mod tests;
-mod tree;
-mod value;
+mod stands;
+mod templates;
 
-pub use nothing::Nothing;
+pub use inputs::{inputs_of, posts_of};
+pub use plan::{ComponentPlan, Fill, Plan, SlotPlan};
 pub use script::Script;
-pub use value::{Props, Value};

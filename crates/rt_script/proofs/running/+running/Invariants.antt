@@ -1,0 +1,15 @@
+-- The whole comes to what the statements that are left come to in the frame so far.
+use Rattle.std.proofs.Common.{◌≡◌, drop}
+use Rattle.rt_calls.specs.Calls.{world_of, call_of}
+use Rattle.rt_language.specs.Statements.{run_statements}
+use Rattle.rt_syntax.specs.Mirror.{statements_of}
+use Rattle.rt_script.specs.Came.{came}
+use Rattle.rt_script.specs.Seen.{caller_of, frame_of, Follows}
+use Rattle.rt_script.proofs.running.+running.Given as goal
+
+abbrev pub invariant-run_statements-loop-statement : goal.invariant-run_statements-loop-statement
+invariant-run_statements-loop-statement g l =
+    (came (world_of l.fn.cx.world) (run_statements (caller_of l.fn.frame.by) (frame_of l.fn.frame) (statements_of l.statements)) (call_of l.fn.cx)
+    ≡ came (world_of l.fn.cx.world) (run_statements (caller_of l.fn.frame.by) (frame_of l.frame) (statements_of (drop l.statement-index l.statements))) (call_of l.cx))
+    × (l.cx.world ≡ l.fn.cx.world)
+    × Follows l.fn.frame l.frame

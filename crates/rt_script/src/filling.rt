@@ -1,0 +1,310 @@
+//! Trees: a copy of a template, and what its slots are filled with.
+ghost use Rattle.std.specs.Prelude.{◌≡◌, ◌≤◌, ◌++◌, ◌∷◌, [], IfOk, OnOk, map, option_map, pos};
+ghost use Rattle.rt_model.specs.Program.{done};
+ghost use Rattle.rt_model.specs.Tree.{component_slot, Fragment, ErrorBoundary, SuspenseBoundary, rendered};
+ghost use Rattle.rt_mirror.specs.Mirror.{trees_from};
+ghost use Rattle.rt_mirror.specs.Sealed as mirror;
+ghost use Rattle.rt_calls.specs.Calls.{world_of};
+ghost use Rattle.rt_language.specs.Sequence.{go_on};
+ghost use Rattle.rt_language.specs.Values.{NumberValue};
+ghost use Rattle.rt_language.specs.Views as views;
+ghost use Rattle.rt_language.specs.Views.{filled_on, items_from, use_or_none};
+ghost use Rattle.rt_syntax.specs.Mirror.{use_of};
+ghost use Rattle.rt_script.specs.Plans.{planned, fill_of, slot_program};
+ghost use Rattle.rt_script.specs.Fills.{filling_of};
+ghost use Rattle.rt_script.specs.Seen.{caller_of, SeesRenders, Comes};
+
+use crate::attributes::{attribute_value, slot_with};
+use crate::caller::Frame;
+use crate::evaluation::{evaluate, evaluate_all};
+use crate::plan::{Fill, Plan, SlotPlan};
+use crate::script::Script;
+use rt_calls::BodyCx;
+use rt_nodes::{
+    DynamicNode, ErrorBoundaryProps, ErrorHandler, Fallback, FragmentProps, SuspenseBoundaryProps,
+    VComponent, VNode,
+};
+use rt_parts::{Attribute, AttributeValue};
+use rt_script_values::{Content, Doing, Props, Value, item_count, text_of};
+use rt_syntax::ComponentUse;
+use rt_values::{Boxed, List, OutOfMemory};
+use std::alloc::Global;
+
+/// What the slots of a template are filled with, by number.
+#[derive(Drop)]
+pub(crate) struct Filling {
+    pub attributes: List<List<Attribute<Script>>>,
+    pub nodes: List<DynamicNode<Script>>,
+}
+
+/// The tree of a view.
+#[cycle(filling)]
+#[tactic(auto, using(crate::proofs::Fills::filling))]
+pub(crate) fn tree_of(
+    alloc: Global,
+    cx: &mut BodyCx<'_, Script>,
+    frame: &mut Frame<'_>,
+    plan: &Plan,
+) -> Result<VNode<Script>, OutOfMemory>
+    requires renders { SeesRenders (world_of cx.old.world) frame.old.by }
+    ensures came { IfOk result (λ tree. Comes cx.old cx.new
+        ((planned plan.now).tree (caller_of frame.old.by) frame.old.held) (mirror.tree_of tree)) }
+    ensures world { cx.new.world ≡ cx.old.world }
+    ensures frame { OnOk result (frame.new ≡ frame.old) }
+{
+    let mut filling = Filling {
+        attributes: List::new(alloc),
+        nodes: List::new(alloc),
+    };
+    for fill in plan.fills.as_slice() {
+        put(alloc, cx, frame, &mut filling, fill)?;
+    }
+    match &plan.template {
+        None => Ok(VNode::placeholder(alloc)?),
+        Some(template) => {
+            let template = template.copy(alloc)?;
+            let Filling { attributes, nodes } = filling;
+            Ok(VNode {
+                template,
+                dynamic_nodes: nodes,
+                dynamic_attrs: attributes,
+            })
+        }
+    }
+}
+
+/// Fills the next slot.
+#[cycle(filling)]
+#[tactic(auto, using(crate::proofs::Fills::filling))]
+fn put(
+    alloc: Global,
+    cx: &mut BodyCx<'_, Script>,
+    frame: &mut Frame<'_>,
+    filling: &mut Filling,
+    fill: &Fill,
+) -> Result<(), OutOfMemory>
+    requires renders { SeesRenders (world_of cx.old.world) frame.old.by }
+    ensures came { OnOk result (Comes cx.old cx.new
+        (go_on (fill_of fill.now (caller_of frame.old.by) frame.old.held) (λ more. done (filled_on (filling_of filling.old) more)))
+        (filling_of filling.new)) }
+    ensures world { cx.new.world ≡ cx.old.world }
+    ensures frame { OnOk result (frame.new ≡ frame.old) }
+{
+    match fill {
+        Fill::Attribute { name, value } => {
+            let value = evaluate(alloc, cx, frame, value)?;
+            let value = attribute_value(alloc, &value)?;
+            filling.attributes.push(slot_with(alloc, name, value)?)?;
+        }
+        Fill::Listener {
+            name,
+            action,
+            arguments,
+        } => {
+            let arguments = evaluate_all(alloc, cx, frame, arguments.as_slice())?;
+            let listener = cx.listener(Doing::new(*action, arguments));
+            let value = AttributeValue::Listener(listener);
+            filling.attributes.push(slot_with(alloc, name, value)?)?;
+        }
+        Fill::Node(slot) => {
+            let node = node_of(alloc, cx, frame, slot)?;
+            filling.nodes.push(node)?;
+        }
+    }
+    Ok(())
+}
+
+/// What stands in a node slot.
+#[cycle(filling)]
+#[tactic(auto, using(crate::proofs::Fills::filling))]
+fn node_of(
+    alloc: Global,
+    cx: &mut BodyCx<'_, Script>,
+    frame: &mut Frame<'_>,
+    slot: &SlotPlan,
+) -> Result<DynamicNode<Script>, OutOfMemory>
+    requires renders { SeesRenders (world_of cx.old.world) frame.old.by }
+    ensures came { IfOk result (λ node. Comes cx.old cx.new
+        (slot_program slot.now (caller_of frame.old.by) frame.old.held) (mirror.slot_of node)) }
+    ensures world { cx.new.world ≡ cx.old.world }
+    ensures frame { OnOk result (frame.new ≡ frame.old) }
+{
+    match slot {
+        SlotPlan::TextOf(text) => {
+            let value = evaluate(alloc, cx, frame, text)?;
+            Ok(DynamicNode::Text(text_of(alloc, &value)?))
+        }
+        SlotPlan::UseOf(used) => {
+            let props = Props::new(evaluate_all(alloc, cx, frame, used.props.as_slice())?);
+            let component = used.component;
+            Ok(DynamicNode::Component(VComponent::App { component, props }))
+        }
+        SlotPlan::ListOf { count, item } => {
+            let count = item_count(&evaluate(alloc, cx, frame, count)?);
+            let trees = items(alloc, cx, frame, count, item.get())?;
+            Ok(DynamicNode::Fragment(trees))
+        }
+        SlotPlan::PickOf {
+            test,
+            chosen,
+            other,
+        } => {
+            if evaluate(alloc, cx, frame, test)?.is_true() {
+                Ok(picked(alloc, cx, frame, chosen.get())?)
+            } else {
+                Ok(picked(alloc, cx, frame, other.get())?)
+            }
+        }
+        SlotPlan::FragmentOf(children) => {
+            let children = tree_of(alloc, cx, frame, children.get())?;
+            Ok(fragment(alloc, children)?)
+        }
+        SlotPlan::ErrorBoundaryOf { kids, handler } => {
+            let kids = tree_of(alloc, cx, frame, kids.get())?;
+            let handler = handed(alloc, cx, frame, handler)?;
+            Ok(error_boundary(alloc, kids, handler)?)
+        }
+        SlotPlan::SuspenseBoundaryOf { kids, fallback } => {
+            let kids = tree_of(alloc, cx, frame, kids.get())?;
+            let fallback = handed(alloc, cx, frame, fallback)?;
+            Ok(suspense_boundary(alloc, kids, fallback)?)
+        }
+        SlotPlan::Hole => Ok(DynamicNode::Placeholder),
+    }
+}
+
+/// An item for each number below a count, which is the item's last variable.
+#[cycle(filling)]
+#[tactic(auto, using(crate::proofs::Fills::filling))]
+fn items(
+    alloc: Global,
+    cx: &mut BodyCx<'_, Script>,
+    frame: &mut Frame<'_>,
+    count: u64,
+    item: &Plan,
+) -> Result<List<VNode<Script>>, OutOfMemory>
+    requires renders { SeesRenders (world_of cx.old.world) frame.old.by }
+    requires count { count ≤ 10000 }
+    ensures came { IfOk result (λ trees. Comes cx.old cx.new
+        (items_from (λ i. (planned item.now).tree (caller_of frame.old.by) (frame.old.held ++ NumberValue (pos i) ∷ [])) 0 count)
+        (trees_from (map mirror.tree_of trees))) }
+    ensures world { cx.new.world ≡ cx.old.world }
+    ensures frame { OnOk result (frame.new ≡ frame.old) }
+{
+    let bound = frame.held.len();
+    let mut trees = List::new(alloc);
+    for number in 0..count {
+        frame.bind(numbered(number))?;
+        let tree = tree_of(alloc, cx, frame, item)?;
+        frame.keep(alloc, bound);
+        trees.push(tree)?;
+    }
+    Ok(trees)
+}
+
+/// The number of an item.
+fn numbered(number: u64) -> Value
+    requires low { number ≤ 10000 }
+    ensures value { result ≡ NumberValue (pos number) }
+{
+    Value::new(Content::Number(number as i64))
+}
+
+/// A fragment of the view that was picked: no item where it is empty.
+#[cycle(filling)]
+#[tactic(auto, using(crate::proofs::Fills::filling))]
+fn picked(
+    alloc: Global,
+    cx: &mut BodyCx<'_, Script>,
+    frame: &mut Frame<'_>,
+    plan: &Plan,
+) -> Result<DynamicNode<Script>, OutOfMemory>
+    requires renders { SeesRenders (world_of cx.old.world) frame.old.by }
+    ensures came { IfOk result (λ node. Comes cx.old cx.new
+        (views.picked (planned plan.now).is_empty ((planned plan.now).tree (caller_of frame.old.by) frame.old.held))
+        (mirror.slot_of node)) }
+    ensures world { cx.new.world ≡ cx.old.world }
+    ensures frame { OnOk result (frame.new ≡ frame.old) }
+{
+    let mut trees = List::new(alloc);
+    if plan.template.is_none() {
+        return Ok(DynamicNode::Fragment(trees));
+    }
+    let tree = tree_of(alloc, cx, frame, plan)?;
+    trees.push(tree)?;
+    Ok(DynamicNode::Fragment(trees))
+}
+
+/// A component and the values of what it is handed, where one is named.
+#[tactic(auto, using(crate::proofs::Steps::steps))]
+fn handed(
+    alloc: Global,
+    cx: &mut BodyCx<'_, Script>,
+    frame: &Frame<'_>,
+    component: &Option<ComponentUse>,
+) -> Result<Option<(u64, Props)>, OutOfMemory>
+    requires renders { SeesRenders (world_of cx.old.world) frame.now.by }
+    ensures came { IfOk result (λ handed. Comes cx.old cx.new
+        (use_or_none (caller_of frame.now.by) frame.now.held (option_map use_of component.now)) handed) }
+    ensures world { cx.new.world ≡ cx.old.world }
+{
+    match component {
+        Some(used) => {
+            let props = evaluate_all(alloc, cx, frame, used.props.as_slice())?;
+            Ok(Some((used.component, Props::new(props))))
+        }
+        None => Ok(None),
+    }
+}
+
+/// A fragment round children.
+#[tactic(auto, using(crate::proofs::Fills::filling))]
+fn fragment(alloc: Global, children: VNode<Script>) -> Result<DynamicNode<Script>, OutOfMemory>
+    ensures node { IfOk result (λ node. mirror.slot_of node
+        ≡ component_slot (Fragment (rendered (mirror.tree_of children)))) }
+{
+    let children = Boxed::new(alloc, Ok(children))?;
+    Ok(DynamicNode::Component(VComponent::Fragment(FragmentProps { children })))
+}
+
+/// An error boundary round children.
+#[tactic(auto, using(crate::proofs::Fills::filling))]
+fn error_boundary(
+    alloc: Global,
+    kids: VNode<Script>,
+    handler: Option<(u64, Props)>,
+) -> Result<DynamicNode<Script>, OutOfMemory>
+    ensures node { IfOk result (λ node. mirror.slot_of node
+        ≡ component_slot (ErrorBoundary (rendered (mirror.tree_of kids)) handler)) }
+{
+    let handle_error = match handler {
+        Some((component, props)) => ErrorHandler::Component(component, props),
+        None => ErrorHandler::Default,
+    };
+    let children = Boxed::new(alloc, Ok(kids))?;
+    Ok(DynamicNode::Component(VComponent::ErrorBoundary(ErrorBoundaryProps {
+        children,
+        handle_error,
+    })))
+}
+
+/// A suspense boundary round children.
+#[tactic(auto, using(crate::proofs::Fills::filling))]
+fn suspense_boundary(
+    alloc: Global,
+    kids: VNode<Script>,
+    fallback: Option<(u64, Props)>,
+) -> Result<DynamicNode<Script>, OutOfMemory>
+    ensures node { IfOk result (λ node. mirror.slot_of node
+        ≡ component_slot (SuspenseBoundary (rendered (mirror.tree_of kids)) fallback)) }
+{
+    let fallback = match fallback {
+        Some((component, props)) => Fallback::Component(component, props),
+        None => Fallback::Placeholder,
+    };
+    let children = Boxed::new(alloc, Ok(kids))?;
+    Ok(DynamicNode::Component(VComponent::SuspenseBoundary(SuspenseBoundaryProps {
+        children,
+        fallback,
+    })))
+}

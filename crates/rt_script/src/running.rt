@@ -1,0 +1,306 @@
+//! What statements do that any call may run.
+ghost use Rattle.std.specs.Prelude.{◌≡◌, ◌↔◌, Err, IsTrue, IfOk, IfErr, OnOk, MatchOption, pos};
+ghost use Rattle.rt_model.specs.Program.{drew_task};
+ghost use Rattle.rt_model.specs.World.{at_end};
+ghost use Rattle.rt_calls.specs.Calls.{world_of, call_of};
+ghost use Rattle.rt_calls.specs.Steps.{DrawsNone};
+ghost use Rattle.rt_calls.specs.declared.faults.Counter.TheVariants.{Tasks};
+ghost use Rattle.rt_calls.specs.declared.faults.CxFault.TheVariants.{IdsExhausted};
+ghost use Rattle.rt_language.specs.Statements as meanings;
+ghost use Rattle.rt_language.specs.Statements.{WentOn, is_forever, is_isomorphic, acted_on, goes_on};
+ghost use Rattle.rt_language.specs.Syntax as language;
+ghost use Rattle.rt_language.specs.Values.{NumberValue};
+ghost use Rattle.rt_syntax.specs.Mirror.{expression_of, arguments_of, statement_of, statements_of, spawned_of, act_of};
+ghost use Rattle.rt_script.specs.Held.{IsNoScope};
+ghost use Rattle.rt_script.specs.Seen.{caller_of, SeesRenders, IsOutside, frame_of, outcome_of, Comes, Knows, Follows};
+
+use crate::answers::{remembered, unless_refused};
+use crate::caller::{Frame, Outcome, held_cell, held_task};
+use crate::evaluation::{evaluate, evaluate_all};
+use crate::script::Script;
+use rt_calls::{Cx, CxFault};
+use rt_script_values::{Content, Doing, Standing, Value, text_of};
+use rt_syntax::{Expression, SpawnKind, Statement, TaskAct};
+use rt_values::{OutOfMemory, ScopeId, Task};
+use std::alloc::Global;
+
+/// Runs the statements of an action or a step, one after another.
+#[cycle(running)]
+#[tactic(auto, using(crate::proofs::Statements::dispatching))]
+pub(crate) fn run_statements<K>(
+    alloc: Global,
+    cx: &mut Cx<'_, Script, K>,
+    frame: &mut Frame<'_>,
+    statements: &[Statement],
+) -> Result<Outcome, OutOfMemory>
+    requires outside { IsOutside frame.old.by }
+    ensures came { IfOk result (λ o. Knows o cx.new (Comes cx.old cx.new
+        (meanings.run_statements (caller_of frame.old.by) (frame_of frame.old) (statements_of statements.now))
+        (outcome_of o (frame_of frame.new)))) }
+    ensures world { cx.new.world ≡ cx.old.world }
+    ensures follows { OnOk result (Follows frame.old frame.new) }
+{
+    for statement in statements {
+        match perform(alloc, cx, frame, statement)? {
+            Outcome::WentOn => {}
+            outcome => return Ok(outcome),
+        }
+    }
+    Ok(Outcome::WentOn)
+}
+
+/// Does one statement of an action or a step.
+#[cycle(running)]
+#[tactic(auto, using(crate::proofs::Statements::dispatching))]
+fn perform<K>(
+    alloc: Global,
+    cx: &mut Cx<'_, Script, K>,
+    frame: &mut Frame<'_>,
+    statement: &Statement,
+) -> Result<Outcome, OutOfMemory>
+    requires outside { IsOutside frame.old.by }
+    ensures came { IfOk result (λ o. Knows o cx.new (Comes cx.old cx.new
+        (meanings.perform (caller_of frame.old.by) (frame_of frame.old) (statement_of statement.now))
+        (outcome_of o (frame_of frame.new)))) }
+    ensures world { cx.new.world ≡ cx.old.world }
+    ensures follows { OnOk result (Follows frame.old frame.new) }
+{
+    match statement {
+        Statement::When { test, statements } => {
+            Ok(run_when(alloc, cx, frame, statements.as_slice(), test)?)
+        }
+        Statement::SpawnTask {
+            task,
+            arguments,
+            kind,
+        } => Ok(spawn_task(alloc, cx, frame, *task, arguments.as_slice(), *kind)?),
+        Statement::ThrowText(text) => Ok(throw(alloc, cx, frame, text)?),
+        other => {
+            ask(alloc, cx, frame, other)?;
+            Ok(Outcome::WentOn)
+        }
+    }
+}
+
+/// Runs statements where a test is true. Names that are bound in them end with them.
+#[cycle(running)]
+#[tactic(auto, using(crate::proofs::Statements::whens))]
+fn run_when<K>(
+    alloc: Global,
+    cx: &mut Cx<'_, Script, K>,
+    frame: &mut Frame<'_>,
+    statements: &[Statement],
+    test: &Expression,
+) -> Result<Outcome, OutOfMemory>
+    requires outside { IsOutside frame.old.by }
+    ensures came { IfOk result (λ o. Knows o cx.new (Comes cx.old cx.new
+        (meanings.perform (caller_of frame.old.by) (frame_of frame.old)
+        (language.When (expression_of test.now) (statements_of statements.now)))
+        (outcome_of o (frame_of frame.new)))) }
+    ensures world { cx.new.world ≡ cx.old.world }
+    ensures follows { OnOk result (Follows frame.old frame.new) }
+{
+    let bound = frame.held.len();
+    if !evaluate(alloc, cx, frame, test)?.is_true() {
+        return Ok(Outcome::WentOn);
+    }
+    let outcome = run_statements(alloc, cx, frame, statements)?;
+    frame.keep(alloc, bound);
+    Ok(outcome)
+}
+
+/// Spawns a task with the values of its arguments, and binds it.
+#[tactic(auto, using(crate::proofs::Statements::performing))]
+fn spawn_task<K>(
+    alloc: Global,
+    cx: &mut Cx<'_, Script, K>,
+    frame: &mut Frame<'_>,
+    task: u64,
+    arguments: &[Expression],
+    kind: SpawnKind,
+) -> Result<Outcome, OutOfMemory>
+    requires outside { IsOutside frame.old.by }
+    ensures came { IfOk result (λ o. Knows o cx.new (Comes cx.old cx.new
+        (meanings.perform (caller_of frame.old.by) (frame_of frame.old)
+        (language.SpawnTask task (arguments_of arguments.now) (spawned_of kind)))
+        (outcome_of o (frame_of frame.new)))) }
+    ensures world { cx.new.world ≡ cx.old.world }
+    ensures follows { OnOk result (Follows frame.old frame.new) }
+{
+    let arguments = evaluate_all(alloc, cx, frame, arguments)?;
+    match unless_refused(spawn(cx, Standing::new(task, arguments), kind))? {
+        Some(task) => {
+            frame.bind(Value::task(task.0))?;
+            Ok(Outcome::WentOn)
+        }
+        None => Ok(Outcome::Refused),
+    }
+}
+
+/// Spawns a task.
+pub(crate) fn spawn<K>(
+    cx: &mut Cx<'_, Script, K>,
+    state: Standing,
+    kind: SpawnKind,
+) -> Result<Task, CxFault>
+    ensures value { IfOk result (λ task. task.0 ≡ cx.old.next.tasks) }
+    ensures call { OnOk result (call_of cx.new ≡ drew_task (call_of cx.old) state
+        (is_forever (spawned_of kind)) (is_isomorphic (spawned_of kind))) }
+    ensures at_end { (result ≡ Err (IdsExhausted Tasks))
+        ↔ IsTrue (at_end cx.old.next.tasks) }
+    ensures err { IfErr result (DrawsNone Tasks cx.old cx.new) }
+    ensures world { cx.new.world ≡ cx.old.world }
+{
+    match kind {
+        SpawnKind::Client => cx.spawn(state),
+        SpawnKind::Isomorphic => cx.spawn_isomorphic(state),
+        SpawnKind::Forever => cx.spawn_forever(state),
+    }
+}
+
+/// Throws an error with the text of a value.
+#[tactic(auto, using(crate::proofs::Statements::performing))]
+pub(crate) fn throw<K>(
+    alloc: Global,
+    cx: &mut Cx<'_, Script, K>,
+    frame: &Frame<'_>,
+    text: &Expression,
+) -> Result<Outcome, OutOfMemory>
+    requires renders { SeesRenders (world_of cx.old.world) frame.now.by }
+    ensures came { IfOk result (λ o. Knows o cx.new (Comes cx.old cx.new
+        (meanings.perform (caller_of frame.now.by) (frame_of frame.now) (language.ThrowText (expression_of text.now)))
+        (outcome_of o (frame_of frame.now)))) }
+    ensures world { cx.new.world ≡ cx.old.world }
+{
+    let value = evaluate(alloc, cx, frame, text)?;
+    let text = text_of(alloc, &value)?;
+    match unless_refused(cx.captured(text))? {
+        Some(error) => {
+            remembered(cx.throw_error(error))?;
+            Ok(Outcome::WentOn)
+        }
+        None => Ok(Outcome::Refused),
+    }
+}
+
+/// Does a statement after which the next one always follows. No other comes here; one would find no
+/// memory. So would a kind of context that isn't below 2^32: there is no memory for so many.
+#[tactic(auto, using(crate::proofs::Statements::performing))]
+pub(crate) fn ask<K>(
+    alloc: Global,
+    cx: &mut Cx<'_, Script, K>,
+    frame: &mut Frame<'_>,
+    statement: &Statement,
+) -> Result<(), OutOfMemory>
+    requires renders { SeesRenders (world_of cx.old.world) frame.old.by }
+    ensures came { OnOk result (Comes cx.old cx.new
+        (meanings.perform (caller_of frame.old.by) (frame_of frame.old) (statement_of statement.now))
+        (WentOn (frame_of frame.new))) }
+    ensures world { cx.new.world ≡ cx.old.world }
+    ensures follows { OnOk result (Follows frame.old frame.new) }
+{
+    match statement {
+        Statement::Let(expression) => {
+            let value = evaluate(alloc, cx, frame, expression)?;
+            frame.bind(value)?;
+        }
+        Statement::EffectOf { action, arguments } => {
+            let arguments = evaluate_all(alloc, cx, frame, arguments.as_slice())?;
+            remembered(cx.queue_effect(Doing::new(*action, arguments)))?;
+        }
+        Statement::OnResolved { action, arguments } => {
+            let arguments = evaluate_all(alloc, cx, frame, arguments.as_slice())?;
+            remembered(cx.after_suspense_resolved(Doing::new(*action, arguments)))?;
+        }
+        Statement::FreezeBoundary => remembered(cx.freeze())?,
+        Statement::ClearError => remembered(cx.clear_errors())?,
+        Statement::Stop => frame.stopped = true,
+        Statement::Prevent => frame.prevented = true,
+        Statement::Stay => frame.stays = true,
+        other => tell(alloc, cx, frame, other)?,
+    }
+    Ok(())
+}
+
+/// Does a statement that names a context, a cell, a task or a scope.
+#[tactic(auto, using(crate::proofs::Statements::performing))]
+fn tell<K>(
+    alloc: Global,
+    cx: &mut Cx<'_, Script, K>,
+    frame: &Frame<'_>,
+    statement: &Statement,
+) -> Result<(), OutOfMemory>
+    requires renders { SeesRenders (world_of cx.old.world) frame.now.by }
+    ensures came { OnOk result (Comes cx.old cx.new
+        (meanings.perform (caller_of frame.now.by) (frame_of frame.now) (statement_of statement.now))
+        (WentOn (frame_of frame.now))) }
+    ensures world { cx.new.world ≡ cx.old.world }
+{
+    match statement {
+        Statement::ProvideAs { kind, value } => {
+            let value = evaluate(alloc, cx, frame, value)?;
+            let Ok(kind) = u32::try_from(*kind) else {
+                return Err(OutOfMemory);
+            };
+            remembered(cx.provide_context(kind, value))?;
+        }
+        Statement::WriteTo { variable, value } => {
+            let value = evaluate(alloc, cx, frame, value)?;
+            if let Some(cell) = held_cell(frame.held.as_slice(), *variable) {
+                remembered(cx.write(cell, value))?;
+            }
+        }
+        Statement::Forget(variable) => {
+            if let Some(cell) = held_cell(frame.held.as_slice(), *variable) {
+                remembered(cx.drop_cell(cell))?;
+            }
+        }
+        Statement::ActOn { act, variable } => {
+            if let Some(task) = held_task(frame.held.as_slice(), *variable) {
+                act_on(cx, *act, task)?;
+            }
+        }
+        Statement::MarkScopeOf(scope) => {
+            let value = evaluate(alloc, cx, frame, scope)?;
+            if let Some(scope) = scope_in(&value) {
+                remembered(cx.needs_update_any(scope))?;
+            }
+        }
+        _ => return Err(OutOfMemory),
+    }
+    Ok(())
+}
+
+/// Acts on a task.
+#[tactic(auto, using(crate::proofs::Steps::steps))]
+fn act_on<K>(cx: &mut Cx<'_, Script, K>, act: TaskAct, task: Task) -> Result<(), OutOfMemory>
+    ensures came { OnOk result ((frame : meanings.Frame) →
+        Comes cx.old cx.new (acted_on (act_of act) task.0 (goes_on frame)) (WentOn frame)) }
+    ensures world { cx.new.world ≡ cx.old.world }
+{
+    match act {
+        TaskAct::WakeUp => remembered(cx.wake(task))?,
+        TaskAct::Cancel => remembered(cx.remove_future(task))?,
+        TaskAct::Pause => remembered(cx.set_active(task, false))?,
+        TaskAct::Resume => remembered(cx.set_active(task, true))?,
+    }
+    Ok(())
+}
+
+/// The scope with the number of a value, where that isn't below 0.
+fn scope_in(value: &Value) -> Option<ScopeId>
+    ensures { MatchOption result (IsNoScope value.now) (λ scope. value.now ≡ NumberValue (pos scope.0)) }
+{
+    match value.content() {
+        Content::Number(number) => {
+            if *number < 0 {
+                return None;
+            }
+            Some(ScopeId(*number as u64))
+        }
+        Content::None => None,
+        Content::Text(_) => None,
+        Content::Cell(_) => None,
+        Content::Task(_) => None,
+    }
+}
