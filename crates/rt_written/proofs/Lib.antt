@@ -1,6 +1,7 @@
 pub mod Standing
 pub mod Changes
 pub mod Altering
+pub mod Entries
 pub mod Passes
 pub mod Sweep
 pub mod Claims

@@ -1,5 +1,6 @@
 pub mod Settings
 pub mod Rules
+pub mod Entries
 pub mod Meets
 pub mod Passes
 pub mod Trees

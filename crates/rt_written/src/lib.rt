@@ -3,9 +3,11 @@
 //! The functions have empty bodies: what each claims of the definitions is its contract.
 #![tactic(auto)]
 
+mod orders;
 mod outputs;
 mod rows;
 
+pub use orders::{attributes_commute, listeners_commute};
 pub use outputs::{
     outputs_bring, outputs_claim, passes_bring, scopes_bring, trees_unfold, written_brings,
 };
