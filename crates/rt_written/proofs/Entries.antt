@@ -1,10 +1,11 @@
 -- Where an entry takes its place by a key, in a total order of keys, two entries of different keys may be set in either order.
-use Rattle.std.proofs.Common.{ℕ, Bool, true, false, ◌&&◌, ◌||◌, List, [], ◌∷◌, ◌≡◌, refl, sym, ap, ◌∙◌, nat_eq, arith}
+use Rattle.std.proofs.Common.{ℕ, Bool, true, false, ◌&&◌, ◌||◌, List, [], ◌∷◌, ◌≡◌, refl, sym, ap, ◌∙◌, subst, nat_eq, arith}
 use Rattle.std.specs.Prelude.{Option, Some, None, nat_lt, if◌then◌else◌}
 use Rattle.std.proofs.lemmas.Bool.{eqb-true}
 use Rattle.std.proofs.lemmas.Bool.Decides.{nat_tests}
 use Rattle.rt_model.specs.Lists.{Text, same_numbers, same_option, earlier_text}
-use Rattle.rt_model.specs.Document.{DocAttribute, earlier_namespace, same_key, earlier_key, with_attribute, with_listener}
+use Rattle.rt_model.specs.Document.{DocAttribute, earlier_namespace, same_key, earlier_key, with_attribute, without_attribute, with_listener}
+use Rattle.rt_written.specs.Entries.{NoneNamed}
 use Rattle.rt_model.proofs.Maps.{pick_true, pick_false, by_test}
 use Rattle.rt_model.proofs.SamePlaces.{numbers-true, option-true}
 use Rattle.rt_model.proofs.Among.{numbers_same}
@@ -109,6 +110,44 @@ module _ {A Q : Type 0} (key : A → Q) (eq lt : Q → Q → Bool) (order : Orde
       by_stand (Equal e) = clash (ap (λ (x : Q). eq x (key b)) e ∙ order.same (key b)) h
       by_stand (First l) = ordered xs a b l
       by_stand (Later l) = sym (ordered xs b a l)
+
+  -- no entry has this key
+  abbrev Lacks : List A → Q → Type 0
+  Lacks [] q = Unit {0}
+  Lacks (b ∷ rest) q = (eq (key b) q ≡ false) × Lacks rest q
+
+  -- the entry of this key goes
+  abbrev drop : List A → Q → List A
+  drop [] q = []
+  drop (b ∷ rest) q = if eq (key b) q then rest else b ∷ drop rest q
+
+  -- an entry that came goes again
+  goes : (xs : List A) (a : A) → Lacks xs (key a) → drop (set xs a) (key a) ≡ xs
+  goes [] a h = pick_true _ _ (order.same (key a))
+  goes (c ∷ r) a h = by_stand (stand (key a) (key c)) (goes r a h.1)
+    where
+      of : (ys zs : List A) → ys ≡ zs → drop ys (key a) ≡ drop zs (key a)
+      of ys zs e = ap (λ (xs : List A). drop xs (key a)) e
+
+      by_stand : Stand (key a) (key c) → drop (set r a) (key a) ≡ r → drop (set (c ∷ r) a) (key a) ≡ c ∷ r
+      by_stand (Equal e) go = clash (ap (λ (x : Q). eq x (key a)) (sym e) ∙ order.same (key a)) h.0
+      by_stand (First l) go = of (set (c ∷ r) a) (a ∷ c ∷ r) (set_first c a r l) ∙ pick_true _ _ (order.same (key a))
+      by_stand (Later l) go = of (set (c ∷ r) a) (c ∷ set r a) (set_later c a r l) ∙ pick_false _ _ l.apart ∙ ap (λ (zs : List A). c ∷ zs) go
+
+  -- the last of two entries of one key stays
+  latest : (xs : List A) (a b : A) → key a ≡ key b → set (set xs a) b ≡ set xs b
+  latest [] a b e = set_same a b [] e
+  latest (c ∷ r) a b e = by_stand (stand (key a) (key c)) (latest r a b e)
+    where
+      by_stand : Stand (key a) (key c) → set (set r a) b ≡ set r b → set (set (c ∷ r) a) b ≡ set (c ∷ r) b
+      by_stand (Equal d) go = again (set (c ∷ r) a) (a ∷ r) b (set_same c a r (sym d)) ∙ set_same a b r e ∙ sym (set_same c b r (sym d ∙ e))
+      by_stand (First l) go =
+          again (set (c ∷ r) a) (a ∷ c ∷ r) b (set_first c a r l)
+          ∙ set_same a b (c ∷ r) e
+          ∙ sym (set_first c b r (subst (λ (q : Q). Before q (key c)) e l))
+      by_stand (Later l) go =
+          let after : Before (key c) (key b) = subst (λ (q : Q). Before (key c) q) e l in
+          again (set (c ∷ r) a) (c ∷ set r a) b (set_later c a r l) ∙ set_later c b (set r a) after ∙ ap (λ (zs : List A). c ∷ zs) go ∙ sym (set_later c b r after)
 
 nat_turned : (x y : ℕ) → nat_eq x y ≡ true → nat_eq y x ≡ true
 nat_turned x y h = grind (arith, nat_tests)
@@ -304,6 +343,27 @@ attributes_commute all a b h = twice a b ∙ commute key_of same_keys earlier_ke
   where
     twice : (a b : DocAttribute) → with_attribute (with_attribute all a) b ≡ set key_of same_keys earlier_keys key_order (set key_of same_keys earlier_keys key_order all a) b
     twice a b = ap (λ (xs : List DocAttribute). with_attribute xs b) (attributes_set all a) ∙ attributes_set (set key_of same_keys earlier_keys key_order all a) b
+
+attributes_drop : (all : List DocAttribute) (a : DocAttribute) → without_attribute all a.name a.namespace ≡ drop key_of same_keys earlier_keys key_order all (key_of a)
+attributes_drop [] a = refl
+attributes_drop (b ∷ rest) a = ap (λ (r : List DocAttribute). if same_key b a.name a.namespace then rest else b ∷ r) (attributes_drop rest a)
+
+attributes_lack : (all : List DocAttribute) (a : DocAttribute) → NoneNamed all a → Lacks key_of same_keys earlier_keys key_order all (key_of a)
+attributes_lack [] a h = tt
+attributes_lack (b ∷ rest) a h = (h.0, attributes_lack rest a h.1)
+
+pub attribute_goes : (all : List DocAttribute) (a : DocAttribute) → NoneNamed all a → without_attribute (with_attribute all a) a.name a.namespace ≡ all
+attribute_goes all a h =
+    ap (λ (xs : List DocAttribute). without_attribute xs a.name a.namespace) (attributes_set all a)
+    ∙ attributes_drop (set key_of same_keys earlier_keys key_order all a) a
+    ∙ goes key_of same_keys earlier_keys key_order all a (attributes_lack all a h)
+
+pub attribute_differs : (all : List DocAttribute) (a b : DocAttribute) → same_key a b.name b.namespace ≡ true → with_attribute (with_attribute all a) b ≡ with_attribute all b
+attribute_differs all a b h =
+    ap (λ (xs : List DocAttribute). with_attribute xs b) (attributes_set all a)
+    ∙ attributes_set (set key_of same_keys earlier_keys key_order all a) b
+    ∙ latest key_of same_keys earlier_keys key_order all a b (key_order.decides (key_of a) (key_of b) h)
+    ∙ sym (attributes_set all b)
 
 -- listeners go by name
 abbrev itself : Text → Text

@@ -7,7 +7,7 @@ mod orders;
 mod outputs;
 mod rows;
 
-pub use orders::{attributes_commute, listeners_commute};
+pub use orders::{attribute_differs, attribute_goes, attributes_commute, listeners_commute};
 pub use outputs::{
     outputs_bring, outputs_claim, passes_bring, scopes_bring, trees_unfold, written_brings,
 };
