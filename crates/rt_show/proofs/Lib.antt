@@ -1,5 +1,4 @@
+pub mod Made
 pub mod Puts
-pub mod Faults
-pub mod Ends
-pub mod Described
+pub mod Runs
 pub mod Shown

@@ -1,31 +1,18 @@
 -- Texts that are put one after the other.
 use Rattle.std.proofs.Common.{◌≡◌, ℕ, ◌+◌, ◌<◌, ◌≤◌, suc, List, [], ◌∷◌, ◌++◌, length, take, drop, get_or, Option, Some, None, Result, Ok, Err, refl, ap, sym, ◌∙◌, append_assoc, append-nil, subst, take-append-drop, zero, zero-add, add-zero, arith}
-use Rattle.std.proofs.lemmas.List.{take_all, get_or-map, length-map}
+use Rattle.std.proofs.lemmas.List.{take_all}
 use Rattle.std.proofs.Math.Seq.{take-suc}
-use Rattle.rt_print.specs.Lines.{line_of, lines_of}
-use Rattle.rt_print.specs.Reports.{report_line_of, report_lines_from}
-use Rattle.rt_print.specs.Texts.{joined}
-use Rattle.rt_vdom.specs.declared.Report.{Report}
-use Rattle.rt_edits.specs.declared.Edit.{Edit}
+use Rattle.rt_show.specs.Texts.{line_of, lines_of, report_line_of, report_lines_from}
+use Rattle.rt_model.specs.Lists.{joined}
+use Rattle.rt_reports.specs.declared.report.Report.{Report}
+use Rattle.rt_edits.specs.declared.edit.Edit.{Edit}
 use Rattle.rt_streams.specs.Writes.{grown, Writes}
 use Rattle.rt_streams.specs.declared.out.OutError.{OutError}
 
-grown_by_none : (old : Option (List ℕ)) → old ≡ grown old []
-grown_by_none None = refl
-grown_by_none (Some bytes) = ap Some (sym (append-nil bytes))
-
-pub grown_twice : (old : Option (List ℕ)) (xs ys : List ℕ) → grown (grown old xs) ys ≡ grown old (xs ++ ys)
+-- what is written twice is written at once
+grown_twice : (old : Option (List ℕ)) (xs ys : List ℕ) → grown (grown old xs) ys ≡ grown old (xs ++ ys)
 grown_twice None xs ys = refl
 grown_twice (Some es) xs ys = ap Some (append_assoc es xs ys)
-
--- nothing is put where no call is made
-pub writes_none : (old : Option (List ℕ)) (faults : ℕ) → Writes [] old old faults faults (Ok tt)
-writes_none old faults = record {
-  ok = grown_by_none old;
-  front = record { front = []; rest = []; whole = refl; added = grown_by_none old };
-  later = omega arith;
-  cause = λ h. absurd (cc);
-}
 
 -- one text and then another
 pub writes_both : (a b : List ℕ) (old mid new : Option (List ℕ)) (before between after : ℕ) (result : Result (Unit {0}) OutError) →
@@ -109,21 +96,31 @@ lines_put : (lines : List (List ℕ)) (at : ℕ) (old new : Option (List ℕ)) (
 lines_put lines at old new before after all put =
     subst (λ (text : List ℕ). Writes text old new before after (Ok tt)) (ap joined (take_all at lines all)) put
 
+edits_length : (edits : List Edit) → length (lines_of edits) ≡ length edits
+edits_length [] = refl
+edits_length (edit ∷ edits) = ap suc (edits_length edits)
+
 -- the line of an edit among all lines
 line_at : (edits : List Edit) (at : ℕ) (edit : Edit) → at < length edits → edit ≡ get_or edits at edit → line_of edit ≡ get_or (lines_of edits) at (line_of edit)
-line_at edits at edit within is = ap line_of is ∙ sym (get_or-map line_of edits at edit (line_of edit) within)
+line_at [] at edit within is = absurd (omega arith)
+line_at (first ∷ edits) zero edit within is = ap line_of is
+line_at (first ∷ edits) (suc at) edit within is = line_at edits at edit (omega arith) is
 
 pub edit_put : (edits : List Edit) (at : ℕ) (edit : Edit) (old mid new : Option (List ℕ)) (before between after : ℕ) → at < length edits → edit ≡ get_or edits at edit →
     Writes (joined (take at (lines_of edits))) old mid before between (Ok tt) → Writes (line_of edit) mid new between after (Ok tt) →
     Writes (joined (take (at + 1) (lines_of edits))) old new before after (Ok tt)
 edit_put edits at edit old mid new before between after within is first second =
-    line_put (lines_of edits) at (line_of edit) old mid new before between after (rw length-map within) (line_at edits at edit within is) first second
+    line_put (lines_of edits) at (line_of edit) old mid new before between after (rw (edits_length edits) within) (line_at edits at edit within is) first second
 
 pub edit_failed : (edits : List Edit) (at : ℕ) (edit : Edit) (old mid new : Option (List ℕ)) (before between after : ℕ) (error : OutError) → at < length edits → edit ≡ get_or edits at edit →
     Writes (joined (take at (lines_of edits))) old mid before between (Ok tt) → Writes (line_of edit) mid new between after (Err error) →
     Writes (joined (lines_of edits)) old new before after (Err error)
 edit_failed edits at edit old mid new before between after error within is first second =
-    line_failed (lines_of edits) at (line_of edit) old mid new before between after error (rw length-map within) (line_at edits at edit within is) first second
+    line_failed (lines_of edits) at (line_of edit) old mid new before between after error (rw (edits_length edits) within) (line_at edits at edit within is) first second
+
+pub edits_put : (edits : List Edit) (at : ℕ) (old new : Option (List ℕ)) (before after : ℕ) → length edits ≤ at →
+    Writes (joined (take at (lines_of edits))) old new before after (Ok tt) → Writes (joined (lines_of edits)) old new before after (Ok tt)
+edits_put edits at old new before after all put = lines_put (lines_of edits) at old new before after (rw (edits_length edits) all) put
 
 reports_length : (number : ℕ) (reports : List Report) → length (report_lines_from number reports) ≡ length reports
 reports_length number [] = refl

@@ -1,3 +1,6 @@
+pub mod Words
+pub mod Listed
+pub mod Texts
+pub mod Outs
 pub mod Runs
-pub mod Stops
 pub mod Statuses

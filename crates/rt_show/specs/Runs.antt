@@ -1,101 +1,137 @@
--- What a run of a source's application is, and what is printed of it.
-use Rattle.std.specs.Prelude.{◌≡◌, ◌⊎◌, ℕ, true, List, [], ◌++◌, Option, Some, None, Ok}
-use Rattle.rt_form.specs.Source.{source_of}
-use Rattle.rt_form.specs.declared.syntax.Application.{Application}
-use Rattle.rt_model.specs.Causes.{Limits, IsValid}
-use Rattle.rt_model.specs.Headline.{CameTo}
-use Rattle.rt_model.specs.State as model
-use Rattle.rt_model.specs.World as meant
-use Rattle.rt_print.specs.Faults.{fault_line_of}
-use Rattle.rt_print.specs.Texts.{text_of}
-use Rattle.rt_script.specs.Body.{ScriptTypes, body}
-use Rattle.rt_script.specs.Trees.{tree_at}
-use Rattle.rt_script.specs.declared.script.Script.{Script}
-use Rattle.rt_script.specs.declared.value.Props.{Props}
+-- What the program is given, what it prints of it, and how a run of it comes out.
+use Rattle.std.specs.Prelude.{◌≡◌, ◌⊎◌, ℕ, ◌<◌, ◌≤◌, List, ◌++◌, length, Option, Result, Ok, Err}
+use Rattle.std.specs.List.{AllByRecursion}
 use Rattle.rt_streams.specs.Reads.{IsWhole, IsLonger}
-use Rattle.rt_streams.specs.Writes.{AddsFront}
-use Rattle.rt_edits.specs.declared.edit.Edit.{Edit}
-use Rattle.rt_vdom.specs.Mirror.{element_of}
-use Rattle.rt_vdom.specs.Outcomes.{fault_of}
-use Rattle.rt_vdom.specs.Promised.{Rest, filled, is_still, WasBuilt}
-use Rattle.rt_vdom.specs.declared.fault.Fault.{Fault}
-use Rattle.rt_vdom.specs.declared.report.Report.{Report}
+use Rattle.rt_streams.specs.Writes.{grown, AddsFront}
+use Rattle.rt_model.specs.Document.{Edit}
+use Rattle.rt_model.specs.State.{Fault, OutOfTurns, TooDeep}
+use Rattle.rt_model.specs.Replay.{Entry, Input}
+use Rattle.rt_model.specs.Told.{is_unit, is_body, count_entries}
+use Rattle.rt_model.specs.Headline.{Report, OneEach, logs_of}
+use Rattle.rt_language.specs.Syntax.{Source}
+use Rattle.rt_language.specs.Expressions.{SourceTypes}
+use Rattle.rt_language.specs.Lines.{text_of, fault_text_of}
+use Rattle.rt_language.specs.Generated.{generated, total, summary_line}
+use Rattle.rt_reports.specs.declared.limits.Limits.{Limits}
+use Rattle.rt_sources.specs.Describes.{Describes}
+use Rattle.rt_sources.specs.declared.reading.TheConstants.{SOURCE_LIMIT}
+use Rattle.rt_show.specs.declared.words.Wish.{Wish}
+use Rattle.rt_show.specs.declared.words.Wish.TheVariants.{Run, Make}
+use Rattle.rt_show.specs.declared.reason.Stop.{Stop}
+use Rattle.rt_show.specs.declared.reason.Stop.TheVariants as stops
 
--- a body of the application
-abbrev pub script_of : Application → Script
-script_of app = record { application = app }
-
--- what an application means, whatever the calls are that the trait of an application leaves out so far
-abbrev pub meant_by : Application → Rest ScriptTypes → meant.Application ScriptTypes
-meant_by app rest = filled app.root (body (script_of app)) rest
-
--- the root component is given nothing
-abbrev pub no_props : Props
-no_props = record { values = [] }
-
--- how far a run goes that no word limits
-abbrev pub unworded : Limits
-unworded = record { units = 10000; height = 128; drain = 1024 }
-
--- a run of an application never comes to a fault
-abbrev pub NeverFaults : Application → Type 0
-NeverFaults app = (rest : Rest ScriptTypes) → IsValid (meant_by app rest) no_props [] unworded
-
--- a run of an application comes to a fault of the model, before which no edit was taken
-abbrev pub ComesTo : Application → Rest ScriptTypes → Option model.Fault → Type 0
-ComesTo app rest None = ⊥
-ComesTo app rest (Some fault) = CameTo (meant_by app rest) no_props [] unworded (Some []) [] fault
-
--- the root component shows a tree that stands still
-abbrev pub ShowsStill : Application → Type 0
-ShowsStill app = is_still (element_of (Ok (tree_at app app.root))) ≡ true
-
--- the text of a run that was done: its edits and its reports
-pub record IsDoneText (app : Application) (text : List ℕ) : Type 0 where
-  pub edits : List Edit
-  pub reports : List Report
-  -- all that is promised of a session holds of them
-  pub run : WasBuilt app.root (body (script_of app)) no_props (Some []) (Some edits) reports
-  -- no run of the application comes to a fault
-  pub valid : NeverFaults app
-  pub printed : text ≡ text_of edits reports
-
--- the text of a run that a fault ended: the edits and reports before it, and the line of the fault
-pub record IsFaultText (app : Application) (text : List ℕ) : Type 0 where
-  pub edits : List Edit
-  pub reports : List Report
-  pub fault : Fault
-  pub line : List ℕ
-  -- a run of the application comes to that fault
-  pub cause : (rest : Rest ScriptTypes) → ComesTo app rest (fault_of fault)
-  -- the build writes nothing and reports nothing where it is refused
-  pub no_edits : edits ≡ []
-  pub no_reports : reports ≡ []
-  pub names : fault_line_of fault ≡ Some line
-  pub printed : text ≡ text_of edits reports ++ line
-
--- the text of a run
-abbrev pub IsText : Application → List ℕ → Type 0
-IsText app text = IsDoneText app text ⊎ IsFaultText app text
-
--- a source was read to its end, and its bytes describe the application
-pub record Describes (app : Application) (left after : Option (List ℕ)) : Type 0 where
+-- an input was read to its end, and its bytes describe a source
+pub record DescribedBy (said : Source) (left after : Option (List ℕ)) : Type 0 where
   pub bytes : List ℕ
   pub whole : IsWhole bytes left after
-  pub form : source_of bytes ≡ Some app
+  pub described : Describes bytes said
 
--- a source was read to its end, and its bytes describe no application
+-- an input was read to its end, and its bytes describe no source
 pub record DescribesNone (left after : Option (List ℕ)) : Type 0 where
   pub bytes : List ℕ
   pub whole : IsWhole bytes left after
-  pub form : source_of bytes ≡ None
+  pub none : (said : Source) → Describes bytes said → ⊥
 
--- a source is too long, or describes no application
+-- an input is too long, or describes no source
 abbrev pub IsRefused : Option (List ℕ) → Option (List ℕ) → Type 0
-IsRefused left after = IsLonger 16777216 left ⊎ DescribesNone left after
+IsRefused left after = IsLonger SOURCE_LIMIT left ⊎ DescribesNone left after
+
+-- which source is run: that which the input describes, or that of so many rows, for which no input is read
+abbrev pub Chooses : Wish → Source → (left after : Option (List ℕ)) → Type 0
+Chooses (Run limits) said left after = DescribedBy said left after
+Chooses (Make rows) said left after = (said ≡ generated rows) × (after ≡ left)
+
+-- a report counts the units and the bodies of its log
+pub record CountsItsLog (report : Report) : Type 0 where
+  pub units : report.units ≡ count_entries is_unit report.log
+  pub bodies : report.bodies ≡ count_entries is_body report.log
+
+-- the reports of a run that was done
+pub record AreReports (reports : List Report) : Type 0 where
+  -- a report for the build and one for each input, in order
+  pub inputs : List (Input SourceTypes)
+  pub one_each : OneEach inputs (logs_of reports)
+  pub counts : AllByRecursion CountsItsLog reports
+
+-- the text of a run that was done: lines of edits, and lines of reports, numbered from 0
+pub record IsRunText (text : List ℕ) : Type 0 where
+  pub edits : List Edit
+  pub reports : List Report
+  pub run : AreReports reports
+  -- the reports count the edits
+  pub counted : length edits ≡ total (λ report. report.edits) reports
+  pub printed : text ≡ text_of edits reports
+
+-- a fault by its cause: spent units are those of the limit, a height is above the limit
+abbrev pub IsCaused : Limits → Fault → Type 0
+IsCaused limits (OutOfTurns units) = units ≡ limits.units
+IsCaused limits (TooDeep height) = limits.height < height
+IsCaused limits _ = Unit {0}
+
+-- the text of a run that a fault ended: lines of edits and of finished reports, and the line of the fault
+pub record IsFaultText (limits : Limits) (text : List ℕ) : Type 0 where
+  pub edits : List Edit
+  pub reports : List Report
+  pub fault : Fault
+  pub cause : IsCaused limits fault
+  -- further logs make these the logs of the build and of each input, in order
+  pub inputs : List (Input SourceTypes)
+  pub later : List (List Entry)
+  pub begins : OneEach inputs (logs_of reports ++ later)
+  pub counts : AllByRecursion CountsItsLog reports
+  -- of the edits, the finished reports count no more than all
+  pub counted : total (λ report. report.edits) reports ≤ length edits
+  pub printed : text ≡ fault_text_of edits reports fault
+
+-- the line that sums up the reports of a run of so many rows
+pub record IsSummary (rows : ℕ) (text : List ℕ) : Type 0 where
+  pub reports : List Report
+  pub run : AreReports reports
+  pub printed : text ≡ summary_line rows reports
+
+-- the text of what was done
+abbrev pub IsDoneText : Wish → List ℕ → Type 0
+IsDoneText (Run limits) text = IsRunText text
+IsDoneText (Make rows) text = IsSummary rows text
+
+-- the text of what a fault ended; a run that is only summed up prints nothing then
+abbrev pub IsEndedText : Wish → List ℕ → Type 0
+IsEndedText (Run limits) text = IsFaultText limits text
+IsEndedText (Make rows) text = ⊥
 
 -- what was written is a front of the text of a run
-pub record PrintsFront (app : Application) (old new : Option (List ℕ)) : Type 0 where
+pub record PrintsFront (wish : Wish) (old new : Option (List ℕ)) : Type 0 where
   pub text : List ℕ
-  pub run : IsText app text
+  pub run : IsDoneText wish text ⊎ IsEndedText wish text
   pub front : AddsFront old new text
+
+-- what was written is this text of a run that was done
+pub record PrintsDone (wish : Wish) (old new : Option (List ℕ)) : Type 0 where
+  pub text : List ℕ
+  pub run : IsDoneText wish text
+  pub written : new ≡ grown old text
+
+-- what was written is this text of a run that a fault ended
+pub record PrintsEnded (wish : Wish) (old new : Option (List ℕ)) : Type 0 where
+  pub text : List ℕ
+  pub run : IsEndedText wish text
+  pub written : new ≡ grown old text
+
+-- what reading comes to, by what is left of the input and its count of failures, before and after
+abbrev pub Reads : (left after : Option (List ℕ)) → (before now : ℕ) → Stop → Type 0
+Reads left after before now stops.Form = IsRefused left after
+Reads left after before now stops.Source = before < now
+Reads left after before now stops.OutOfMemory = Unit {0}
+Reads left after before now stops.Words = ⊥
+Reads left after before now stops.Fault = ⊥
+Reads left after before now stops.Out = ⊥
+
+-- what a run comes to, by what is written and the out's count of failures, before and after
+abbrev pub Prints : Wish → (old new : Option (List ℕ)) → (before now : ℕ) → Result (Unit {0}) Stop → Type 0
+Prints wish old new before now (Ok u) = PrintsDone wish old new
+Prints wish old new before now (Err stops.Fault) = PrintsEnded wish old new
+Prints wish old new before now (Err stops.Out) = (before < now) × PrintsFront wish old new
+Prints wish old new before now (Err stops.OutOfMemory) = (new ≡ old) ⊎ PrintsFront wish old new
+Prints wish old new before now (Err stops.Words) = ⊥
+Prints wish old new before now (Err stops.Form) = ⊥
+Prints wish old new before now (Err stops.Source) = ⊥

@@ -1,7 +1,12 @@
-//! The program: reads an application from standard input, runs it, and prints its edits and reports.
+//! The program: reads an application from standard input, runs it, and prints its edits and
+//! reports.
 #![tactic(auto)]
 
+mod generated;
 mod reason;
+#[cfg(test)]
+mod rows;
+mod summary;
 #[cfg(test)]
 mod tests;
 mod top;
@@ -15,7 +20,9 @@ use std::process::ExitCode;
 fn meaning(status: u8) -> Option<&'static str> {
     match status {
         0 => None,
-        2 => Some("status 2: there are words that aren't known; the program takes none"),
+        2 => Some(
+            "status 2: the words aren't known; they are --units N and --height N, or --make N",
+        ),
         3 => Some("status 3: the source is too long, or isn't in the form of an application"),
         4 => Some("status 4: the run ended in the fault that was printed last"),
         5 => Some("status 5: standard input couldn't be read to its end"),

@@ -8,7 +8,7 @@ use rt_values::OutOfMemory;
 /// Why the program doesn't come to its end.
 #[derive(Clone, Copy, Debug, PartialEq, Eq)]
 pub enum Stop {
-    /// There are words, and none is known.
+    /// The words aren't known.
     Words,
     /// The source is too long, or isn't in the form.
     Form,
@@ -50,7 +50,7 @@ impl From<OutOfMemory> for Stop {
 
 impl From<OutError> for Stop {
     ghost use Rattle.std.specs.Prelude.{◌≡◌};
-    ghost use Rattle.rt_show.specs.Stops.{stop_of};
+    ghost use Rattle.rt_show.specs.Outs.{stop_of};
 
     ghost from_gives = { λ error stop. stop ≡ stop_of error };
 

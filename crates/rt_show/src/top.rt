@@ -1,32 +1,32 @@
 //! The whole program over a source and an out.
-ghost use Rattle.std.specs.Prelude.{◌≡◌, ◌≤◌};
-ghost use Rattle.rt_show.specs.Runs.{ShowsStill};
-ghost use Rattle.rt_show.specs.Stops.{Reads, Runs};
+ghost use Rattle.std.specs.Prelude.{◌≡◌, ◌≤◌, map, IfOk, IfErr};
+ghost use Rattle.rt_reports.specs.Seen.{report_of};
+ghost use Rattle.rt_syntax.specs.Mirror.{source_of};
+ghost use Rattle.rt_show.specs.declared.words.Wish.TheVariants as wishes;
+ghost use Rattle.rt_show.specs.Runs.{DescribedBy, AreReports, Reads, Prints};
 ghost use Rattle.rt_show.specs.Statuses.{Comes, Shows};
 
+use crate::generated::generated;
 use crate::reason::Stop;
+use crate::summary::summary_line;
+use crate::words::{USUAL, Wish, wish_of};
 use crate::writing::{put_ended_run, put_run};
-use rt_form::{Application, read_source};
+use rt_edits::{Mutations, NoOpMutations};
 use rt_print::fault_line;
-use rt_script::Script;
+use rt_script::{Script, inputs_of};
+use rt_sources::read_source;
 use rt_streams::{Out, ReadError, Source, read_all};
-use rt_tree::Mutations;
+use rt_syntax::Source as Described;
 use rt_values::{List, OutOfMemory, Text};
-use rt_vdom::app::App;
-use rt_vdom::{Limits, SessionFault, session};
+use rt_vdom::{Limits, Report, SessionFault, session};
 use std::alloc::Global;
 
-/// How far a run goes that no word limits.
-const LIMITS: Limits = Limits {
-    units: 10_000,
-    height: 128,
-    drain: 1_024,
-};
-
-fn read_application<S: Source>(alloc: Global, source: &mut S) -> Result<Application, Stop>
-    ensures reads { Reads (S.left source.old) (S.left source.new)
-        (S.faults source.old) (S.faults source.new) result }
-    ensures later { S.faults source.old ≤ S.faults source.new }
+/// The application that a source describes.
+fn read_application<S: Source>(alloc: Global, source: &mut S) -> Result<Described, Stop>
+    ensures described { IfOk result (λ described.
+        DescribedBy (source_of described) (S.left source.old) (S.left source.new)) }
+    ensures reads { IfErr result (λ stop. Reads (S.left source.old) (S.left source.new)
+        (S.faults source.old) (S.faults source.new) stop) }
 {
     let bytes = match read_all(alloc, source) {
         Ok(bytes) => bytes,
@@ -35,36 +35,76 @@ fn read_application<S: Source>(alloc: Global, source: &mut S) -> Result<Applicat
         Err(ReadError::OutOfMemory) => return Err(Stop::OutOfMemory),
     };
     match read_source(alloc, bytes.as_slice()) {
-        Ok(Some(application)) => Ok(application),
+        Ok(Some(described)) => Ok(described),
         Ok(None) => Err(Stop::Form),
         Err(OutOfMemory) => Err(Stop::OutOfMemory),
     }
 }
 
-// Runs an application and prints what became of it.
-fn run<O: Out>(alloc: Global, application: Application, out: &mut O) -> Result<(), Stop>
-    ensures runs { ShowsStill application → Runs application
-        (O.written out.old) (O.written out.new) (O.faults out.old) (O.faults out.new) result }
-    ensures later { O.faults out.old ≤ O.faults out.new }
+/// Runs an application and prints what became of it.
+fn run<O: Out>(alloc: Global, described: Described, limits: Limits, out: &mut O) -> Result<(), Stop>
+    ensures prints { Prints (wishes.Run limits) (O.written out.old) (O.written out.new)
+        (O.faults out.old) (O.faults out.new) result }
 {
-    let script = Script { application };
-    let props = script.empty_props(alloc)?;
+    let inputs = inputs_of(alloc, described.inputs.as_slice())?;
+    let Some(script) = Script::new(alloc, described)? else {
+        return Err(Stop::OutOfMemory);
+    };
+    let props = script.props(alloc)?;
     let mut sink = Mutations::default_list(alloc);
-    match session(alloc, script, props, List::new(alloc), &mut sink, LIMITS) {
+    match session(alloc, script, props, inputs, &mut sink, limits) {
         Ok(reports) => {
             put_run(alloc, sink.edits(), reports.as_slice(), out)?;
             Ok(())
         }
         Err(SessionFault { fault, reports }) => {
-            let Some(line) = fault_line(alloc, &fault)? else {
+            let Some(line) = fault_line(alloc, fault)? else {
                 return Err(Stop::OutOfMemory);
             };
-            put_ended_run(alloc, sink.edits(), reports.as_slice(), &line, out)?;
+            put_ended_run(
+                alloc,
+                sink.edits(),
+                reports.as_slice(),
+                line.as_slice(),
+                out,
+            )?;
             Err(Stop::Fault)
         }
     }
 }
 
+/// The reports of the generated application's run.
+fn make(alloc: Global, rows: u64) -> Result<List<Report>, OutOfMemory>
+    requires few { rows ≤ 10000 }
+    ensures reports { IfOk result (λ reports. AreReports (map report_of reports)) }
+{
+    let described = generated(alloc, rows)?;
+    let inputs = inputs_of(alloc, described.inputs.as_slice())?;
+    let Some(script) = Script::new(alloc, described)? else {
+        return Err(OutOfMemory);
+    };
+    let props = script.props(alloc)?;
+    let mut sink = NoOpMutations;
+    match session(alloc, script, props, inputs, &mut sink, USUAL) {
+        Ok(reports) => Ok(reports),
+        Err(_ended) => Err(OutOfMemory),
+    }
+}
+
+/// Runs the generated application of so many rows and prints a summary.
+#[tactic(auto, using(crate::proofs::Runs::summed_up))]
+fn sum_up<O: Out>(alloc: Global, rows: u64, out: &mut O) -> Result<(), Stop>
+    requires few { rows ≤ 10000 }
+    ensures prints { Prints (wishes.Make rows) (O.written out.old) (O.written out.new)
+        (O.faults out.old) (O.faults out.new) result }
+{
+    let reports = make(alloc, rows)?;
+    let line = summary_line(alloc, rows, reports.as_slice())?;
+    out.put(line.as_bytes())?;
+    Ok(())
+}
+
+/// What the words ask for is done.
 fn shown<S: Source, O: Out>(
     alloc: Global,
     words: &[Text],
@@ -75,15 +115,18 @@ fn shown<S: Source, O: Out>(
         (O.written out.old) (O.written out.new)
         (S.faults source.old) (S.faults source.new) (O.faults out.old) (O.faults out.new) result }
 {
-    if !words.is_empty() {
-        return Err(Stop::Words);
+    match wish_of(words) {
+        None => Err(Stop::Words),
+        Some(Wish::Make(rows)) => sum_up(alloc, rows, out),
+        Some(Wish::Run(limits)) => {
+            let described = read_application(alloc, source)?;
+            run(alloc, described, limits, out)
+        }
     }
-    let application = read_application(alloc, source)?;
-    run(alloc, application, out)
 }
 
-/// Runs the application that a source describes, and writes its edits and reports. The answer is
-/// the status.
+/// Runs the application that a source describes, and writes its edits and reports; or the generated
+/// application of so many rows, and writes a summary. The answer is the status.
 pub fn show<S: Source, O: Out>(alloc: Global, words: &[Text], source: &mut S, out: &mut O) -> u8
     ensures shows { Shows words.now (S.left source.old) (S.left source.new)
         (O.written out.old) (O.written out.new)

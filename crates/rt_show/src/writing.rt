@@ -1,26 +1,26 @@
 //! Putting what the program prints, each line by one call of the out.
 ghost use Rattle.std.specs.Prelude.{◌++◌};
-ghost use Rattle.rt_print.specs.Lines.{line_of, lines_of};
-ghost use Rattle.rt_print.specs.Reports.{report_line_of, report_lines_from};
-ghost use Rattle.rt_print.specs.Texts.{joined, text_of};
+ghost use Rattle.rt_model.specs.Lists.{joined};
+ghost use Rattle.rt_show.specs.Texts.{line_of, lines_of, report_line_of, report_lines_from, text_of};
 ghost use Rattle.rt_streams.specs.Writes.{Writes};
 
+use rt_edits::Edit;
 use rt_print::{edit_line, report_line};
+use rt_reports::Report;
 use rt_streams::{Out, OutError};
-use rt_tree::Edit;
-use rt_values::Text;
-use rt_vdom::Report;
 use std::alloc::Global;
 
+/// Puts the line of an edit.
 fn put_edit<O: Out>(alloc: Global, edit: &Edit, out: &mut O) -> Result<(), OutError>
     ensures writes { Writes (line_of edit.now)
         (O.written out.old) (O.written out.new) (O.faults out.old) (O.faults out.new) result }
 {
     let line = edit_line(alloc, edit)?;
-    out.put(line.as_bytes())
+    out.put(line.as_slice())
 }
 
-pub fn put_edits<O: Out>(alloc: Global, edits: &[Edit], out: &mut O) -> Result<(), OutError>
+/// Puts the lines of edits.
+fn put_edits<O: Out>(alloc: Global, edits: &[Edit], out: &mut O) -> Result<(), OutError>
     ensures writes { Writes (joined (lines_of edits.now))
         (O.written out.old) (O.written out.new) (O.faults out.old) (O.faults out.new) result }
 {
@@ -30,6 +30,7 @@ pub fn put_edits<O: Out>(alloc: Global, edits: &[Edit], out: &mut O) -> Result<(
     Ok(())
 }
 
+/// Puts the line of a report, which has this number.
 fn put_report<O: Out>(
     alloc: Global,
     number: u64,
@@ -40,10 +41,11 @@ fn put_report<O: Out>(
         (O.written out.old) (O.written out.new) (O.faults out.old) (O.faults out.new) result }
 {
     let line = report_line(alloc, number, report)?;
-    out.put(line.as_bytes())
+    out.put(line.as_slice())
 }
 
-pub fn put_reports<O: Out>(alloc: Global, reports: &[Report], out: &mut O) -> Result<(), OutError>
+/// Puts the lines of reports, numbered from 0.
+fn put_reports<O: Out>(alloc: Global, reports: &[Report], out: &mut O) -> Result<(), OutError>
     ensures writes { Writes (joined (report_lines_from 0 reports.now))
         (O.written out.old) (O.written out.new) (O.faults out.old) (O.faults out.new) result }
 {
@@ -74,12 +76,12 @@ pub fn put_ended_run<O: Out>(
     alloc: Global,
     edits: &[Edit],
     reports: &[Report],
-    line: &Text,
+    line: &[u8],
     out: &mut O,
 ) -> Result<(), OutError>
     ensures writes { Writes (text_of edits.now reports.now ++ line.now)
         (O.written out.old) (O.written out.new) (O.faults out.old) (O.faults out.new) result }
 {
     put_run(alloc, edits, reports, out)?;
-    out.put(line.as_bytes())
+    out.put(line)
 }

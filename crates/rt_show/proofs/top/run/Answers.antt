@@ -1,70 +1,53 @@
--- What is put is the text of the run, or a front of it.
-use Rattle.std.proofs.Common.{rules, ◌≡◌, ◌++◌, Some, Err, refl, inl, inr, subst}
-use Rattle.rt_print.specs.Faults.{fault_line_of}
-use Rattle.rt_print.specs.Texts.{text_of}
-use Rattle.rt_script.specs.Body.{body}
-use Rattle.rt_script.specs.declared.value.Props.{Props}
-use Rattle.rt_vdom.specs.Promised.{CameFrom}
-use Rattle.rt_vdom.specs.declared.fault.Fault.{Fault}
-use Rattle.rt_show.specs.Runs.{script_of, no_props, IsDoneText, IsFaultText}
-use Rattle.rt_show.specs.Stops.{stop_of}
-use Rattle.rt_show.proofs.Ends.{program_limits, comes_to}
-use Rattle.rt_show.proofs.Faults.{cut_short}
+-- What is put is the text of a run, or a front of it.
+use Rattle.std.proofs.Common.{rules, ◌≡◌, ◌++◌, Some, Err, map}
+use Rattle.std.specs.Prelude.{option_map}
+use Rattle.rt_language.specs.Lines.{line, fault_text}
+use Rattle.rt_reports.specs.Seen.{fault_of, input_of}
+use Rattle.rt_show.specs.Outs.{stop_of}
+use Rattle.rt_show.specs.Texts.{text_of}
+use Rattle.rt_show.specs.Runs.{IsRunText, IsFaultText}
+use Rattle.rt_show.specs.declared.words.Wish.TheVariants.{Run}
+use Rattle.rt_show.proofs.Runs.{cut_done, cut_ended, run_of, ended_by}
 use Rattle.rt_show.proofs.top.run.Goals as goal
 
-pub returns-in-Ok-clause-runs : goal.returns-in-Ok-clause-runs
-returns-in-Ok-clause-runs g c =
-    let done : IsDoneText c.args.application (text_of c.edits.result.now c.as_slice.result.now) =
-    record { edits = c.edits.result.now; reports = c.as_slice.result.now; run = search rules; valid = search rules; printed = refl } in
-    λ still. (text_of c.edits.result.now c.as_slice.result.now, done, c.in_ok-put_run-in-Ok.ensures.writes.ok)
+pub returns-in-Ok : goal.returns-in-Ok
+returns-in-Ok g c =
+    let run : IsRunText (text_of c.edits.result.now c.as_slice-in-Ok.result.now) =
+    run_of (map input_of c.in_ok-inputs.inputs) _ _ c.edits.result.now c.in-Ok.reports c.as_slice-in-Ok.result.now _ _
+    c.default_list-sink.ensures.taken c.edits.ensures.taken (search rules) c.in-Ok.ensures.one_each c.in-Ok.ensures.counts c.in-Ok.ensures.took in
+    record { prints = record { text = text_of c.edits.result.now c.as_slice-in-Ok.result.now; run = run; written = c.in_ok-put_run-in-Ok.ensures.writes.ok } }
 
-pub returns-in_err-put_run-in-Ok-clause-runs : goal.returns-in_err-put_run-in-Ok-clause-runs
-returns-in_err-put_run-in-Ok-clause-runs g c =
+pub returns-in_err-put_run-in-Ok : goal.returns-in_err-put_run-in-Ok
+returns-in_err-put_run-in-Ok g c =
     let stopped : c.from_residual-in_err-put_run-in-Ok.result ≡ Err (stop_of c.in_err-put_run-in-Ok.field-0.0) = search rules in
-    let done : IsDoneText c.args.application (text_of c.edits.result.now c.as_slice.result.now) =
-    record { edits = c.edits.result.now; reports = c.as_slice.result.now; run = search rules; valid = search rules; printed = refl } in
-    λ still. rw stopped (cut_short c.args.application _ _ _ _ _ c.in_err-put_run-in-Ok.field-0.0 (inl done) c.in_err-put_run-in-Ok.ensures.writes)
+    let run : IsRunText (text_of c.edits.result.now c.as_slice-in-Ok.result.now) =
+    run_of (map input_of c.in_ok-inputs.inputs) _ _ c.edits.result.now c.in-Ok.reports c.as_slice-in-Ok.result.now _ _
+    c.default_list-sink.ensures.taken c.edits.ensures.taken (search rules) c.in-Ok.ensures.one_each c.in-Ok.ensures.counts c.in-Ok.ensures.took in
+    record { prints = rw stopped (cut_done (Run c.args.limits) _ _ _ _ _ c.in_err-put_run-in-Ok.field-0.0 run c.in_err-put_run-in-Ok.ensures.writes) }
 
-pub returns-in_err-put_ended_run-in-Err-clause-runs :
-    goal.returns-in_err-put_ended_run-in-Err-clause-runs
-returns-in_err-put_ended_run-in-Err-clause-runs g c =
+pub returns-in_err-put_ended_run-in-Err : goal.returns-in_err-put_ended_run-in-Err
+returns-in_err-put_ended_run-in-Err g c =
     let stopped : c.from_residual-in_err-put_ended_run-in-Err.result ≡ Err (stop_of c.in_err-put_ended_run-in-Err.field-0.0) = search rules in
-    let same : c.in-Err.field-0.fault ≡ c.in-Err.fault = cc (c.in-Err.fault-is) in
-    let cause : CameFrom c.args.application.root (body (script_of c.args.application)) no_props program_limits 0 0 c.in-Err.fault =
-    subst (λ (f : Fault). CameFrom c.args.application.root (body (script_of c.args.application)) no_props program_limits 0 0 f) same
-    (subst (λ (p : Props). CameFrom c.args.application.root (body (script_of c.args.application)) p program_limits 0 0 c.in-Err.field-0.fault) c.in_ok-props.ensures.means c.in-Err.ensures.cause) in
-    let names : fault_line_of c.in-Err.fault ≡ Some c.in-Some.line = search rules in
-    λ still.
-    rw stopped (cut_short c.args.application _ _ _ _ _ c.in_err-put_ended_run-in-Err.field-0.0 (inr (record {
-      edits = c.edits-in-Err.result.now;
-      reports = c.as_slice-in-Err.result.now;
-      fault = c.in-Err.fault;
-      line = c.in-Some.line;
-      cause = comes_to c.args.application 0 0 c.in-Err.fault c.in-Some.line still cause names;
-      no_edits = search rules;
-      no_reports = search rules;
-      names = names;
-      printed = refl;
-    })) c.in_err-put_ended_run-in-Err.ensures.writes)
+    let same : c.as_slice-in-Err-2.result.now ≡ c.in-Some-2.line = search rules in
+    let own : c.in-Err.field-0.fault ≡ c.in-Err.fault = cc (c.in-Err.fault-is) in
+    let names : Some c.as_slice-in-Err-2.result.now ≡ option_map (λ f. line (fault_text f)) (fault_of c.in-Err.field-0.fault) = cc (own, same, c.in-Some-2.is, c.in_ok-line-in-Err.ensures.line) in
+    let run : IsFaultText c.args.limits (text_of c.edits-in-Err.result.now c.as_slice-in-Err.result.now ++ c.as_slice-in-Err-2.result.now) =
+    ended_by c.args.limits (map input_of c.in_ok-inputs.inputs) _ _ c.edits-in-Err.result.now c.in-Err.field-0 c.as_slice-in-Err.result.now _ _ c.as_slice-in-Err-2.result.now
+    c.default_list-sink.ensures.taken c.edits-in-Err.ensures.taken (search rules) c.in-Err.ensures.refused names in
+    record { prints = rw stopped (cut_ended (Run c.args.limits) _ _ _ _ _ c.in_err-put_ended_run-in-Err.field-0.0 run c.in_err-put_ended_run-in-Err.ensures.writes) }
 
-pub returns-clause-runs : goal.returns-clause-runs
-returns-clause-runs g c =
-    let same : c.in-Err.field-0.fault ≡ c.in-Err.fault = cc (c.in-Err.fault-is) in
-    let cause : CameFrom c.args.application.root (body (script_of c.args.application)) no_props program_limits 0 0 c.in-Err.fault =
-    subst (λ (f : Fault). CameFrom c.args.application.root (body (script_of c.args.application)) no_props program_limits 0 0 f) same
-    (subst (λ (p : Props). CameFrom c.args.application.root (body (script_of c.args.application)) p program_limits 0 0 c.in-Err.field-0.fault) c.in_ok-props.ensures.means c.in-Err.ensures.cause) in
-    let names : fault_line_of c.in-Err.fault ≡ Some c.in-Some.line = search rules in
-    λ still.
-    let came : IsFaultText c.args.application (text_of c.edits-in-Err.result.now c.as_slice-in-Err.result.now ++ c.in-Some.line) =
+pub returns : goal.returns
+returns g c =
+    let same : c.as_slice-in-Err-2.result.now ≡ c.in-Some-2.line = search rules in
+    let own : c.in-Err.field-0.fault ≡ c.in-Err.fault = cc (c.in-Err.fault-is) in
+    let names : Some c.as_slice-in-Err-2.result.now ≡ option_map (λ f. line (fault_text f)) (fault_of c.in-Err.field-0.fault) = cc (own, same, c.in-Some-2.is, c.in_ok-line-in-Err.ensures.line) in
+    let run : IsFaultText c.args.limits (text_of c.edits-in-Err.result.now c.as_slice-in-Err.result.now ++ c.as_slice-in-Err-2.result.now) =
+    ended_by c.args.limits (map input_of c.in_ok-inputs.inputs) _ _ c.edits-in-Err.result.now c.in-Err.field-0 c.as_slice-in-Err.result.now _ _ c.as_slice-in-Err-2.result.now
+    c.default_list-sink.ensures.taken c.edits-in-Err.ensures.taken (search rules) c.in-Err.ensures.refused names in
     record {
-      edits = c.edits-in-Err.result.now;
-      reports = c.as_slice-in-Err.result.now;
-      fault = c.in-Err.fault;
-      line = c.in-Some.line;
-      cause = comes_to c.args.application 0 0 c.in-Err.fault c.in-Some.line still cause names;
-      no_edits = search rules;
-      no_reports = search rules;
-      names = names;
-      printed = refl;
-    } in
-    (text_of c.edits-in-Err.result.now c.as_slice-in-Err.result.now ++ c.in-Some.line, came, c.in_ok-put_ended_run-in-Err.ensures.writes.ok)
+      prints = record {
+        text = text_of c.edits-in-Err.result.now c.as_slice-in-Err.result.now ++ c.as_slice-in-Err-2.result.now;
+        run = run;
+        written = c.in_ok-put_ended_run-in-Err.ensures.writes.ok;
+      };
+    }

@@ -1,7 +1,10 @@
 -- The status is that of where the program stops.
-use Rattle.std.proofs.Common.{Err}
+use Rattle.std.proofs.Common.{Ok, Err, refl}
 use Rattle.rt_show.proofs.Shown.{shows}
 use Rattle.rt_show.proofs.top.show.Goals as goal
+
+pub returns-in-Ok : goal.returns-in-Ok
+returns-in-Ok g c = record { shows = shows _ _ _ _ _ _ _ _ _ _ (Ok tt) refl c.in-Ok.ensures.comes }
 
 pub returns-in-Err : goal.returns-in-Err
 returns-in-Err g c = record { shows = shows _ _ _ _ _ _ _ _ _ _ (Err c.in-Err.stop) c.status.ensures.status c.in-Err.ensures.comes }

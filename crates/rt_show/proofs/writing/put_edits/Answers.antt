@@ -1,6 +1,6 @@
 -- One more line is put, or none after it.
 use Rattle.std.proofs.Common.{rules, ◌≡◌, Err}
-use Rattle.rt_show.proofs.Puts.{edit_put, edit_failed}
+use Rattle.rt_show.proofs.Puts.{edit_put, edit_failed, edits_put}
 use Rattle.rt_show.proofs.writing.put_edits.Goals as goal
 
 pub loop-edit-preserved : goal.loop-edit-preserved
@@ -12,3 +12,6 @@ returns-in_err-put_edit g c =
     record {
       writes = rw failed (edit_failed c.args.edits.now c.loop-edit.edit-index c.edit-item.result _ _ _ _ _ _ _ c.loop-edit-test.true c.edit-item.is c.loop-edit.invariant c.in_err-put_edit.ensures.writes);
     }
+
+pub returns : goal.returns
+returns g c = record { writes = edits_put c.args.edits.now c.loop-edit.edit-index _ _ _ _ c.loop-edit-test.false c.loop-edit.invariant }

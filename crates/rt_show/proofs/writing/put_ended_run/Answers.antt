@@ -3,4 +3,4 @@ use Rattle.rt_show.proofs.Puts.{writes_both}
 use Rattle.rt_show.proofs.writing.put_ended_run.Goals as goal
 
 pub returns : goal.returns
-returns g c = record { writes = writes_both _ _ _ _ _ _ _ _ _ c.in_ok-put_run.ensures.writes (rw c.as_bytes.ensures.bytes at c.put.ensures.writes) }
+returns g c = record { writes = writes_both _ _ _ _ _ _ _ _ _ c.in_ok-put_run.ensures.writes c.put.ensures.writes }

@@ -1,7 +1,7 @@
 -- The lines so far have been put.
 use Rattle.std.proofs.Common.{take, Ok}
-use Rattle.rt_print.specs.Reports.{report_lines_from}
-use Rattle.rt_print.specs.Texts.{joined}
+use Rattle.rt_show.specs.Texts.{report_lines_from}
+use Rattle.rt_model.specs.Lists.{joined}
 use Rattle.rt_streams.specs.Writes.{Writes}
 use Rattle.rt_show.proofs.writing.put_reports.Given as goal
 

@@ -1,0 +1,28 @@
+-- What the program prints.
+use Rattle.std.specs.Prelude.{List, ℕ, map}
+use Rattle.rt_edits.specs.declared.edit.Edit.{Edit}
+use Rattle.rt_mirror.specs.Mirror.{edit_of}
+use Rattle.rt_language.specs.Lines as language
+use Rattle.rt_language.specs.Lines.{line, edit_text, edit_lines, report_line, report_lines}
+use Rattle.rt_reports.specs.Seen.{report_of}
+use Rattle.rt_reports.specs.declared.report.Report.{Report}
+
+-- the line of an edit
+abbrev pub line_of : Edit → List ℕ
+line_of edit = line (edit_text (edit_of edit))
+
+-- the lines of edits, in order
+abbrev pub lines_of : List Edit → List (List ℕ)
+lines_of edits = edit_lines (map edit_of edits)
+
+-- the line of a report, which has this number
+abbrev pub report_line_of : ℕ → Report → List ℕ
+report_line_of number report = report_line number (report_of report)
+
+-- the lines of reports, the first of which has this number
+abbrev pub report_lines_from : ℕ → List Report → List (List ℕ)
+report_lines_from number reports = report_lines number (map report_of reports)
+
+-- the edits that were taken, and then the reports
+abbrev pub text_of : List Edit → List Report → List ℕ
+text_of edits reports = language.text_of (map edit_of edits) (map report_of reports)
