@@ -1,5 +1,0 @@
-pub mod Fields
-pub mod Names
-pub mod Views
-pub mod Source
-pub mod Form
