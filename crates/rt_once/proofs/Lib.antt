@@ -1,0 +1,7 @@
+mod Unlooked
+mod Lines
+mod Since
+mod Orders
+mod Moving
+mod Entries
+mod Renders

@@ -1,0 +1,6 @@
+//! In a completed render that polls no task no body runs twice.
+#![tactic(auto)]
+
+mod once;
+
+pub use once::no_body_twice;
