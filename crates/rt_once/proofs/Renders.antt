@@ -1,4 +1,4 @@
--- In a completed render that polls no task no body runs twice.
+-- In a completed render that polls no task after its first rerun no body runs twice.
 use Rattle.std.proofs.Common.{ℕ, ◌+◌, ◌≤◌, ◌<◌, Bool, true, false, ◌&&◌, List, [], ◌∷◌, ◌++◌, ◌≡◌, ◌⊎◌, inl, inr, refl, sym, ap, ◌∙◌, subst, arith, nat_eq}
 use Rattle.std.specs.Prelude.{Option, Some, None, is_some, if◌then◌else◌, nat_lt}
 use Rattle.std.specs.List.{AllByRecursion}
@@ -9,10 +9,11 @@ use Rattle.rt_model.specs.World.{Scopes, at_end, Application}
 use Rattle.rt_model.specs.Laws.{IsLawful}
 use Rattle.rt_model.specs.State.{SideName, Fault, IdsExhausted, TooDeep, OutOfTurns, Scope, State, Item, Draw, Row, Feed, Make, Drop, Outcome, Done, Cut, is_live}
 use Rattle.rt_model.specs.Next.{Work, RerunScope, PollTask, RunEffects, at_rest, look, next, owes}
+use Rattle.rt_model.specs.Commands.{unqueued}
 use Rattle.rt_model.specs.Run.{run}
 use Rattle.rt_model.specs.Removal.{next_removed}
 use Rattle.rt_model.specs.Heard.{Listener}
-use Rattle.rt_model.specs.Replay.{is_quiet, Entry, Build, Taken, Heard, Rerun, Poll, Effects, Made, Fed, Kept, Removed, Input, Machine, ended_by, mounted_state, if_live, waiting, one_more_unit, fed_child, keeps, due_item, due_heard, due_work, due, made_in, with_new_scope, with_props, handed, outcome_of, rested, change_by, step, settled as settled_machine, rows_left, is_due, accepts}
+use Rattle.rt_model.specs.Replay.{is_quiet, Entry, Build, Taken, Heard, Rerun, Poll, Effects, Made, Fed, Kept, Removed, Input, Machine, ended_by, mounted_state, if_live, waiting, one_more_unit, fed_child, keeps, due_item, due_heard, due_work, due, made_in, with_new_scope, with_props, handed, outcome_of, polled, rested, change_by, step, settled as settled_machine, rows_left, is_due, accepts}
 use Rattle.rt_model.specs.Causes.{Limits, depth_refused, first_of, next_height, turns_refused, refusal, accepts_within, replay_within}
 use Rattle.rt_model.specs.Told.{opens, count_entries}
 use Rattle.rt_model.specs.Sentences.{runs, NoBodyTwice, render_ends, call_begun, EndsAt}
@@ -23,6 +24,7 @@ use Rattle.rt_model.proofs.StepFrames.{follows_later, look_same}
 use Rattle.rt_model.proofs.SideRuns.{mounted_stay, look_stay}
 use Rattle.rt_model.proofs.Turns.{stay_stands}
 use Rattle.rt_model.proofs.Stands.{Stands}
+use Rattle.rt_model.proofs.NumbersRun.{Idle, polled_idle}
 use Rattle.rt_moves.specs.Moves.{Move, Silent, Closed, Logged, entries, moves_alone, IsSettled, AtRest, AtWork, Leads}
 use Rattle.rt_moves.proofs.OneMoveOnly.{unsettled}
 use Rattle.rt_moves.proofs.Fuel.{fuel_suffices}
@@ -33,7 +35,7 @@ use Rattle.rt_ready.proofs.Twigs.{by_scope}
 use Rattle.rt_ready.proofs.Woven.{Woven, woven_same}
 use Rattle.rt_ready.proofs.Opens.{calm_twigs}
 use Rattle.rt_ready.proofs.Everywhere.{fed_kid, ReadyAt, work_state, move_ready, reached_ready}
-use Rattle.rt_once.specs.Once.{renders, RendersOnce}
+use Rattle.rt_once.specs.Once.{renders, PollsFirst, RendersOnce}
 use Rattle.rt_once.proofs.Since.{Since, calm_since}
 use Rattle.rt_once.proofs.Moving.{OneMore, not_both, fades_same, SinceOn, ended_since, silent_since}
 use Rattle.rt_once.proofs.Entries.{rerun_new, rerun_since, kept_since, fed_new, fed_since, made_new, born_run, drop_since}
@@ -324,21 +326,32 @@ module _ {K : Types} (app : Application K) (lawful : IsLawful K app) where
       let absurdity : false ≡ true = sym (ap (λ (o : Option Entry). is_due app o e) none) ∙ h in
       cc
 
-  one_entry : (ran : ℕ → Type 0) (m u : Machine K) (e : Entry) → IsSettled m → accepts app m e ≡ Some u → renders e ≡ true → (opens e ≡ true → render_ends m.state ≡ false) → SinceOn app lawful ran ran m → ReadyAt app lawful m
-      → Stepped ran e u × IsSettled u
-  one_entry ran m u e settled acc plain goes_on h ready =
+  -- what an accepted entry gives: moves that leave it alone in the log
+  record Accepted (m u : Machine K) (e : Entry) : Type 0 where
+    alive : m.dead ≡ None
+    moves : List Move
+    leads : Leads app (ample m) m moves u
+    same : entries moves ≡ e ∷ []
+    settled : IsSettled u
+
+  accepted_as : (m u : Machine K) (e : Entry) → IsSettled m → accepts app m e ≡ Some u → Accepted m u e
+  accepted_as m u e settled acc =
       let is = accepted (is_due app (due app m) e) (step app m e) u acc in
       let alive = alive_by m m.dead e refl is.0 in
-      let limits : Limits = ample m in
-      let within : accepts_within app limits m e ≡ Some u =
+      let within : accepts_within app (ample m) m e ≡ Some u =
       ap (λ (o : Option Fault). elim o as (λ z. Option (Machine K)) [ None ↦ accepts app m e | Some fault ↦ None ]) (ample_fits m alive) ∙ acc in
-      let moves = logs_are_moves app limits m u (e ∷ []) settled (ap (λ (o : Option (Machine K)). replay_within app limits o []) within) in
-      let z : Machine K = change_by app m m.work e in
-      let quiet : IsSettled (settled_machine app z) = settled_is z in
-      (from_moves ran limits moves.0 m u e alive settled moves.1 moves.2 plain goes_on (h alive) ready, subst (λ (y : Machine K). IsSettled y) is.1 quiet)
+      let found = logs_are_moves app (ample m) m u (e ∷ []) settled (ap (λ (o : Option (Machine K)). replay_within app (ample m) o []) within) in
+      let quiet : IsSettled (settled_machine app (change_by app m m.work e)) = settled_is (change_by app m m.work e) in
+      record { alive = alive; moves = found.0; leads = found.1; same = found.2; settled = subst (λ (y : Machine K). IsSettled y) is.1 quiet }
     where
       settled_is : (z : Machine K) → IsSettled (settled_machine app z)
       settled_is z = let n : ℕ = rows_left z.work in (fuel_suffices app n n z (omega arith) (omega arith)).1
+
+  one_entry : (ran : ℕ → Type 0) (m u : Machine K) (e : Entry) → IsSettled m → accepts app m e ≡ Some u → renders e ≡ true → (opens e ≡ true → render_ends m.state ≡ false) → SinceOn app lawful ran ran m → ReadyAt app lawful m
+      → Stepped ran e u × IsSettled u
+  one_entry ran m u e settled acc plain goes_on h ready =
+      let is : Accepted m u e = accepted_as m u e settled acc in
+      (from_moves ran (ample m) is.moves m u e is.alive settled is.leads is.same plain goes_on (h is.alive) ready, is.settled)
 
   counted : (ran : ℕ → Type 0) (e : Entry) (log : List Entry) (s : ℕ) (b : Bool) → runs s e ≡ b → (runs s e ≡ true → ran s → ⊥) → (After ran e s → count_entries (λ x. runs s x) log ≡ 0) × (count_entries (λ x. runs s x) log ≤ 1)
       → (ran s → (if b then 1 else 0) + count_entries (λ x. runs s x) log ≡ 0) × ((if b then 1 else 0) + count_entries (λ x. runs s x) log ≤ 1)
@@ -390,13 +403,68 @@ module _ {K : Types} (app : Application K) (lawful : IsLawful K app) where
         line = tt;
       }
 
-  pub no_body_twice_of : (m v : Machine K) (log : List Entry) → ReadyAt app lawful m → AtRest m → EndsAt app (λ (w : State K). render_ends w) (call_begun m) log v → AllByRecursion (λ (e : Entry). renders e ≡ true) log → NoBodyTwice log
+  -- a poll opens no work, so it leaves all as at a look
+  poll_change : (m : Machine K) (work : List (Item K)) (t : ℕ) → change_by app m work (Poll t) ≡ ended_by (one_more_unit (rested app m)) None [] (polled app (at_rest m.state) t)
+  poll_change m [] t = refl
+  poll_change m (Draw s a p k ∷ rest) t = refl
+  poll_change m (Row b step ∷ rest) t = refl
+  poll_change m (Feed s a p c ∷ rest) t = refl
+  poll_change m (Make s a p c ∷ rest) t = refl
+  poll_change m (Drop u s a ∷ rest) t = refl
+
+  poll_moves : (limits : Limits) (moves : List Move) (m u : Machine K) (t : ℕ) → m.dead ≡ None → IsSettled m → Leads app limits m moves u → entries moves ≡ Poll t ∷ [] → ReadyAt app lawful m
+      → SinceOn app lawful nobody nobody u × ReadyAt app lawful u
+  poll_moves limits [] m u t alive settled leads same ready = cc
+  poll_moves limits (Silent ∷ moves) m u t alive settled leads same ready = let move = leads.1 in unsettled m (move.item ∷ move.later) alive move.next move.silent settled
+  poll_moves limits (Closed ∷ moves) m u t alive settled leads same ready = let move = leads.1 in unsettled m [] alive move.idle move.at_work settled
+  poll_moves limits (Logged d ∷ moves) m u t alive settled leads same ready =
+      let move = leads.1 in
+      let z : Machine K = leads.0 in
+      let entry : d ≡ Poll t = cc in
+      let none : entries moves ≡ [] = cc in
+      let w : State K = at_rest m.state in
+      let o : Outcome K = polled app w t in
+      let next_ready : ReadyAt app lawful z = move_ready app lawful limits m z (Logged d) move ready in
+      let is : z ≡ ended_by (one_more_unit (rested app m)) None [] o = move.gives ∙ ap (λ (x : Entry). change_by app m m.work x) entry ∙ poll_change m m.work t in
+      let idle : Idle o = polled_idle app lawful (unqueued w t) t (at w.tasks t) in
+      let before : SinceOn app lawful nobody nobody z =
+      subst (λ (y : Machine K). SinceOn app lawful nobody nobody y) (sym is)
+      (ended_since app lawful nobody nobody (one_more_unit (rested app m)) None [] o (subst (λ (y : Machine K). ReadyAt app lawful y) is next_ready)
+      (
+      λ v work e woven knows.
+      let nothing : work ≡ [] = subst (λ (x : Outcome K). Idle x) e idle in
+      subst (λ (xs : List (Item K)). Since nobody v (xs ++ [])) (sym nothing) (begins v)
+      )) in
+      tail_since nobody limits moves z u none leads.2 next_ready before
+
+  polls_count : (s t : ℕ) (log : List Entry) → count_entries (λ x. runs s x) log ≤ 1 → count_entries (λ x. runs s x) (Poll t ∷ log) ≤ 1
+  polls_count s t log few = omega (arith, few)
+
+  first_on : (log : List Entry) (m v : Machine K) → IsSettled m → SinceOn app lawful nobody nobody m → ReadyAt app lawful m → EndsAt app (λ (w : State K). render_ends w) m log v → PollsFirst log → (s : ℕ) → count_entries (λ x. runs s x) log ≤ 1
+  first_on [] m v settled h ready ends plain s = omega arith
+  first_on (Poll t ∷ log) m v settled h ready ends plain s =
+      let on = ends.1 in
+      let u : Machine K = on.0 in
+      let is : Accepted m u (Poll t) = accepted_as m u (Poll t) settled on.1 in
+      let after = poll_moves (ample m) is.moves m u t is.alive settled is.leads is.same ready in
+      polls_count s t log (first_on log u v is.settled after.0 after.1 on.2 plain s)
+  first_on (Build ∷ log) m v settled h ready ends plain s = (once_on nobody (Build ∷ log) m v settled h ready ends plain s).1
+  first_on (Taken k ∷ log) m v settled h ready ends plain s = (once_on nobody (Taken k ∷ log) m v settled h ready ends plain s).1
+  first_on (Heard k ∷ log) m v settled h ready ends plain s = (once_on nobody (Heard k ∷ log) m v settled h ready ends plain s).1
+  first_on (Rerun k ∷ log) m v settled h ready ends plain s = (once_on nobody (Rerun k ∷ log) m v settled h ready ends plain s).1
+  first_on (Effects k ∷ log) m v settled h ready ends plain s = (once_on nobody (Effects k ∷ log) m v settled h ready ends plain s).1
+  first_on (Made k ∷ log) m v settled h ready ends plain s = (once_on nobody (Made k ∷ log) m v settled h ready ends plain s).1
+  first_on (Fed k ∷ log) m v settled h ready ends plain s = (once_on nobody (Fed k ∷ log) m v settled h ready ends plain s).1
+  first_on (Kept k ∷ log) m v settled h ready ends plain s = (once_on nobody (Kept k ∷ log) m v settled h ready ends plain s).1
+  first_on (Removed k ∷ log) m v settled h ready ends plain s = (once_on nobody (Removed k ∷ log) m v settled h ready ends plain s).1
+
+  pub no_body_twice_of : (m v : Machine K) (log : List Entry) → ReadyAt app lawful m → AtRest m → EndsAt app (λ (w : State K). render_ends w) (call_begun m) log v → PollsFirst log → NoBodyTwice log
   no_body_twice_of m v log ready rest ends plain s =
       let n : Machine K = call_begun m in
       let settled : IsSettled n =
       ap (λ (o : Option Fault). moves_alone o m.work m.unit) rest.alive ∙ ap (λ (items : List (Item K)). moves_alone None items m.unit) rest.idle ∙ rest.unit in
       let h : SinceOn app lawful nobody nobody n = λ alive. subst (λ (items : List (Item K)). Since nobody (look m.state) items) (sym rest.idle) (begins (look m.state)) in
-      (once_on nobody log n v settled h (look_ready m ready) ends plain s).1
+      first_on log n v settled h (look_ready m ready) ends plain s
 
 pub no_body_twice : {K : Types} (app : Application K) → RendersOnce app
 no_body_twice app lawful limits props inputs m v log reached rest ends plain =

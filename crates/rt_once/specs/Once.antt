@@ -1,11 +1,11 @@
--- No body runs twice in a render that polls no task.
-use Rattle.std.specs.Prelude.{Bool, true, false, List, ◌≡◌}
+-- No body runs twice in a render that polls no task after its first rerun.
+use Rattle.std.specs.Prelude.{Bool, true, false, List, [], ◌∷◌, ◌≡◌}
 use Rattle.std.specs.List.{AllByRecursion}
 use Rattle.rt_model.specs.Tree.{Types}
 use Rattle.rt_model.specs.World.{Application}
 use Rattle.rt_model.specs.Laws.{IsLawful}
 use Rattle.rt_model.specs.State.{State}
-use Rattle.rt_model.specs.Replay.{Entry, Rerun, Made, Fed, Kept, Removed, Input, Machine}
+use Rattle.rt_model.specs.Replay.{Entry, Rerun, Poll, Made, Fed, Kept, Removed, Input, Machine}
 use Rattle.rt_model.specs.Causes.{Limits}
 use Rattle.rt_model.specs.Sentences.{NoBodyTwice, render_ends, call_begun, EndsAt}
 use Rattle.rt_moves.specs.Moves.{AtRest}
@@ -20,7 +20,13 @@ renders (Kept s) = true
 renders (Removed s) = true
 renders _ = false
 
--- of a lawful application, wherever moves lead and nothing is at work: in a completed render that polls no task no body runs twice
+-- tasks are polled first if at all, then scopes are rerun alone
+abbrev pub PollsFirst : List Entry → Type 0
+PollsFirst [] = Unit {0}
+PollsFirst (Poll t ∷ log) = PollsFirst log
+PollsFirst (e ∷ log) = (renders e ≡ true) × AllByRecursion (λ (x : Entry). renders x ≡ true) log
+
+-- of a lawful application, wherever moves lead and nothing is at work: in a completed render that polls no task after its first rerun no body runs twice
 abbrev pub RendersOnce : {K : Types} → Application K → Type 0
 RendersOnce {K = K} app =
     IsLawful K app
@@ -28,5 +34,5 @@ RendersOnce {K = K} app =
     → Reached app limits props inputs m
     → AtRest m
     → EndsAt app (λ (w : State K). render_ends w) (call_begun m) log v
-    → AllByRecursion (λ (e : Entry). renders e ≡ true) log
+    → PollsFirst log
     → NoBodyTwice log

@@ -1,4 +1,4 @@
-//! In a completed render that polls no task no body runs twice.
+//! In a completed render that polls no task after its first rerun no body runs twice.
 #![tactic(auto)]
 
 mod once;
