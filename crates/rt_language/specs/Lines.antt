@@ -6,7 +6,7 @@ use Rattle.rt_model.specs.Lists.{Text, joined}
 use Rattle.rt_model.specs.World.{Counter, Scopes, Tasks, Cells, Contexts, Elements, Errors, Renders}
 use Rattle.rt_model.specs.State.{Fault, OutOfTurns, TooDeep, IdsExhausted, HookChanged, NoSuchTask, BadNode}
 use Rattle.rt_model.specs.Document.{DocAttribute, Content, DocElement, DocText, DocPlaceholder, Forest, Empty, Node, Edit, AppendChildren, ReplaceNodeWith, InsertNodesAfter, RemoveNode, SetNodeText, SetAttribute, CreateEventListener, RemoveEventListener}
-use Rattle.rt_model.specs.Replay.{Entry, Build, Taken, Heard, Rerun, Poll, Effects, Made, Fed, Kept, Removed}
+use Rattle.rt_model.specs.Replay.{Entry, Build, Taken, Heard, Rerun, Poll, Effects, Made, Fed, Kept, Removed, Post, MarkScope, WakeTask, AllDirty, Message}
 use Rattle.rt_model.specs.Headline.{Report}
 
 -- nodes
@@ -125,6 +125,19 @@ fault_text (HookChanged scope index kept asked) =
     ++ decimal asked
 fault_text (NoSuchTask scope task) = codes "fault 7 NoSuchTask " ++ decimal scope ++ codes " " ++ decimal task
 fault_text (BadNode scope) = codes "fault 8 BadNode " ++ decimal scope
+
+-- messages
+
+-- what a message asks for
+abbrev pub post_text : Post → Text
+post_text (MarkScope s) = codes "mark:" ++ decimal s
+post_text (WakeTask t) = codes "wake:" ++ decimal t
+post_text AllDirty = codes "all"
+
+-- a message that the drain of the report with this number took, without the end of its line
+abbrev pub taken_text : ℕ → Message → Text
+taken_text report m =
+    codes "taken " ++ decimal report ++ codes " " ++ decimal m.poster ++ codes ":" ++ decimal m.sequence ++ codes " " ++ post_text m.what
 
 -- the edits that were taken, and then the reports
 abbrev pub text_of : List Edit → List Report → Text

@@ -1,7 +1,7 @@
 //! The lines of messages that posters posted and a drain took.
 ghost use Rattle.std.specs.Prelude.{◌≡◌, ◌++◌, IfOk, OnOk};
 ghost use Rattle.rt_language.specs.Lines as language;
-ghost use Rattle.rt_print.specs.Messages.{post_text, taken_text};
+ghost use Rattle.rt_language.specs.Lines.{post_text, taken_text};
 ghost use Rattle.rt_reports.specs.Seen.{post_of, message_of};
 
 use crate::line::Line;
