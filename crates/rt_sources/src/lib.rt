@@ -5,8 +5,6 @@ mod definitions;
 mod inputs;
 mod reading;
 mod signatures;
-#[cfg(test)]
-mod tests;
 mod whole;
 
 pub use reading::{SOURCE_LIMIT, read_source};

@@ -1,6 +1,6 @@
 //! Sources with the syntax that they are, and sources that are refused.
 
-use crate::read_source;
+use rt_sources::read_source;
 use rt_syntax::{
     ComponentSource, ComponentUse, Expression, InputSource, Literal, PostSource, Source, SpawnKind,
     Statement, ViewAttribute, ViewNode, ViewSlot,

@@ -1,0 +1,5 @@
+//! Sources with the syntax that they are, and sources that are refused.
+#![tactic(auto)]
+
+#[cfg(test)]
+mod tests;
