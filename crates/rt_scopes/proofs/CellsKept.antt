@@ -26,7 +26,7 @@ use Rattle.rt_scopes.proofs.Changed.{on_ok}
 tie : (a b : ℕ) → is_eq (nat_cmp a b) ≡ nat_eq b a
 tie a b = grind (arith, nat_tests)
 
-same-number : (x n : ℕ) → nat_eq x n ≡ true → x ≡ n
+pub same-number : (x n : ℕ) → nat_eq x n ≡ true → x ≡ n
 same-number x n h = elim (eqb_tells x n) as (λ _. x ≡ n) [ inl p ↦ p.1 | inr p ↦ absurd (cc (sym p.0 ∙ h)) ]
 
 pub some_is : {A : Type 0} (o : Option A) → is_some o ≡ true → (a : A) × (o ≡ Some a)

@@ -1,12 +1,13 @@
 -- A climb from a scope upwards, step by step.
 use Rattle.std.proofs.Common.{◌≡◌, ℕ, zero, suc, inl, inr, ◌-◌, ◌&&◌, Bool, true, false, List, refl, ap, sym, ◌∙◌, arith}
-use Rattle.std.specs.Prelude.{nat_eq, Option, Some, None, if◌then◌else◌}
+use Rattle.std.specs.Prelude.{nat_eq, Option, Some, None, is_some, if◌then◌else◌}
 use Rattle.std.proofs.lemmas.Bool.Decides.{eqb_tells}
 use Rattle.rt_model.specs.Lists.{at}
 use Rattle.rt_model.specs.Tree.{Types}
 use Rattle.rt_model.specs.State as model
 use Rattle.rt_model.specs.State.{SideName, climb, climb_at, is_boundary, location_at, location_from, shown_at, shown_from, is_side}
 use Rattle.rt_scopes.specs.Climbs.{shows_side}
+use Rattle.rt_scopes.specs.Mounts.{shown_in}
 
 -- a number of steps that isn't 0
 pub one-less : (n : ℕ) → nat_eq n 0 ≡ false → suc (n - 1) ≡ n
@@ -140,3 +141,13 @@ module _ {K : Types} (scopes : List (ℕ × model.Scope K)) where
     -- the scope above shows this side, and so do those further up
     pub shown_on : (x : model.Scope K) (p : ℕ) → at scopes s ≡ Some x → x.parent ≡ Some p → shows_side (at scopes p) x.below && shown_from scopes (n - 1) p ≡ shown_from scopes n s
     shown_on x p stood up = side_shown p x.below (at scopes p) (shown_from scopes (n - 1) p) ∙ shown_up x (Some p) stood up
+
+  -- a live scope shows where those above it do
+  pub live_shows : (s : ℕ) (x : model.Scope K) (b : Bool) → at scopes s ≡ Some x → b ≡ shown_from scopes x.height s → b ≡ shown_in scopes s
+  live_shows s x b stood is =
+      is ∙ ap (λ (o : Option (model.Scope K)). is_some o && shown_from scopes (elim o as (λ _. ℕ) [ None ↦ 0 | Some y ↦ y.height ]) s) (sym stood)
+
+  -- a scope that is gone doesn't
+  pub gone_shows : (s : ℕ) → at scopes s ≡ None → false ≡ shown_in scopes s
+  gone_shows s gone =
+      ap (λ (o : Option (model.Scope K)). is_some o && shown_from scopes (elim o as (λ _. ℕ) [ None ↦ 0 | Some y ↦ y.height ]) s) (sym gone)

@@ -30,3 +30,7 @@ number-at {A = A} seen table i e row view within is = ap (λ (p : ℕ × A). p.0
 -- the same, for what is read there in the view
 pub number-seen : {A : Type 0} (seen table : List (ℕ × A)) (i : ℕ) (e row : ℕ × A) → seen ≡ table → i < length table → (get_or seen i e).0 ≡ (get_or table i row).0
 number-seen {A = A} seen table i e row view within = ap (λ (p : ℕ × A). p.0) (ap (λ xs. get_or xs i e) view ∙ get_or_default table i e row within)
+
+-- what is read at an index of a view stands there in the table
+pub at-index : {A : Type 0} (seen table : List (ℕ × A)) (i : ℕ) (e row : ℕ × A) → seen ≡ table → i < length table → e ≡ get_or seen i e → e ≡ get_or table i row
+at-index seen table i e row view within is = is ∙ ap (λ xs. get_or xs i e) view ∙ get_or_default table i e row within

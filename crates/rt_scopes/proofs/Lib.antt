@@ -21,3 +21,9 @@ pub mod SeenWorld
 pub mod FoundScopes
 pub mod Contexts
 pub mod OneMore
+pub mod Starts
+pub mod Mounts
+pub mod Polls
+pub mod KindsInPlace
+pub mod Removed
+pub mod Masked

@@ -7,3 +7,8 @@ pub mod Provided
 pub mod Effects
 pub mod Holders
 pub mod Sides
+pub mod Starts
+pub mod Made
+pub mod Mounts
+pub mod Kinds
+pub mod CleanUps

@@ -1,5 +1,5 @@
 -- The state of code as that of the model.
-use Rattle.std.specs.Prelude.{◌≡◌, ℕ, List, [], ◌∷◌, map, Option, Some, None}
+use Rattle.std.specs.Prelude.{◌≡◌, ℕ, ◌+◌, List, [], ◌∷◌, map, Option, Some, None}
 use Rattle.rt_tracked.specs.declared.numbered.Held.{Held}
 use Rattle.rt_model.specs.OneLog.{types}
 use Rattle.rt_model.specs.Tree as tree
@@ -23,6 +23,22 @@ module _ {K : tree.Types} where
   -- the last call of a scope isn't kept any more
   abbrev pub forgets : Unkept K → ℕ → Unkept K
   forgets g s = record g { last_calls = without g.last_calls s }
+
+  -- this is the state of a task that is polled
+  abbrev pub polls : Unkept K → K.TaskState → Unkept K
+  polls g a = record g { polled = a }
+
+  -- the last call of a scope is another one
+  abbrev pub recalls : Unkept K → ℕ → state.LastCall K → Unkept K
+  recalls g s call = record g { last_calls = put g.last_calls s call }
+
+  -- the application is called once more
+  abbrev pub counts : Unkept K → Unkept K
+  counts g = record g { calls = g.calls + 1 }
+
+  -- nothing was called yet
+  abbrev pub at_first : K.TaskState → Unkept K
+  at_first a = record { last_calls = []; polled = a; calls = 0 }
 
 module _ {C Q V H T E L : Type 0} where
   -- a cell

@@ -7,6 +7,7 @@ ghost use Rattle.rt_mirror.specs.Sealed.{component_of};
 ghost use Rattle.rt_places.specs.Places.{side_name_of};
 ghost use Rattle.rt_scopes.specs.Climbs.{is_sought, shows_side, place_above};
 ghost use Rattle.rt_scopes.specs.Mirror.{scopes_of, state_of};
+ghost use Rattle.rt_scopes.specs.Mounts.{shown_in};
 
 use crate::scopes::is_suspense_boundary;
 use crate::state::State;
@@ -99,7 +100,17 @@ impl<P: Parts> State<P> {
     pub fn is_shown(&self, scope: u64) -> bool
         ensures { (g : _) → result ≡ is_shown (state_of g self.now) scope }
     {
-        self.is_live(scope) && self.shown_from(self.height_of(scope), scope)
+        self.shows(scope)
+    }
+
+    /// Whether a live scope shows, by the table of scopes.
+    pub(crate) fn shows(&self, scope: u64) -> bool
+        ensures { result ≡ shown_in (scopes_of self.now.rows.table) scope }
+    {
+        let Some(found) = self.scope(scope) else {
+            return false;
+        };
+        self.shown_from(found.rest.height, scope)
     }
 
     /// Whether the scopes above show the way, at most so many steps up.

@@ -8,6 +8,7 @@ mod commands;
 mod errors;
 mod held;
 mod looks;
+mod mounting;
 mod names;
 mod numbers;
 mod order;

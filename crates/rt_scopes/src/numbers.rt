@@ -1,9 +1,10 @@
 //! Lists of numbers, of marks and wakes.
-ghost use Rattle.std.specs.Prelude.{◌≡◌, ◌<◌, ◌≤◌, ℕ, length, get_or, map, OnOk, IfSome, IfNone, true, false};
+ghost use Rattle.std.specs.Prelude.{◌≡◌, ◌<◌, ◌≤◌, ◌++◌, ℕ, length, get_or, take, drop, nat_le, map, OnOk, IfSome, IfNone, true, false};
 ghost use Rattle.std.specs.List.{list_any};
 ghost use Rattle.rt_model.specs.Lists.{has, drop_number, join, insert_number};
 ghost use Rattle.rt_model.specs.Commands.{same_posted, drop_posted};
 ghost use Rattle.rt_scopes.specs.Names.{posted_of};
+ghost use Rattle.rt_scopes.specs.Kinds.{stands_at};
 
 use crate::names::Posted;
 use rt_values::{List, OutOfMemory};
@@ -54,18 +55,34 @@ fn has_number(numbers: &[u64], number: u64) -> bool
 }
 
 /// Puts a number in its place in an ascending list, once.
-pub fn insert_number(numbers: &mut Vec<u32>, number: u32) -> Result<(), OutOfMemory> {
+pub fn insert_number(numbers: &mut Vec<u32>, number: u32) -> Result<(), OutOfMemory>
+    ensures { OnOk result (numbers.new.items ≡ insert_number numbers.old.items number) }
+{
     let index = place_of(numbers.as_slice(), number);
-    if index < numbers.len() && numbers[index] == number {
+    if stands_at(numbers.as_slice(), index, number) {
         return Ok(());
     }
     numbers.insert(index, number)?;
     Ok(())
 }
 
+/// Whether a number stands at an index.
+fn stands_at(numbers: &[u32], index: usize, number: u32) -> bool
+    ensures { result ≡ stands_at numbers.now index number }
+{
+    match numbers.get(index) {
+        Some(own) => *own == number,
+        None => false,
+    }
+}
+
 /// Where a number belongs in an ascending list: before the first that isn't lower.
 fn place_of(numbers: &[u32], number: u32) -> usize
     ensures within { result ≤ length numbers.now }
+    ensures lower { insert_number numbers.now number
+        ≡ take result numbers.now ++ insert_number (drop result numbers.now) number }
+    ensures here { (d : ℕ) → result < length numbers.now →
+        nat_le number (get_or numbers.now result d) ≡ true }
 {
     for index in 0..numbers.len() {
         if number <= numbers[index] {

@@ -1,9 +1,10 @@
 //! What changes on the sides of scopes: numbers, children, the side that shows.
-ghost use Rattle.std.specs.Prelude.{◌≡◌, ◌<◌, length, ◌++◌, ◌∷◌, [], OnOk, IfOk, IfErr, Some, map};
-ghost use Rattle.rt_model.specs.Lists.{drop_number as drop_from, without};
+ghost use Rattle.std.specs.Prelude.{◌≡◌, ℕ, true, ◌++◌, ◌∷◌, [], OnOk, IfOk, IfErr, Ok, Err, Some, None, map};
+ghost use Rattle.rt_model.specs.Lists.{at, drop_number as drop_from, without};
+ghost use Rattle.rt_model.specs.World.{Scopes, at_end};
 ghost use Rattle.rt_model.specs.State as model;
 ghost use Rattle.rt_model.specs.State.{change};
-ghost use Rattle.rt_model.specs.State.{Done, Cut};
+ghost use Rattle.rt_model.specs.State.{Done, Cut, IdsExhausted};
 ghost use Rattle.rt_model.specs.Replay.{draw_number};
 ghost use Rattle.rt_scopes.specs.Effects.{effects_of, callbacks_of};
 ghost use Rattle.rt_scopes.specs.Names.{fault_of};
@@ -11,7 +12,7 @@ ghost use Rattle.rt_scopes.specs.Sides.{with_number, with_child, more_number, mo
 ghost use Rattle.rt_calls.specs.Calls.{source_of, newest_first};
 ghost use Rattle.rt_mirror.specs.Sealed.{component_of};
 ghost use Rattle.rt_places.specs.Places.{kind_of, number_of, place_of, side_name_of};
-ghost use Rattle.rt_calls.specs.Kept.{scope_of};
+ghost use Rattle.rt_scopes.specs.Made.{IsMade};
 ghost use Rattle.rt_scopes.specs.Mirror.{state_of, forgets};
 
 use crate::held::next_number;
@@ -91,7 +92,17 @@ impl<P: Parts> State<P> {
         side: SideName,
         place: Place,
         component: VComponent<P>,
-    ) -> Result<Option<u64>, Stop> {
+    ) -> Result<Option<u64>, Stop>
+        ensures made { (child : ℕ) → result ≡ Ok (Some child) → (g : _) →
+            IsMade (state_of g self.old) parent (side_name_of side) (place_of place)
+            (component_of component) child (state_of g self.new) }
+        ensures gone { result ≡ Ok None → (g : _) →
+            (at (state_of g self.old).scopes parent ≡ None)
+            × (state_of g self.new ≡ state_of g self.old) }
+        ensures cut { (what : Fault) → result ≡ Err (Stop.Fault what) → (g : _) →
+            (fault_of what ≡ IdsExhausted Scopes) × (at_end (state_of g self.old).next_scope ≡ true)
+            × (state_of g self.new ≡ state_of g self.old) }
+    {
         let Some(found) = self.scope(parent) else {
             return Ok(None);
         };
@@ -158,32 +169,6 @@ impl<P: Parts> State<P> {
                 Ok(())
             },
         )
-    }
-
-    /// Every scope that shows becomes mounted.
-    pub fn mount_shown(&mut self) -> Result<(), OutOfMemory> {
-        let count = self.rows.table.as_slice().len();
-        for index in 0..count {
-            self.mount_at(index)?;
-        }
-        Ok(())
-    }
-
-    /// Mounts the scope at an index, where it shows.
-    fn mount_at(&mut self, index: usize) -> Result<(), OutOfMemory>
-        requires within { index < length self.old.rows.table }
-        ensures count { length self.new.rows.table ≡ length self.old.rows.table }
-    {
-        let entry = &self.rows.table.as_slice()[index];
-        if entry.1.rest.mounted || !self.is_shown(entry.0) {
-            return Ok(());
-        }
-        self.rows
-            .table
-            .change_at(index, |found: &mut Scope<P>| -> Result<(), OutOfMemory> {
-                found.rest.mounted = true;
-                Ok(())
-            })
     }
 
     /// The fallback of a boundary shows; it counts as turned to its children no more.

@@ -1,14 +1,17 @@
 //! The state of a runtime.
-ghost use Rattle.std.specs.Prelude.{◌≡◌, ◌<◌, ℕ, length, get_or, slice_set, OnOk, is_some, option_map};
+ghost use Rattle.std.specs.Prelude.{◌≡◌, ◌<◌, ℕ, length, get_or, slice_set, OnOk, IfOk, is_some, option_map};
 ghost use Rattle.std.specs.Option.{option_copied};
 ghost use Rattle.std.specs.Fn.{FnOnceReturnsAtMut};
 ghost use Rattle.rt_model.specs.Lists.{at};
 ghost use Rattle.rt_model.specs.State as model;
 ghost use Rattle.rt_model.specs.State.{is_live, change, world_of};
 ghost use Rattle.rt_calls.specs.Kept.{scope_of};
+ghost use Rattle.rt_model.specs.Replay.{first_state};
 ghost use Rattle.rt_calls.specs.Calls as calls;
+ghost use Rattle.rt_calls.specs.Calls.{firsts_of};
+ghost use Rattle.rt_scopes.specs.Starts.{IsEmpty};
 ghost use Rattle.rt_calls.specs.Enter as entry;
-ghost use Rattle.rt_scopes.specs.Mirror.{ScopeChange, state_of};
+ghost use Rattle.rt_scopes.specs.Mirror.{ScopeChange, at_first, state_of};
 
 use crate::names::{Posted, TaskKind};
 use crate::scopes::new_scope;
@@ -74,7 +77,10 @@ impl<P: Parts> State<P> {
         root: P::Component,
         props: P::Props,
         firsts: Firsts,
-    ) -> Result<State<P>, OutOfMemory> {
+    ) -> Result<State<P>, OutOfMemory>
+        ensures { IfOk result (λ state. (polled : P.TaskState) →
+            state_of (at_first polled) state ≡ first_state root props (firsts_of firsts)) }
+    {
         let component = VComponent::Root(RootProps {
             component: root,
             props,
@@ -87,7 +93,9 @@ impl<P: Parts> State<P> {
     }
 
     /// Nothing is kept.
-    fn empty(alloc: Global, firsts: Firsts) -> State<P> {
+    fn empty(alloc: Global, firsts: Firsts) -> State<P>
+        ensures { IsEmpty firsts result }
+    {
         State {
             rows: Rows::new(alloc),
             cells: Cells::new(alloc, firsts.cells, firsts.contexts),

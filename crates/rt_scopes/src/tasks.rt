@@ -1,5 +1,5 @@
 //! Tasks: spawned, paused, ended.
-ghost use Rattle.std.specs.Prelude.{◌≡◌, ◌<◌, ◌&&◌, not, ◌++◌, ◌∷◌, [], ℕ, nat_eq, length, get_or, slice_set, OnOk, IfOk, IfSome, IfNone, map, true, false, if◌then◌else◌};
+ghost use Rattle.std.specs.Prelude.{◌≡◌, ◌<◌, ◌&&◌, not, ◌++◌, ◌∷◌, [], ℕ, nat_eq, length, get_or, slice_set, OnOk, IfOk, IfSome, IfNone, Some, option_map, map, true, false, if◌then◌else◌};
 ghost use Rattle.std.specs.List.{list_any};
 ghost use Rattle.std.specs.Fn.{FnOnceReturnsAtMut};
 ghost use Rattle.rt_model.specs.Lists.{at};
@@ -9,7 +9,7 @@ ghost use Rattle.rt_calls.specs.Kept.{scope_of};
 ghost use Rattle.rt_scopes.specs.Holders.{others, let_go};
 ghost use Rattle.rt_model.specs.Removal.{end_all, tasks_in};
 ghost use Rattle.rt_scopes.specs.Names.{posted_of, task_kind_of};
-ghost use Rattle.rt_scopes.specs.Mirror.{TaskChange, change_task, scopes_of, state_of};
+ghost use Rattle.rt_scopes.specs.Mirror.{TaskChange, change_task, polls, scopes_of, state_of};
 
 use crate::names::{Posted, TaskKind};
 use crate::numbers::{drop_number, drop_posted};
@@ -183,9 +183,20 @@ impl<P: Parts> State<P> {
         Ok(tasks)
     }
 
-    /// Takes a task's state out, to be polled.
-    pub fn take_state(&mut self, task: u64) -> Option<P::TaskState> {
-        let row = self.tasks.get(task)?;
+    /// Takes a task's state out, to be polled. None where the task has ended, or is polled already.
+    pub fn take_state(&mut self, task: u64) -> Option<P::TaskState>
+        // What stands for the state of a task that is polled stands for it now.
+        ensures left { (g : _) → state_of g self.new
+            ≡ change_task (state_of g self.old) task (λ x. record x { state = g.polled }) }
+        ensures own { IfSome result (λ taken. (g : _) →
+            option_map (λ x. x.state) (at (state_of g self.old).tasks task) ≡ Some taken) }
+        ensures taken { IfSome result (λ taken. (g : _) →
+            state_of (polls g taken) self.new ≡ state_of (polls g taken) self.old) }
+        ensures none { IfNone result ((g : _) → state_of g self.new ≡ state_of g self.old) }
+    {
+        let Some(row) = self.tasks.get(task) else {
+            return None;
+        };
         let polled = TaskRow {
             scope: row.scope,
             parent: row.parent,
@@ -193,17 +204,26 @@ impl<P: Parts> State<P> {
             active: row.active,
             kind: row.kind,
         };
-        let former = self.tasks.replace(task, polled)?;
-        former.state
+        match self.tasks.replace(task, polled) {
+            Some(former) => former.state,
+            None => None,
+        }
     }
 
     /// Puts back the state of a task that is still pending.
-    pub fn keep_state(&mut self, task: u64, state: P::TaskState) -> Result<(), OutOfMemory> {
-        self.tasks
-            .change(task, |row: &mut TaskRow<P>| -> Result<(), OutOfMemory> {
+    pub fn keep_state(&mut self, task: u64, state: P::TaskState) -> Result<(), OutOfMemory>
+        ensures { OnOk result ((g : _) → state_of g self.new
+            ≡ change_task (state_of g self.old) task (λ x. record x { state = state })) }
+    {
+        self.change_task(
+            task,
+            |row: &mut TaskRow<P>| -> Result<(), OutOfMemory>
+                ensures { OnOk result (row.new ≡ record row.old { state = Some state }) }
+            {
                 row.state = Some(state);
                 Ok(())
-            })
+            },
+        )
     }
 }
 
