@@ -1,6 +1,12 @@
 //! The way from a node of the document up to its root: what the attribute slots of each element on
 //! it give.
 
+ghost use Rattle.std.specs.Prelude.{◌≡◌, ◌++◌, ◌∷◌, [], Some, None, IfOk, OnOk, nat_eq};
+ghost use Rattle.rt_model.specs.Heard.{below_element, leaf_climb};
+ghost use Rattle.rt_places.specs.Places.{kind_of, place_of};
+ghost use Rattle.rt_work.specs.Found.{number_in};
+ghost use Rattle.rt_shown.specs.Climbs.{child_climb, climb_found, climb_of, entries_slots, entry_slots, items_climb_in, node_climb_in, row_climb_in, scope_climb, side_climb, slots_of, tree_climb_in, value_climb_in};
+
 use crate::levels::{LEVELS, down};
 use crate::look::Look;
 use crate::showing::{Shown, Standing};
@@ -23,12 +29,16 @@ pub(crate) fn find<P: Parts>(
     alloc: Global,
     look: &Look<'_, P>,
     number: u64,
-) -> Result<Option<Climb<P>>, OutOfMemory> {
+) -> Result<Option<Climb<P>>, OutOfMemory>
+    ensures { IfOk result (λ found. climb_found found
+        ≡ scope_climb look.now number look.now.scopes 0) }
+{
     find_within(alloc, look, number, look.scopes(), 0, LEVELS)
 }
 
 // Below a scope, at most `depth` scopes deep.
 #[cycle(find)]
+#[tactic(auto, using(crate::proofs::Climbing::climbing))]
 fn find_within<P: Parts>(
     alloc: Global,
     look: &Look<'_, P>,
@@ -36,7 +46,9 @@ fn find_within<P: Parts>(
     depth: u64,
     scope: u64,
     levels: u64,
-) -> Result<Option<Climb<P>>, OutOfMemory> {
+) -> Result<Option<Climb<P>>, OutOfMemory>
+    ensures { IfOk result (λ found. climb_found found ≡ scope_climb look.now number depth scope) }
+{
     let levels = down(levels)?;
     if depth == 0 {
         return Ok(None);
@@ -57,12 +69,16 @@ fn find_within<P: Parts>(
 }
 
 #[cycle(find)]
+#[tactic(auto, using(crate::proofs::Climbing::climbing))]
 fn find_side<P: Parts>(
     alloc: Global,
     shown: &Shown<'_, P>,
     number: u64,
     levels: u64,
-) -> Result<Option<Climb<P>>, OutOfMemory> {
+) -> Result<Option<Climb<P>>, OutOfMemory>
+    ensures { IfOk result (λ found. climb_found found
+        ≡ side_climb shown.now.look.now number shown.now.depth shown.now.side.now) }
+{
     let levels = down(levels)?;
     match &shown.side.output {
         Some(tree) => find_tree(alloc, shown, number, tree, &List::new(alloc), levels),
@@ -71,6 +87,7 @@ fn find_side<P: Parts>(
 }
 
 #[cycle(find)]
+#[tactic(auto, using(crate::proofs::Climbing::climbing))]
 fn find_tree<P: Parts>(
     alloc: Global,
     shown: &Shown<'_, P>,
@@ -78,7 +95,10 @@ fn find_tree<P: Parts>(
     tree: &VNode<P>,
     above: &Place,
     levels: u64,
-) -> Result<Option<Climb<P>>, OutOfMemory> {
+) -> Result<Option<Climb<P>>, OutOfMemory>
+    ensures { IfOk result (λ found. climb_found found
+        ≡ tree_climb_in shown.now number tree.now (place_of above.now)) }
+{
     let levels = down(levels)?;
     let standing = Standing {
         shown: &*shown,
@@ -96,6 +116,7 @@ fn find_tree<P: Parts>(
 }
 
 #[cycle(find)]
+#[tactic(auto, using(crate::proofs::Climbing::climbing))]
 fn find_nodes<P: Parts>(
     alloc: Global,
     standing: &Standing<'_, P>,
@@ -103,7 +124,10 @@ fn find_nodes<P: Parts>(
     up: &[u64],
     nodes: &[TemplateNode],
     levels: u64,
-) -> Result<Option<Climb<P>>, OutOfMemory> {
+) -> Result<Option<Climb<P>>, OutOfMemory>
+    ensures { IfOk result (λ found. climb_found found
+        ≡ row_climb_in standing.now number up.now 0 nodes.now) }
+{
     let levels = down(levels)?;
     for index in 0..nodes.len() {
         let node = &nodes[index];
@@ -115,6 +139,7 @@ fn find_nodes<P: Parts>(
 }
 
 #[cycle(find)]
+#[tactic(auto, using(crate::proofs::Climbing::climbing))]
 fn find_node<P: Parts>(
     alloc: Global,
     standing: &Standing<'_, P>,
@@ -123,7 +148,10 @@ fn find_node<P: Parts>(
     index: u64,
     node: &TemplateNode,
     levels: u64,
-) -> Result<Option<Climb<P>>, OutOfMemory> {
+) -> Result<Option<Climb<P>>, OutOfMemory>
+    ensures { IfOk result (λ found. climb_found found
+        ≡ node_climb_in standing.now number up.now index node.now) }
+{
     let levels = down(levels)?;
     let path = path_below(alloc, up, index)?;
     let place = place_inside(alloc, standing.above, &standing.tree.template, &path)?;
@@ -152,6 +180,7 @@ fn find_node<P: Parts>(
 }
 
 #[cycle(find)]
+#[tactic(auto, using(crate::proofs::Climbing::climbing))]
 fn find_slot<P: Parts>(
     alloc: Global,
     shown: &Shown<'_, P>,
@@ -159,7 +188,10 @@ fn find_slot<P: Parts>(
     value: &DynamicNode<P>,
     place: &Place,
     levels: u64,
-) -> Result<Option<Climb<P>>, OutOfMemory> {
+) -> Result<Option<Climb<P>>, OutOfMemory>
+    ensures { IfOk result (λ found. climb_found found
+        ≡ value_climb_in shown.now number value.now (place_of place.now)) }
+{
     let levels = down(levels)?;
     match value {
         DynamicNode::Text(_) => leaf_climb(alloc, shown, place, Kind::Text, number),
@@ -175,13 +207,18 @@ fn find_slot<P: Parts>(
 }
 
 #[cycle(find)]
+#[tactic(auto, using(crate::proofs::Climbing::climbing))]
 fn find_child<P: Parts>(
     alloc: Global,
     shown: &Shown<'_, P>,
     number: u64,
     place: &Place,
     levels: u64,
-) -> Result<Option<Climb<P>>, OutOfMemory> {
+) -> Result<Option<Climb<P>>, OutOfMemory>
+    ensures { IfOk result (λ found. climb_found found
+        ≡ child_climb shown.now.look.now number shown.now.depth shown.now.side.now
+        (place_of place.now)) }
+{
     let levels = down(levels)?;
     match child_at(shown.side.children.as_slice(), place.as_slice()) {
         Some(child) => find_within(alloc, shown.look, number, shown.depth, child, levels),
@@ -190,6 +227,7 @@ fn find_child<P: Parts>(
 }
 
 #[cycle(find)]
+#[tactic(auto, using(crate::proofs::Climbing::climbing))]
 fn find_items<P: Parts>(
     alloc: Global,
     shown: &Shown<'_, P>,
@@ -197,7 +235,10 @@ fn find_items<P: Parts>(
     place: &Place,
     trees: &[VNode<P>],
     levels: u64,
-) -> Result<Option<Climb<P>>, OutOfMemory> {
+) -> Result<Option<Climb<P>>, OutOfMemory>
+    ensures { IfOk result (λ found. climb_found found
+        ≡ items_climb_in shown.now number (place_of place.now) trees.now) }
+{
     let levels = down(levels)?;
     for position in 0..trees.len() {
         let above = place_of_item(alloc, place, position as u64)?;
@@ -209,18 +250,26 @@ fn find_items<P: Parts>(
 }
 
 // Whether the node of a kind at a place has this number.
-fn is_numbered<P: Parts>(shown: &Shown<'_, P>, place: &Place, kind: Kind, number: u64) -> bool {
+fn is_numbered<P: Parts>(shown: &Shown<'_, P>, place: &Place, kind: Kind, number: u64) -> bool
+    ensures { result
+        ≡ nat_eq (number_in shown.now.side.now.numbers (place_of place.now) (kind_of kind)) number }
+{
     number_at(shown.side.numbers.as_slice(), place.as_slice(), kind) == number
 }
 
 // A text or placeholder has no slots of its own.
+#[tactic(auto, using(crate::proofs::Climbing::climbing))]
 fn leaf_climb<P: Parts>(
     alloc: Global,
     shown: &Shown<'_, P>,
     place: &Place,
     kind: Kind,
     number: u64,
-) -> Result<Option<Climb<P>>, OutOfMemory> {
+) -> Result<Option<Climb<P>>, OutOfMemory>
+    ensures { IfOk result (λ found. climb_found found
+        ≡ leaf_climb number
+        (number_in shown.now.side.now.numbers (place_of place.now) (kind_of kind))) }
+{
     if is_numbered(shown, place, kind, number) {
         Ok(Some(alone(alloc, List::new(alloc))?))
     } else {
@@ -229,17 +278,24 @@ fn leaf_climb<P: Parts>(
 }
 
 // The climb that begins and ends at one element.
-fn alone<P: Parts>(alloc: Global, slots: Slots<P>) -> Result<Climb<P>, OutOfMemory> {
+#[tactic(auto, using(crate::proofs::Climbing::climbing))]
+fn alone<P: Parts>(alloc: Global, slots: Slots<P>) -> Result<Climb<P>, OutOfMemory>
+    ensures { IfOk result (λ climb. climb_of climb ≡ slots_of slots ∷ []) }
+{
     let mut climb = List::new(alloc);
     climb.push(slots)?;
     Ok(climb)
 }
 
 // The attribute slots of an element stand around what was found in it.
+#[tactic(auto, using(crate::proofs::Climbing::climbing))]
 fn below_element<P: Parts>(
     slots: Slots<P>,
     found: Option<Climb<P>>,
-) -> Result<Option<Climb<P>>, OutOfMemory> {
+) -> Result<Option<Climb<P>>, OutOfMemory>
+    ensures { IfOk result (λ climb. climb_found climb
+        ≡ below_element (slots_of slots) (climb_found found)) }
+{
     match found {
         Some(mut climb) => {
             climb.push(slots)?;
@@ -250,11 +306,14 @@ fn below_element<P: Parts>(
 }
 
 // What the attribute slots of an element give.
+#[tactic(auto, using(crate::proofs::Climbing::climbing))]
 fn slots_on<P: Parts>(
     alloc: Global,
     given: &List<List<Attribute<P>>>,
     attributes: &[TemplateAttribute],
-) -> Result<Slots<P>, OutOfMemory> {
+) -> Result<Slots<P>, OutOfMemory>
+    ensures { IfOk result (λ slots. slots_of slots ≡ entries_slots given.now attributes.now) }
+{
     let mut slots = List::new(alloc);
     for attribute in attributes {
         add_slot(alloc, given, attribute, &mut slots)?;
@@ -262,12 +321,16 @@ fn slots_on<P: Parts>(
     Ok(slots)
 }
 
+#[tactic(auto, using(crate::proofs::Climbing::climbing))]
 fn add_slot<P: Parts>(
     alloc: Global,
     given: &List<List<Attribute<P>>>,
     attribute: &TemplateAttribute,
     slots: &mut Slots<P>,
-) -> Result<(), OutOfMemory> {
+) -> Result<(), OutOfMemory>
+    ensures { OnOk result (slots_of slots.new
+        ≡ slots_of slots.old ++ entry_slots given.now attribute.now) }
+{
     match attribute {
         TemplateAttribute::Static { .. } => Ok(()),
         TemplateAttribute::Dynamic { id } => {
@@ -279,7 +342,9 @@ fn add_slot<P: Parts>(
 fn copied<P: Parts>(
     alloc: Global,
     attributes: &[Attribute<P>],
-) -> Result<List<Attribute<P>>, OutOfMemory> {
+) -> Result<List<Attribute<P>>, OutOfMemory>
+    ensures { IfOk result (λ copy. copy ≡ attributes.now) }
+{
     let mut copy = List::new(alloc);
     for attribute in attributes {
         copy.push(attribute.copy(alloc)?)?;

@@ -1,12 +1,17 @@
-//! What shows of the scopes of a component runtime: the document, the listeners that an event calls,
-//! and the edits that a unit writes.
+//! What shows of the scopes of a component runtime: the document, the listeners that an event
+//! calls, and the edits that a unit writes.
 #![tactic(auto)]
 
 mod climb;
+mod comparing;
+mod edited;
 mod hearing;
+mod inserting;
 mod levels;
 mod look;
 mod showing;
+mod sides;
+mod slots;
 mod way;
 mod writing;
 

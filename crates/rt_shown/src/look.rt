@@ -1,5 +1,14 @@
 //! The scopes as they stand, or as they stood before a unit.
 
+ghost use Rattle.std.specs.Prelude.{◌≡◌, ℕ};
+ghost use Rattle.std.specs.Option.{option_copied};
+ghost use Rattle.rt_model.specs.Lists.{at};
+ghost use Rattle.rt_model.specs.State.{same_side};
+ghost use Rattle.rt_places.specs.Places.{side_name_of};
+ghost use Rattle.rt_calls.specs.Calls.{number_of};
+ghost use Rattle.rt_shown.specs.Look.{is_showing, look_at, look_below, look_height, look_is_shown, look_live, look_parent, look_shown, look_shows, look_side, seen_in, shown_on, shown_steps, side_standing, side_stood};
+ghost use Rattle.rt_shown.specs.Stands.{ShowsRows, ShowsStood};
+
 use rt_calls::{Rows, Scope};
 use rt_parts::Parts;
 use rt_places::{Side, SideName};
@@ -30,7 +39,9 @@ pub struct Look<'a, P: Parts> {
 
 impl<'a, P: Parts> Look<'a, P> {
     /// The scopes as they stand.
-    pub fn now(rows: &'a Rows<P>) -> Look<'a, P> {
+    pub fn now(rows: &'a Rows<P>) -> Look<'a, P>
+        ensures shows { ShowsRows result rows.now.table }
+    {
         Look {
             rows,
             stood: &[],
@@ -44,7 +55,12 @@ impl<'a, P: Parts> Look<'a, P> {
         rows: &'a Rows<P>,
         stood: &'a [(u64, Option<Stood<P>>)],
         scopes: u64,
-    ) -> Look<'a, P> {
+    ) -> Look<'a, P>
+        ensures each { (scope : ℕ) → look_at result scope
+            ≡ seen_in (at stood.now scope) (at rows.now.table scope) }
+        ensures count { result.scopes ≡ scopes }
+        ensures shows { ShowsStood result rows.now.table stood.now scopes }
+    {
         Look {
             rows,
             stood,
@@ -53,12 +69,16 @@ impl<'a, P: Parts> Look<'a, P> {
     }
 
     /// How many scopes are live.
-    pub fn scopes(&self) -> u64 {
+    pub(crate) fn scopes(&self) -> u64
+        ensures { result ≡ self.now.scopes }
+    {
         self.scopes
     }
 
     /// What is kept of a scope as it stood.
-    fn kept(&self, scope: u64) -> Option<&Option<Stood<P>>> {
+    fn kept(&self, scope: u64) -> Option<&Option<Stood<P>>>
+        ensures { option_copied result ≡ at self.now.stood.now scope }
+    {
         for entry in self.stood {
             if entry.0 == scope {
                 return Some(&entry.1);
@@ -68,12 +88,16 @@ impl<'a, P: Parts> Look<'a, P> {
     }
 
     /// A scope as it stands.
-    fn present(&self, scope: u64) -> Option<&Scope<P>> {
+    fn present(&self, scope: u64) -> Option<&Scope<P>>
+        ensures { option_copied result ≡ at (self.now.rows.now).table scope }
+    {
         self.rows.table.get(scope)
     }
 
     /// Whether a scope is live.
-    pub fn is_live(&self, scope: u64) -> bool {
+    pub(crate) fn is_live(&self, scope: u64) -> bool
+        ensures { result ≡ look_live self.now scope }
+    {
         match self.kept(scope) {
             Some(Some(_)) => true,
             Some(None) => false,
@@ -82,7 +106,9 @@ impl<'a, P: Parts> Look<'a, P> {
     }
 
     /// The parent of a live scope.
-    pub fn parent(&self, scope: u64) -> Option<u64> {
+    pub(crate) fn parent(&self, scope: u64) -> Option<u64>
+        ensures { result ≡ look_parent self.now scope }
+    {
         match self.kept(scope) {
             Some(Some(stood)) => stood.parent,
             Some(None) => None,
@@ -91,7 +117,9 @@ impl<'a, P: Parts> Look<'a, P> {
     }
 
     /// The height of a live scope, 0 of another one.
-    pub fn height(&self, scope: u64) -> u64 {
+    pub(crate) fn height(&self, scope: u64) -> u64
+        ensures { result ≡ look_height self.now scope }
+    {
         match self.kept(scope) {
             Some(Some(stood)) => stood.height,
             Some(None) => 0,
@@ -103,7 +131,9 @@ impl<'a, P: Parts> Look<'a, P> {
     }
 
     /// The side of its parent that a live scope was made on.
-    pub fn below(&self, scope: u64) -> Option<SideName> {
+    pub(crate) fn below(&self, scope: u64) -> Option<SideName>
+        ensures { result ≡ look_below self.now scope }
+    {
         match self.kept(scope) {
             Some(Some(stood)) => Some(stood.below),
             Some(None) => None,
@@ -112,7 +142,9 @@ impl<'a, P: Parts> Look<'a, P> {
     }
 
     /// The side that a live scope shows.
-    pub fn shows(&self, scope: u64) -> Option<SideName> {
+    pub(crate) fn shows(&self, scope: u64) -> Option<SideName>
+        ensures { result ≡ look_shows self.now scope }
+    {
         match self.kept(scope) {
             Some(Some(stood)) => stood.shows,
             Some(None) => None,
@@ -121,7 +153,9 @@ impl<'a, P: Parts> Look<'a, P> {
     }
 
     /// A side of a live scope.
-    pub fn side(&self, scope: u64, name: SideName) -> Option<&Side<P>> {
+    pub(crate) fn side(&self, scope: u64, name: SideName) -> Option<&Side<P>>
+        ensures { option_copied result ≡ look_side self.now scope name }
+    {
         match self.kept(scope) {
             Some(Some(stood)) => Some(side_of_stood(stood, name)),
             Some(None) => None,
@@ -130,19 +164,29 @@ impl<'a, P: Parts> Look<'a, P> {
     }
 
     /// The side that a live scope shows, with what is kept of it.
-    pub fn shown_side(&self, scope: u64) -> Option<&Side<P>> {
-        let name = self.shows(scope)?;
-        self.side(scope, name)
+    #[tactic(auto, using(crate::proofs::Looks::looks))]
+    pub(crate) fn shown_side(&self, scope: u64) -> Option<&Side<P>>
+        ensures { option_copied result ≡ look_shown self.now scope }
+    {
+        match self.shows(scope) {
+            Some(name) => self.side(scope, name),
+            None => None,
+        }
     }
 
     /// Whether each scope above shows the side that the way to the scope is below.
-    pub fn is_shown(&self, scope: u64) -> bool {
+    pub(crate) fn is_shown(&self, scope: u64) -> bool
+        ensures { result ≡ look_is_shown self.now scope }
+    {
         self.is_live(scope) && self.is_shown_from(self.height(scope), scope)
     }
 
     /// Whether each scope above does, at most so many steps up.
     #[cycle(shown)]
-    fn is_shown_from(&self, steps: u64, scope: u64) -> bool {
+    #[tactic(auto, using(crate::proofs::Looks::looks))]
+    fn is_shown_from(&self, steps: u64, scope: u64) -> bool
+        ensures { result ≡ shown_steps self.now steps scope }
+    {
         if steps == 0 {
             return true;
         }
@@ -154,7 +198,10 @@ impl<'a, P: Parts> Look<'a, P> {
 
     /// Whether the parent shows the side, and each scope above it does, at most so many steps up.
     #[cycle(shown)]
-    fn is_shown_on(&self, steps: u64, below: SideName, parent: Option<u64>) -> bool {
+    #[tactic(auto, using(crate::proofs::Looks::looks))]
+    fn is_shown_on(&self, steps: u64, below: SideName, parent: Option<u64>) -> bool
+        ensures { result ≡ shown_on self.now steps below parent }
+    {
         match parent {
             Some(parent) => {
                 is_side(self.shows(parent), below) && self.is_shown_from(steps, parent)
@@ -165,7 +212,9 @@ impl<'a, P: Parts> Look<'a, P> {
 }
 
 /// Whether this side shows.
-pub(crate) fn is_side(shows: Option<SideName>, below: SideName) -> bool {
+pub(crate) fn is_side(shows: Option<SideName>, below: SideName) -> bool
+    ensures { result ≡ is_showing shows below }
+{
     match shows {
         Some(name) => is_same_side(name, below),
         None => false,
@@ -173,7 +222,9 @@ pub(crate) fn is_side(shows: Option<SideName>, below: SideName) -> bool {
 }
 
 /// Whether two names of sides are one.
-pub(crate) fn is_same_side(left: SideName, right: SideName) -> bool {
+pub(crate) fn is_same_side(left: SideName, right: SideName) -> bool
+    ensures { result ≡ same_side (side_name_of left) (side_name_of right) }
+{
     match left {
         SideName::Main => matches!(right, SideName::Main),
         SideName::Children => matches!(right, SideName::Children),
@@ -182,7 +233,9 @@ pub(crate) fn is_same_side(left: SideName, right: SideName) -> bool {
 }
 
 /// The number of a parent.
-fn parent_of(parent: Option<ScopeId>) -> Option<u64> {
+fn parent_of(parent: Option<ScopeId>) -> Option<u64>
+    ensures { result ≡ number_of parent }
+{
     match parent {
         Some(parent) => Some(parent.0),
         None => None,
@@ -190,7 +243,9 @@ fn parent_of(parent: Option<ScopeId>) -> Option<u64> {
 }
 
 /// A side of a scope as it stood.
-fn side_of_stood<P: Parts>(stood: &Stood<P>, name: SideName) -> &Side<P> {
+fn side_of_stood<P: Parts>(stood: &Stood<P>, name: SideName) -> &Side<P>
+    ensures { result.now ≡ side_stood stood.now name }
+{
     match name {
         SideName::Main => &stood.main_side,
         SideName::Children => &stood.children_side,
@@ -199,7 +254,9 @@ fn side_of_stood<P: Parts>(stood: &Stood<P>, name: SideName) -> &Side<P> {
 }
 
 /// A side of a scope as it stands.
-fn side_of_scope<P: Parts>(scope: &Scope<P>, name: SideName) -> &Side<P> {
+fn side_of_scope<P: Parts>(scope: &Scope<P>, name: SideName) -> &Side<P>
+    ensures { result.now ≡ side_standing scope.now name }
+{
     match name {
         SideName::Main => &scope.rest.main_side,
         SideName::Children => &scope.rest.children_side,

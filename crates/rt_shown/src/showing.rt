@@ -1,5 +1,14 @@
 //! What shows: the kept outputs with their numbers, put into one another.
 
+ghost use Rattle.std.specs.Prelude.{◌≡◌, ◌+◌, [], IfOk};
+ghost use Rattle.rt_model.specs.Document.{DocElement, Empty, Node};
+ghost use Rattle.rt_attributes.specs.Content.{with_all_listeners, with_entries};
+ghost use Rattle.rt_mirror.specs.Mirror.{content_of, forest_below, forest_of};
+ghost use Rattle.rt_places.specs.Places.{kind_of, place_of};
+ghost use Rattle.rt_work.specs.Found.{number_in};
+ghost use Rattle.rt_shown.specs.Means.{IsView};
+ghost use Rattle.rt_shown.specs.Seen.{child_seen, items_in, node_in, row_in, scope_seen, side_seen, tree_in, value_in};
+
 use crate::levels::{LEVELS, down};
 use crate::look::Look;
 use rt_attributes::{element_attributes, element_listeners};
@@ -29,7 +38,9 @@ pub(crate) struct Standing<'a, P: Parts> {
 }
 
 /// The document that shows.
-pub fn view<P: Parts>(alloc: Global, look: &Look<'_, P>) -> Result<List<DocNode>, OutOfMemory> {
+pub fn view<P: Parts>(alloc: Global, look: &Look<'_, P>) -> Result<List<DocNode>, OutOfMemory>
+    ensures view { IfOk result (λ row. IsView row look.now 0) }
+{
     nodes_of(alloc, look, 0)
 }
 
@@ -38,7 +49,9 @@ pub fn nodes_of<P: Parts>(
     alloc: Global,
     look: &Look<'_, P>,
     scope: u64,
-) -> Result<List<DocNode>, OutOfMemory> {
+) -> Result<List<DocNode>, OutOfMemory>
+    ensures nodes { IfOk result (λ row. IsView row look.now scope) }
+{
     scope_view(alloc, look, scope)
 }
 
@@ -47,19 +60,24 @@ pub(crate) fn scope_view<P: Parts>(
     alloc: Global,
     look: &Look<'_, P>,
     scope: u64,
-) -> Result<List<DocNode>, OutOfMemory> {
+) -> Result<List<DocNode>, OutOfMemory>
+    ensures { IfOk result (λ row. forest_of row ≡ scope_seen look.now look.now.scopes scope) }
+{
     view_within(alloc, look, look.scopes(), scope, LEVELS)
 }
 
 /// The nodes of a scope, at most `depth` scopes deep.
 #[cycle(view)]
+#[tactic(auto, using(crate::proofs::Views::views))]
 fn view_within<P: Parts>(
     alloc: Global,
     look: &Look<'_, P>,
     depth: u64,
     scope: u64,
     levels: u64,
-) -> Result<List<DocNode>, OutOfMemory> {
+) -> Result<List<DocNode>, OutOfMemory>
+    ensures { IfOk result (λ row. forest_of row ≡ scope_seen look.now depth scope) }
+{
     let levels = down(levels)?;
     if depth == 0 {
         return Ok(List::new(alloc));
@@ -79,11 +97,15 @@ fn view_within<P: Parts>(
 }
 
 #[cycle(view)]
+#[tactic(auto, using(crate::proofs::Views::views))]
 fn side_view<P: Parts>(
     alloc: Global,
     shown: &Shown<'_, P>,
     levels: u64,
-) -> Result<List<DocNode>, OutOfMemory> {
+) -> Result<List<DocNode>, OutOfMemory>
+    ensures { IfOk result (λ row. forest_of row
+        ≡ side_seen shown.now.look.now shown.now.depth shown.now.side.now) }
+{
     let levels = down(levels)?;
     match &shown.side.output {
         Some(tree) => tree_view(alloc, shown, tree, &List::new(alloc), levels),
@@ -93,13 +115,16 @@ fn side_view<P: Parts>(
 
 /// The nodes of a tree that stands at `above`.
 #[cycle(view)]
+#[tactic(auto, using(crate::proofs::Views::views))]
 pub(crate) fn tree_view<P: Parts>(
     alloc: Global,
     shown: &Shown<'_, P>,
     tree: &VNode<P>,
     above: &Place,
     levels: u64,
-) -> Result<List<DocNode>, OutOfMemory> {
+) -> Result<List<DocNode>, OutOfMemory>
+    ensures { IfOk result (λ row. forest_of row ≡ tree_in shown.now tree.now (place_of above.now)) }
+{
     let levels = down(levels)?;
     let standing = Standing {
         shown: &*shown,
@@ -117,13 +142,16 @@ pub(crate) fn tree_view<P: Parts>(
 
 // The nodes that these nodes of a template show, below the one with the path `up`.
 #[cycle(view)]
+#[tactic(auto, using(crate::proofs::Views::views))]
 fn nodes_view<P: Parts>(
     alloc: Global,
     standing: &Standing<'_, P>,
     up: &[u64],
     nodes: &[TemplateNode],
     levels: u64,
-) -> Result<List<DocNode>, OutOfMemory> {
+) -> Result<List<DocNode>, OutOfMemory>
+    ensures { IfOk result (λ row. forest_of row ≡ row_in standing.now up.now 0 nodes.now) }
+{
     let levels = down(levels)?;
     let mut row = List::new(alloc);
     for index in 0..nodes.len() {
@@ -134,6 +162,7 @@ fn nodes_view<P: Parts>(
 
 // The nodes that a node of a template shows, which has an index below the one with the path `up`.
 #[cycle(view)]
+#[tactic(auto, using(crate::proofs::Views::views))]
 fn node_view<P: Parts>(
     alloc: Global,
     standing: &Standing<'_, P>,
@@ -141,7 +170,9 @@ fn node_view<P: Parts>(
     index: u64,
     node: &TemplateNode,
     levels: u64,
-) -> Result<List<DocNode>, OutOfMemory> {
+) -> Result<List<DocNode>, OutOfMemory>
+    ensures { IfOk result (λ row. forest_of row ≡ node_in standing.now up.now index node.now) }
+{
     let levels = down(levels)?;
     let path = path_below(alloc, up, index)?;
     let place = place_inside(alloc, standing.above, &standing.tree.template, &path)?;
@@ -170,6 +201,7 @@ fn node_view<P: Parts>(
 }
 
 // An element with these entries in its template, round its children.
+#[tactic(auto, using(crate::proofs::Views::views))]
 fn element<P: Parts>(
     alloc: Global,
     given: &[List<Attribute<P>>],
@@ -177,7 +209,11 @@ fn element<P: Parts>(
     namespace: &Option<Text>,
     entries: &[TemplateAttribute],
     children: List<DocNode>,
-) -> Result<DocKind, OutOfMemory> {
+) -> Result<DocKind, OutOfMemory>
+    ensures content { IfOk result (λ kind. content_of kind ≡ DocElement tag.now namespace.now
+        (with_entries given.now [] entries.now) (with_all_listeners given.now [] entries.now)) }
+    ensures below { IfOk result (λ kind. forest_below kind ≡ forest_of children) }
+{
     let names = both(tag.copy(alloc), namespace.copy(alloc));
     let lists = both(
         element_attributes(alloc, given, entries),
@@ -195,13 +231,17 @@ fn element<P: Parts>(
 
 /// The nodes of what stands in a slot at a place.
 #[cycle(view)]
+#[tactic(auto, using(crate::proofs::Views::views))]
 pub(crate) fn slot_view<P: Parts>(
     alloc: Global,
     shown: &Shown<'_, P>,
     value: &DynamicNode<P>,
     place: &Place,
     levels: u64,
-) -> Result<List<DocNode>, OutOfMemory> {
+) -> Result<List<DocNode>, OutOfMemory>
+    ensures { IfOk result (λ row. forest_of row
+        ≡ value_in shown.now value.now (place_of place.now)) }
+{
     let levels = down(levels)?;
     match value {
         DynamicNode::Text(text) => {
@@ -235,12 +275,16 @@ pub(crate) fn slot_view<P: Parts>(
 
 // What the child scope at a place shows.
 #[cycle(view)]
+#[tactic(auto, using(crate::proofs::Views::views))]
 fn child_view<P: Parts>(
     alloc: Global,
     shown: &Shown<'_, P>,
     place: &Place,
     levels: u64,
-) -> Result<List<DocNode>, OutOfMemory> {
+) -> Result<List<DocNode>, OutOfMemory>
+    ensures { IfOk result (λ row. forest_of row
+        ≡ child_seen shown.now.look.now shown.now.depth shown.now.side.now (place_of place.now)) }
+{
     let levels = down(levels)?;
     match child_at(shown.side.children.as_slice(), place.as_slice()) {
         Some(child) => view_within(alloc, shown.look, shown.depth, child, levels),
@@ -250,6 +294,7 @@ fn child_view<P: Parts>(
 
 /// The nodes of a fragment's items, the first of which has the position `first`.
 #[cycle(view)]
+#[tactic(auto, using(crate::proofs::Views::views))]
 pub(crate) fn items_view<P: Parts>(
     alloc: Global,
     shown: &Shown<'_, P>,
@@ -257,7 +302,10 @@ pub(crate) fn items_view<P: Parts>(
     place: &Place,
     trees: &[VNode<P>],
     levels: u64,
-) -> Result<List<DocNode>, OutOfMemory> {
+) -> Result<List<DocNode>, OutOfMemory>
+    ensures { IfOk result (λ row. forest_of row
+        ≡ items_in shown.now first (place_of place.now) trees.now) }
+{
     let levels = down(levels)?;
     let mut row = List::new(alloc);
     for index in 0..trees.len() {
@@ -269,7 +317,9 @@ pub(crate) fn items_view<P: Parts>(
 }
 
 // The position so many items further on.
-fn position_after(first: u64, index: u64) -> Result<u64, OutOfMemory> {
+fn position_after(first: u64, index: u64) -> Result<u64, OutOfMemory>
+    ensures { IfOk result (λ position. position ≡ first + index) }
+{
     match first.checked_add(index) {
         Some(position) => Ok(position),
         None => Err(OutOfMemory),
@@ -277,13 +327,18 @@ fn position_after(first: u64, index: u64) -> Result<u64, OutOfMemory> {
 }
 
 // The one node at a place, with its number.
+#[tactic(auto, using(crate::proofs::Views::views))]
 fn numbered<P: Parts>(
     alloc: Global,
     side: &Side<P>,
     place: &Place,
     kind: Kind,
     content: DocKind,
-) -> Result<List<DocNode>, OutOfMemory> {
+) -> Result<List<DocNode>, OutOfMemory>
+    ensures { IfOk result (λ row. forest_of row
+        ≡ Node (number_in side.now.numbers (place_of place.now) (kind_of kind))
+        (content_of content) (forest_below content) Empty) }
+{
     let number = number_at(side.numbers.as_slice(), place.as_slice(), kind);
     let mut row = List::new(alloc);
     row.push(DocNode {

@@ -1,5 +1,11 @@
 //! The way from a scope whose work was refused up to the root.
 
+ghost use Rattle.std.specs.Prelude.{◌≡◌, ◌++◌, Some, map, is_some, option_map, IfOk, OnOk};
+ghost use Rattle.rt_model.specs.Lists.{at};
+ghost use Rattle.rt_model.specs.Caused as caused;
+ghost use Rattle.rt_places.specs.Places.{child_of, place_of, side_name_of};
+ghost use Rattle.rt_shown.specs.Ways.{look_way, look_way_up, place_found, place_over, stop_of, stop_over, way_above, way_of};
+
 use crate::look::{Look, is_side};
 use rt_parts::Parts;
 use rt_places::{Child, Place, SideName, Step, is_same_place};
@@ -7,8 +13,8 @@ use rt_values::{List, OutOfMemory, Part};
 use rt_work::Item;
 use std::alloc::Global;
 
-/// A scope on the way, with the side and the place that was served there. Without a place all places
-/// of the side were passed.
+/// A scope on the way, with the side and the place that was served there. Without a place all
+/// places of the side were passed.
 #[derive(Drop)]
 pub(crate) struct Stop {
     pub scope: u64,
@@ -21,7 +27,9 @@ pub(crate) fn way_to<P: Parts>(
     alloc: Global,
     look: &Look<'_, P>,
     refused: &Item<P>,
-) -> Result<List<Stop>, OutOfMemory> {
+) -> Result<List<Stop>, OutOfMemory>
+    ensures { IfOk result (λ way. way_of way ≡ look_way look.now refused.now) }
+{
     match refused {
         Item::Draw {
             scope,
@@ -53,18 +61,27 @@ fn way_from<P: Parts>(
     scope: u64,
     side: SideName,
     place: &Place,
-) -> Result<List<Stop>, OutOfMemory> {
+) -> Result<List<Stop>, OutOfMemory>
+    ensures { IfOk result (λ way.
+        way_of way
+        ≡ look_way_up look.now scope (Some (side_name_of side)) (Some (place_of place.now))) }
+{
     way_up(alloc, look, scope, Some(side), Some(place.copy(alloc)?))
 }
 
 // From a scope up to the root, at most as many steps as there are scopes.
+#[tactic(auto, using(crate::proofs::Ways::ways))]
 fn way_up<P: Parts>(
     alloc: Global,
     look: &Look<'_, P>,
     scope: u64,
     side: Option<SideName>,
     place: Option<Place>,
-) -> Result<List<Stop>, OutOfMemory> {
+) -> Result<List<Stop>, OutOfMemory>
+    ensures { IfOk result (λ way.
+        way_of way
+        ≡ look_way_up look.now scope (option_map side_name_of side) (option_map place_of place)) }
+{
     let mut way = List::new(alloc);
     way.push(Stop { scope, side, place })?;
     add_above(alloc, look, look.scopes(), scope, &mut way)?;
@@ -72,13 +89,16 @@ fn way_up<P: Parts>(
 }
 
 // The scopes above one, at most so many steps up.
+#[tactic(auto, using(crate::proofs::Ways::ways))]
 fn add_above<P: Parts>(
     alloc: Global,
     look: &Look<'_, P>,
     steps: u64,
     child: u64,
     way: &mut List<Stop>,
-) -> Result<(), OutOfMemory> {
+) -> Result<(), OutOfMemory>
+    ensures { OnOk result (way_of way.new ≡ way_of way.old ++ way_above look.now steps child) }
+{
     if steps == 0 {
         return Ok(());
     }
@@ -97,7 +117,9 @@ fn stop_above<P: Parts>(
     look: &Look<'_, P>,
     parent: u64,
     child: u64,
-) -> Result<Stop, OutOfMemory> {
+) -> Result<Stop, OutOfMemory>
+    ensures { IfOk result (λ stop. stop_of stop ≡ stop_over look.now parent child) }
+{
     let side = look.below(child);
     let place = place_above(alloc, look, parent, side, child)?;
     Ok(Stop {
@@ -114,7 +136,10 @@ fn place_above<P: Parts>(
     parent: u64,
     side: Option<SideName>,
     child: u64,
-) -> Result<Option<Place>, OutOfMemory> {
+) -> Result<Option<Place>, OutOfMemory>
+    ensures { IfOk result (λ place. option_map place_of place
+        ≡ place_over look.now parent side child) }
+{
     match side {
         Some(name) => match look.side(parent, name) {
             Some(side) => place_of_child(alloc, side.children.as_slice(), child),
@@ -129,7 +154,10 @@ fn place_of_child(
     alloc: Global,
     children: &[Child],
     scope: u64,
-) -> Result<Option<Place>, OutOfMemory> {
+) -> Result<Option<Place>, OutOfMemory>
+    ensures { IfOk result (λ place. option_map place_of place
+        ≡ caused.place_of_child (map child_of children.now) scope) }
+{
     for child in children {
         if child.scope == scope {
             return Ok(Some(child.place.copy(alloc)?));
@@ -139,7 +167,9 @@ fn place_of_child(
 }
 
 /// Whether a scope is on the way.
-pub(crate) fn is_on_way(way: &[Stop], scope: u64) -> bool {
+pub(crate) fn is_on_way(way: &[Stop], scope: u64) -> bool
+    ensures { result ≡ is_some (at (way_of way.now) scope) }
+{
     for stop in way {
         if stop.scope == scope {
             return true;
@@ -149,7 +179,10 @@ pub(crate) fn is_on_way(way: &[Stop], scope: u64) -> bool {
 }
 
 /// The place on a side of a scope that was refused, or that leads to what was.
-pub(crate) fn stop_on(way: &[Stop], scope: u64, side: SideName) -> Option<&Place> {
+#[tactic(auto, using(crate::proofs::Ways::ways))]
+pub(crate) fn stop_on(way: &[Stop], scope: u64, side: SideName) -> Option<&Place>
+    ensures { place_found result ≡ caused.stop_on (side_name_of side) (at (way_of way.now) scope) }
+{
     for stop in way {
         if stop.scope == scope {
             return place_on(stop, side);
@@ -159,7 +192,10 @@ pub(crate) fn stop_on(way: &[Stop], scope: u64, side: SideName) -> Option<&Place
 }
 
 // The place of a stop, where it is on this side.
-fn place_on(stop: &Stop, side: SideName) -> Option<&Place> {
+#[tactic(auto, using(crate::proofs::Ways::ways))]
+fn place_on(stop: &Stop, side: SideName) -> Option<&Place>
+    ensures { place_found result ≡ caused.stop_on (side_name_of side) (Some (stop_of stop.now).1) }
+{
     if is_side(stop.side, side) {
         stop.place.as_ref()
     } else {
@@ -168,7 +204,9 @@ fn place_on(stop: &Stop, side: SideName) -> Option<&Place> {
 }
 
 /// Whether the refused place, if there is one, is this one.
-pub(crate) fn is_place(place: &Place, stop: Option<&Place>) -> bool {
+pub(crate) fn is_place(place: &Place, stop: Option<&Place>) -> bool
+    ensures { result ≡ caused.is_place (place_of place.now) (place_found stop.entry) }
+{
     match stop {
         Some(stop) => is_same_place(place.as_slice(), stop.as_slice()),
         None => false,
@@ -176,7 +214,9 @@ pub(crate) fn is_place(place: &Place, stop: Option<&Place>) -> bool {
 }
 
 /// Whether the refused place, if there is one, is this one or within it.
-pub(crate) fn is_around(place: &Place, stop: Option<&Place>) -> bool {
+pub(crate) fn is_around(place: &Place, stop: Option<&Place>) -> bool
+    ensures { result ≡ caused.is_around (place_of place.now) (place_found stop.entry) }
+{
     match stop {
         Some(stop) => is_front(place.as_slice(), stop.as_slice()),
         None => false,
@@ -184,7 +224,10 @@ pub(crate) fn is_around(place: &Place, stop: Option<&Place>) -> bool {
 }
 
 // Whether the first place is the other one or stands around it.
-fn is_front(place: &[Step], other: &[Step]) -> bool {
+#[tactic(auto, using(crate::proofs::Ways::ways))]
+fn is_front(place: &[Step], other: &[Step]) -> bool
+    ensures { result ≡ caused.is_front (place_of place.now) (place_of other.now) }
+{
     if place.len() > other.len() {
         return false;
     }

@@ -1,0 +1,129 @@
+-- What the items of a fragment write, one after another.
+use Rattle.std.proofs.Common.{ℕ, zero, suc, Bool, false, ◌+◌, ◌-◌, ◌<◌, ◌≤◌, ◌||◌, List, [], ◌∷◌, ◌++◌, ◌≡◌, ◌≢◌, refl, sym, ap, ◌∙◌, map, length, get_or, take, drop, arith}
+use Rattle.std.specs.Prelude.{Option, if◌then◌else◌}
+use Rattle.std.proofs.Math.ListN.{drop_of_length-le}
+use Rattle.rt_nodes.specs.declared.vnode.VNode.{VNode}
+use Rattle.rt_model.specs.OneLog.{types}
+use Rattle.rt_model.specs.World.{Application}
+use Rattle.rt_model.specs.Tree.{Place, item}
+use Rattle.rt_model.specs.View as views
+use Rattle.rt_model.specs.Document.{Forest}
+use Rattle.rt_model.specs.Document as doc
+use Rattle.rt_model.specs.Caused as caused
+use Rattle.rt_model.specs.Caused.{Written, writes, halts, then_on}
+use Rattle.rt_mirror.specs.Mirror.{trees_from}
+use Rattle.rt_mirror.specs.Sealed.{tree_of}
+use Rattle.rt_places.specs.Places.{side_of}
+use Rattle.rt_shown.specs.declared.sides.Sides.{Sides}
+use Rattle.rt_shown.specs.declared.showing.Shown.{Shown}
+use Rattle.rt_shown.specs.Seen.{seen_within, tree_in, tree_seen, items_seen}
+use Rattle.rt_shown.proofs.Views.{items_are}
+use Rattle.rt_shown.specs.Ways.{place_found}
+use Rattle.rt_shown.specs.Units.{tree_writes, items_writes, last_among, items_inserts, around_from}
+use Rattle.rt_shown.proofs.OneByOne.{next_drop, take-more, length-taken}
+use Rattle.rt_shown.proofs.Parted.{then_then}
+
+-- one more item isn't the refused place, nor does it hold it
+pub around_more : (place at_item : Place) (i end : ℕ) (stop : Option Place) (whole : Bool)
+    → i < end → around_from place i stop (end - i) ≡ whole → at_item ≡ place ++ item i ∷ [] → caused.is_around at_item stop ≡ false
+    → around_from place (i + 1) stop (end - (i + 1)) ≡ whole
+around_more place at_item i end stop whole low so_far at_place apart =
+    let e : end - i ≡ suc (end - (i + 1)) = omega arith in
+    sym (ap (λ b. b || around_from place (i + 1) stop (end - (i + 1))) (ap (λ p. caused.is_around p stop) (sym at_place) ∙ apart)) ∙
+    sym (ap (λ n. around_from place i stop n) e) ∙ so_far
+
+module _ {P C Q V H T E L : Type 0} (app : Application (types C Q V H T E L)) where
+  -- items
+
+  pub items_end : (b : Sides P C Q V H T E L) (place : Place) (i last : ℕ) (old : List (VNode P C Q V H T E L)) → items_writes app b place i last [] old ≡ writes (caused.removals (items_seen (b.old.now).look.now (b.old.now).depth (b.old.now).side.now i 0 place old))
+  unfolding items_writes
+  items_end b place i last old =
+      ap (λ f. writes (caused.removals f))
+      (ap (λ m. views.items_view (side_of (b.old.now).side.now) (λ t. seen_within (b.old.now).look.now (b.old.now).depth t) m place (trees_from (map tree_of old))) (let e : i ≡ i + 0 = omega arith in e) ∙
+      sym (items_are (b.old.now).look.now (b.old.now).depth (b.old.now).side.now i 0 place old))
+
+  around_is : (place : Place) (i : ℕ) (stop : Option Place) (trees : List (VNode P C Q V H T E L)) → caused.any_around app place i stop (trees_from (map tree_of trees)) ≡ around_from place i stop (length trees)
+  around_is place i stop [] = refl
+  around_is place i stop (t ∷ ts) = ap (λ c. caused.is_around (place ++ item i ∷ []) stop || c) (around_is place (i + 1) stop ts)
+
+  pub items_insert : (b : Sides P C Q V H T E L) (place : Place) (i last : ℕ) (new : List (VNode P C Q V H T E L)) → new ≢ [] → items_writes app b place i last new [] ≡ items_inserts b place i last new
+  unfolding items_writes
+  items_insert b place i last [] some = absurd (some refl)
+  items_insert b place i last (t ∷ ts) some =
+      (λ k. if around_is place i (place_found b.stop) (t ∷ ts) k then halts else writes (doc.InsertNodesAfter last (shown k) ∷ []))
+    where
+      shown : views.items_view (side_of (b.new.now).side.now) (λ u. seen_within (b.new.now).look.now (b.new.now).depth u) i place (trees_from (map tree_of (t ∷ ts)))
+          ≡ items_seen (b.new.now).look.now (b.new.now).depth (b.new.now).side.now i 0 place (t ∷ ts)
+      shown =
+          ap (λ m. views.items_view (side_of (b.new.now).side.now) (λ u. seen_within (b.new.now).look.now (b.new.now).depth u) m place (trees_from (map tree_of (t ∷ ts)))) (let e : i ≡ i + 0 = omega arith in e) ∙
+          sym (items_are (b.new.now).look.now (b.new.now).depth (b.new.now).side.now i 0 place (t ∷ ts))
+
+  pub items_step : (b : Sides P C Q V H T E L) (place : Place) (i last : ℕ) (y x : VNode P C Q V H T E L) (ys xs : List (VNode P C Q V H T E L))
+      → items_writes app b place i last (y ∷ ys) (x ∷ xs)
+      ≡ then_on (tree_writes app b (place ++ item i ∷ []) y x)
+      (items_writes app b place (i + 1) (caused.last_of last (tree_seen (b.new.now).look.now (b.new.now).depth (b.new.now).side.now y (place ++ item i ∷ []))) ys xs)
+  unfolding items_writes tree_writes tree_seen
+  items_step b place i last y x ys xs = refl
+
+  -- one after another
+
+  last_more : (shown : Shown P C Q V H T E L) (place : Place) (j last : ℕ) (xs : List (VNode P C Q V H T E L)) (y : VNode P C Q V H T E L)
+      → last_among shown place j last (xs ++ y ∷ []) ≡ caused.last_of (last_among shown place j last xs) (tree_in shown y (place ++ item (j + length xs) ∷ []))
+  last_more shown place j last [] y = ap (λ m. caused.last_of last (tree_in shown y (place ++ item m ∷ []))) (let e : j ≡ j + 0 = omega arith in e)
+  last_more shown place j last (x ∷ xs) y =
+      let before : ℕ = caused.last_of last (tree_in shown x (place ++ item j ∷ [])) in
+      last_more shown place (j + 1) before xs y ∙
+      ap (λ m. caused.last_of (last_among shown place (j + 1) before xs) (tree_in shown y (place ++ item m ∷ []))) (let e : j + 1 + length xs ≡ j + suc (length xs) = omega arith in e)
+
+  last_next : (shown : Shown P C Q V H T E L) (place : Place) (new : List (VNode P C Q V H T E L)) (i : ℕ) (y : VNode P C Q V H T E L) → i < length new → y ≡ get_or new i y
+      → caused.last_of (last_among shown place 0 0 (take i new)) (tree_in shown y (place ++ item i ∷ [])) ≡ last_among shown place 0 0 (take (i + 1) new)
+  last_next shown place new i y low is =
+      ap (λ m. caused.last_of (last_among shown place 0 0 (take i new)) (tree_in shown y (place ++ item m ∷ []))) (sym (length-taken new i (omega arith)) ∙ (let e : length (take i new) ≡ 0 + length (take i new) = omega arith in e)) ∙
+      sym (last_more shown place 0 0 (take i new) y) ∙ ap (λ xs. last_among shown place 0 0 xs) (sym (take-more new i y low is)) ∙
+      ap (λ n. last_among shown place 0 0 (take n new)) (let e : suc i ≡ i + 1 = omega arith in e)
+
+  -- one more pair is written
+  pub items_more : (b : Sides P C Q V H T E L) (place : Place) (new old : List (VNode P C Q V H T E L)) (i : ℕ) (y x : VNode P C Q V H T E L) (before this after whole : Written)
+      → i < length new → i < length old → y ≡ get_or new i y → x ≡ get_or old i x
+      → then_on before (items_writes app b place i (last_among b.new.now place 0 0 (take i new)) (drop i new) (drop i old)) ≡ whole
+      → this ≡ tree_writes app b (place ++ item i ∷ []) y x
+      → after ≡ then_on before this
+      → then_on after (items_writes app b place (i + 1) (last_among b.new.now place 0 0 (take (i + 1) new)) (drop (i + 1) new) (drop (i + 1) old)) ≡ whole
+  items_more b place new old i y x before this after whole low under is was so_far one more =
+      let rest : Written = items_writes app b place (i + 1) (last_among b.new.now place 0 0 (take (i + 1) new)) (drop (i + 1) new) (drop (i + 1) old) in
+      ap (λ w. then_on w rest) (more ∙ ap (λ w. then_on before w) one) ∙
+      then_then before (tree_writes app b (place ++ item i ∷ []) y x) rest ∙
+      ap (λ n. then_on before (then_on (tree_writes app b (place ++ item i ∷ []) y x) (items_writes app b place (i + 1) n (drop (i + 1) new) (drop (i + 1) old)))) (sym (last_next b.new.now place new i y low is)) ∙
+      ap (λ w. then_on before w) (sym (items_step b place i (last_among b.new.now place 0 0 (take i new)) y x (drop (i + 1) new) (drop (i + 1) old))) ∙
+      (λ k. then_on before (items_writes app b place i (last_among b.new.now place 0 0 (take i new)) (sym (next_drop new i y low is) k) (sym (next_drop old i x under was) k))) ∙
+      so_far
+
+  -- the rest is new
+  pub items_rest : (b : Sides P C Q V H T E L) (place : Place) (new old : List (VNode P C Q V H T E L)) (i : ℕ) (before this whole : Written)
+      → i < length new → i ≡ length old
+      → then_on before (items_writes app b place i (last_among b.new.now place 0 0 (take i new)) (drop i new) (drop i old)) ≡ whole
+      → this ≡ items_inserts b place i (last_among b.new.now place 0 0 (take i new)) (drop i new)
+      → then_on before this ≡ whole
+  items_rest b place new old i before this whole low end so_far one =
+      ap (λ w. then_on before w) (one ∙ sym (items_insert b place i (last_among b.new.now place 0 0 (take i new)) (drop i new) (some_left new i low))) ∙
+      ap (λ xs. then_on before (items_writes app b place i (last_among b.new.now place 0 0 (take i new)) (drop i new) xs)) (sym (drop_of_length-le old (let e : length old ≤ i = omega arith in e))) ∙
+      so_far
+    where
+      some_left : (xs : List (VNode P C Q V H T E L)) (j : ℕ) → j < length xs → drop j xs ≢ []
+      some_left [] j low = absurd (let e : ⊥ = omega arith in e)
+      some_left (x ∷ xs) zero low = λ none. cc none
+      some_left (x ∷ xs) (suc j) low = some_left xs j (omega arith)
+
+  -- what is over is removed
+  pub items_over : (b : Sides P C Q V H T E L) (place : Place) (new old : List (VNode P C Q V H T E L)) (i : ℕ) (before whole : Written) (edits : List doc.Edit) (over : Forest)
+      → i ≡ length new
+      → then_on before (items_writes app b place i (last_among b.new.now place 0 0 (take i new)) (drop i new) (drop i old)) ≡ whole
+      → over ≡ items_seen (b.old.now).look.now (b.old.now).depth (b.old.now).side.now (length new) 0 place (drop (length new) old)
+      → edits ≡ caused.removals over
+      → then_on before (writes edits) ≡ whole
+  items_over b place new old i before whole edits over end so_far seen are =
+      ap (λ es. then_on before (writes es))
+      (are ∙ ap caused.removals (seen ∙ ap (λ n. items_seen (b.old.now).look.now (b.old.now).depth (b.old.now).side.now n 0 place (drop n old)) (sym end))) ∙
+      ap (λ w. then_on before w) (sym (items_end b place i (last_among b.new.now place 0 0 (take i new)) (drop i old))) ∙
+      ap (λ xs. then_on before (items_writes app b place i (last_among b.new.now place 0 0 (take i new)) xs (drop i old))) (sym (drop_of_length-le new (let e : length new ≤ i = omega arith in e))) ∙
+      so_far

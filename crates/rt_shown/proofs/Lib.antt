@@ -1,0 +1,17 @@
+pub mod OneByOne
+pub mod Looks
+pub mod Forests
+pub mod Views
+pub mod Climbing
+pub mod Hearings
+pub mod Standing
+pub mod Agrees
+pub mod HeardBy
+pub mod Ways
+pub mod Parted
+pub mod ScopesWrite
+pub mod SlotsWrite
+pub mod ItemsWrite
+pub mod Writings
+pub mod UnitsAgree
+pub mod Claimed

@@ -1,0 +1,10 @@
+pub mod Look
+pub mod Stands
+pub mod Seen
+pub mod Climbs
+pub mod Hearing
+pub mod Means
+pub mod Ways
+pub mod Written
+pub mod Units
+pub mod Reruns

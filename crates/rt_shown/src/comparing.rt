@@ -1,0 +1,394 @@
+//! What a unit writes, side by side, tree by tree and slot by slot.
+
+ghost use Rattle.std.specs.Prelude.{◌≡◌, ◌&&◌, IfOk};
+ghost use Rattle.rt_nodes.specs.declared.vnode.DynamicNode.TheVariants as values;
+ghost use Rattle.rt_places.specs.Places.{place_of};
+ghost use Rattle.rt_shown.specs.Look.{look_is_shown};
+ghost use Rattle.rt_shown.specs.Units.{Writes, child_writes, items_writes, name_writes, output_writes, piece_writes, pieces_writes, scope_writes, slot_writes, tree_writes, unit_writes};
+
+use crate::edited::{Edited, halts, nothing, then_on, then_stop, writes};
+use crate::inserting::items_inserted;
+use crate::levels::{LEVELS, down};
+use crate::look::{Look, is_same_side};
+use crate::showing::items_view;
+use crate::sides::{Sides, Unit, removals, scope_replaced, shown_in, slot_replaced, tree_replaced};
+use crate::slots::{no_items_written, placeholder_written, text_written};
+use crate::way::{is_on_way, is_place, stop_on};
+use rt_attributes::attributes_written;
+use rt_nodes::{DynamicNode, VComponent, VNode};
+use rt_parts::Parts;
+use rt_places::{Piece, Place, SideName, pieces_of, place_inside, place_of_item};
+use rt_values::{List, OutOfMemory, Part};
+use rt_work::{child_at, is_same_component};
+use std::alloc::Global;
+
+/// What a scope writes, at most `depth` scopes deep. A scope that isn't shown both before and after
+/// writes nothing. After what a scope on the way to the refusal wrote nothing more is written.
+#[cycle(written)]
+#[tactic(auto, using(crate::proofs::Writings::writings))]
+pub(crate) fn written_within<P: Parts>(
+    alloc: Global,
+    unit: &Unit<'_, P>,
+    depth: u64,
+    scope: u64,
+    levels: u64,
+) -> Result<Edited, OutOfMemory>
+    ensures { IfOk result (λ written. Writes written
+        (λ app. unit_writes app unit.now depth scope)) }
+{
+    let levels = down(levels)?;
+    if depth == 0 {
+        return Ok(nothing(alloc));
+    }
+    let stops = is_on_way(unit.way, scope);
+    if is_shown_in_both(unit, scope) {
+        let written = scope_written(alloc, unit, depth - 1, scope, levels)?;
+        return then_stop(alloc, written, stops);
+    }
+    then_stop(alloc, nothing(alloc), stops)
+}
+
+// Whether a scope is shown both before and after.
+fn is_shown_in_both<P: Parts>(unit: &Unit<'_, P>, scope: u64) -> bool
+    ensures { result
+        ≡ (look_is_shown unit.now.before.now scope && look_is_shown unit.now.after.now scope) }
+{
+    unit.before.is_shown(scope) && unit.after.is_shown(scope)
+}
+
+// The side that shows in both states, or one side in place of the other.
+#[cycle(written)]
+#[tactic(auto, using(crate::proofs::Writings::writings))]
+fn scope_written<P: Parts>(
+    alloc: Global,
+    unit: &Unit<'_, P>,
+    depth: u64,
+    scope: u64,
+    levels: u64,
+) -> Result<Edited, OutOfMemory>
+    ensures { IfOk result (λ written. Writes written
+        (λ app. scope_writes app unit.now depth scope)) }
+{
+    let levels = down(levels)?;
+    match unit.before.shows(scope) {
+        Some(old) => match unit.after.shows(scope) {
+            Some(new) => {
+                if is_same_side(old, new) {
+                    side_written(alloc, unit, depth, scope, old, levels)
+                } else {
+                    scope_replaced(alloc, unit, scope)
+                }
+            }
+            None => Ok(nothing(alloc)),
+        },
+        None => Ok(nothing(alloc)),
+    }
+}
+
+#[cycle(written)]
+#[tactic(auto, using(crate::proofs::Writings::writings))]
+fn side_written<P: Parts>(
+    alloc: Global,
+    unit: &Unit<'_, P>,
+    depth: u64,
+    scope: u64,
+    name: SideName,
+    levels: u64,
+) -> Result<Edited, OutOfMemory>
+    ensures { IfOk result (λ written. Writes written
+        (λ app. name_writes app unit.now depth scope name)) }
+{
+    let levels = down(levels)?;
+    match unit.before.side(scope, name) {
+        Some(old) => match unit.after.side(scope, name) {
+            Some(new) => {
+                let old = shown_in(unit.before, old);
+                let new = shown_in(unit.after, new);
+                let sides = Sides {
+                    unit: &*unit,
+                    old: &old,
+                    new: &new,
+                    stop: stop_on(unit.way, scope, name),
+                    depth,
+                };
+                outputs_written(alloc, &sides, levels)
+            }
+            None => Ok(nothing(alloc)),
+        },
+        None => Ok(nothing(alloc)),
+    }
+}
+
+// What an output writes where there was one before.
+#[cycle(written)]
+#[tactic(auto, using(crate::proofs::Writings::writings))]
+fn outputs_written<P: Parts>(
+    alloc: Global,
+    sides: &Sides<'_, P>,
+    levels: u64,
+) -> Result<Edited, OutOfMemory>
+    ensures { IfOk result (λ written. Writes written (λ app. output_writes app sides.now)) }
+{
+    let levels = down(levels)?;
+    match &sides.new.side.output {
+        Some(new) => match &sides.old.side.output {
+            Some(old) => tree_written(alloc, sides, &List::new(alloc), new, old, levels),
+            None => Ok(nothing(alloc)),
+        },
+        None => Ok(nothing(alloc)),
+    }
+}
+
+// What a matched tree writes: its attributes, then its slots. An unmatched one is replaced.
+#[cycle(written)]
+#[tactic(auto, using(crate::proofs::Writings::writings))]
+fn tree_written<P: Parts>(
+    alloc: Global,
+    sides: &Sides<'_, P>,
+    above: &Place,
+    new: &VNode<P>,
+    old: &VNode<P>,
+    levels: u64,
+) -> Result<Edited, OutOfMemory>
+    ensures { IfOk result (λ written. Writes written
+        (λ app. tree_writes app sides.now (place_of above.now) new.now old.now)) }
+{
+    let levels = down(levels)?;
+    if !new.template.same(&old.template) {
+        return tree_replaced(alloc, sides, above, new, old);
+    }
+    let pieces = pieces_of(alloc, &new.template.roots)?;
+    let slots = pieces_written(alloc, sides, above, new, old, pieces.as_slice(), levels)?;
+    let numbers = sides.old.side.numbers.as_slice();
+    then_on(
+        writes(attributes_written(alloc, numbers, above, new, old)?),
+        slots,
+    )
+}
+
+// What the pieces of a matched tree's template write, one after another.
+#[cycle(written)]
+#[tactic(auto, using(crate::proofs::Writings::writings))]
+fn pieces_written<P: Parts>(
+    alloc: Global,
+    sides: &Sides<'_, P>,
+    above: &Place,
+    new: &VNode<P>,
+    old: &VNode<P>,
+    pieces: &[Piece],
+    levels: u64,
+) -> Result<Edited, OutOfMemory>
+    ensures { IfOk result (λ written. Writes written
+        (λ app. pieces_writes app sides.now (place_of above.now) new.now old.now pieces.now)) }
+{
+    let levels = down(levels)?;
+    let mut written = nothing(alloc);
+    for piece in pieces {
+        if written.stopped {
+            return Ok(written);
+        }
+        let more = piece_written(alloc, sides, above, new, old, piece, levels)?;
+        written = then_on(written, more)?;
+    }
+    Ok(written)
+}
+
+// What a piece of a matched tree's template writes.
+#[cycle(written)]
+#[tactic(auto, using(crate::proofs::Writings::writings))]
+fn piece_written<P: Parts>(
+    alloc: Global,
+    sides: &Sides<'_, P>,
+    above: &Place,
+    new: &VNode<P>,
+    old: &VNode<P>,
+    piece: &Piece,
+    levels: u64,
+) -> Result<Edited, OutOfMemory>
+    ensures { IfOk result (λ written. Writes written
+        (λ app. piece_writes app sides.now (place_of above.now) new.now old.now piece.now)) }
+{
+    let levels = down(levels)?;
+    match piece {
+        Piece::Element { .. } => Ok(nothing(alloc)),
+        Piece::Text { .. } => Ok(nothing(alloc)),
+        Piece::Slot { id, path } => {
+            let place = place_inside(alloc, above, &new.template, path)?;
+            match new.dynamic_nodes.get(*id as usize) {
+                Some(value) => match old.dynamic_nodes.get(*id as usize) {
+                    Some(was) => slot_written(alloc, sides, &place, value, was, levels),
+                    None => {
+                        slot_written(
+                            alloc,
+                            sides,
+                            &place,
+                            value,
+                            &DynamicNode::Placeholder,
+                            levels,
+                        )
+                    }
+                },
+                None => Ok(nothing(alloc)),
+            }
+        }
+    }
+}
+
+// What a slot writes, by what stood in it and what stands there now.
+#[cycle(written)]
+#[tactic(auto, using(crate::proofs::Writings::writings))]
+fn slot_written<P: Parts>(
+    alloc: Global,
+    sides: &Sides<'_, P>,
+    place: &Place,
+    new: &DynamicNode<P>,
+    old: &DynamicNode<P>,
+    levels: u64,
+) -> Result<Edited, OutOfMemory>
+    ensures { IfOk result (λ written. Writes written
+        (λ app. slot_writes app sides.now (place_of place.now) new.now old.now)) }
+{
+    let levels = down(levels)?;
+    match new {
+        DynamicNode::Text(text) => text_written(alloc, sides, place, text, new, old),
+        DynamicNode::Placeholder => placeholder_written(alloc, sides, place, new, old),
+        DynamicNode::Component(component) => {
+            component_written(alloc, sides, place, component, new, old, levels)
+        }
+        DynamicNode::Fragment(trees) => {
+            fragment_written(alloc, sides, place, trees, new, old, levels)
+        }
+    }
+}
+
+// What a component writes in a slot.
+#[cycle(written)]
+#[tactic(auto, using(crate::proofs::Writings::writings))]
+fn component_written<P: Parts>(
+    alloc: Global,
+    sides: &Sides<'_, P>,
+    place: &Place,
+    component: &VComponent<P>,
+    new: &DynamicNode<P>,
+    old: &DynamicNode<P>,
+    levels: u64,
+) -> Result<Edited, OutOfMemory>
+    requires is { new.now ≡ values.Component component.now }
+    ensures { IfOk result (λ written. Writes written
+        (λ app. slot_writes app sides.now (place_of place.now) new.now old.now)) }
+{
+    let levels = down(levels)?;
+    match old {
+        DynamicNode::Component(was) => {
+            if is_same_component(was, component) {
+                child_written(alloc, sides, place, levels)
+            } else {
+                slot_replaced(alloc, sides, place, new, old)
+            }
+        }
+        DynamicNode::Text(_) => slot_replaced(alloc, sides, place, new, old),
+        DynamicNode::Placeholder => slot_replaced(alloc, sides, place, new, old),
+        DynamicNode::Fragment(_) => slot_replaced(alloc, sides, place, new, old),
+    }
+}
+
+// What a fragment writes in a slot.
+#[cycle(written)]
+#[tactic(auto, using(crate::proofs::Writings::writings))]
+fn fragment_written<P: Parts>(
+    alloc: Global,
+    sides: &Sides<'_, P>,
+    place: &Place,
+    trees: &List<VNode<P>>,
+    new: &DynamicNode<P>,
+    old: &DynamicNode<P>,
+    levels: u64,
+) -> Result<Edited, OutOfMemory>
+    requires is { new.now ≡ values.Fragment trees.now }
+    ensures { IfOk result (λ written. Writes written
+        (λ app. slot_writes app sides.now (place_of place.now) new.now old.now)) }
+{
+    let levels = down(levels)?;
+    match old {
+        DynamicNode::Fragment(were) => {
+            if trees.is_empty() {
+                return no_items_written(alloc, sides, place, were, new, old);
+            }
+            if were.is_empty() {
+                return slot_replaced(alloc, sides, place, new, old);
+            }
+            items_written(
+                alloc,
+                sides,
+                place,
+                trees.as_slice(),
+                were.as_slice(),
+                levels,
+            )
+        }
+        DynamicNode::Text(_) => slot_replaced(alloc, sides, place, new, old),
+        DynamicNode::Placeholder => slot_replaced(alloc, sides, place, new, old),
+        DynamicNode::Component(_) => slot_replaced(alloc, sides, place, new, old),
+    }
+}
+
+// What a matched child scope writes; nothing where it was to be fed and was refused.
+#[cycle(written)]
+#[tactic(auto, using(crate::proofs::Writings::writings))]
+fn child_written<P: Parts>(
+    alloc: Global,
+    sides: &Sides<'_, P>,
+    place: &Place,
+    levels: u64,
+) -> Result<Edited, OutOfMemory>
+    ensures { IfOk result (λ written. Writes written
+        (λ app. child_writes app sides.now (place_of place.now))) }
+{
+    let levels = down(levels)?;
+    match child_at(sides.old.side.children.as_slice(), place.as_slice()) {
+        Some(child) => {
+            if is_place(place, sides.stop) && !is_on_way(sides.unit.way, child) {
+                return Ok(halts(alloc));
+            }
+            written_within(alloc, sides.unit, sides.depth, child, levels)
+        }
+        None => Ok(nothing(alloc)),
+    }
+}
+
+// Pairs in order, then what is new after the last node of the item before, or what is over is
+// removed.
+#[cycle(written)]
+#[tactic(auto, using(crate::proofs::Writings::writings))]
+fn items_written<P: Parts>(
+    alloc: Global,
+    sides: &Sides<'_, P>,
+    place: &Place,
+    new: &[VNode<P>],
+    old: &[VNode<P>],
+    levels: u64,
+) -> Result<Edited, OutOfMemory>
+    ensures { IfOk result (λ written. Writes written
+        (λ app. items_writes app sides.now (place_of place.now) 0 0 new.now old.now)) }
+{
+    let levels = down(levels)?;
+    let mut written = nothing(alloc);
+    for position in 0..new.len() {
+        if written.stopped {
+            return Ok(written);
+        }
+        if position == old.len() {
+            let rest = items_inserted(alloc, sides, place, new, position)?;
+            return then_on(written, rest);
+        }
+        let above = place_of_item(alloc, place, position as u64)?;
+        let item = tree_written(alloc, sides, &above, &new[position], &old[position], levels)?;
+        written = then_on(written, item)?;
+    }
+    if written.stopped {
+        return Ok(written);
+    }
+    let first = new.len() as u64;
+    let over = items_view(alloc, sides.old, first, place, &old[new.len()..], LEVELS)?;
+    then_on(written, writes(removals(alloc, over.as_slice())?))
+}

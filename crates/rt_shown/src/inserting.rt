@@ -1,0 +1,106 @@
+//! Items that are new come after the last node of those before them.
+
+ghost use Rattle.std.specs.Prelude.{◌≡◌, ◌-◌, ◌≤◌, length, take, drop, IfOk};
+ghost use Rattle.rt_model.specs.Caused as caused;
+ghost use Rattle.rt_mirror.specs.Mirror.{forest_of};
+ghost use Rattle.rt_places.specs.Places.{place_of};
+ghost use Rattle.rt_shown.specs.Units.{around_from, items_inserts, last_among};
+ghost use Rattle.rt_shown.specs.Ways.{place_found};
+ghost use Rattle.rt_shown.specs.Written.{edited_of};
+
+use crate::edited::{Edited, halts, one_edit};
+use crate::levels::LEVELS;
+use crate::showing::{items_view, tree_view};
+use crate::sides::Sides;
+use crate::way::is_around;
+use rt_edits::{DocNode, Edit};
+use rt_nodes::VNode;
+use rt_parts::{ElementId, Parts};
+use rt_places::{Place, place_of_item};
+use rt_values::OutOfMemory;
+use std::alloc::Global;
+
+/// The items from a position on are new.
+#[tactic(auto, using(crate::proofs::Writings::writings))]
+pub(crate) fn items_inserted<P: Parts>(
+    alloc: Global,
+    sides: &Sides<'_, P>,
+    place: &Place,
+    new: &[VNode<P>],
+    position: usize,
+) -> Result<Edited, OutOfMemory>
+    requires within { position ≤ length new.now }
+    ensures { IfOk result (λ written. edited_of written
+        ≡ items_inserts sides.now (place_of place.now) position
+        (last_among sides.now.new.now (place_of place.now) 0 0 (take position new.now))
+        (drop position new.now)) }
+{
+    if any_around(alloc, place, position as u64, sides.stop, new.len() as u64)? {
+        return Ok(halts(alloc));
+    }
+    let last = last_before(alloc, sides, place, &new[..position])?;
+    let nodes = items_view(
+        alloc,
+        sides.new,
+        position as u64,
+        place,
+        &new[position..],
+        LEVELS,
+    )?;
+    one_edit(
+        alloc,
+        Edit::InsertNodesAfter {
+            id: ElementId(last),
+            nodes,
+        },
+    )
+}
+
+// Whether one of the items from a position on is the refused place or holds it.
+fn any_around(
+    alloc: Global,
+    place: &Place,
+    first: u64,
+    stop: Option<&Place>,
+    end: u64,
+) -> Result<bool, OutOfMemory>
+    ensures { IfOk result (λ answer. answer
+        ≡ around_from (place_of place.now) first (place_found stop.entry) (end - first)) }
+{
+    for position in first..end {
+        let item = place_of_item(alloc, place, position)?;
+        if is_around(&item, stop) {
+            return Ok(true);
+        }
+    }
+    Ok(false)
+}
+
+// The number of the last node of these items, 0 where they show none.
+fn last_before<P: Parts>(
+    alloc: Global,
+    sides: &Sides<'_, P>,
+    place: &Place,
+    trees: &[VNode<P>],
+) -> Result<u64, OutOfMemory>
+    ensures { IfOk result (λ last. last
+        ≡ last_among sides.now.new.now (place_of place.now) 0 0 trees.now) }
+{
+    let mut last = 0;
+    for position in 0..trees.len() {
+        let above = place_of_item(alloc, place, position as u64)?;
+        let row = tree_view(alloc, sides.new, &trees[position], &above, LEVELS)?;
+        last = last_of(last, row.as_slice());
+    }
+    Ok(last)
+}
+
+// The number of a row's last node, or the one that came before the row.
+fn last_of(before: u64, row: &[DocNode]) -> u64
+    ensures { result ≡ caused.last_of before (forest_of row.now) }
+{
+    match row.last() {
+        Some(node) => node.id.0,
+        None => before,
+    }
+}

@@ -1,0 +1,169 @@
+//! A side of a scope before and after a unit, and nodes that give way to others.
+
+ghost use Rattle.std.specs.Prelude.{◌≡◌, map, IfOk};
+ghost use Rattle.rt_model.specs.Document.{Forest};
+ghost use Rattle.rt_model.specs.Caused as caused;
+ghost use Rattle.rt_mirror.specs.Mirror.{edit_of, forest_of};
+ghost use Rattle.rt_places.specs.Places.{place_of};
+ghost use Rattle.rt_shown.specs.Seen.{scope_seen};
+ghost use Rattle.rt_shown.specs.Units.{slot_replaces, tree_replaces};
+ghost use Rattle.rt_shown.specs.Ways.{place_found};
+ghost use Rattle.rt_shown.specs.Written.{edited_of};
+
+use crate::edited::{Edited, halts, writes};
+use crate::levels::LEVELS;
+use crate::look::Look;
+use crate::showing::{Shown, scope_view, slot_view, tree_view};
+use crate::way::{Stop, is_around};
+use rt_edits::{DocNode, Edit};
+use rt_nodes::{DynamicNode, VNode};
+use rt_parts::Parts;
+use rt_places::{Place, Side};
+use rt_values::{List, OutOfMemory, both};
+use std::alloc::Global;
+
+/// The scopes before and after a unit, and the way to what was refused in it.
+#[derive(Drop)]
+pub(crate) struct Unit<'a, P: Parts> {
+    pub before: &'a Look<'a, P>,
+    pub after: &'a Look<'a, P>,
+    pub way: &'a [Stop],
+}
+
+/// One side of a scope before and after a unit.
+#[derive(Drop)]
+pub(crate) struct Sides<'a, P: Parts> {
+    pub unit: &'a Unit<'a, P>,
+    pub old: &'a Shown<'a, P>,
+    pub new: &'a Shown<'a, P>,
+    /// The refused place on it, or the one that leads there.
+    pub stop: Option<&'a Place>,
+    /// How many scopes deep its components may go.
+    pub depth: u64,
+}
+
+/// A side with all that its components show.
+pub(crate) fn shown_in<'a, P: Parts>(look: &'a Look<'a, P>, side: &'a Side<P>) -> Shown<'a, P>
+    ensures look { result.look.now ≡ look.now }
+    ensures side { result.side.now ≡ side.now }
+    ensures depth { result.depth ≡ look.now.scopes }
+{
+    Shown {
+        look,
+        side,
+        depth: look.scopes(),
+    }
+}
+
+/// The nodes of the side that showed give way to those of the one that shows now.
+pub(crate) fn scope_replaced<P: Parts>(
+    alloc: Global,
+    unit: &Unit<'_, P>,
+    scope: u64,
+) -> Result<Edited, OutOfMemory>
+    ensures { IfOk result (λ written. edited_of written ≡ caused.writes (caused.replaced_by
+        (scope_seen unit.now.before.now unit.now.before.now.scopes scope)
+        (scope_seen unit.now.after.now unit.now.after.now.scopes scope))) }
+{
+    let old = scope_view(alloc, unit.before, scope);
+    let new = scope_view(alloc, unit.after, scope);
+    replaces(alloc, old, new)
+}
+
+/// A tree's old nodes give way to those of the new one.
+pub(crate) fn tree_replaced<P: Parts>(
+    alloc: Global,
+    sides: &Sides<'_, P>,
+    above: &Place,
+    new: &VNode<P>,
+    old: &VNode<P>,
+) -> Result<Edited, OutOfMemory>
+    ensures { IfOk result (λ written. edited_of written
+        ≡ tree_replaces sides.now (place_of above.now) new.now old.now) }
+{
+    let old = tree_view(alloc, sides.old, old, above, LEVELS);
+    let new = tree_view(alloc, sides.new, new, above, LEVELS);
+    give_way(alloc, sides.stop, above, old, new)
+}
+
+/// A slot's old nodes give way to its new ones.
+pub(crate) fn slot_replaced<P: Parts>(
+    alloc: Global,
+    sides: &Sides<'_, P>,
+    place: &Place,
+    new: &DynamicNode<P>,
+    old: &DynamicNode<P>,
+) -> Result<Edited, OutOfMemory>
+    ensures { IfOk result (λ written. edited_of written
+        ≡ slot_replaces sides.now (place_of place.now) new.now old.now) }
+{
+    let old = slot_view(alloc, sides.old, old, place, LEVELS);
+    let new = slot_view(alloc, sides.new, new, place, LEVELS);
+    give_way(alloc, sides.stop, place, old, new)
+}
+
+// Old nodes at a place give way to new ones, unless the refused place is this one or within it.
+fn give_way(
+    alloc: Global,
+    stop: Option<&Place>,
+    place: &Place,
+    old: Result<List<DocNode>, OutOfMemory>,
+    new: Result<List<DocNode>, OutOfMemory>,
+) -> Result<Edited, OutOfMemory>
+    ensures { (f g : Forest) →
+        IfOk old (λ row. forest_of row ≡ f) → IfOk new (λ row. forest_of row ≡ g) →
+        IfOk result (λ written. edited_of written ≡ caused.built_whole (place_found stop.entry)
+        (place_of place.now) (caused.replaced_by f g)) }
+{
+    if is_around(place, stop) {
+        return Ok(halts(alloc));
+    }
+    replaces(alloc, old, new)
+}
+
+// Old nodes give way to new ones.
+fn replaces(
+    alloc: Global,
+    old: Result<List<DocNode>, OutOfMemory>,
+    new: Result<List<DocNode>, OutOfMemory>,
+) -> Result<Edited, OutOfMemory>
+    ensures { (f g : Forest) → IfOk old (λ row. forest_of row
+        ≡ f) → IfOk new (λ row. forest_of row ≡ g) →
+        IfOk result (λ written. edited_of written ≡ caused.writes (caused.replaced_by f g)) }
+{
+    let (old, new) = both(old, new)?;
+    Ok(writes(replaced_by(alloc, old.as_slice(), new)?))
+}
+
+// The first old node is replaced by the new ones, the others are removed.
+#[tactic(auto, using(crate::proofs::Writings::writings))]
+fn replaced_by(
+    alloc: Global,
+    old: &[DocNode],
+    new: List<DocNode>,
+) -> Result<List<Edit>, OutOfMemory>
+    ensures { IfOk result (λ edits. map edit_of edits
+        ≡ caused.replaced_by (forest_of old.now) (forest_of new)) }
+{
+    let mut edits = List::new(alloc);
+    if let Some(first) = old.first() {
+        edits.push(Edit::ReplaceNodeWith {
+            id: first.id,
+            nodes: new,
+        })?;
+        edits.append(removals(alloc, &old[1..])?)?;
+    }
+    Ok(edits)
+}
+
+/// Each node of a row is removed.
+#[tactic(auto, using(crate::proofs::Writings::writings))]
+pub(crate) fn removals(alloc: Global, row: &[DocNode]) -> Result<List<Edit>, OutOfMemory>
+    ensures { IfOk result (λ edits. map edit_of edits ≡ caused.removals (forest_of row.now)) }
+{
+    let mut edits = List::new(alloc);
+    for node in row {
+        edits.push(Edit::RemoveNode { id: node.id })?;
+    }
+    Ok(edits)
+}

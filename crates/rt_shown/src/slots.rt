@@ -1,0 +1,93 @@
+//! What a slot writes in which no component and no items stand.
+
+ghost use Rattle.std.specs.Prelude.{◌≡◌, [], IfOk};
+ghost use Rattle.rt_nodes.specs.declared.vnode.DynamicNode.TheVariants as values;
+ghost use Rattle.rt_places.specs.Places.{place_of};
+ghost use Rattle.rt_shown.specs.Units.{Writes, slot_writes};
+
+use crate::edited::{Edited, nothing, one_edit};
+use crate::sides::{Sides, slot_replaced};
+use rt_edits::Edit;
+use rt_nodes::{DynamicNode, VNode};
+use rt_parts::{ElementId, Parts};
+use rt_places::{Kind, Place};
+use rt_values::{List, OutOfMemory, Part, Text};
+use rt_work::number_at;
+use std::alloc::Global;
+
+/// What a text writes in a slot.
+#[tactic(auto, using(crate::proofs::Writings::writings))]
+pub(crate) fn text_written<P: Parts>(
+    alloc: Global,
+    sides: &Sides<'_, P>,
+    place: &Place,
+    text: &Text,
+    new: &DynamicNode<P>,
+    old: &DynamicNode<P>,
+) -> Result<Edited, OutOfMemory>
+    requires is { new.now ≡ values.Text text.now }
+    ensures { IfOk result (λ written. Writes written
+        (λ app. slot_writes app sides.now (place_of place.now) new.now old.now)) }
+{
+    match old {
+        DynamicNode::Text(was) => {
+            if was.same(text) {
+                return Ok(nothing(alloc));
+            }
+            let numbers = sides.old.side.numbers.as_slice();
+            let number = number_at(numbers, place.as_slice(), Kind::Text);
+            one_edit(
+                alloc,
+                Edit::SetNodeText {
+                    id: ElementId(number),
+                    text: text.copy(alloc)?,
+                },
+            )
+        }
+        DynamicNode::Placeholder => slot_replaced(alloc, sides, place, new, old),
+        DynamicNode::Component(_) => slot_replaced(alloc, sides, place, new, old),
+        DynamicNode::Fragment(_) => slot_replaced(alloc, sides, place, new, old),
+    }
+}
+
+/// What a placeholder writes in a slot.
+#[tactic(auto, using(crate::proofs::Writings::writings))]
+pub(crate) fn placeholder_written<P: Parts>(
+    alloc: Global,
+    sides: &Sides<'_, P>,
+    place: &Place,
+    new: &DynamicNode<P>,
+    old: &DynamicNode<P>,
+) -> Result<Edited, OutOfMemory>
+    requires is { new.now ≡ values.Placeholder }
+    ensures { IfOk result (λ written. Writes written
+        (λ app. slot_writes app sides.now (place_of place.now) new.now old.now)) }
+{
+    match old {
+        DynamicNode::Placeholder => Ok(nothing(alloc)),
+        DynamicNode::Text(_) => slot_replaced(alloc, sides, place, new, old),
+        DynamicNode::Component(_) => slot_replaced(alloc, sides, place, new, old),
+        DynamicNode::Fragment(_) => slot_replaced(alloc, sides, place, new, old),
+    }
+}
+
+/// What a fragment without items writes where a fragment stood.
+#[tactic(auto, using(crate::proofs::Writings::writings))]
+pub(crate) fn no_items_written<P: Parts>(
+    alloc: Global,
+    sides: &Sides<'_, P>,
+    place: &Place,
+    were: &List<VNode<P>>,
+    new: &DynamicNode<P>,
+    old: &DynamicNode<P>,
+) -> Result<Edited, OutOfMemory>
+    requires is { new.now ≡ values.Fragment [] }
+    requires was { old.now ≡ values.Fragment were.now }
+    ensures { IfOk result (λ written. Writes written
+        (λ app. slot_writes app sides.now (place_of place.now) new.now old.now)) }
+{
+    if were.is_empty() {
+        return Ok(nothing(alloc));
+    }
+    slot_replaced(alloc, sides, place, new, old)
+}
