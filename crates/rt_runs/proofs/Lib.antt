@@ -1,0 +1,14 @@
+pub mod Onward
+pub mod Turns
+pub mod Told
+pub mod Acted
+pub mod Heard
+pub mod Polled
+pub mod CleanedUp
+pub mod TestNames
+pub mod TestWalks
+pub mod BuiltIns
+pub mod TreeTests
+pub mod TreesAnswered
+pub mod Settled
+pub mod RunKinds

@@ -1,9 +1,22 @@
 //! What follows a body's answer.
+ghost use Rattle.std.specs.Prelude.{◌≡◌, [], if◌then◌else◌};
+ghost use Rattle.rt_model.specs.Tree.{placeholder_tree};
+ghost use Rattle.rt_model.specs.State as model;
+ghost use Rattle.rt_model.specs.State.{MainSide};
+ghost use Rattle.rt_model.specs.Commands.{throw_error};
+ghost use Rattle.rt_model.specs.Run as run;
+ghost use Rattle.rt_model.specs.Run.{settled_answer, after_hooks, start_agenda, has_output};
+ghost use Rattle.rt_mirror.specs.Mirror.{error_of};
+ghost use Rattle.rt_mirror.specs.Sealed.{element_of, tree_of};
+ghost use Rattle.rt_places.specs.Places.{side_name_of};
+ghost use Rattle.rt_work.specs.Items.{work_of};
+ghost use Rattle.rt_runs.specs.Bodies.{unanswered};
+ghost use Rattle.rt_runs.specs.Outcomes.{Comes, no_work};
 
 use crate::runtime::Runtime;
 use rt_calls::App;
 use rt_nodes::{Element, VNode};
-use rt_parts::RenderError;
+use rt_parts::{CapturedError, RenderError};
 use rt_places::SideName;
 use rt_scopes::Stop;
 use rt_sides::start_agenda;
@@ -15,40 +28,95 @@ pub(crate) const AFTER_RENDER: u32 = u32::MAX;
 
 impl<A: App> Runtime<A> {
     /// The answer settles, the after-render hooks are called, the output changes. The agenda.
-    pub fn after_answer(&mut self, scope: u64, answer: Element<A>) -> Result<List<Item<A>>, Stop> {
-        self.settle(scope, &answer)?;
-        self.call_hooks(scope, AFTER_RENDER)?;
-        self.new_output(scope, answer)
+    pub fn after_answer(&mut self, scope: u64, answer: Element<A>) -> Result<List<Item<A>>, Stop>
+        ensures followed { Comes (λ w.
+            run.after_answer (A.meaning self.old.app) w scope (element_of answer))
+            self.old.state self.new.state work_of result }
+        ensures app { self.new.app ≡ self.old.app }
+    {
+        match self.settle_and_hook(scope, &answer) {
+            Ok(()) => self.new_output(scope, answer),
+            Err(stop) => Err(stop),
+        }
+    }
+
+    /// The answer settles, and the after-render hooks are called.
+    fn settle_and_hook(&mut self, scope: u64, answer: &Element<A>) -> Result<(), Stop>
+        ensures settled { Comes (λ w. model.onward
+            (settled_answer (A.meaning self.old.app) w scope (element_of answer.now))
+            (λ v. after_hooks (A.meaning self.old.app) v scope))
+            self.old.state self.new.state no_work result }
+        ensures app { self.new.app ≡ self.old.app }
+    {
+        self.settle(scope, answer)?;
+        self.call_hooks(scope, AFTER_RENDER)
     }
 
     /// A tree raises the render count, an error is thrown, a suspension is held.
-    fn settle(&mut self, scope: u64, answer: &Element<A>) -> Result<(), Stop> {
+    fn settle(&mut self, scope: u64, answer: &Element<A>) -> Result<(), Stop>
+        ensures settled { Comes (λ w.
+            settled_answer (A.meaning self.old.app) w scope (element_of answer.now))
+            self.old.state self.new.state no_work result }
+        ensures app { self.new.app ≡ self.old.app }
+    {
         match answer {
             Ok(_) => self.state.raised(scope),
-            Err(RenderError::Error(error)) => {
-                let error = error.copy(self.alloc)?;
-                self.state.throw_error(scope, error)?;
-                Ok(())
-            }
-            Err(RenderError::Suspended(future)) => {
+            Err(refusal) => self.settle_refusal(scope, refusal),
+        }
+    }
+
+    /// An error is thrown, a suspension is held.
+    fn settle_refusal(&mut self, scope: u64, refusal: &RenderError) -> Result<(), Stop>
+        ensures settled { Comes (λ w.
+            settled_answer (A.meaning self.old.app) w scope (unanswered refusal.now))
+            self.old.state self.new.state no_work result }
+        ensures app { self.new.app ≡ self.old.app }
+    {
+        match refusal {
+            RenderError::Error(error) => self.throw(scope, error),
+            RenderError::Suspended(future) => {
                 self.state
                     .suspends_on(scope, future.origin.0, future.task.0)
             }
         }
     }
 
+    /// An error is thrown from a scope.
+    fn throw(&mut self, scope: u64, error: &CapturedError) -> Result<(), Stop>
+        ensures thrown { Comes (λ w. model.Done (throw_error w scope (error_of error.now)) [])
+            self.old.state self.new.state no_work result }
+        ensures app { self.new.app ≡ self.old.app }
+    {
+        let error = error.copy(self.alloc)?;
+        self.state.throw_error(scope, error)?;
+        Ok(())
+    }
+
     /// A tree is the new output; else the output stays, or is one placeholder where there was none.
-    fn new_output(&mut self, scope: u64, answer: Element<A>) -> Result<List<Item<A>>, Stop> {
+    fn new_output(&mut self, scope: u64, answer: Element<A>) -> Result<List<Item<A>>, Stop>
+        ensures output { Comes (λ w.
+            run.new_output (A.meaning self.old.app) w scope (element_of answer))
+            self.old.state self.new.state work_of result }
+        ensures app { self.new.app ≡ self.old.app }
+    {
         match answer {
             Ok(tree) => self.patch(scope, SideName::Main, tree),
-            Err(_) => {
-                if self.state.has_output(scope) {
-                    return Ok(List::new(self.alloc));
-                }
-                let tree = VNode::placeholder(self.alloc)?;
-                self.patch(scope, SideName::Main, tree)
-            }
+            Err(_) => self.no_output(scope),
         }
+    }
+
+    /// The output stays, or is one placeholder where there was none.
+    fn no_output(&mut self, scope: u64) -> Result<List<Item<A>>, Stop>
+        ensures output { Comes (λ w. (if has_output w scope then model.Done w []
+            else start_agenda (A.meaning self.old.app) w scope MainSide placeholder_tree))
+            self.old.state self.new.state work_of result }
+        ensures app { self.new.app ≡ self.old.app }
+    {
+        if self.state.has_output(scope) {
+            return Ok(List::new(self.alloc));
+        }
+        let tree = VNode::placeholder(self.alloc)?;
+        self.patch(scope, SideName::Main, tree)
     }
 
     /// A tree becomes the kept output of a scope's side. Its agenda.
@@ -57,7 +125,12 @@ impl<A: App> Runtime<A> {
         scope: u64,
         side: SideName,
         tree: VNode<A>,
-    ) -> Result<List<Item<A>>, Stop> {
+    ) -> Result<List<Item<A>>, Stop>
+        ensures patched { Comes (λ w.
+            start_agenda (A.meaning self.old.app) w scope (side_name_of side) (tree_of tree))
+            self.old.state self.new.state work_of result }
+        ensures app { self.new.app ≡ self.old.app }
+    {
         Ok(start_agenda(self.alloc, &mut self.state, scope, side, tree)?)
     }
 }

@@ -1,17 +1,30 @@
 //! The call of a component's body.
+ghost use Rattle.std.specs.Prelude.{◌≡◌, ◌++◌, ◌∷◌, [], ℕ, Err, Some, IfOk, option_map};
+ghost use Rattle.std.specs.Option.{option_copied};
+ghost use Rattle.rt_model.specs.Lists.{at};
+ghost use Rattle.rt_model.specs.Run as run;
+ghost use Rattle.rt_model.specs.Tree as model;
+ghost use Rattle.rt_mirror.specs.Sealed.{component_of, element_of};
+ghost use Rattle.rt_mirror.specs.Mirror as mirror;
+ghost use Rattle.rt_mirror.specs.Mirror.{fallback_of, handler_of};
+ghost use Rattle.rt_calls.specs.declared.faults.CxFault.TheVariants as refusals;
+ghost use Rattle.rt_scopes.specs.declared.names.Stop.TheVariants as stops;
+ghost use Rattle.rt_runs.specs.Bodies.{Answers, Leaves, Settles, answer_in, error_kept, handled_by, plain_left, settled_result};
 
 use crate::runtime::{Left, Runtime};
 use crate::trees::{children_tree, copy_of, error_tree, root_tree};
 use rt_calls::{App, BodyCx, TurnParts};
 use rt_fits::fits;
-use rt_nodes::{Element, ErrorBoundaryProps, ErrorHandler, Fallback, VComponent, VNode};
+use rt_nodes::{Element, ErrorHandler, Fallback, RootProps, VComponent, VNode};
 use rt_parts::{CapturedError, Parts};
 use rt_scopes::{Fault, State, Stop};
 use rt_tracked::Source;
-use rt_values::{List, OutOfMemory, Part, ScopeId};
+use rt_values::{List, OutOfMemory, Part, ScopeId, Text};
 
 /// Whether the node test lets an answer pass.
-fn answer_fits<P: Parts>(answer: &Element<P>) -> bool {
+fn answer_fits<P: Parts>(answer: &Element<P>) -> bool
+    ensures { result ≡ run.answer_fits (element_of answer.now) }
+{
     match answer {
         Ok(tree) => fits(tree),
         Err(_) => true,
@@ -19,7 +32,9 @@ fn answer_fits<P: Parts>(answer: &Element<P>) -> bool {
 }
 
 /// The error that a live error boundary keeps.
-fn error_of<P: Parts>(state: &State<P>, scope: u64) -> Option<&CapturedError> {
+fn error_of<P: Parts>(state: &State<P>, scope: u64) -> Option<&CapturedError>
+    ensures { option_copied result ≡ error_kept (at state.now.rows.table scope) }
+{
     match state.scope(scope) {
         Some(found) => found.row.error.as_ref(),
         None => None,
@@ -29,25 +44,75 @@ fn error_of<P: Parts>(state: &State<P>, scope: u64) -> Option<&CapturedError> {
 impl<A: App> Runtime<A> {
     /// Calls a component's body in a scope: what it read is kept, its tree is tested, what it asked
     /// for is done. The answer.
-    pub fn call_body(&mut self, scope: u64, component: &VComponent<A>) -> Result<Element<A>, Stop> {
+    pub fn call_body(&mut self, scope: u64, component: &VComponent<A>) -> Result<Element<A>, Stop>
+        // Whatever follows the answer, it comes to that.
+        ensures answered { Answers (λ w then_on.
+            run.call_body (A.meaning self.old.app) w scope (component_of component.now) then_on)
+            self.old.state self.new.state result }
+        ensures app { self.new.app ≡ self.old.app }
+    {
+        let parts = self.body_of(scope, component)?;
+        self.settle_call(scope, parts)
+    }
+
+    /// Takes on what a body's call left. Its answer.
+    fn settle_call(
+        &mut self,
+        scope: u64,
+        parts: TurnParts<A, Element<A>>,
+    ) -> Result<Element<A>, Stop>
+        ensures settled { Settles (A.meaning self.old.app) self.old.state scope parts
+            self.new.state (answer_in result) }
+        ensures memory { parts.fault ≡ Some refusals.OutOfMemory
+            → result ≡ Err stops.OutOfMemory }
+        ensures app { self.new.app ≡ self.old.app }
+    {
         let TurnParts {
             answer,
             reads,
             commands,
             next,
             fault,
-        } = self.body_of(scope, component)?;
-        let commands = self.after_call(Left {
+        } = parts;
+        let left = Left {
             commands,
             next,
             fault,
-        })?;
+        };
+        match self.take_on(scope, &answer, reads, left) {
+            Ok(()) => Ok(answer),
+            Err(stop) => Err(stop),
+        }
+    }
+
+    /// Takes on what a body's call left: what it read is kept, its tree is tested, what it asked for
+    /// is done.
+    fn take_on(
+        &mut self,
+        scope: u64,
+        answer: &Element<A>,
+        reads: List<Source>,
+        left: Left<A>,
+    ) -> Result<(), Stop>
+        ensures settled { Settles (A.meaning self.old.app) self.old.state scope
+            (record {
+              answer = answer.now;
+              reads = reads;
+              commands = left.commands;
+              next = left.next;
+              fault = left.fault;
+            }) self.new.state (settled_result answer.now result) }
+        ensures memory { left.fault ≡ Some refusals.OutOfMemory
+            → result ≡ Err stops.OutOfMemory }
+        ensures app { self.new.app ≡ self.old.app }
+    {
+        let asked = self.after_call(left)?;
         self.state.keep_reads(scope, reads)?;
-        if !answer_fits(&answer) {
+        if !answer_fits(answer) {
             return Err(Stop::Fault(Fault::BadNode { scope }));
         }
-        self.state.commands(self.alloc, scope, None, commands)?;
-        Ok(answer)
+        self.state.commands(self.alloc, scope, None, asked)?;
+        Ok(())
     }
 
     /// What the body of a component leaves; a suspense boundary's is that of its fallback.
@@ -55,26 +120,21 @@ impl<A: App> Runtime<A> {
         &mut self,
         scope: u64,
         component: &VComponent<A>,
-    ) -> Result<TurnParts<A, Element<A>>, OutOfMemory> {
+    ) -> Result<TurnParts<A, Element<A>>, OutOfMemory>
+        ensures means { IfOk result (λ parts. Leaves
+            (run.body_of (A.meaning self.old.app) (component_of component.now))
+            self.old.state scope parts) }
+        ensures state { self.new.state ≡ self.old.state }
+        ensures app { self.new.app ≡ self.old.app }
+    {
         match component {
             VComponent::App { component, props } => self.render(scope, component, props),
-            VComponent::Root(props) => {
-                let root = props.component.copy(self.alloc)?;
-                let tree = root_tree(self.alloc, root, props.props.copy(self.alloc)?)?;
-                Ok(self.plain(Ok(tree)))
+            VComponent::Root(props) => self.rooted(props),
+            VComponent::Fragment(props) => self.fragment(props.children.get()),
+            VComponent::ErrorBoundary(props) => {
+                self.caught(scope, props.children.get(), &props.handle_error)
             }
-            VComponent::Fragment(props) => {
-                let children = copy_of(self.alloc, props.children.get())?;
-                Ok(self.plain(children))
-            }
-            VComponent::ErrorBoundary(props) => self.caught(scope, props),
-            VComponent::SuspenseBoundary(props) => match &props.fallback {
-                Fallback::Placeholder => {
-                    let tree = VNode::placeholder(self.alloc)?;
-                    Ok(self.plain(Ok(tree)))
-                }
-                Fallback::Component(component, props) => self.render(scope, component, props),
-            },
+            VComponent::SuspenseBoundary(props) => self.fallback(scope, &props.fallback),
         }
     }
 
@@ -84,7 +144,13 @@ impl<A: App> Runtime<A> {
         scope: u64,
         component: &A::Component,
         props: &A::Props,
-    ) -> Result<TurnParts<A, Element<A>>, OutOfMemory> {
+    ) -> Result<TurnParts<A, Element<A>>, OutOfMemory>
+        ensures means { IfOk result (λ parts. Leaves
+            ((A.meaning self.old.app).body component.now props.now)
+            self.old.state scope parts) }
+        ensures state { self.new.state ≡ self.old.state }
+        ensures app { self.new.app ≡ self.old.app }
+    {
         let world = self.state.world(None, true);
         let cx = BodyCx::enter(self.alloc, &mut self.calls, &world, ScopeId(scope));
         let turn = self.app.render(self.alloc, component, props, cx)?;
@@ -92,7 +158,9 @@ impl<A: App> Runtime<A> {
     }
 
     /// An answer for which nothing was called.
-    fn plain(&self, answer: Element<A>) -> TurnParts<A, Element<A>> {
+    fn plain(&self, answer: Element<A>) -> TurnParts<A, Element<A>>
+        ensures { result ≡ plain_left self.now.state.next answer }
+    {
         TurnParts {
             answer,
             reads: List::new(self.alloc),
@@ -102,15 +170,66 @@ impl<A: App> Runtime<A> {
         }
     }
 
+    /// What a root wrapper's body leaves.
+    fn rooted(&self, props: &RootProps<A>) -> Result<TurnParts<A, Element<A>>, OutOfMemory>
+        ensures { IfOk result (λ parts. (scope : ℕ) → Leaves (λ w. run.plain w []
+            (model.rendered (run.root_tree props.now.component props.now.props)))
+            self.now.state scope parts) }
+    {
+        let alloc = self.alloc;
+        let component = props.component.copy(alloc)?;
+        let own = props.props.copy(alloc)?;
+        let tree = root_tree(alloc, component, own)?;
+        Ok(self.plain(Ok(tree)))
+    }
+
+    /// What the body of a fragment with these children leaves.
+    fn fragment(&self, children: &Element<A>) -> Result<TurnParts<A, Element<A>>, OutOfMemory>
+        ensures { IfOk result (λ parts. (scope : ℕ) →
+            Leaves (λ w. run.plain w [] (element_of children.now)) self.now.state scope parts) }
+    {
+        let children = copy_of(self.alloc, children)?;
+        Ok(self.plain(children))
+    }
+
+    /// What a suspense boundary's fallback leaves.
+    fn fallback(
+        &mut self,
+        scope: u64,
+        fallback: &Fallback<A>,
+    ) -> Result<TurnParts<A, Element<A>>, OutOfMemory>
+        ensures means { IfOk result (λ parts. (children : _) → Leaves
+            (run.body_of (A.meaning self.old.app)
+            (model.SuspenseBoundary children (fallback_of fallback.now)))
+            self.old.state scope parts) }
+        ensures state { self.new.state ≡ self.old.state }
+        ensures app { self.new.app ≡ self.old.app }
+    {
+        match fallback {
+            Fallback::Placeholder => {
+                let tree = VNode::placeholder(self.alloc)?;
+                Ok(self.plain(Ok(tree)))
+            }
+            Fallback::Component(component, props) => self.render(scope, component, props),
+        }
+    }
+
     /// What an error boundary's body leaves. It reads the error that the boundary keeps.
     fn caught(
         &mut self,
         scope: u64,
-        props: &ErrorBoundaryProps<A>,
-    ) -> Result<TurnParts<A, Element<A>>, OutOfMemory> {
-        let mut parts = self.handled(scope, props)?;
-        parts.reads.push(Source::Error(ScopeId(scope)))?;
-        Ok(parts)
+        children: &Element<A>,
+        handler: &ErrorHandler<A>,
+    ) -> Result<TurnParts<A, Element<A>>, OutOfMemory>
+        ensures means { IfOk result (λ parts. Leaves
+            (run.body_of (A.meaning self.old.app)
+            (model.ErrorBoundary (element_of children.now) (handler_of handler.now)))
+            self.old.state scope parts) }
+        ensures state { self.new.state ≡ self.old.state }
+        ensures app { self.new.app ≡ self.old.app }
+    {
+        let parts = self.handled(scope, children, handler)?;
+        and_read(parts, Source::Error(ScopeId(scope)))
     }
 
     /// What an error boundary's body leaves but for that read: its children where it keeps no error,
@@ -118,19 +237,59 @@ impl<A: App> Runtime<A> {
     fn handled(
         &mut self,
         scope: u64,
-        props: &ErrorBoundaryProps<A>,
-    ) -> Result<TurnParts<A, Element<A>>, OutOfMemory> {
+        children: &Element<A>,
+        handler: &ErrorHandler<A>,
+    ) -> Result<TurnParts<A, Element<A>>, OutOfMemory>
+        ensures means { IfOk result (λ parts. Leaves
+            (handled_by (A.meaning self.old.app) (element_of children.now)
+            (handler_of handler.now)
+            (option_map mirror.error_of (error_kept (at self.old.state.rows.table scope))))
+            self.old.state scope parts) }
+        ensures state { self.new.state ≡ self.old.state }
+        ensures app { self.new.app ≡ self.old.app }
+    {
         let Some(error) = error_of(&self.state, scope) else {
-            let tree = children_tree(self.alloc, props.children.get())?;
+            let tree = children_tree(self.alloc, children)?;
             return Ok(self.plain(Ok(tree)));
         };
-        match &props.handle_error {
+        let text = error.text.copy(self.alloc)?;
+        self.handle(scope, handler, text)
+    }
+
+    /// What handles an error with this text leaves.
+    fn handle(
+        &mut self,
+        scope: u64,
+        handler: &ErrorHandler<A>,
+        text: Text,
+    ) -> Result<TurnParts<A, Element<A>>, OutOfMemory>
+        ensures means { IfOk result (λ parts. (children : _) (serial : ℕ) → Leaves
+            (handled_by (A.meaning self.old.app) children (handler_of handler.now)
+            (Some (record { serial = serial; text = text })))
+            self.old.state scope parts) }
+        ensures state { self.new.state ≡ self.old.state }
+        ensures app { self.new.app ≡ self.old.app }
+    {
+        match handler {
             ErrorHandler::Default => {
-                let text = error.text.copy(self.alloc)?;
                 let tree = error_tree(self.alloc, text)?;
                 Ok(self.plain(Ok(tree)))
             }
             ErrorHandler::Component(component, props) => self.render(scope, component, props),
         }
+    }
+}
+
+/// What a call left, with one more read.
+fn and_read<P: Parts>(
+    parts: TurnParts<P, Element<P>>,
+    source: Source,
+) -> Result<TurnParts<P, Element<P>>, OutOfMemory>
+    ensures { IfOk result (λ more. more ≡ record parts { reads = parts.reads ++ source ∷ [] }) }
+{
+    let mut parts = parts;
+    match parts.reads.push(source) {
+        Ok(()) => Ok(parts),
+        Err(refused) => Err(refused),
     }
 }

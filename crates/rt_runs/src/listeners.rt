@@ -1,4 +1,6 @@
 //! Listeners of events.
+ghost use Rattle.std.specs.Prelude.{◌≡◌};
+ghost use Rattle.rt_runs.specs.Hearings.{Hears};
 
 use crate::runtime::{Runtime, apart};
 use rt_calls::{App, Cx, Plain};
@@ -14,7 +16,11 @@ impl<A: App> Runtime<A> {
         scope: u64,
         handler: &A::Handler,
         event: &mut Event<A::Payload>,
-    ) -> Result<(), Stop> {
+    ) -> Result<(), Stop>
+        ensures heard { Hears (A.meaning self.old.app) self.old.state scope handler.now event.old
+            self.new.state event.new result }
+        ensures app { self.new.app ≡ self.old.app }
+    {
         let world = self.state.world(None, false);
         let cx = Cx::<A, Plain>::enter(self.alloc, &mut self.calls, &world, ScopeId(scope));
         let turn = self.app.handle(self.alloc, handler, event, cx)?;

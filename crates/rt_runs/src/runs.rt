@@ -1,4 +1,13 @@
 //! One run of a scope, up to its agenda.
+ghost use Rattle.std.specs.Prelude.{◌≡◌, map, IfOk, option_map};
+ghost use Rattle.rt_model.specs.Run as run;
+ghost use Rattle.rt_model.specs.Run.{after_hooks, boundary_run, call_body};
+ghost use Rattle.rt_model.specs.State.{Done, onward};
+ghost use Rattle.rt_mirror.specs.Sealed.{component_of};
+ghost use Rattle.rt_places.specs.Places.{side_name_of};
+ghost use Rattle.rt_work.specs.Items.{row_step_of, work_of};
+ghost use Rattle.rt_runs.specs.Outcomes.{Comes};
+ghost use Rattle.rt_runs.specs.Runs.{run_by, run_on};
 
 use crate::answers::AFTER_RENDER;
 use crate::runtime::Runtime;
@@ -6,7 +15,7 @@ use rt_calls::App;
 use rt_nodes::VComponent;
 use rt_parts::Parts;
 use rt_places::SideName;
-use rt_scopes::{Stop, is_held};
+use rt_scopes::{Stop, is_held, is_suspense_boundary};
 use rt_values::{List, OutOfMemory};
 use rt_work::{Item, RowStep};
 use std::alloc::Global;
@@ -16,7 +25,9 @@ const BEFORE_RENDER: u32 = u32::MAX - 1;
 
 /// The steps of a suspense boundary's run, by the side that shows and by whether it is held at its
 /// start.
-fn row_of(shows: Option<SideName>, held: bool) -> &'static [RowStep] {
+fn row_of(shows: Option<SideName>, held: bool) -> &'static [RowStep]
+    ensures { map row_step_of result.now ≡ run.row_of (option_map side_name_of shows) held }
+{
     match (shows, held) {
         (None, _) => &[RowStep::PatchChildren, RowStep::MadeChildren],
         (Some(SideName::Fallback), true) => &[RowStep::RunFallback, RowStep::PatchChildren],
@@ -37,7 +48,9 @@ fn row_of(shows: Option<SideName>, held: bool) -> &'static [RowStep] {
 }
 
 /// Whether a run calls the fallback. A boundary that is made knows it only later.
-fn runs_fallback(steps: &[RowStep]) -> bool {
+fn runs_fallback(steps: &[RowStep]) -> bool
+    ensures { result ≡ run.runs_fallback (map row_step_of steps.now) }
+{
     for step in steps {
         if *step == RowStep::RunFallback {
             return true;
@@ -51,7 +64,10 @@ pub fn row_items<P: Parts>(
     alloc: Global,
     boundary: u64,
     steps: &[RowStep],
-) -> Result<List<Item<P>>, OutOfMemory> {
+) -> Result<List<Item<P>>, OutOfMemory>
+    ensures { IfOk result (λ items.
+        work_of items ≡ run.row_items boundary (map row_step_of steps.now)) }
+{
     let mut items = List::new(alloc);
     for step in steps {
         items.push(Item::Row {
@@ -65,29 +81,90 @@ pub fn row_items<P: Parts>(
 impl<A: App> Runtime<A> {
     /// Runs a scope: its marks go, the before-render hooks are called, then its body, or the first
     /// steps of a suspense boundary. The agenda that this leads to; none of a scope that is gone.
-    pub fn run(&mut self, scope: u64) -> Result<List<Item<A>>, Stop> {
+    pub fn run(&mut self, scope: u64) -> Result<List<Item<A>>, Stop>
+        ensures run { Comes (λ w. run.run (A.meaning self.old.app) w scope)
+            self.old.state self.new.state work_of result }
+        ensures app { self.new.app ≡ self.old.app }
+    {
         let Some(found) = self.state.scope(scope) else {
             return Ok(List::new(self.alloc));
         };
         let component = found.rest.component.copy(self.alloc)?;
         let steps = row_of(found.rest.shows, is_held(found));
+        self.run_component(scope, &component, steps)
+    }
+
+    /// Runs a scope with this component: its marks go, the before-render hooks are called, then its
+    /// body, or these steps of a suspense boundary.
+    fn run_component(
+        &mut self,
+        scope: u64,
+        component: &VComponent<A>,
+        steps: &[RowStep],
+    ) -> Result<List<Item<A>>, Stop>
+        ensures run { Comes (λ w. run_by (A.meaning self.old.app) w scope
+            (component_of component.now) (map row_step_of steps.now))
+            self.old.state self.new.state work_of result }
+        ensures app { self.new.app ≡ self.old.app }
+    {
         self.state.unmark(scope);
         self.call_hooks(scope, BEFORE_RENDER)?;
-        match component {
-            VComponent::SuspenseBoundary(_) => self.run_boundary(scope, steps),
-            _ => {
-                let answer = self.call_body(scope, &component)?;
-                self.after_answer(scope, answer)
-            }
+        self.run_kind(scope, component, steps)
+    }
+
+    /// Runs a body, or these steps of a suspense boundary.
+    fn run_kind(
+        &mut self,
+        scope: u64,
+        component: &VComponent<A>,
+        steps: &[RowStep],
+    ) -> Result<List<Item<A>>, Stop>
+        ensures run { Comes (λ w. run_on (A.meaning self.old.app) w scope
+            (component_of component.now) (map row_step_of steps.now))
+            self.old.state self.new.state work_of result }
+        ensures app { self.new.app ≡ self.old.app }
+    {
+        if is_suspense_boundary(component) {
+            self.run_boundary(scope, steps)
+        } else {
+            self.run_body(scope, component)
         }
+    }
+
+    /// Calls a body, and does what follows its answer.
+    fn run_body(&mut self, scope: u64, component: &VComponent<A>) -> Result<List<Item<A>>, Stop>
+        ensures run { Comes (λ w. call_body (A.meaning self.old.app) w scope
+            (component_of component.now)
+            (λ v answer. run.after_answer (A.meaning self.old.app) v scope answer))
+            self.old.state self.new.state work_of result }
+        ensures app { self.new.app ≡ self.old.app }
+    {
+        let answer = self.call_body(scope, component)?;
+        self.after_answer(scope, answer)
     }
 
     /// The run of a suspense boundary: its steps. Where no fallback runs the after-render hooks
     /// come at the start.
-    fn run_boundary(&mut self, boundary: u64, steps: &[RowStep]) -> Result<List<Item<A>>, Stop> {
-        if !runs_fallback(steps) {
-            self.call_hooks(boundary, AFTER_RENDER)?;
+    fn run_boundary(&mut self, boundary: u64, steps: &[RowStep]) -> Result<List<Item<A>>, Stop>
+        ensures run { Comes (λ w. boundary_run (A.meaning self.old.app) w boundary
+            (map row_step_of steps.now))
+            self.old.state self.new.state work_of result }
+        ensures app { self.new.app ≡ self.old.app }
+    {
+        if runs_fallback(steps) {
+            return Ok(row_items(self.alloc, boundary, steps)?);
         }
+        self.hook_and_run(boundary, steps)
+    }
+
+    /// The after-render hooks of a boundary are called, and then its steps are open.
+    fn hook_and_run(&mut self, boundary: u64, steps: &[RowStep]) -> Result<List<Item<A>>, Stop>
+        ensures run { Comes (λ w. onward (after_hooks (A.meaning self.old.app) w boundary)
+            (λ v. Done v (run.row_items boundary (map row_step_of steps.now))))
+            self.old.state self.new.state work_of result }
+        ensures app { self.new.app ≡ self.old.app }
+    {
+        self.call_hooks(boundary, AFTER_RENDER)?;
         Ok(row_items(self.alloc, boundary, steps)?)
     }
 }

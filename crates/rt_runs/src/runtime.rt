@@ -1,8 +1,14 @@
 //! The application and the state on which it is run.
+ghost use Rattle.std.specs.Prelude.{◌≡◌, Some, None, IfOk, IfErr};
+ghost use Rattle.rt_model.specs.Replay.{first_state};
+ghost use Rattle.rt_calls.specs.Calls.{firsts_of};
+ghost use Rattle.rt_calls.specs.declared.faults.CxFault.{CxFault};
+ghost use Rattle.rt_scopes.specs.Mirror.{at_first, state_of};
+ghost use Rattle.rt_runs.specs.Outcomes.{stop_of};
 
 use rt_calls::{App, Calls, Command, CxFault, Firsts, TurnParts, no_calls};
 use rt_parts::Parts;
-use rt_scopes::{State, Stop};
+use rt_scopes::{Fault, State, Stop};
 use rt_values::{List, OutOfMemory};
 use std::alloc::Global;
 
@@ -24,7 +30,12 @@ pub struct Left<P: Parts> {
 }
 
 /// Takes the answer of a call that is no body.
-pub(crate) fn apart<P: Parts, T>(parts: TurnParts<P, T>) -> (T, Left<P>) {
+pub(crate) fn apart<P: Parts, T>(parts: TurnParts<P, T>) -> (T, Left<P>)
+    ensures answer { result.0 ≡ parts.answer }
+    ensures commands { result.1.commands ≡ parts.commands }
+    ensures next { result.1.next ≡ parts.next }
+    ensures fault { result.1.fault ≡ parts.fault }
+{
     let TurnParts {
         answer,
         reads: _,
@@ -40,6 +51,27 @@ pub(crate) fn apart<P: Parts, T>(parts: TurnParts<P, T>) -> (T, Left<P>) {
     (answer, left)
 }
 
+/// What a refusal of a call leads to.
+fn stop_of(refusal: CxFault) -> Stop
+    ensures { result ≡ stop_of refusal }
+{
+    match refusal {
+        CxFault::OutOfMemory => Stop::OutOfMemory,
+        CxFault::IdsExhausted { what } => Stop::Fault(Fault::IdsExhausted { what }),
+        CxFault::HookChanged {
+            scope,
+            index,
+            kept,
+            asked,
+        } => Stop::Fault(Fault::HookChanged {
+            scope: scope.0,
+            index,
+            kept,
+            asked,
+        }),
+    }
+}
+
 impl<A: App> Runtime<A> {
     /// The start: the root wrapper alone, not yet run. The counters begin at these numbers.
     pub fn start(
@@ -47,7 +79,12 @@ impl<A: App> Runtime<A> {
         app: A,
         props: A::Props,
         firsts: Firsts,
-    ) -> Result<Runtime<A>, OutOfMemory> {
+    ) -> Result<Runtime<A>, OutOfMemory>
+        ensures first { IfOk result (λ runtime. (polled : A.TaskState) →
+            state_of (at_first polled) runtime.state
+            ≡ first_state (A.meaning app).root props (firsts_of firsts)) }
+        ensures app { IfOk result (λ runtime. runtime.app ≡ app) }
+    {
         let root = app.root(alloc)?;
         let state = State::first(alloc, root, props, firsts)?;
         Ok(Runtime {
@@ -59,7 +96,13 @@ impl<A: App> Runtime<A> {
     }
 
     /// Takes on the numbers that a call left, and gives its commands where it met no refusal.
-    pub(crate) fn after_call(&mut self, left: Left<A>) -> Result<List<Command<A>>, Stop> {
+    pub(crate) fn after_call(&mut self, left: Left<A>) -> Result<List<Command<A>>, Stop>
+        ensures next { self.new.state ≡ record self.old.state { next = left.next } }
+        ensures app { self.new.app ≡ self.old.app }
+        ensures ok { IfOk result (λ commands. (commands ≡ left.commands) × (left.fault ≡ None)) }
+        ensures cut { IfErr result (λ stop.
+            (refusal : CxFault) × (left.fault ≡ Some refusal) × (stop ≡ stop_of refusal)) }
+    {
         let Left {
             commands,
             next,
@@ -67,7 +110,7 @@ impl<A: App> Runtime<A> {
         } = left;
         self.state.next = next;
         match fault {
-            Some(fault) => Err(Stop::of_call(fault)),
+            Some(refusal) => Err(stop_of(refusal)),
             None => Ok(commands),
         }
     }

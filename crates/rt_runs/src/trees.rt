@@ -1,4 +1,11 @@
 //! The trees that built-in components answer.
+ghost use Rattle.std.specs.Prelude.{◌≡◌, ◌∷◌, [], None, Some, IfOk};
+ghost use Rattle.rt_parts.specs.declared.template.TemplateAttribute.TheVariants as attributes;
+ghost use Rattle.rt_parts.specs.declared.template.TemplateNode.TheVariants as nodes;
+ghost use Rattle.rt_model.specs.Boundary.{tree_or_placeholder};
+ghost use Rattle.rt_model.specs.Run as run;
+ghost use Rattle.rt_model.specs.Tree as model;
+ghost use Rattle.rt_mirror.specs.Sealed.{element_of, slot_of, tree_of};
 
 use rt_nodes::{
     DynamicNode, Element, ErrorBoundaryProps, ErrorHandler, Fallback, SuspenseBoundaryProps,
@@ -9,19 +16,27 @@ use rt_values::{Boxed, List, OutOfMemory, Text};
 use std::alloc::Global;
 
 /// A list of one item.
-fn list_of<T: Drop>(alloc: Global, item: T) -> Result<List<T>, OutOfMemory> {
+fn list_of<T: Drop>(alloc: Global, item: T) -> Result<List<T>, OutOfMemory>
+    ensures { IfOk result (λ list. list ≡ item ∷ []) }
+{
     let mut list = List::new(alloc);
     list.push(item)?;
     Ok(list)
 }
 
 /// The tree of this template, whose one slot has this value.
-fn tree_of<P: Parts>(
+fn block_of<P: Parts>(
     alloc: Global,
     root: TemplateNode,
     path: &[u8],
     value: DynamicNode<P>,
-) -> Result<VNode<P>, OutOfMemory> {
+) -> Result<VNode<P>, OutOfMemory>
+    ensures { IfOk result (λ tree. tree ≡ record {
+      template = record { roots = root ∷ []; node_paths = path.now ∷ []; attr_paths = [] };
+      dynamic_nodes = value ∷ [];
+      dynamic_attrs = [];
+    }) }
+{
     let path = List::from_slice(alloc, path)?;
     Ok(VNode {
         template: Template {
@@ -35,8 +50,10 @@ fn tree_of<P: Parts>(
 }
 
 /// The tree that is one slot.
-fn one_slot<P: Parts>(alloc: Global, value: DynamicNode<P>) -> Result<VNode<P>, OutOfMemory> {
-    tree_of(alloc, TemplateNode::Dynamic { id: 0 }, &[0], value)
+fn one_slot<P: Parts>(alloc: Global, value: DynamicNode<P>) -> Result<VNode<P>, OutOfMemory>
+    ensures { IfOk result (λ tree. tree_of tree ≡ model.one_slot (slot_of value)) }
+{
+    block_of(alloc, TemplateNode::Dynamic { id: 0 }, &[0], value)
 }
 
 /// A static attribute.
@@ -45,7 +62,10 @@ fn fixed(
     namespace: &str,
     name: &str,
     value: &str,
-) -> Result<TemplateAttribute, OutOfMemory> {
+) -> Result<TemplateAttribute, OutOfMemory>
+    ensures { IfOk result (λ attribute. attribute
+        ≡ attributes.Static name.now (Some namespace.now) value.now) }
+{
     Ok(TemplateAttribute::Static {
         name: Text::from_str(alloc, name)?,
         namespace: Some(Text::from_str(alloc, namespace)?),
@@ -58,7 +78,10 @@ fn element_round_slot(
     alloc: Global,
     tag: &str,
     attrs: List<TemplateAttribute>,
-) -> Result<TemplateNode, OutOfMemory> {
+) -> Result<TemplateNode, OutOfMemory>
+    ensures { IfOk result (λ node. node
+        ≡ nodes.Element tag.now None attrs (nodes.Dynamic 0 ∷ [])) }
+{
     Ok(TemplateNode::Element {
         tag: Text::from_str(alloc, tag)?,
         namespace: None,
@@ -68,13 +91,15 @@ fn element_round_slot(
 }
 
 /// The tree that shows an error where a boundary names no handler: its text, in red.
-pub(crate) fn error_tree<P: Parts>(alloc: Global, text: Text) -> Result<VNode<P>, OutOfMemory> {
+pub(crate) fn error_tree<P: Parts>(alloc: Global, text: Text) -> Result<VNode<P>, OutOfMemory>
+    ensures { IfOk result (λ tree. tree_of tree ≡ run.error_tree text) }
+{
     let root = element_round_slot(alloc, "pre", List::new(alloc))?;
-    let inner = tree_of(alloc, root, &[0, 0], DynamicNode::Text(text))?;
+    let inner = block_of(alloc, root, &[0, 0], DynamicNode::Text(text))?;
     let red = list_of(alloc, fixed(alloc, "style", "color", "red")?)?;
     let root = element_round_slot(alloc, "div", red)?;
     let items = list_of(alloc, inner)?;
-    tree_of(alloc, root, &[0, 0], DynamicNode::Fragment(items))
+    block_of(alloc, root, &[0, 0], DynamicNode::Fragment(items))
 }
 
 /// The tree that a root wrapper answers: a suspense boundary round an error boundary round the
@@ -83,7 +108,9 @@ pub(crate) fn root_tree<P: Parts>(
     alloc: Global,
     component: P::Component,
     props: P::Props,
-) -> Result<VNode<P>, OutOfMemory> {
+) -> Result<VNode<P>, OutOfMemory>
+    ensures { IfOk result (λ tree. tree_of tree ≡ run.root_tree component props) }
+{
     let own = VComponent::App { component, props };
     let inner = one_slot(alloc, DynamicNode::Component(own))?;
     let errors = VComponent::ErrorBoundary(ErrorBoundaryProps {
@@ -102,7 +129,9 @@ pub(crate) fn root_tree<P: Parts>(
 pub(crate) fn children_tree<P: Parts>(
     alloc: Global,
     children: &Element<P>,
-) -> Result<VNode<P>, OutOfMemory> {
+) -> Result<VNode<P>, OutOfMemory>
+    ensures { IfOk result (λ tree. tree_of tree ≡ run.children_tree (element_of children.now)) }
+{
     match children {
         Ok(tree) => {
             let items = list_of(alloc, tree.copy(alloc)?)?;
@@ -116,7 +145,9 @@ pub(crate) fn children_tree<P: Parts>(
 pub(crate) fn copy_of<P: Parts>(
     alloc: Global,
     answer: &Element<P>,
-) -> Result<Element<P>, OutOfMemory> {
+) -> Result<Element<P>, OutOfMemory>
+    ensures { IfOk result (λ copied. copied ≡ answer.now) }
+{
     match answer {
         Ok(tree) => Ok(Ok(tree.copy(alloc)?)),
         Err(error) => Ok(Err(error.copy(alloc)?)),
@@ -124,10 +155,9 @@ pub(crate) fn copy_of<P: Parts>(
 }
 
 /// The tree of an answer, or one placeholder.
-pub fn placeholder_or<P: Parts>(
-    alloc: Global,
-    answer: Element<P>,
-) -> Result<VNode<P>, OutOfMemory> {
+pub fn placeholder_or<P: Parts>(alloc: Global, answer: Element<P>) -> Result<VNode<P>, OutOfMemory>
+    ensures { IfOk result (λ tree. tree_of tree ≡ tree_or_placeholder (element_of answer)) }
+{
     match answer {
         Ok(tree) => Ok(tree),
         Err(_) => VNode::placeholder(alloc),

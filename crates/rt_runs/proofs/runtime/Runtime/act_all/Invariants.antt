@@ -1,0 +1,16 @@
+-- The effects that are left come to what all of them come to.
+use Rattle.std.proofs.Common.{◌≡◌, drop}
+use Rattle.rt_model.specs.Run.{acted}
+use Rattle.rt_scopes.specs.Mirror.{Unkept, state_of}
+use Rattle.rt_runs.specs.Hooks.{in_turn}
+use Rattle.rt_runs.proofs.runtime.Runtime.act_all.Given as goal
+
+abbrev pub invariant-loop-effect : goal.invariant-loop-effect
+invariant-loop-effect g l = record {
+  so_far :
+      (kept : Unkept _)
+      → (after : Unkept _)
+      × (in_turn (λ w e. acted (g.A.App.meaning l.fn.self.app) w l.scope e l.rendering) (state_of kept l.fn.self.state) l.effects
+      ≡ in_turn (λ w e. acted (g.A.App.meaning l.fn.self.app) w l.scope e l.rendering) (state_of after l.self.state) (drop l.effect-index l.effects));
+  app : l.self.app ≡ l.fn.self.app;
+}

@@ -1,0 +1,35 @@
+-- The body of each kind of component.
+use Rattle.std.proofs.Common.{subst}
+use Rattle.std.specs.Prelude.{[]}
+use Rattle.rt_model.specs.Tree.{ErrorBoundary}
+use Rattle.rt_model.specs.Run.{body_of, plain}
+use Rattle.rt_mirror.specs.Mirror.{handler_of}
+use Rattle.rt_mirror.specs.Sealed.{element_of}
+use Rattle.rt_mirror.proofs.SealedComponents.{component_App, component_Root}
+use Rattle.rt_scopes.proofs.Changed.{if_ok}
+use Rattle.rt_runs.specs.Bodies.{Leaves}
+use Rattle.rt_runs.proofs.BuiltIns.{error_boundary_handler, error_boundary_is, fragment_is, suspense_boundary_children, suspense_boundary_is}
+use Rattle.rt_runs.proofs.runtime.Runtime.body_of.Goals as goal
+
+pub returns-in-App-clause-means : goal.returns-in-App-clause-means
+returns-in-App-clause-means g c = rw (c.in-App.is, component_App g.row.A.Denot c.in-App.component c.in-App.props) c.render.ensures.means
+
+pub returns-in-Root-clause-means : goal.returns-in-Root-clause-means
+returns-in-Root-clause-means g c = rw (c.in-Root.is, component_Root c.in-Root.props) (if_ok c.rooted.result c.rooted.ensures (λ parts means. means c.args.scope))
+
+pub returns-in-Fragment-clause-means : goal.returns-in-Fragment-clause-means
+returns-in-Fragment-clause-means g c =
+    rw (c.in-Fragment.is, fragment_is c.in-Fragment.props)
+    (if_ok c.fragment.result c.fragment.ensures
+    (λ parts means. subst (λ r. Leaves (λ w. plain w [] (element_of r)) c.args.self.now.state c.args.scope parts) c.get.ensures.value (means c.args.scope)))
+
+pub returns-in-ErrorBoundary-clause-means : goal.returns-in-ErrorBoundary-clause-means
+returns-in-ErrorBoundary-clause-means g c =
+    rw (c.in-ErrorBoundary.is, error_boundary_is c.in-ErrorBoundary.props)
+    (if_ok c.caught.result c.caught.ensures.means
+    (λ parts means. subst (λ r. Leaves (body_of (g.A.App.meaning c.args.self.now.app) (ErrorBoundary (element_of r) (handler_of (error_boundary_handler c.in-ErrorBoundary.props)))) c.args.self.now.state c.args.scope parts) c.get-in-ErrorBoundary.ensures.value means))
+
+pub returns-in-SuspenseBoundary-clause-means : goal.returns-in-SuspenseBoundary-clause-means
+returns-in-SuspenseBoundary-clause-means g c =
+    rw (c.in-SuspenseBoundary.is, suspense_boundary_is c.in-SuspenseBoundary.props)
+    (if_ok c.fallback.result c.fallback.ensures.means (λ parts means. means (element_of (suspense_boundary_children c.in-SuspenseBoundary.props))))

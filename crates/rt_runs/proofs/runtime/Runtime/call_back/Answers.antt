@@ -1,0 +1,54 @@
+-- One more callback.
+use Rattle.std.proofs.Common.{◌∙◌, refl, ap, sym}
+use Rattle.std.proofs.lemmas.Result.{err_from_is_err_and}
+use Rattle.rt_scopes.specs.Mirror.{state_of}
+use Rattle.rt_runs.specs.Hooks.{one_called}
+use Rattle.rt_runs.proofs.Acted.{called_in_turn}
+use Rattle.rt_runs.proofs.Onward.{cut_as}
+use Rattle.rt_runs.proofs.Turns.{next_done, next_cut, all_done}
+use Rattle.rt_runs.proofs.runtime.Runtime.call_back.Goals as goal
+
+pub loop-callback-init : goal.loop-callback-init
+loop-callback-init g c = record { so_far = λ kept. (kept, refl); app = refl }
+
+pub loop-callback-preserved : goal.loop-callback-preserved
+loop-callback-preserved g c = record {
+  so_far =
+      λ kept.
+      let before = c.loop-callback.invariant.so_far kept in
+      let done = c.in_ok-call_one.ensures.called before.0 in
+      let by = ap (λ (a : g.row.A.Denot). one_called (g.A.App.meaning a) (state_of before.0 c.loop-callback.self.state) c.callback-item.result) (sym c.loop-callback.invariant.app) in (
+        done.0,
+        before.1
+            ∙ next_done (one_called (g.A.App.meaning c.args.self.now.app)) (state_of before.0 c.loop-callback.self.state) (state_of done.0 c.call_one.new.self.state)
+            c.args.callbacks.now c.loop-callback.callback-index c.callback-item.result c.loop-callback-test.true c.callback-item.is (by ∙ done.1),
+      );
+  app = c.in_ok-call_one.ensures.app ∙ c.loop-callback.invariant.app;
+}
+
+pub returns-in_err-call_one-clause-called : goal.returns-in_err-call_one-clause-called
+returns-in_err-call_one-clause-called g c =
+    λ kept.
+    let before = c.loop-callback.invariant.so_far kept in
+    let cut = c.in_err-call_one.ensures.called before.0 in
+    let by = ap (λ (a : g.row.A.Denot). one_called (g.A.App.meaning a) (state_of before.0 c.loop-callback.self.state) c.callback-item.result) (sym c.loop-callback.invariant.app) in
+    let whole = called_in_turn (g.A.App.meaning c.args.self.now.app) (state_of kept c.args.self.now.state) c.args.callbacks.now in
+    let p = err_from_is_err_and c.from_residual.result c.from_residual.ensures.1 in
+    rw (p.1, p.2) (
+      cut.0,
+      cut_as _ _ (state_of cut.0 c.call_one.new.self.state) c.in_err-call_one.field-0.0 (whole ∙ before.1)
+          (next_cut (one_called (g.A.App.meaning c.args.self.now.app)) (state_of before.0 c.loop-callback.self.state) (state_of cut.0 c.call_one.new.self.state)
+          c.args.callbacks.now c.loop-callback.callback-index c.callback-item.result c.in_err-call_one.field-0.0 c.loop-callback-test.true c.callback-item.is
+          (cut_as _ _ (state_of cut.0 c.call_one.new.self.state) c.in_err-call_one.field-0.0 by cut.1)),
+    )
+
+pub returns-clause-called : goal.returns-clause-called
+returns-clause-called g c =
+    λ kept.
+    let before = c.loop-callback.invariant.so_far kept in
+    let whole = called_in_turn (g.A.App.meaning c.args.self.now.app) (state_of kept c.args.self.now.state) c.args.callbacks.now in (
+      before.0,
+      whole ∙ before.1
+          ∙ all_done (one_called (g.A.App.meaning c.args.self.now.app)) (state_of before.0 c.loop-callback.self.state) c.args.callbacks.now
+          c.loop-callback.callback-index c.loop-callback-test.false,
+    )

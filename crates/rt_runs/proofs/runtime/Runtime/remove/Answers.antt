@@ -1,0 +1,19 @@
+-- A removal is its scope's clean-ups, once that is stopped.
+use Rattle.std.proofs.Common.{◌∙◌, ap}
+use Rattle.std.specs.Prelude.{[]}
+use Rattle.rt_model.specs.Removal.{clean_ups}
+use Rattle.rt_scopes.specs.Mirror.{state_of}
+use Rattle.rt_runs.proofs.CleanedUp.{removed_as}
+use Rattle.rt_runs.proofs.Onward.{came_as}
+use Rattle.rt_runs.proofs.runtime.Runtime.remove.Goals as goal
+
+pub returns-clause-removed : goal.returns-clause-removed
+returns-clause-removed g c =
+    λ kept.
+    let came = c.clean.ensures.cleaned kept in (
+      came.0,
+      came_as _ _ _ _ _
+          (removed_as (g.A.App.meaning c.args.self.now.app) (state_of kept c.args.self.now.state) (state_of kept c.stopped.new.self) c.args.scope c.as_slice.result.now (c.in_ok-stopped.ensures kept)
+          (c.as_slice.ensures.items ∙ c.in_ok-effects.ensures ∙ ap (λ hs. clean_ups hs []) (c.hooks_of.ensures kept)))
+          came.1,
+    )

@@ -1,0 +1,26 @@
+-- A boundary's run, by whether it calls the fallback.
+use Rattle.std.proofs.Common.{◌∙◌, map, ap, sym}
+use Rattle.rt_model.specs.State.{Done}
+use Rattle.rt_work.specs.Items.{row_step_of}
+use Rattle.rt_scopes.specs.Mirror.{state_of}
+use Rattle.rt_runs.proofs.Onward.{came_as}
+use Rattle.rt_runs.proofs.RunKinds.{run_free, run_held}
+use Rattle.rt_runs.proofs.runtime.Runtime.run_boundary.Goals as goal
+
+pub returns-then-runs_fallback-clause-run : goal.returns-then-runs_fallback-clause-run
+returns-then-runs_fallback-clause-run g c =
+    λ kept. (
+      kept,
+      run_held (g.A.App.meaning c.args.self.now.app) (state_of kept c.args.self.now.state) c.args.boundary (map row_step_of c.args.steps.now) c.runs_fallback.result c.runs_fallback.ensures c.if-runs_fallback.true
+          ∙ ap (λ work. Done (state_of kept c.args.self.now.state) work) (sym c.in_ok-row_items.ensures),
+    )
+
+pub returns-clause-run : goal.returns-clause-run
+returns-clause-run g c =
+    λ kept.
+    let came = c.hook_and_run.ensures.run kept in (
+      came.0,
+      came_as _ _ _ _ _
+          (run_free (g.A.App.meaning c.args.self.now.app) (state_of kept c.args.self.now.state) c.args.boundary (map row_step_of c.args.steps.now) c.runs_fallback.result c.runs_fallback.ensures c.if-runs_fallback.false)
+          came.1,
+    )

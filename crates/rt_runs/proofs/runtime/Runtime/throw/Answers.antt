@@ -1,0 +1,15 @@
+-- The error that was copied is thrown.
+use Rattle.std.proofs.Common.{◌∙◌, ap, sym}
+use Rattle.std.specs.Prelude.{[]}
+use Rattle.rt_model.specs.State.{Done}
+use Rattle.rt_model.specs.Commands.{throw_error}
+use Rattle.rt_mirror.specs.Mirror.{error_of}
+use Rattle.rt_scopes.specs.Mirror.{state_of}
+use Rattle.rt_runs.proofs.runtime.Runtime.throw.Goals as goal
+
+pub returns-clause-thrown : goal.returns-clause-thrown
+returns-clause-thrown g c =
+    λ kept. (
+      kept,
+      ap (λ w. Done w []) (sym (c.in_ok-throw_error.ensures kept ∙ ap (λ e. throw_error (state_of kept c.args.self.now.state) c.args.scope (error_of e)) c.in_ok-error.ensures)),
+    )
