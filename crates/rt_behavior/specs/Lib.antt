@@ -1,0 +1,9 @@
+pub mod Comes
+pub mod Absent
+pub mod Nearest
+pub mod Marking
+pub mod Errors
+pub mod CleanUps
+pub mod Hidden
+pub mod Batches
+pub mod Only

@@ -1,0 +1,18 @@
+//! Laws on how a runtime behaves, for those who call it: what comes next, what changes nothing,
+//! where errors and look-ups go, who is marked, and what a removal calls.
+//!
+//! The functions have empty bodies: what each claims of the definitions is its contract.
+#![tactic(auto)]
+
+mod ending;
+mod hiding;
+mod reaching;
+mod turns;
+
+pub use ending::{children_go_first, clean_ups_in_turn, effects_in_turn};
+pub use hiding::{effects_are_mounted, hidden_writes_nothing, shown_are_mounted};
+pub use reaching::{
+    nearest_is_found, nearest_provides, provides_post_readers, throws_fill_once, ways_are_short,
+    writes_post_only_readers, writes_post_readers,
+};
+pub use turns::{absent_changes_nothing, next_in_turn, none_is_left};

@@ -1,0 +1,3 @@
+mod Steadfast
+mod Held
+mod Reading

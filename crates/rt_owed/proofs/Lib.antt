@@ -1,0 +1,6 @@
+mod Stays
+mod Looking
+mod Running
+mod Moving
+mod Taking
+mod Waking
