@@ -1,0 +1,5 @@
+pub mod Keys
+pub mod Marks
+pub mod Orders
+pub mod Passing
+pub mod Elements

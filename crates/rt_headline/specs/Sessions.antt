@@ -1,0 +1,43 @@
+-- Of every lawful application: what code proves of a session's reports is the headline.
+use Rattle.std.specs.Prelude.{List, Option, Ok}
+use Rattle.rt_model.specs.Tree.{Types}
+use Rattle.rt_model.specs.World.{Application}
+use Rattle.rt_model.specs.Laws.{IsLawful}
+use Rattle.rt_model.specs.State.{Fault}
+use Rattle.rt_model.specs.Replay.{Input}
+use Rattle.rt_model.specs.Causes.{Limits}
+use Rattle.rt_model.specs.Document.{Empty, Edit}
+use Rattle.rt_model.specs.Headline.{Report, DocumentIs, Ran, RanTo, Headline, CameTo}
+
+module _ {K : Types} (app : Application K) where
+  -- of a session that finished: its edits, run from an empty document, never fault, and after each report give what shows
+  abbrev pub RanShows : Type 0
+  RanShows =
+      IsLawful K app
+      → (props : K.Props) (inputs : List (Input K)) (limits : Limits) (taken : Option (List Edit)) (reports : List Report)
+      → (ran : Ran app props inputs limits taken reports)
+      → DocumentIs (Ok Empty) ran.told
+
+  -- so it is with the finished reports of a session that came to a fault
+  abbrev pub RanToShows : Type 0
+  RanToShows =
+      IsLawful K app
+      → (props : K.Props) (inputs : List (Input K)) (limits : Limits) (taken : Option (List Edit)) (reports : List Report) (fault : Fault)
+      → (ran : RanTo app props inputs limits taken reports fault)
+      → DocumentIs (Ok Empty) ran.told
+
+  -- a session that finished keeps the headline
+  abbrev pub RanIsHeadline : Type 0
+  RanIsHeadline =
+      IsLawful K app
+      → (props : K.Props) (inputs : List (Input K)) (limits : Limits) (taken : Option (List Edit)) (reports : List Report)
+      → Ran app props inputs limits taken reports
+      → Headline app props inputs taken reports
+
+  -- a session that came to a fault keeps it of its finished reports, and came to that fault
+  abbrev pub RanToIsCameTo : Type 0
+  RanToIsCameTo =
+      IsLawful K app
+      → (props : K.Props) (inputs : List (Input K)) (limits : Limits) (taken : Option (List Edit)) (reports : List Report) (fault : Fault)
+      → RanTo app props inputs limits taken reports fault
+      → CameTo app props inputs limits taken reports fault

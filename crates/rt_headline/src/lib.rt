@@ -1,0 +1,10 @@
+//! What a session's reports and edits say, of every lawful application.
+//!
+//! The functions have no body but calls of lower laws: what each claims is its contract.
+#![tactic(auto)]
+
+mod sessions;
+
+pub use sessions::{
+    calm_entries_leave, ran_is_headline, ran_shows, ran_to_is_came_to, ran_to_shows,
+};

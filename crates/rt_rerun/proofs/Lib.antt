@@ -1,0 +1,16 @@
+pub mod Sides
+pub mod Climbs
+pub mod Since
+pub mod Patches
+pub mod Serving
+pub mod Joining
+pub mod Making
+pub mod Meets
+pub mod Ends
+pub mod Settings
+pub mod Above
+pub mod Claims
+pub mod Homes
+pub mod Single
+pub mod Units
+pub mod Reruns

@@ -1,0 +1,123 @@
+-- A rerun from its entry to its end: what its edits make of the document, what they claim, and what it leaves as it was.
+use Rattle.std.specs.Prelude.{ℕ, ◌<◌, ◌≤◌, true, false, nat_eq, List, [], ◌∷◌, length, Some, None, Ok, Contains, ◌≡◌}
+use Rattle.rt_model.specs.Lists.{at}
+use Rattle.rt_model.specs.Tree.{Types, Place, Kind}
+use Rattle.rt_model.specs.World.{Application}
+use Rattle.rt_model.specs.Laws.{IsLawful}
+use Rattle.rt_model.specs.State.{SideName, Scope, State, side_of, is_live, is_shown, parent_of}
+use Rattle.rt_model.specs.Document.{document_after}
+use Rattle.rt_model.specs.View.{nodes_of, view}
+use Rattle.rt_model.specs.Caused.{written}
+use Rattle.rt_model.specs.Replay.{Rerun, Input, Machine}
+use Rattle.rt_model.specs.Causes.{Limits}
+use Rattle.rt_moves.specs.Moves.{Move, Inside, IsLogged, IsClosed, Leads}
+use Rattle.rt_moves.specs.Reached.{Reached}
+use Rattle.rt_written.specs.Scopes.{MeetsDown, scope_claims}
+use Rattle.rt_written.specs.Settings.{Setting, placed}
+
+-- along this path of parents up from a scope, to one without a parent, there isn't another scope
+abbrev pub Outside : {K : Types} → State K → ℕ → List ℕ → ℕ → Type 0
+Outside w root [] t = (nat_eq t root ≡ false) × (parent_of w.scopes t ≡ None)
+Outside w root (p ∷ path) t = (nat_eq t root ≡ false) × (parent_of w.scopes t ≡ Some p) × Outside w root path p
+
+module _ {K : Types} (app : Application K) where
+  -- of a lawful application: from a machine that moves reach a scope is rerun, all work that this leads to is served,
+  -- and the unit ends; then its edits never fault, and make what shows of what showed
+  abbrev pub RerunsBring : Type 0
+  RerunsBring =
+      IsLawful K app
+      → (limits : Limits) (props : K.Props) (inputs : List (Input K)) (m begun served v : Machine K) (s : ℕ) (moves : List Move)
+      → Reached app limits props inputs m
+      → IsLogged app limits m (Rerun s) begun
+      → Leads app limits begun moves served
+      → Inside moves
+      → IsClosed served v
+      → document_after (written app m.state v.state s) (view m.state) ≡ Ok (view v.state)
+
+  -- its edits claim no number twice
+  abbrev pub RerunsClaimOnce : Type 0
+  RerunsClaimOnce =
+      IsLawful K app
+      → (limits : Limits) (props : K.Props) (inputs : List (Input K)) (m begun served v : Machine K) (s : ℕ) (moves : List Move)
+      → Reached app limits props inputs m
+      → IsLogged app limits m (Rerun s) begun
+      → Leads app limits begun moves served
+      → Inside moves
+      → IsClosed served v
+      → (n : ℕ)
+      → scope_claims app m.state v.state (length m.state.scopes) s n ≤ 1
+
+  -- a number that was drawn before it stands, if it does, at the place of the side of the scope at which it stood
+  abbrev pub RerunsKeepNumbers : Type 0
+  RerunsKeepNumbers =
+      IsLawful K app
+      → (limits : Limits) (props : K.Props) (inputs : List (Input K)) (m begun served v : Machine K) (s : ℕ) (moves : List Move)
+      → Reached app limits props inputs m
+      → IsLogged app limits m (Rerun s) begun
+      → Leads app limits begun moves served
+      → Inside moves
+      → IsClosed served v
+      → (t n : ℕ) (x : Scope K) (a : SideName) (p : Place) (k : Kind)
+      → at v.state.scopes t ≡ Some x
+      → Contains (side_of x a).numbers (p, k, n)
+      → n < m.state.next.elements
+      → (z : Scope K) × (at m.state.scopes t ≡ Some z) × Contains (side_of z a).numbers (p, k, n)
+
+  -- scopes that aren't below the scope stay, and show what they showed
+  abbrev pub RerunsLeaveOthers : Type 0
+  RerunsLeaveOthers =
+      IsLawful K app
+      → (limits : Limits) (props : K.Props) (inputs : List (Input K)) (m begun served v : Machine K) (s : ℕ) (moves : List Move)
+      → Reached app limits props inputs m
+      → IsLogged app limits m (Rerun s) begun
+      → Leads app limits begun moves served
+      → Inside moves
+      → IsClosed served v
+      → (t : ℕ) (path : List ℕ)
+      → (
+      (x : Scope K)
+      → at v.state.scopes t ≡ Some x
+      → Outside v.state s path t
+      → (z : Scope K) × (at m.state.scopes t ≡ Some z) × (x.shows ≡ z.shows) × ((a : SideName) → side_of x a ≡ side_of z a)
+      )
+      × (is_live m.state t ≡ true → Outside m.state s path t → is_live v.state t ≡ true)
+
+  -- a shown scope is shown still, and what stands about its nodes stays
+  abbrev pub RerunsKeepSetting : Type 0
+  RerunsKeepSetting =
+      IsLawful K app
+      → (limits : Limits) (props : K.Props) (inputs : List (Input K)) (m begun served v : Machine K) (s : ℕ) (moves : List Move)
+      → Reached app limits props inputs m
+      → IsLogged app limits m (Rerun s) begun
+      → Leads app limits begun moves served
+      → Inside moves
+      → IsClosed served v
+      → is_shown m.state s ≡ true
+      → (is_shown v.state s ≡ true)
+      × ((place : Setting) × (view m.state ≡ placed place (nodes_of m.state s)) × (view v.state ≡ placed place (nodes_of v.state s)))
+
+  -- of a hidden one the document stays
+  abbrev pub RerunsHidden : Type 0
+  RerunsHidden =
+      IsLawful K app
+      → (limits : Limits) (props : K.Props) (inputs : List (Input K)) (m begun served v : Machine K) (s : ℕ) (moves : List Move)
+      → Reached app limits props inputs m
+      → IsLogged app limits m (Rerun s) begun
+      → Leads app limits begun moves served
+      → Inside moves
+      → IsClosed served v
+      → is_shown m.state s ≡ false
+      → view m.state ≡ view v.state
+
+  -- from a shown scope down through all that is fed, the new outputs meet the old ones
+  abbrev pub RerunsMeet : Type 0
+  RerunsMeet =
+      IsLawful K app
+      → (limits : Limits) (props : K.Props) (inputs : List (Input K)) (m begun served v : Machine K) (s : ℕ) (moves : List Move)
+      → Reached app limits props inputs m
+      → IsLogged app limits m (Rerun s) begun
+      → Leads app limits begun moves served
+      → Inside moves
+      → IsClosed served v
+      → is_shown m.state s ≡ true
+      → MeetsDown app m.state v.state (length m.state.scopes) s
