@@ -7,3 +7,5 @@ pub mod Heard
 pub mod Meant
 pub mod Hooks
 pub mod Fills
+pub mod Taken
+pub mod SameSource

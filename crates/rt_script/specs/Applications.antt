@@ -4,16 +4,16 @@ use Rattle.rt_model.specs.Lists.{nth, or_else}
 use Rattle.rt_model.specs.Tree.{Element, rendered, placeholder_tree}
 use Rattle.rt_model.specs.World.{nothing, Event, Application}
 use Rattle.rt_model.specs.Program.{Program, done, Programs, application_of}
-use Rattle.rt_language.specs.Values.{Value, same_value, same_values}
+use Rattle.rt_language.specs.Values.{Value, same_value, same_values, values_of}
 use Rattle.rt_language.specs.Sequence.{go_on}
 use Rattle.rt_language.specs.Expressions.{SourceTypes, ABody, AListener, AnotherCall}
 use Rattle.rt_language.specs.Statements.{frame_of, Outcome, WentOn, EndedWith, WasRefused, run_statements}
 use Rattle.rt_language.specs.Meaning.{same_doing, poll_step, action_run, left_event}
-use Rattle.rt_syntax.specs.Mirror.{statements_of}
-use Rattle.rt_script.specs.declared.plan.ComponentPlan.{ComponentPlan}
+use Rattle.rt_syntax.specs.Mirror.{literal_of, statements_of}
+use Rattle.rt_script_views.specs.declared.plan.ComponentPlan.{ComponentPlan}
 use Rattle.rt_script.specs.declared.script.Script.{Script}
 use Rattle.rt_script.specs.declared.script.Asked.{Asked}
-use Rattle.rt_script.specs.Plans.{Planned, planned}
+use Rattle.rt_script_views.specs.Plans.{Planned, planned}
 
 -- a body's answer: the tree of its plan, unless its statements ended it
 abbrev pub answered : Planned → Outcome → Program SourceTypes (Element SourceTypes)
@@ -56,3 +56,7 @@ programs_of_script s =
 -- what its calls mean
 abbrev pub meaning_of_script : Script → Application SourceTypes
 meaning_of_script s = application_of (programs_of_script s)
+
+-- the props of the root that it names
+abbrev pub props_of_script : Script → List Value
+props_of_script s = values_of (map literal_of s.props)

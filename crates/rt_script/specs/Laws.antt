@@ -1,25 +1,24 @@
 -- A script is lawful, and means what its source does.
-use Rattle.std.specs.Prelude.{ℕ, List, [], ◌≡◌}
+use Rattle.std.specs.Prelude.{List, [], ◌≡◌}
 use Rattle.std.proofs.Common.{ap}
 use Rattle.rt_model.specs.Laws.{IsLawful}
-use Rattle.rt_model.specs.Program.{body_means}
-use Rattle.rt_model.specs.World.{Event}
+use Rattle.rt_model.specs.Program.{Program, Call, exec, ended, body_means}
+use Rattle.rt_model.specs.Tree.{Types}
+use Rattle.rt_model.specs.World.{World}
 use Rattle.rt_model.proofs.Lawful.{mean_alike, programs_are_lawful}
 use Rattle.rt_language.specs.Values.{Value}
-use Rattle.rt_language.specs.Expressions.{Doing, Standing, SourceTypes}
-use Rattle.rt_language.specs.Meaning.{programs_of, meaning_of}
+use Rattle.rt_language.specs.Expressions.{SourceTypes}
+use Rattle.rt_language.specs.Meaning.{meaning_of, props_of}
 use Rattle.rt_language.specs.Syntax as language
 use Rattle.rt_language.proofs.Lawful.{sources_are_lawful}
-use Rattle.rt_script.specs.Applications.{programs_of_script, meaning_of_script}
+use Rattle.rt_script.specs.Applications.{programs_of_script, meaning_of_script, props_of_script}
+use Rattle.rt_script.specs.Came.{came}
 use Rattle.rt_script.specs.declared.script.Script.{Script}
 
--- each call of the script is the program that the source's call is
+-- the calls of the script mean what those of the source do, and the root that it names has the props that the source gives it
 pub record MeansSource (script : Script) (source : language.Source) : Type 0 where
-  pub root : script.root ≡ source.root
-  pub body : (c : ℕ) (p : List Value) → (programs_of_script script).body c p ≡ (programs_of source).body c p
-  pub poll : (a : Standing) → (programs_of_script script).poll a ≡ (programs_of source).poll a
-  pub effect : (d : Doing) → (programs_of_script script).effect d ≡ (programs_of source).effect d
-  pub handle : (d : Doing) (e : Event SourceTypes) → (programs_of_script script).handle d e ≡ (programs_of source).handle d e
+  pub application : meaning_of_script script ≡ meaning_of source
+  pub props : props_of_script script ≡ props_of source
 
 -- a source of nothing
 abbrev no_source : language.Source
@@ -36,3 +35,7 @@ scripts_are_lawful s =
     laws.tests_props
     laws.tests_values
     laws.tests_handlers
+
+-- whatever call it goes on from, a program means the answer and the call that it comes to
+abbrev pub ComesToMeaning : Types → Type 0 → Type 0
+ComesToMeaning K A = (w : World K) (p : Program K A) (c : Call K) → exec w p c ≡ ended (came w p c).call (came w p c).answer

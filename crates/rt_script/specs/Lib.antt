@@ -1,7 +1,7 @@
 pub mod Came
 pub mod Held
 pub mod Seen
-pub mod Plans
 pub mod Fills
 pub mod Applications
 pub mod Laws
+pub mod Posted

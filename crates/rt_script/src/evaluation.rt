@@ -70,8 +70,28 @@ pub(crate) fn evaluate<K>(
             let right = evaluate(alloc, cx, frame, right.get())?;
             Ok(less(&left, &right))
         }
+        given => tested(alloc, cx, frame, given),
+    }
+}
+
+/// The value of an expression with one operand, or with a test.
+#[cycle(evaluation)]
+#[tactic(auto, using(crate::proofs::Expressions::evaluating))]
+fn tested<K>(
+    alloc: Global,
+    cx: &mut Cx<'_, Script, K>,
+    frame: &Frame<'_>,
+    expression: &Expression,
+) -> Result<Value, OutOfMemory>
+    requires renders { SeesRenders (world_of cx.old.world) frame.now.by }
+    ensures came { IfOk result (λ value. Comes cx.old cx.new
+        (meanings.evaluate (caller_of frame.now.by) frame.now.held (expression_of expression.now)) value) }
+    ensures world { cx.new.world ≡ cx.old.world }
+{
+    match expression {
         Expression::Not(operand) => Ok(not(&evaluate(alloc, cx, frame, operand.get())?)),
         Expression::IsAbsent(operand) => Ok(is_absent(&evaluate(alloc, cx, frame, operand.get())?)),
+        Expression::Parse(operand) => Ok(parse(&evaluate(alloc, cx, frame, operand.get())?)),
         Expression::If {
             test,
             chosen,
@@ -83,7 +103,6 @@ pub(crate) fn evaluate<K>(
                 Ok(evaluate(alloc, cx, frame, other.get())?)
             }
         }
-        Expression::Parse(operand) => Ok(parse(&evaluate(alloc, cx, frame, operand.get())?)),
         given => looked_up(alloc, cx, frame, given),
     }
 }

@@ -10,14 +10,13 @@ ghost use Rattle.rt_language.specs.Values.{NumberValue};
 ghost use Rattle.rt_language.specs.Views as views;
 ghost use Rattle.rt_language.specs.Views.{filled_on, items_from, use_or_none};
 ghost use Rattle.rt_syntax.specs.Mirror.{use_of};
-ghost use Rattle.rt_script.specs.Plans.{planned, fill_of, slot_program};
+ghost use Rattle.rt_script_views.specs.Plans.{planned, fill_of, slot_program};
 ghost use Rattle.rt_script.specs.Fills.{filling_of};
 ghost use Rattle.rt_script.specs.Seen.{caller_of, SeesRenders, Comes};
 
 use crate::attributes::{attribute_value, slot_with};
 use crate::caller::Frame;
 use crate::evaluation::{evaluate, evaluate_all};
-use crate::plan::{Fill, Plan, SlotPlan};
 use crate::script::Script;
 use rt_calls::BodyCx;
 use rt_nodes::{
@@ -26,6 +25,7 @@ use rt_nodes::{
 };
 use rt_parts::{Attribute, AttributeValue};
 use rt_script_values::{Content, Doing, Props, Value, item_count, text_of};
+use rt_script_views::{Fill, Plan, SlotPlan};
 use rt_syntax::ComponentUse;
 use rt_values::{Boxed, List, OutOfMemory};
 use std::alloc::Global;
@@ -134,11 +134,6 @@ fn node_of(
             let value = evaluate(alloc, cx, frame, text)?;
             Ok(DynamicNode::Text(text_of(alloc, &value)?))
         }
-        SlotPlan::UseOf(used) => {
-            let props = Props::new(evaluate_all(alloc, cx, frame, used.props.as_slice())?);
-            let component = used.component;
-            Ok(DynamicNode::Component(VComponent::App { component, props }))
-        }
         SlotPlan::ListOf { count, item } => {
             let count = item_count(&evaluate(alloc, cx, frame, count)?);
             let trees = items(alloc, cx, frame, count, item.get())?;
@@ -155,6 +150,32 @@ fn node_of(
                 Ok(picked(alloc, cx, frame, other.get())?)
             }
         }
+        given => component_in(alloc, cx, frame, given),
+    }
+}
+
+/// What stands in a node slot that has a component, or nothing. No other slot comes here; one would
+/// find no memory.
+#[cycle(filling)]
+#[tactic(auto, using(crate::proofs::Fills::filling))]
+fn component_in(
+    alloc: Global,
+    cx: &mut BodyCx<'_, Script>,
+    frame: &mut Frame<'_>,
+    slot: &SlotPlan,
+) -> Result<DynamicNode<Script>, OutOfMemory>
+    requires renders { SeesRenders (world_of cx.old.world) frame.old.by }
+    ensures came { IfOk result (λ node. Comes cx.old cx.new
+        (slot_program slot.now (caller_of frame.old.by) frame.old.held) (mirror.slot_of node)) }
+    ensures world { cx.new.world ≡ cx.old.world }
+    ensures frame { OnOk result (frame.new ≡ frame.old) }
+{
+    match slot {
+        SlotPlan::UseOf(used) => {
+            let props = Props::new(evaluate_all(alloc, cx, frame, used.props.as_slice())?);
+            let component = used.component;
+            Ok(DynamicNode::Component(VComponent::App { component, props }))
+        }
         SlotPlan::FragmentOf(children) => {
             let children = tree_of(alloc, cx, frame, children.get())?;
             Ok(fragment(alloc, children)?)
@@ -170,6 +191,7 @@ fn node_of(
             Ok(suspense_boundary(alloc, kids, fallback)?)
         }
         SlotPlan::Hole => Ok(DynamicNode::Placeholder),
+        _ => Err(OutOfMemory),
     }
 }
 

@@ -8,13 +8,11 @@ mod caller;
 mod evaluation;
 mod filling;
 mod inputs;
-mod plan;
-mod planning;
+mod laws;
 mod running;
 mod script;
 mod stands;
-mod templates;
 
 pub use inputs::{inputs_of, posts_of};
-pub use plan::{ComponentPlan, Fill, Plan, SlotPlan};
+pub use laws::programs_mean_what_they_come_to;
 pub use script::Script;

@@ -222,7 +222,8 @@ pub(crate) fn ask<K>(
     Ok(())
 }
 
-/// Does a statement that names a context, a cell, a task or a scope.
+/// Does a statement that gives a value to a context, a cell or a mark, or acts on what a variable
+/// holds.
 #[tactic(auto, using(crate::proofs::Statements::performing))]
 fn tell<K>(
     alloc: Global,
@@ -250,6 +251,31 @@ fn tell<K>(
                 remembered(cx.write(cell, value))?;
             }
         }
+        Statement::MarkScopeOf(scope) => {
+            let value = evaluate(alloc, cx, frame, scope)?;
+            if let Some(scope) = scope_in(&value) {
+                remembered(cx.needs_update_any(scope))?;
+            }
+        }
+        other => tell_held(cx, frame, other)?,
+    }
+    Ok(())
+}
+
+/// Does a statement that acts on the cell or the task that a variable holds. No other statement comes
+/// here; one would find no memory.
+#[tactic(auto, using(crate::proofs::Statements::performing))]
+fn tell_held<K>(
+    cx: &mut Cx<'_, Script, K>,
+    frame: &Frame<'_>,
+    statement: &Statement,
+) -> Result<(), OutOfMemory>
+    ensures came { OnOk result (Comes cx.old cx.new
+        (meanings.perform (caller_of frame.now.by) (frame_of frame.now) (statement_of statement.now))
+        (WentOn (frame_of frame.now))) }
+    ensures world { cx.new.world ≡ cx.old.world }
+{
+    match statement {
         Statement::Forget(variable) => {
             if let Some(cell) = held_cell(frame.held.as_slice(), *variable) {
                 remembered(cx.drop_cell(cell))?;
@@ -258,12 +284,6 @@ fn tell<K>(
         Statement::ActOn { act, variable } => {
             if let Some(task) = held_task(frame.held.as_slice(), *variable) {
                 act_on(cx, *act, task)?;
-            }
-        }
-        Statement::MarkScopeOf(scope) => {
-            let value = evaluate(alloc, cx, frame, scope)?;
-            if let Some(scope) = scope_in(&value) {
-                remembered(cx.needs_update_any(scope))?;
             }
         }
         _ => return Err(OutOfMemory),

@@ -1,5 +1,5 @@
 //! The application that a source describes.
-ghost use Rattle.std.specs.Prelude.{◌≡◌, ◌≢◌, [], map, Some, IfOk, OnOk, true, false};
+ghost use Rattle.std.specs.Prelude.{◌≡◌, ◌≢◌, [], map, Some, IfOk, IfSome, OnOk, true, false};
 ghost use Rattle.rt_model.specs.Lists.{nth, or_else};
 ghost use Rattle.rt_model.specs.Program.{done};
 ghost use Rattle.rt_model.specs.World.{nothing};
@@ -8,10 +8,11 @@ ghost use Rattle.rt_language.specs.Expressions.{AListener};
 ghost use Rattle.rt_language.specs.Meaning.{action_run, next_step, pending_at, poll_step};
 ghost use Rattle.rt_language.specs.Sequence.{go_on};
 ghost use Rattle.rt_language.specs.Syntax.{NoStatements};
-ghost use Rattle.rt_syntax.specs.Mirror.{statements_of};
-ghost use Rattle.rt_script.specs.Applications.{programs_of_script, meaning_of_script, body_of, asked_by, heard};
+ghost use Rattle.rt_syntax.specs.Mirror.{statements_of, source_of};
+ghost use Rattle.rt_script_views.specs.Narrow.{IsNarrowSource};
+ghost use Rattle.rt_script.specs.Applications.{programs_of_script, meaning_of_script, props_of_script, body_of, asked_by, heard};
 ghost use Rattle.rt_script.specs.Seen.{Comes, ComesIfRemembered};
-ghost use Rattle.rt_script.specs.Laws.{scripts_are_lawful};
+ghost use Rattle.rt_script.specs.Laws.{scripts_are_lawful, MeansSource};
 ghost use Rattle.rt_calls.specs.Answers.{event_of, step_of, no_answer};
 ghost use Rattle.rt_calls.specs.Calls.{meaning_of, world_of};
 ghost use Rattle.rt_calls.specs.Turn.{begun, HadMemory};
@@ -21,14 +22,13 @@ use crate::bodies::run_body;
 use crate::caller::{Caller, Frame, Outcome};
 use crate::evaluation::said;
 use crate::filling::tree_of;
-use crate::plan::ComponentPlan;
-use crate::planning::component_plans;
 use crate::running::run_statements;
 use crate::stands::stands;
 use rt_calls::{App, BodyCx, BodyTurn, Cx, TaskStep, Turn};
 use rt_nodes::{Element, VNode};
 use rt_parts::{Event, Parts};
 use rt_script_values::{Doing, Props, Standing, Value};
+use rt_script_views::{ComponentPlan, component_plans};
 use rt_syntax::{Literal, Source, Statement};
 use rt_values::{List, OutOfMemory, Part};
 use std::alloc::Global;
@@ -71,7 +71,10 @@ impl Parts for Script {
 impl Script {
     /// The application of a source, whose inputs and posts are not part of it: take these first.
     /// None where a statement stands where it may not.
-    pub fn new(alloc: Global, source: Source) -> Result<Option<Script>, OutOfMemory> {
+    pub fn new(alloc: Global, source: Source) -> Result<Option<Script>, OutOfMemory>
+        ensures means { IfOk result (λ made. IfSome made (λ script.
+            IsNarrowSource (source_of source) → MeansSource script (source_of source))) }
+    {
         if !stands(&source) {
             return Ok(None);
         }
@@ -84,8 +87,9 @@ impl Script {
             inputs: _,
             posts: _,
         } = source;
+        let components = component_plans(alloc, components)?;
         Ok(Some(Script {
-            components: component_plans(alloc, components)?,
+            components,
             root,
             props,
             actions,
@@ -94,7 +98,9 @@ impl Script {
     }
 
     /// The props of the root that the source names.
-    pub fn props(&self, alloc: Global) -> Result<Props, OutOfMemory> {
+    pub fn props(&self, alloc: Global) -> Result<Props, OutOfMemory>
+        ensures props { IfOk result (λ props. props ≡ props_of_script self.now) }
+    {
         let mut values = List::new(alloc);
         for literal in self.props.as_slice() {
             values.push(said(alloc, literal)?)?;

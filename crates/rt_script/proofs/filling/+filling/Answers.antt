@@ -11,11 +11,11 @@ use Rattle.rt_language.specs.Values.{Value, NumberValue}
 use Rattle.rt_language.specs.Views.{Filling, filled_on, items_from}
 use Rattle.rt_script.specs.Came.{came, reached}
 use Rattle.rt_script.specs.Fills.{filling_of}
-use Rattle.rt_script.specs.Plans.{planned, fill_of}
+use Rattle.rt_script_views.specs.Plans.{planned, fill_of}
 use Rattle.rt_script.specs.Seen.{ScriptWorld, caller_of}
 use Rattle.rt_script.specs.declared.caller.Frame.{Frame}
-use Rattle.rt_script.specs.declared.plan.Fill.{Fill}
-use Rattle.rt_script.specs.declared.plan.Plan.{Plan}
+use Rattle.rt_script_views.specs.declared.plan.Fill.{Fill}
+use Rattle.rt_script_views.specs.declared.plan.Plan.{Plan}
 use Rattle.rt_mirror.specs.Mirror.{trees_from}
 use Rattle.rt_script.proofs.Fills.{tree-more, tree-end, items-more, items-end, tree-none, tree-some, list-filled, moved-frame, map-append}
 use Rattle.rt_script.proofs.Statements.{take_front}

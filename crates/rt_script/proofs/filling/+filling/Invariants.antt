@@ -8,7 +8,7 @@ use Rattle.rt_language.specs.Values.{NumberValue}
 use Rattle.rt_language.specs.Views.{items_from}
 use Rattle.rt_script.specs.Came.{came}
 use Rattle.rt_script.specs.Fills.{filling_of}
-use Rattle.rt_script.specs.Plans.{planned, fill_of, filled}
+use Rattle.rt_script_views.specs.Plans.{planned, fill_of, filled}
 use Rattle.rt_script.specs.Seen.{caller_of}
 use Rattle.rt_script.proofs.Fills.{then_tree, then_trees}
 use Rattle.rt_script.proofs.filling.+filling.Given as goal

@@ -10,11 +10,11 @@ use Rattle.rt_language.specs.Expressions.{SourceTypes, Caller, evaluate, evaluat
 use Rattle.rt_language.specs.Statements.{doing}
 use Rattle.rt_language.specs.Views.{Filling, nothing_filled, filled_on, attribute_value, attribute_of, use_or_none, slots_from, items_from, picked}
 use Rattle.rt_syntax.specs.Mirror.{expression_of, arguments_of, use_of}
-use Rattle.rt_script.specs.declared.plan.Plan.{Plan}
-use Rattle.rt_script.specs.declared.plan.Fill.{Fill}
-use Rattle.rt_script.specs.declared.plan.SlotPlan.{SlotPlan}
-use Rattle.rt_script.specs.declared.plan.Fill.TheOpen.{Fill-F, SlotPlan-F, Plan-F}
-use Rattle.rt_script.specs.declared.plan.Fill.TheFolds.{fold-Fill, fold-SlotPlan, fold-Plan}
+use Rattle.rt_script_views.specs.declared.plan.Plan.{Plan}
+use Rattle.rt_script_views.specs.declared.plan.Fill.{Fill}
+use Rattle.rt_script_views.specs.declared.plan.SlotPlan.{SlotPlan}
+use Rattle.rt_script_views.specs.declared.plan.Fill.TheOpen.{Fill-F, SlotPlan-F, Plan-F}
+use Rattle.rt_script_views.specs.declared.plan.Fill.TheFolds.{fold-Fill, fold-SlotPlan, fold-Plan}
 
 -- a program of the language, of whoever evaluates and what the variables hold
 abbrev pub Held : Type 0 → Type 0

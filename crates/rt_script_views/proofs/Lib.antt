@@ -1,0 +1,7 @@
+pub mod Sequence
+pub mod Taken
+pub mod Filled
+pub mod Plans
+pub mod Nodes
+pub mod Views
+pub mod Rows

@@ -1,0 +1,4 @@
+pub mod Narrow
+pub mod Plans
+pub mod Built
+pub mod Meant
