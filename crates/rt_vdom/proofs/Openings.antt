@@ -1,5 +1,5 @@
 -- An entry more that is no build and no input.
-use Rattle.std.proofs.Common.{◌≡◌, ℕ, ◌+◌, List, [], ◌∷◌, ◌++◌, map, false, refl, ap, sym, ◌∙◌, if◌then◌else◌, arith}
+use Rattle.std.proofs.Common.{◌≡◌, List, [], ◌∷◌, ◌++◌, map, false, refl, arith}
 use Rattle.rt_model.specs.Headline.{is_opening}
 use Rattle.rt_model.specs.Told.{count_entries}
 use Rattle.rt_reports.specs.Seen.{entry_of}

@@ -1,6 +1,5 @@
 -- The reports of a session so far, with the inputs that are left.
 use Rattle.std.proofs.Common.{◌≡◌, ℕ, ◌+◌, length, List, [], ◌∷◌, ◌++◌, map, refl, ap, sym, subst, ◌∙◌, append_assoc, append-nil, arith}
-use Rattle.std.specs.List.{AllByRecursion}
 use Rattle.std.proofs.lemmas.List.{map-append}
 use Rattle.rt_model.specs.Headline.{OneEach, OpensWith, InputsFrom}
 use Rattle.rt_model.specs.Replay.{Entry, Build, Taken, Input}
@@ -10,11 +9,11 @@ use Rattle.rt_reports.specs.Counted.{logs_in, edits_in, CountsLog, AllCountLogs,
 use Rattle.rt_reports.specs.declared.report.Report.{Report}
 
 -- logs of inputs in which nothing happens
-abbrev filler : {K : Types} → ℕ → List (Input K) → List (List Entry)
+abbrev pub filler : {K : Types} → ℕ → List (Input K) → List (List Entry)
 filler k [] = []
 filler k (input ∷ inputs) = (Taken k ∷ []) ∷ filler (k + 1) inputs
 
-fills : {K : Types} (k : ℕ) (inputs : List (Input K)) → InputsFrom k inputs (filler k inputs)
+pub fills : {K : Types} (k : ℕ) (inputs : List (Input K)) → InputsFrom k inputs (filler k inputs)
 fills k [] = tt
 fills k (input ∷ inputs) = ((refl, refl), fills (k + 1) inputs)
 

@@ -1,5 +1,5 @@
 -- What a sink took, one part after another.
-use Rattle.std.proofs.Common.{◌≡◌, ℕ, ◌+◌, ◌<◌, ◌≤◌, List, [], ◌∷◌, ◌++◌, length, Option, Some, None, Result, Ok, Err, refl, ap, sym, subst, ◌∙◌, append_assoc, append-nil, arith}
+use Rattle.std.proofs.Common.{◌≡◌, ℕ, ◌+◌, ◌<◌, ◌≤◌, List, [], ◌∷◌, ◌++◌, length, Option, Some, None, Ok, Err, refl, ap, sym, subst, ◌∙◌, append_assoc, append-nil, arith}
 use Rattle.std.proofs.lemmas.List.{length-append}
 use Rattle.rt_edits.specs.Sinks.{grown, Takes}
 use Rattle.rt_edits.specs.declared.edit.Edit.{Edit}
@@ -11,11 +11,11 @@ use Rattle.rt_vdom.specs.Turns.{taken_by}
 use Rattle.rt_vdom.specs.declared.ended.Ended.{Ended}
 use Rattle.rt_vdom.specs.declared.ended.Ended.TheVariants as ends
 
-grown-none : (old : Option (List Edit)) → old ≡ grown old []
+pub grown-none : (old : Option (List Edit)) → old ≡ grown old []
 grown-none None = refl
 grown-none (Some edits) = ap Some (sym (append-nil edits))
 
-grown-twice : (old : Option (List Edit)) (xs ys : List Edit) → grown (grown old xs) ys ≡ grown old (xs ++ ys)
+pub grown-twice : (old : Option (List Edit)) (xs ys : List Edit) → grown (grown old xs) ys ≡ grown old (xs ++ ys)
 grown-twice None xs ys = refl
 grown-twice (Some edits) xs ys = ap Some (append_assoc edits xs ys)
 

@@ -1,2 +1,9 @@
 pub mod Ends
 pub mod Turns
+pub mod Notes
+pub mod Changes
+pub mod Hearings
+pub mod Machines
+pub mod Writings
+pub mod Sessions
+pub mod Stands

@@ -1,144 +1,289 @@
 //! The items of open work, each served in its turn.
-ghost use Rattle.std.specs.Prelude.{ℕ, IfErr};
-ghost use Rattle.rt_vdom.specs.Ends.{Explains};
+ghost use Rattle.std.specs.Prelude.{◌≡◌, ◌<◌, ◌+◌, ◌∷◌, [], Some, true, if◌then◌else◌, option_map, IfOk, IfSome};
+ghost use Rattle.rt_model.specs.Causes as causes;
+ghost use Rattle.rt_model.specs.State as model;
+ghost use Rattle.rt_model.specs.Replay as replay;
+ghost use Rattle.rt_model.specs.Removal as removal;
+ghost use Rattle.rt_model.specs.Run.{run};
+ghost use Rattle.rt_mirror.specs.Sealed.{component_of};
+ghost use Rattle.rt_places.specs.Places.{kind_of, place_of, side_name_of};
+ghost use Rattle.rt_reports.specs.Seen.{limits_of};
+ghost use Rattle.rt_runs.specs.Outcomes.{Comes};
+ghost use Rattle.rt_scopes.specs.Mirror.{state_of};
+ghost use Rattle.rt_turns.specs.Turn.{again, turn_of, entries_at};
+ghost use Rattle.rt_work.specs.Items.{item_of, work_of};
+ghost use Rattle.rt_vdom.specs.Notes.{NotedBy};
 
-use crate::ended::Ended;
-use crate::keeping::keeps_output;
-use crate::machine::{Machine, stack};
+use crate::course::Course;
+use crate::keeping::keeps;
+use crate::turn::sum;
 use rt_boundary::boundary_step;
 use rt_calls::App;
 use rt_nodes::VComponent;
-use rt_places::{Place, SideName};
+use rt_parts::Parts;
+use rt_places::{Kind, Place, SideName};
 use rt_reports::{Entry, Limits};
-use rt_scopes::Stop;
+use rt_runs::Runtime;
+use rt_scopes::{State, Stop};
 use rt_sides::{fed_child, next_removed};
-use rt_values::{Part, ScopeId};
+use rt_values::{List, OutOfMemory, Part, ScopeId, both};
 use rt_work::Item;
+use std::alloc::Global;
 
-impl<A: App> Machine<A> {
-    /// Serves an item of open work. A scope that would stand too high isn't made.
-    pub fn serve(&mut self, item: &Item<A>, limits: Limits) -> Result<(), Ended>
-        ensures { IfErr result (λ ended. (before after : ℕ) → Explains limits before after ended) }
+/// The height of the scope that an item makes, where it is above the limit.
+pub(crate) fn too_deep<P: Parts>(
+    state: &State<P>,
+    item: &Item<P>,
+    limits: Limits,
+) -> Result<Option<u64>, OutOfMemory>
+    ensures above { IfOk result (λ deep. IfSome deep (λ height. limits.height < height)) }
+    ensures refused { IfOk result (λ deep. (g : _) →
+        causes.depth_refused (limits_of limits) (causes.height_at (state_of g state.now) (item_of item.now ∷ []))
+        ≡ option_map model.TooDeep deep) }
+{
+    match item {
+        Item::Make { scope, .. } => above(state.height_of(*scope), limits),
+        _ => Ok(None),
+    }
+}
+
+/// One more than a height, where that is above the limit.
+fn above(height: u64, limits: Limits) -> Result<Option<u64>, OutOfMemory>
+    ensures above { IfOk result (λ deep. IfSome deep (λ height. limits.height < height)) }
+    ensures refused { IfOk result (λ deep.
+        causes.depth_refused (limits_of limits) (Some (height + 1)) ≡ option_map model.TooDeep deep) }
+{
+    let height = sum(height, 1)?;
+    if u64::from(limits.height) < height {
+        Ok(Some(height))
+    } else {
+        Ok(None)
+    }
+}
+
+/// One turn at an item of open work: it is served, and of a drop one scope goes. The work that it
+/// leads to.
+pub(crate) fn turn_at<A: App>(
+    runtime: &mut Runtime<A>,
+    course: &mut Course,
+    item: &Item<A>,
+) -> Result<List<Item<A>>, Stop>
+    ensures turned { Comes (λ w. turn_of (A.meaning runtime.old.app) w (item_of item.now))
+        runtime.old.state runtime.new.state work_of result }
+    ensures noted { (g : _) → NotedBy course.old course.new
+        (entries_at (A.meaning runtime.old.app) (state_of g runtime.old.state) (item_of item.now))
+        result }
+    ensures app { runtime.new.app ≡ runtime.old.app }
+{
+    match item {
+        Item::Draw {
+            scope,
+            side,
+            place,
+            kind,
+        } => draw(runtime, *scope, *side, place, *kind),
+        Item::Row { boundary, step } => boundary_step(runtime, *boundary, *step),
+        Item::Feed {
+            scope,
+            side,
+            place,
+            component,
+        } => feed(runtime, course, *scope, *side, place, component),
+        Item::Make {
+            scope,
+            side,
+            place,
+            component,
+        } => make(runtime, course, *scope, *side, place, component),
+        Item::Drop { child, scope, side } => take(runtime, course, *child, *scope, *side),
+    }
+}
+
+/// Draws a number for a place.
+fn draw<A: App>(
+    runtime: &mut Runtime<A>,
+    scope: u64,
+    side: SideName,
+    place: &Place,
+    kind: Kind,
+) -> Result<List<Item<A>>, Stop>
+    ensures drawn { Comes (λ w.
+        replay.draw_number w scope (side_name_of side) (place_of place.now) (kind_of kind))
+        runtime.old.state runtime.new.state work_of result }
+    ensures app { runtime.new.app ≡ runtime.old.app }
+{
+    let place = place.copy(runtime.alloc)?;
+    runtime.state.draw_number(scope, side, place, kind)?;
+    Ok(List::new(runtime.alloc))
+}
+
+/// Hands the child at a place a component.
+fn feed<A: App>(
+    runtime: &mut Runtime<A>,
+    course: &mut Course,
+    scope: u64,
+    side: SideName,
+    place: &Place,
+    component: &VComponent<A>,
+) -> Result<List<Item<A>>, Stop>
+    ensures fed { Comes (λ w. replay.outcome_of (A.meaning runtime.old.app) w
+        (model.Feed scope (side_name_of side) (place_of place.now) (component_of component.now)))
+        runtime.old.state runtime.new.state work_of result }
+    ensures noted { (g : _) → NotedBy course.old course.new
+        (replay.entry_of (A.meaning runtime.old.app) (state_of g runtime.old.state)
+        (model.Feed scope (side_name_of side) (place_of place.now) (component_of component.now)))
+        result }
+    ensures app { runtime.new.app ≡ runtime.old.app }
+{
+    match fed_child(&runtime.state, scope, side, place.as_slice()) {
+        Some(child) => hand(runtime, course, child, component),
+        None => Ok(List::new(runtime.alloc)),
+    }
+}
+
+/// Hands a scope a component. It keeps its output where that means the same, else it is run.
+fn hand<A: App>(
+    runtime: &mut Runtime<A>,
+    course: &mut Course,
+    child: u64,
+    component: &VComponent<A>,
+) -> Result<List<Item<A>>, Stop>
+    ensures handed { Comes (λ w.
+        replay.handed (A.meaning runtime.old.app) w child (component_of component.now))
+        runtime.old.state runtime.new.state work_of result }
+    ensures noted { (g : _) → NotedBy course.old course.new
+        ((if replay.keeps (A.meaning runtime.old.app) (state_of g runtime.old.state) child
+        (component_of component.now) then replay.Kept child else replay.Fed child) ∷ []) result }
+    ensures app { runtime.new.app ≡ runtime.old.app }
+{
+    let kept = keeps(&runtime.app, &runtime.state, child, component);
+    let component = component.copy(runtime.alloc)?;
+    if kept {
+        course.note(Entry::Kept(ScopeId(child)))?;
+        put(runtime, child, component)
+    } else {
+        course.note(Entry::Fed(ScopeId(child)))?;
+        put_and_run(runtime, child, component)
+    }
+}
+
+/// A scope has another component, and keeps its output.
+fn put<A: App>(
+    runtime: &mut Runtime<A>,
+    child: u64,
+    component: VComponent<A>,
+) -> Result<List<Item<A>>, Stop>
+    ensures done { Comes (λ w. model.Done
+        (replay.with_props (A.meaning runtime.old.app) w child (component_of component)) [])
+        runtime.old.state runtime.new.state work_of result }
+    ensures app { runtime.new.app ≡ runtime.old.app }
+{
+    runtime.state.put_component(child, component)?;
+    Ok(List::new(runtime.alloc))
+}
+
+/// A scope has another component, and is run.
+fn put_and_run<A: App>(
+    runtime: &mut Runtime<A>,
+    child: u64,
+    component: VComponent<A>,
+) -> Result<List<Item<A>>, Stop>
+    ensures done { Comes (λ w. run (A.meaning runtime.old.app)
+        (replay.with_props (A.meaning runtime.old.app) w child (component_of component)) child)
+        runtime.old.state runtime.new.state work_of result }
+    ensures app { runtime.new.app ≡ runtime.old.app }
+{
+    runtime.state.put_component(child, component)?;
+    runtime.run(child)
+}
+
+/// Makes a scope for the component at a place, and runs it.
+fn make<A: App>(
+    runtime: &mut Runtime<A>,
+    course: &mut Course,
+    scope: u64,
+    side: SideName,
+    place: &Place,
+    component: &VComponent<A>,
+) -> Result<List<Item<A>>, Stop>
+    ensures made { Comes (λ w. replay.made (A.meaning runtime.old.app) w scope
+        (side_name_of side) (place_of place.now) (component_of component.now))
+        runtime.old.state runtime.new.state work_of result }
+    ensures noted { (g : _) → NotedBy course.old course.new
+        (replay.Made (state_of g runtime.old.state).next_scope ∷ []) result }
+    ensures app { runtime.new.app ≡ runtime.old.app }
+{
+    course.note(Entry::Made(ScopeId(runtime.state.next_scope)))?;
+    let alloc = runtime.alloc;
+    let (place, component) = both(place.copy(alloc), component.copy(alloc))?;
+    if runtime.state.is_live(scope) {
+        make_below(runtime, scope, side, place, component)
+    } else {
+        Ok(List::new(alloc))
+    }
+}
+
+/// Makes a scope below a live one, and runs it.
+fn make_below<A: App>(
+    runtime: &mut Runtime<A>,
+    scope: u64,
+    side: SideName,
+    place: Place,
+    component: VComponent<A>,
+) -> Result<List<Item<A>>, Stop>
+    ensures made { ((g : _) → model.is_live (state_of g runtime.old.state) scope ≡ true) →
+        Comes (λ w. replay.made (A.meaning runtime.old.app) w scope
+        (side_name_of side) (place_of place) (component_of component))
+        runtime.old.state runtime.new.state work_of result }
+    ensures app { runtime.new.app ≡ runtime.old.app }
+{
+    let alloc = runtime.alloc;
+    match runtime
+        .state
+        .with_new_scope(alloc, scope, side, place, component)?
     {
-        if let Item::Make { scope, .. } = item {
-            let height = self.runtime.state.height_of(*scope).saturating_add(1);
-            if height > u64::from(limits.height) {
-                return Err(Ended::TooDeep { height });
-            }
-        }
-        Ok(self.serve_low(item)?)
+        Some(child) => runtime.run(child),
+        None => Ok(List::new(alloc)),
     }
+}
 
-    /// Serves an item of open work, at any height.
-    fn serve_low(&mut self, item: &Item<A>) -> Result<(), Stop> {
-        match item {
-            Item::Draw {
-                scope,
-                side,
-                place,
-                kind,
-            } => {
-                let place = place.copy(self.runtime.alloc)?;
-                self.runtime.state.draw_number(*scope, *side, place, *kind)
-            }
-            Item::Row { boundary, step } => {
-                self.keep(*boundary)?;
-                let work = boundary_step(&mut self.runtime, *boundary, *step)?;
-                Ok(stack(&mut self.work, work)?)
-            }
-            Item::Feed {
-                scope,
-                side,
-                place,
-                component,
-            } => self.feed(*scope, *side, place, component),
-            Item::Make {
-                scope,
-                side,
-                place,
-                component,
-            } => self.make(*scope, *side, place, component),
-            Item::Drop { child, scope, side } => self.drop_child(*child, *scope, *side),
-        }
-    }
+/// Removes the first scope of those that go with a child. The item comes again until the child
+/// itself went.
+fn take<A: App>(
+    runtime: &mut Runtime<A>,
+    course: &mut Course,
+    child: u64,
+    scope: u64,
+    side: SideName,
+) -> Result<List<Item<A>>, Stop>
+    ensures turned { Comes (λ w. turn_of (A.meaning runtime.old.app) w
+        (model.Drop child scope (side_name_of side)))
+        runtime.old.state runtime.new.state work_of result }
+    ensures noted { (g : _) → NotedBy course.old course.new
+        (replay.Removed (removal.next_removed (state_of g runtime.old.state) child) ∷ []) result }
+    ensures app { runtime.new.app ≡ runtime.old.app }
+{
+    let alloc = runtime.alloc;
+    let leaf = next_removed(alloc, &runtime.state, child)?;
+    course.note(Entry::Removed(ScopeId(leaf)))?;
+    runtime.remove(leaf)?;
+    Ok(drop_again(alloc, leaf == child, child, scope, side)?)
+}
 
-    /// Runs a scope. What this leads to comes before what is open.
-    pub fn run(&mut self, scope: u64) -> Result<(), Stop> {
-        self.keep(scope)?;
-        let work = self.runtime.run(scope)?;
-        Ok(stack(&mut self.work, work)?)
+/// The drop that comes again, unless its own scope went.
+fn drop_again<P: Parts>(
+    alloc: Global,
+    went: bool,
+    child: u64,
+    scope: u64,
+    side: SideName,
+) -> Result<List<Item<P>>, OutOfMemory>
+    ensures { IfOk result (λ items. work_of items
+        ≡ again went (model.Drop child scope (side_name_of side))) }
+{
+    let mut items = List::new(alloc);
+    if !went {
+        items.push(Item::Drop { child, scope, side })?;
     }
-
-    /// Hands the child at a place a component. It keeps its output where that means the same, else
-    /// it is run.
-    fn feed(
-        &mut self,
-        scope: u64,
-        side: SideName,
-        place: &Place,
-        component: &VComponent<A>,
-    ) -> Result<(), Stop> {
-        let state = &self.runtime.state;
-        let Some(child) = fed_child(state, scope, side, place.as_slice()) else {
-            return Ok(());
-        };
-        let Some(found) = state.scope(child) else {
-            return Ok(());
-        };
-        let keeps = keeps_output(&self.runtime.app, &found.rest.component, component);
-        let component = component.copy(self.runtime.alloc)?;
-        if keeps {
-            self.course.note(Entry::Kept(ScopeId(child)))?;
-            self.runtime.state.put_component(child, component)?;
-            return Ok(());
-        }
-        self.course.note(Entry::Fed(ScopeId(child)))?;
-        self.runtime.state.put_component(child, component)?;
-        self.run(child)
-    }
-
-    /// Makes a scope for the component at a place, and runs it.
-    fn make(
-        &mut self,
-        scope: u64,
-        side: SideName,
-        place: &Place,
-        component: &VComponent<A>,
-    ) -> Result<(), Stop> {
-        if !self.runtime.state.is_live(scope) {
-            return Ok(());
-        }
-        self.course
-            .note(Entry::Made(ScopeId(self.runtime.state.next_scope)))?;
-        let alloc = self.runtime.alloc;
-        let (place, component) = (place.copy(alloc)?, component.copy(alloc)?);
-        let made = self
-            .runtime
-            .state
-            .with_new_scope(alloc, scope, side, place, component)?;
-        match made {
-            Some(child) => {
-                self.keep_none(child)?;
-                let work = self.runtime.run(child)?;
-                Ok(stack(&mut self.work, work)?)
-            }
-            None => Ok(()),
-        }
-    }
-
-    /// Removes the first scope of those that go with a child. The item stays until the child itself
-    /// went.
-    fn drop_child(&mut self, child: u64, scope: u64, side: SideName) -> Result<(), Stop> {
-        let leaf = next_removed(self.runtime.alloc, &self.runtime.state, child)?;
-        if !self.runtime.state.is_live(leaf) {
-            return Ok(());
-        }
-        self.course.note(Entry::Removed(ScopeId(leaf)))?;
-        self.keep(leaf)?;
-        self.runtime.remove(leaf)?;
-        if leaf != child {
-            self.work.push(Item::Drop { child, scope, side })?;
-        }
-        Ok(())
-    }
+    Ok(items)
 }

@@ -1,6 +1,7 @@
 //! What happens after the build or an input has begun.
 ghost use Rattle.std.specs.Prelude.{◌≡◌, ◌++◌, ◌∷◌, [], false, map, IfOk, OnOk, OnErr};
 ghost use Rattle.rt_model.specs.Headline.{OpensWith, is_opening};
+ghost use Rattle.rt_model.specs.Told.{count_entries};
 ghost use Rattle.rt_reports.specs.Seen.{entry_of};
 
 use rt_reports::Entry;
@@ -45,6 +46,13 @@ impl Course {
         ensures err { OnErr result (self.new ≡ self.old) }
     {
         self.entries.push(entry)
+    }
+
+    /// None of the entries opens a report.
+    pub fn opens_none(&self)
+        ensures { count_entries is_opening (map entry_of self.now) ≡ 0 }
+    {
+        let _ = &self.entries;
     }
 
     /// The whole log, with the entry that opens it.

@@ -1,5 +1,10 @@
 //! Why a session ends early.
-ghost use Rattle.std.specs.Prelude.{ℕ};
+ghost use Rattle.std.specs.Prelude.{◌≡◌, ℕ, Some, IsTrue, ◌↔◌};
+ghost use Rattle.rt_reports.specs.Seen.{fault_of};
+ghost use Rattle.rt_scopes.specs.Names.{fault_of as cause_of};
+ghost use Rattle.rt_scopes.specs.declared.names.Stop.TheVariants as stops;
+ghost use Rattle.rt_vdom.specs.Machines.{fault_in};
+ghost use Rattle.rt_vdom.specs.declared.ended.Ended.TheVariants as ends;
 ghost use Rattle.rt_reports.specs.declared.limits.Limits.{Limits};
 ghost use Rattle.rt_vdom.specs.Ends.{Explains, Causes};
 
@@ -45,14 +50,17 @@ impl From<Stop> for Ended {
 
 impl Ended {
     /// Whether memory was wanting.
-    pub fn wants_memory(self) -> bool {
+    pub fn wants_memory(self) -> bool
+        ensures { IsTrue result ↔ (self ≡ ends.Run stops.OutOfMemory) }
+    {
         matches!(self, Ended::Run(Stop::OutOfMemory))
     }
 
     /// The fault that is answered.
     pub fn fault(self) -> Fault
-        ensures { (limits : Limits) (before after : ℕ) →
+        ensures causes { (limits : Limits) (before after : ℕ) →
             Explains limits before after self → Causes limits before after result }
+        ensures of { fault_of result ≡ fault_in self }
     {
         match self {
             Ended::Sink => Fault::SinkFault,
@@ -66,7 +74,8 @@ impl Ended {
 
 /// A cause in the run as a fault.
 fn fault_of(cause: Cause) -> Fault
-    ensures { (limits : Limits) (before after : ℕ) → Causes limits before after result }
+    ensures causes { (limits : Limits) (before after : ℕ) → Causes limits before after result }
+    ensures of { fault_of result ≡ Some (cause_of cause) }
 {
     match cause {
         Cause::IdsExhausted { what } => Fault::IdsExhausted { what },

@@ -10,6 +10,8 @@ mod input;
 mod keeping;
 mod machine;
 mod runner;
+mod serving;
+mod standing;
 mod turn;
 mod unit;
 mod writing;

@@ -1,8 +1,11 @@
 //! A session under way: the state of the runtime with what is open beside it.
-ghost use Rattle.std.specs.Prelude.{◌≡◌, map, IfOk};
+ghost use Rattle.std.specs.Prelude.{◌≡◌, ◌++◌, ◌∷◌, [], reverse, map, IfOk, OnOk};
 ghost use Rattle.rt_model.specs.Headline.{OpensWith};
+ghost use Rattle.rt_model.specs.Replay.{first_state, ones};
 ghost use Rattle.rt_reports.specs.Seen.{entry_of};
 ghost use Rattle.rt_reports.specs.Counted.{CountsLog};
+ghost use Rattle.rt_scopes.specs.Mirror.{at_first, state_of};
+ghost use Rattle.rt_vdom.specs.Machines.{IsFresh};
 
 use crate::course::Course;
 use rt_calls::{App, Firsts};
@@ -18,17 +21,22 @@ use std::mem;
 /// The number that each counter draws first.
 const FIRST: u64 = 1;
 
+/// An event on its way through the listeners.
+#[derive(Drop)]
+pub(crate) struct Hearing<A: App> {
+    pub event: Event<A::Payload>,
+    pub bubbles: bool,
+    /// Those that wait, in order; some may be of scopes that are gone.
+    pub listeners: List<Listener<A>>,
+}
+
 /// A session under way.
 #[derive(Drop)]
 pub(crate) struct Machine<A: App> {
     pub runtime: Runtime<A>,
     /// The open work. The last item is served first.
     pub work: List<Item<A>>,
-    /// The listeners that wait. The last one is called first.
-    pub listeners: List<Listener<A>>,
-    /// The event on its way, and whether it bubbles.
-    pub event: Option<Event<A::Payload>>,
-    pub bubbles: bool,
+    pub hearing: Option<Hearing<A>>,
     /// The entry that began the build or the unit at work.
     pub first: Option<Entry>,
     /// What the scopes that a rerun has changed were before it, with none for each that it made.
@@ -43,19 +51,23 @@ pub(crate) struct Machine<A: App> {
 }
 
 /// Puts items on a stack, so that the first one is taken first.
-pub(crate) fn stack<T: Drop>(onto: &mut List<T>, items: List<T>) -> Result<(), OutOfMemory> {
-    let mut items = items;
-    for _item in 0..items.len() {
-        if let Some(item) = items.pop() {
-            onto.push(item)?;
-        }
-    }
-    Ok(())
+pub(crate) fn stack<T: Drop>(onto: &mut List<T>, items: List<T>) -> Result<(), OutOfMemory>
+    ensures { OnOk result (onto.new ≡ onto.old ++ reverse items) }
+{
+    let mut items = items.into_vec();
+    items.reverse();
+    onto.append(List::from_vec(items))
 }
 
 impl<A: App> Machine<A> {
     /// A session at its start.
-    pub fn start(alloc: Global, app: A, props: A::Props) -> Result<Machine<A>, OutOfMemory> {
+    pub fn start(alloc: Global, app: A, props: A::Props) -> Result<Machine<A>, OutOfMemory>
+        ensures fresh { IfOk result (λ machine. IsFresh machine) }
+        ensures app { IfOk result (λ machine. machine.runtime.app ≡ app) }
+        ensures state { IfOk result (λ machine. (polled : A.TaskState) →
+            state_of (at_first polled) machine.runtime.state
+            ≡ first_state (A.meaning app).root props ones) }
+    {
         let firsts = Firsts {
             tasks: FIRST,
             cells: FIRST,
@@ -67,9 +79,7 @@ impl<A: App> Machine<A> {
         Ok(Machine {
             runtime,
             work: List::new(alloc),
-            listeners: List::new(alloc),
-            event: None,
-            bubbles: false,
+            hearing: None,
             first: None,
             stood: List::new(alloc),
             scopes: 0,
@@ -85,6 +95,11 @@ impl<A: App> Machine<A> {
             OpensWith (entry_of first) (map entry_of report.log)) }
         ensures counts { IfOk result (λ report. CountsLog report) }
         ensures edits { IfOk result (λ report. report.edits ≡ edits) }
+        ensures log { IfOk result (λ report. report.log ≡ first ∷ self.old.course) }
+        ensures default_enabled { IfOk result (λ report.
+            report.default_enabled ≡ self.old.default_enabled) }
+        ensures others { self.new ≡ record self.old { course = self.new.course } }
+        ensures course { self.new.course ≡ [] }
     {
         let alloc = self.runtime.alloc;
         let course = mem::replace(&mut self.course, Course::new(alloc));

@@ -1,18 +1,27 @@
 //! A session: the build of an application, and the inputs that follow it.
-ghost use Rattle.std.specs.Prelude.{◌≡◌, ℕ, [], map, IfOk, IfErr, OnOk};
+ghost use Rattle.std.specs.Prelude.{◌≡◌, ℕ, ◌+◌, ◌∷◌, [], None, Some, map, IfOk, IfErr, OnOk};
+ghost use Rattle.rt_model.specs.Causes.{IsValid};
 ghost use Rattle.rt_model.specs.Headline.{OneEach, OpensWith};
-ghost use Rattle.rt_reports.specs.Seen.{entry_of, input_of};
+ghost use Rattle.rt_model.specs.Replay as replay;
+ghost use Rattle.rt_model.specs.Replay.{first_state, ones, start, take_next};
+ghost use Rattle.rt_reports.specs.Seen.{entry_of, fault_of, input_of, limits_of, report_of};
+ghost use Rattle.rt_scopes.specs.Mirror.{at_first, state_of};
 ghost use Rattle.rt_reports.specs.Counted.{logs_in, edits_in, CountsLog, AllCountLogs, BeginsOneEach};
 ghost use Rattle.rt_reports.specs.declared.entry.Entry.TheVariants as entries;
 ghost use Rattle.rt_vdom.specs.Ends.{Took, Ends, Faulted};
+ghost use Rattle.rt_vdom.specs.Machines.{IsFresh, machine_of};
+ghost use Rattle.rt_vdom.specs.Sessions.{CameAt, Finished, FinishedAt, Headlined};
+ghost use Rattle.rt_vdom.specs.Stands.{Follows, ReportsAs, RunsAs};
 
 use crate::ended::Ended;
+use crate::input::{look_where_quiet, take_in};
 use crate::machine::Machine;
 use crate::turn::sum;
 use rt_calls::App;
 use rt_edits::WriteMutations;
+use rt_headline::{ran_is_headline, ran_to_is_came_to};
 use rt_reports::{Entry, Input, Limits, Report, SessionFault};
-use rt_values::List;
+use rt_values::{List, OutOfMemory};
 use std::alloc::Global;
 
 /// Builds an application and settles, and then takes in each input and settles. The edits go to the
@@ -34,7 +43,49 @@ pub fn session<A: App, M: WriteMutations>(
         (M.faults sink.old) (M.faults sink.new) (edits_in reports)) }
     ensures refused { IfErr result (λ refused. Faulted limits (map input_of inputs)
         (M.taken sink.old) (M.taken sink.new) (M.faults sink.old) (M.faults sink.new) refused) }
+
+    // What was done is what the definitions do, and the sink took what they write.
+    ensures ran { (polled : A.TaskState) → IfOk result (λ reports.
+        Finished (A.meaning app) root_props (map input_of inputs) (limits_of limits)
+        (M.taken sink.old) (M.taken sink.new) (map report_of reports)) }
+    ensures ran_to { (polled : A.TaskState) → IfErr result (λ refused. (fault : _) →
+        fault_of refused.fault ≡ Some fault →
+        FinishedAt (A.meaning app) root_props (map input_of inputs) (limits_of limits)
+        (M.taken sink.old) (M.taken sink.new) (map report_of refused.reports) fault) }
+
+    // The headline of what was done, and of what was finished before a fault.
+    ensures headline { (polled : A.TaskState) → IfOk result (λ reports.
+        Headlined (A.meaning app) root_props (map input_of inputs) (limits_of limits)
+        (M.taken sink.old) (M.taken sink.new) (map report_of reports)) }
+    ensures came_to { (polled : A.TaskState) → IfErr result (λ refused. (fault : _) →
+        fault_of refused.fault ≡ Some fault →
+        CameAt (A.meaning app) root_props (map input_of inputs) (limits_of limits)
+        (M.taken sink.old) (M.taken sink.new) (map report_of refused.reports) fault) }
+
+    // Inputs that run without a fault end early only for want of memory or a sink that fails.
+    ensures completes { (polled : A.TaskState) →
+        IsValid (A.meaning app) root_props (map input_of inputs) (limits_of limits) →
+        IfErr result (λ refused. fault_of refused.fault ≡ None) }
 {
+    // What was done is the headline, whether it finished or came to a fault.
+    ran_is_headline::<
+        A::Component,
+        A::Props,
+        A::Value,
+        A::Handler,
+        A::TaskState,
+        A::Effect,
+        A::Payload,
+    >();
+    ran_to_is_came_to::<
+        A::Component,
+        A::Props,
+        A::Value,
+        A::Handler,
+        A::TaskState,
+        A::Effect,
+        A::Payload,
+    >();
     let mut reports = List::new(alloc);
     match run_all(alloc, app, root_props, inputs, sink, limits, &mut reports) {
         Ok(()) => Ok(reports),
@@ -63,13 +114,20 @@ fn run_all<A: App, M: WriteMutations>(
         (M.faults sink.old) (M.faults sink.new) (edits_in reports.new)) }
     ensures err { IfErr result (λ ended. Ends limits (edits_in reports.new)
         (M.taken sink.old) (M.taken sink.new) (M.faults sink.old) (M.faults sink.new) ended) }
+    ensures runs { (polled : A.TaskState) →
+        RunsAs (A.meaning app) (limits_of limits) root_props (map input_of inputs)
+        (M.taken sink.old) (M.taken sink.new) reports.new result }
 {
     let mut machine = Machine::start(alloc, app, root_props)?;
-    reports.push(machine.first_report(limits, sink)?)?;
+    let built = machine.first_report(limits, sink);
+    machine.course.opens_none();
+    reports.push(built?)?;
     let mut number = 0u64;
     for input in inputs.into_vec() {
         number = sum(number, 1)?;
-        reports.push(machine.next_report(number, input, limits, sink)?)?;
+        let taken = machine.next_report(number, input, limits, sink);
+        machine.course.opens_none();
+        reports.push(taken?)?;
     }
     Ok(())
 }
@@ -88,6 +146,18 @@ impl<A: App> Machine<A> {
             (M.faults sink.old) (M.faults sink.new) report.edits) }
         ensures err { IfErr result (λ ended. Ends limits 0
             (M.taken sink.old) (M.taken sink.new) (M.faults sink.old) (M.faults sink.new) ended) }
+        ensures reports { (polled : _) (props : _) (inputs : _) → IsFresh self.old →
+            state_of (at_first polled) self.old.runtime.state
+            ≡ first_state (A.meaning self.old.runtime.app).root props ones →
+            ReportsAs (A.meaning self.old.runtime.app) (limits_of limits) (record {
+              props = props;
+              inputs = inputs;
+              from = start (A.meaning self.old.runtime.app) props inputs;
+              opening = replay.Build;
+              left = inputs;
+              taken = 0;
+            }) (M.taken sink.old) (M.taken sink.new) self.new result }
+        ensures app { self.new.runtime.app ≡ self.old.runtime.app }
     {
         self.build()?;
         let edits = self.settle(limits, sink)?;
@@ -109,9 +179,40 @@ impl<A: App> Machine<A> {
             (M.faults sink.old) (M.faults sink.new) report.edits) }
         ensures err { IfErr result (λ ended. Ends limits 0
             (M.taken sink.old) (M.taken sink.new) (M.faults sink.old) (M.faults sink.new) ended) }
+        ensures reports { (props : _) (inputs : _) (left : _) (taken : ℕ) (last : _) →
+            number ≡ taken + 1 →
+            Follows (A.meaning self.old.runtime.app) (limits_of limits) props inputs
+            (input_of input ∷ left) taken last self.old →
+            ReportsAs (A.meaning self.old.runtime.app) (limits_of limits) (record {
+              props = props;
+              inputs = inputs;
+              from = last;
+              opening = replay.Taken number;
+              left = left;
+              taken = number;
+            }) (M.taken sink.old) (M.taken sink.new) self.new result }
+        ensures app { self.new.runtime.app ≡ self.old.runtime.app }
     {
-        self.take_in(input)?;
+        self.receive(input)?;
         let edits = self.settle(limits, sink)?;
         Ok(self.report(Entry::Input(number), edits)?)
+    }
+
+    /// Takes an input in. A look follows, unless a listener waits.
+    fn receive(&mut self, input: Input<A>) -> Result<(), OutOfMemory>
+        ensures received { OnOk result ((g : _) (left : _) (more : _) (taken : ℕ) →
+            take_next (machine_of g left taken self.old) (input_of input ∷ more)
+            ≡ machine_of g more (taken + 1) self.new) }
+        ensures app { self.new.runtime.app ≡ self.old.runtime.app }
+        ensures first { self.new.first ≡ self.old.first }
+        ensures work { self.new.work ≡ self.old.work }
+        ensures course { self.new.course ≡ self.old.course }
+    {
+        let alloc = self.runtime.alloc;
+        self.units = 0;
+        self.default_enabled = true;
+        let hearing = self.hearing.take();
+        self.hearing = take_in(alloc, &mut self.runtime.state, hearing, input)?;
+        look_where_quiet(alloc, &mut self.runtime.state, &self.hearing)
     }
 }

@@ -1,15 +1,19 @@
 //! The loop: one move a turn, until nothing is at work and nothing is owed.
-ghost use Rattle.std.specs.Prelude.{◌≡◌, ℕ, ◌+◌, IfOk, IfErr};
+ghost use Rattle.std.specs.Prelude.{◌≡◌, ℕ, ◌+◌, [], None, Some, IfOk, IfErr};
+ghost use Rattle.rt_reports.specs.Seen.{entry_of, limits_of};
+ghost use Rattle.rt_work.specs.Items.{item_of};
 ghost use Rattle.rt_vdom.specs.Ends.{Took, Ends, Explains};
+ghost use Rattle.rt_vdom.specs.Machines.{first_in};
+ghost use Rattle.rt_vdom.specs.Stands.{QuietAs, SettlesAs, StandsAt, StandsBefore, StandsFor, StandsQuiet, TurnsAs};
 ghost use Rattle.rt_vdom.specs.Turns.{taken_by};
 
 use crate::ended::Ended;
 use crate::machine::Machine;
 use rt_calls::App;
 use rt_edits::WriteMutations;
-use rt_reports::Limits;
-use rt_scopes::{Stop, Work};
-use rt_shown::Listener;
+use rt_fresh::due_is_any;
+use rt_reports::{Entry, Limits};
+use rt_scopes::Stop;
 use rt_values::OutOfMemory;
 use rt_work::Item;
 
@@ -23,16 +27,6 @@ pub(crate) fn sum(count: u64, more: u64) -> Result<u64, OutOfMemory>
     }
 }
 
-/// What is done next.
-#[derive(Drop)]
-enum Due<A: App> {
-    /// A listener is called.
-    Hear(Listener<A>),
-    /// A unit begins.
-    Begin(Work),
-    Nothing,
-}
-
 impl<A: App> Machine<A> {
     /// Goes on until nothing is at work and nothing is owed. The answer is how many edits were
     /// written. A run of more turns than a `u64` counts ends as one that has no memory.
@@ -41,6 +35,11 @@ impl<A: App> Machine<A> {
             (M.faults sink.old) (M.faults sink.new) taken) }
         ensures err { IfErr result (λ ended. Ends limits 0
             (M.taken sink.old) (M.taken sink.new) (M.faults sink.old) (M.faults sink.new) ended) }
+        ensures settles { (r : _) (edits : _) →
+            StandsAt (A.meaning self.old.runtime.app) (limits_of limits) r edits self.old →
+            SettlesAs (A.meaning self.old.runtime.app) (limits_of limits) r edits
+            (M.taken sink.old) (M.taken sink.new) self.new result }
+        ensures app { self.new.runtime.app ≡ self.old.runtime.app }
     {
         let mut edits = 0u64;
         for _turn in 0..u64::MAX {
@@ -63,12 +62,17 @@ impl<A: App> Machine<A> {
             (M.faults sink.old) (M.faults sink.new) (taken_by turn)) }
         ensures err { IfErr result (λ ended. Ends limits 0
             (M.taken sink.old) (M.taken sink.new) (M.faults sink.old) (M.faults sink.new) ended) }
+        ensures turns { (r : _) (edits : _) →
+            StandsAt (A.meaning self.old.runtime.app) (limits_of limits) r edits self.old →
+            TurnsAs (A.meaning self.old.runtime.app) (limits_of limits) r edits
+            (M.taken sink.old) (M.taken sink.new) self.new result }
+        ensures app { self.new.runtime.app ≡ self.old.runtime.app }
     {
         if let Some(item) = self.work.pop() {
             return self.work_turn(&item, limits, sink);
         }
         match self.first {
-            Some(first) => Ok(Some(self.close(first, sink)?)),
+            Some(first) => self.close_turn(first, sink),
             None => Ok(self.quiet_turn(limits)?),
         }
     }
@@ -84,6 +88,12 @@ impl<A: App> Machine<A> {
             (M.faults sink.old) (M.faults sink.new) (taken_by turn)) }
         ensures err { IfErr result (λ ended. Ends limits 0
             (M.taken sink.old) (M.taken sink.new) (M.faults sink.old) (M.faults sink.new) ended) }
+        ensures turns { (r : _) (edits : _) (first : _) → first_in self.old ≡ Some first →
+            StandsBefore (A.meaning self.old.runtime.app) (limits_of limits) r (item_of item.now)
+            first edits self.old →
+            TurnsAs (A.meaning self.old.runtime.app) (limits_of limits) r edits
+            (M.taken sink.old) (M.taken sink.new) self.new result }
+        ensures app { self.new.runtime.app ≡ self.old.runtime.app }
     {
         match self.serve(item, limits) {
             Ok(()) => Ok(Some(0)),
@@ -91,34 +101,70 @@ impl<A: App> Machine<A> {
         }
     }
 
+    /// A move where no work is left in the build or in a unit: it ends.
+    fn close_turn<M: WriteMutations>(
+        &mut self,
+        first: Entry,
+        sink: &mut M,
+    ) -> Result<Option<u64>, Ended>
+        ensures ok { IfOk result (λ turn. Took (M.taken sink.old) (M.taken sink.new)
+            (M.faults sink.old) (M.faults sink.new) (taken_by turn)) }
+        ensures err { IfErr result (λ ended. (limits : Limits) → Ends limits 0
+            (M.taken sink.old) (M.taken sink.new) (M.faults sink.old) (M.faults sink.new) ended) }
+        ensures turns { (limits : _) (r : _) (edits : _) →
+            first_in self.old ≡ Some (entry_of first) → self.old.work ≡ [] →
+            StandsFor (A.meaning self.old.runtime.app) limits r (Some (entry_of first)) edits self.old →
+            TurnsAs (A.meaning self.old.runtime.app) limits r edits
+            (M.taken sink.old) (M.taken sink.new) self.new result }
+        ensures app { self.new.runtime.app ≡ self.old.runtime.app }
+    {
+        Ok(Some(self.close(first, sink)?))
+    }
+
     /// A move where nothing is at work: a listener, or the begin of a unit.
     fn quiet_turn(&mut self, limits: Limits) -> Result<Option<u64>, Ended>
         ensures ok { IfOk result (λ turn. taken_by turn ≡ 0) }
         ensures err { IfErr result (λ ended.
             (before after : ℕ) → Explains limits before after ended) }
+        ensures turns { (r : _) (edits : _) → self.old.first ≡ None → self.old.work ≡ [] →
+            StandsFor (A.meaning self.old.runtime.app) (limits_of limits) r None edits self.old →
+            QuietAs (A.meaning self.old.runtime.app) (limits_of limits) r edits self.new result }
+        ensures app { self.new.runtime.app ≡ self.old.runtime.app }
     {
-        match self.due()? {
-            Due::Hear(listener) => {
-                self.hear(listener)?;
-                Ok(Some(0))
-            }
-            Due::Begin(work) => {
+        if self.hear()? {
+            return Ok(Some(0));
+        }
+        self.next_turn(limits)
+    }
+
+    /// A move where nothing is at work and no listener waits: the begin of a unit, where one is
+    /// owed.
+    fn next_turn(&mut self, limits: Limits) -> Result<Option<u64>, Ended>
+        ensures ok { IfOk result (λ turn. taken_by turn ≡ 0) }
+        ensures err { IfErr result (λ ended.
+            (before after : ℕ) → Explains limits before after ended) }
+        ensures turns { (r : _) (edits : _) → self.old.first ≡ None → self.old.work ≡ [] →
+            StandsQuiet (A.meaning self.old.runtime.app) (limits_of limits) r edits self.old →
+            QuietAs (A.meaning self.old.runtime.app) (limits_of limits) r edits self.new result }
+        ensures app { self.new.runtime.app ≡ self.old.runtime.app }
+    {
+        // What comes next names what is live.
+        due_is_any::<
+            A::Component,
+            A::Props,
+            A::Value,
+            A::Handler,
+            A::TaskState,
+            A::Effect,
+            A::Payload,
+        >();
+        self.runtime.state.at_rest(self.runtime.alloc)?;
+        match self.runtime.state.next_at_rest() {
+            Some(work) => {
                 self.begin(work, limits)?;
                 Ok(Some(0))
             }
-            Due::Nothing => Ok(None),
+            None => Ok(None),
         }
-    }
-
-    /// What is done next where nothing is at work.
-    fn due(&mut self) -> Result<Due<A>, OutOfMemory> {
-        if let Some(listener) = self.next_listener() {
-            return Ok(Due::Hear(listener));
-        }
-        self.runtime.state.at_rest(self.runtime.alloc)?;
-        Ok(match self.runtime.state.next_at_rest() {
-            Some(work) => Due::Begin(work),
-            None => Due::Nothing,
-        })
     }
 }

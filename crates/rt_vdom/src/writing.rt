@@ -1,7 +1,15 @@
 //! The edits of the build and of the units, written where these end.
-ghost use Rattle.std.specs.Prelude.{ℕ, IfOk, IfErr};
+ghost use Rattle.std.specs.Prelude.{◌≡◌, ◌∷◌, [], ℕ, None, length, IfOk, IfErr, OnOk};
+ghost use Rattle.rt_edits.specs.Sinks.{grown};
+ghost use Rattle.rt_model.specs.Replay as replay;
+ghost use Rattle.rt_model.specs.Replay.{mounted_state};
+ghost use Rattle.rt_reports.specs.Seen.{entry_of};
 ghost use Rattle.rt_reports.specs.declared.limits.Limits.{Limits};
+ghost use Rattle.rt_scopes.specs.Mirror.{state_of};
+ghost use Rattle.rt_work.specs.Items.{item_of};
 ghost use Rattle.rt_vdom.specs.Ends.{Took, Ends, Explains};
+ghost use Rattle.rt_vdom.specs.Machines.{fault_in};
+ghost use Rattle.rt_vdom.specs.Writings.{AreCausedNow, AreEdits, AreEditsUntil, AreUntil, Closes, Cuts, WroteUntil};
 
 use crate::ended::Ended;
 use crate::machine::Machine;
@@ -18,8 +26,10 @@ use std::alloc::Global;
 fn write_edit<M: WriteMutations>(alloc: Global, edit: &Edit, sink: &mut M) -> Result<(), Ended>
     ensures ok { IfOk result (λ _. Took (M.taken sink.old) (M.taken sink.new)
         (M.faults sink.old) (M.faults sink.new) 1) }
+    ensures told { OnOk result (M.taken sink.new ≡ grown (M.taken sink.old) (edit.now ∷ [])) }
     ensures err { IfErr result (λ ended. (limits : Limits) → Ends limits 0
         (M.taken sink.old) (M.taken sink.new) (M.faults sink.old) (M.faults sink.new) ended) }
+    ensures cause { IfErr result (λ ended. fault_in ended ≡ None) }
 {
     match edit.write_to(alloc, sink) {
         Ok(()) => Ok(()),
@@ -32,8 +42,11 @@ fn write_edit<M: WriteMutations>(alloc: Global, edit: &Edit, sink: &mut M) -> Re
 fn write_edits<M: WriteMutations>(alloc: Global, edits: &[Edit], sink: &mut M) -> Result<u64, Ended>
     ensures ok { IfOk result (λ taken. Took (M.taken sink.old) (M.taken sink.new)
         (M.faults sink.old) (M.faults sink.new) taken) }
+    ensures told { OnOk result (M.taken sink.new ≡ grown (M.taken sink.old) edits.now) }
+    ensures count { IfOk result (λ taken. taken ≡ length edits.now) }
     ensures err { IfErr result (λ ended. (limits : Limits) → Ends limits 0
         (M.taken sink.old) (M.taken sink.new) (M.faults sink.old) (M.faults sink.new) ended) }
+    ensures cause { IfErr result (λ ended. fault_in ended ≡ None) }
 {
     for edit in edits {
         write_edit(alloc, edit, sink)?;
@@ -49,13 +62,35 @@ impl<A: App> Machine<A> {
             (M.faults sink.old) (M.faults sink.new) taken) }
         ensures err { IfErr result (λ ended. (limits : Limits) → Ends limits 0
             (M.taken sink.old) (M.taken sink.new) (M.faults sink.old) (M.faults sink.new) ended) }
+        ensures cause { IfErr result (λ ended. fault_in ended ≡ None) }
+        ensures closes { IfOk result (λ count. Closes (A.meaning self.old.runtime.app) (entry_of first)
+            self.old (M.taken sink.old) (M.taken sink.new) count) }
+        ensures mounted { OnOk result ((g : _) → state_of g self.new.runtime.state
+            ≡ mounted_state (state_of g self.old.runtime.state)) }
+        ensures app { self.new.runtime.app ≡ self.old.runtime.app }
+        ensures over { OnOk result (self.new.first ≡ None) }
+        ensures others { self.new ≡ record self.old {
+          runtime = self.new.runtime;
+          first = self.new.first;
+        } }
     {
         let edits = self.ended_unit(first)?;
         write_edits(self.runtime.alloc, edits.as_slice(), sink)
     }
 
     /// Mounts what shows, and ends the build or the unit. The answer is what it writes.
-    fn ended_unit(&mut self, first: Entry) -> Result<List<Edit>, OutOfMemory> {
+    fn ended_unit(&mut self, first: Entry) -> Result<List<Edit>, OutOfMemory>
+        ensures edits { IfOk result (λ edits. AreEdits (A.meaning self.old.runtime.app) (entry_of first)
+            self.old edits) }
+        ensures mounted { OnOk result ((g : _) → state_of g self.new.runtime.state
+            ≡ mounted_state (state_of g self.old.runtime.state)) }
+        ensures app { self.new.runtime.app ≡ self.old.runtime.app }
+        ensures over { OnOk result (self.new.first ≡ None) }
+        ensures others { self.new ≡ record self.old {
+          runtime = self.new.runtime;
+          first = self.new.first;
+        } }
+    {
         self.runtime.state.mount_shown()?;
         let edits = self.caused(first)?;
         self.first = None;
@@ -63,38 +98,82 @@ impl<A: App> Machine<A> {
     }
 
     /// What the build or a unit writes, by the entry that began it.
-    fn caused(&self, first: Entry) -> Result<List<Edit>, OutOfMemory> {
+    fn caused(&self, first: Entry) -> Result<List<Edit>, OutOfMemory>
+        ensures { IfOk result (λ edits. AreCausedNow (A.meaning self.now.runtime.app) (entry_of first)
+            self.now edits) }
+    {
         let alloc = self.runtime.alloc;
-        let rows = &self.runtime.state.rows;
         match first {
-            Entry::Build => built(alloc, &Look::now(rows)),
-            Entry::Rerun(ScopeId(scope)) => {
-                let before = Look::before(rows, self.stood.as_slice(), self.scopes);
-                written(alloc, &before, &Look::now(rows), scope)
-            }
+            Entry::Build => self.built(),
+            Entry::Rerun(ScopeId(scope)) => self.rewritten(scope),
             _ => Ok(List::new(alloc)),
         }
     }
 
-    /// What a unit wrote before an item of it was refused.
-    fn caused_until(&self, refused: &Item<A>) -> Result<List<Edit>, OutOfMemory> {
-        let alloc = self.runtime.alloc;
+    /// What the build writes.
+    fn built(&self) -> Result<List<Edit>, OutOfMemory>
+        ensures { IfOk result (λ edits. AreCausedNow (A.meaning self.now.runtime.app) replay.Build
+            self.now edits) }
+    {
+        built(self.runtime.alloc, &Look::now(&self.runtime.state.rows))
+    }
+
+    /// What a rerun of a scope writes.
+    fn rewritten(&self, scope: u64) -> Result<List<Edit>, OutOfMemory>
+        ensures { IfOk result (λ edits. AreCausedNow (A.meaning self.now.runtime.app)
+            (replay.Rerun scope) self.now edits) }
+    {
         let rows = &self.runtime.state.rows;
+        let before = Look::before(rows, self.stood.as_slice(), self.scopes);
+        written(self.runtime.alloc, &before, &Look::now(rows), scope)
+    }
+
+    /// What a unit wrote before an item of it was refused.
+    fn caused_until(&self, refused: &Item<A>) -> Result<List<Edit>, OutOfMemory>
+        ensures { IfOk result (λ edits. AreEditsUntil (A.meaning self.now.runtime.app)
+            (item_of refused.now) self.now edits) }
+    {
         match self.first {
-            Some(Entry::Rerun(ScopeId(scope))) => {
-                let before = Look::before(rows, self.stood.as_slice(), self.scopes);
-                written_until(alloc, &before, &Look::now(rows), refused, scope)
-            }
-            _ => Ok(List::new(alloc)),
+            Some(first) => self.caused_by(first, refused),
+            None => Ok(List::new(self.runtime.alloc)),
         }
+    }
+
+    /// The same, by the entry that began the unit.
+    fn caused_by(&self, first: Entry, refused: &Item<A>) -> Result<List<Edit>, OutOfMemory>
+        ensures { IfOk result (λ edits. AreUntil (A.meaning self.now.runtime.app)
+            (item_of refused.now) (entry_of first) self.now edits) }
+    {
+        match first {
+            Entry::Rerun(ScopeId(scope)) => self.rewritten_until(refused, scope),
+            _ => Ok(List::new(self.runtime.alloc)),
+        }
+    }
+
+    /// What a rerun of a scope wrote before an item of it was refused.
+    fn rewritten_until(&self, refused: &Item<A>, scope: u64) -> Result<List<Edit>, OutOfMemory>
+        ensures { IfOk result (λ edits. AreUntil (A.meaning self.now.runtime.app)
+            (item_of refused.now) (replay.Rerun scope) self.now edits) }
+    {
+        let rows = &self.runtime.state.rows;
+        let before = Look::before(rows, self.stood.as_slice(), self.scopes);
+        written_until(
+            self.runtime.alloc,
+            &before,
+            &Look::now(rows),
+            refused,
+            scope,
+        )
     }
 
     /// Ends a run in which an item was refused. What it changed before is written, unless memory is
     /// wanting. The answer is why it ends.
     pub fn cut<M: WriteMutations>(&self, ended: Ended, refused: &Item<A>, sink: &mut M) -> Ended
-        ensures { (limits : Limits) → ((before after : ℕ) → Explains limits before after ended) →
+        ensures ends { (limits : Limits) → ((before after : ℕ) → Explains limits before after ended) →
             Ends limits 0 (M.taken sink.old) (M.taken sink.new)
             (M.faults sink.old) (M.faults sink.new) result }
+        ensures cuts { Cuts (A.meaning self.now.runtime.app) (item_of refused.now) self.now
+            (M.taken sink.old) (M.taken sink.new) ended result }
     {
         if ended.wants_memory() {
             return ended;
@@ -111,6 +190,9 @@ impl<A: App> Machine<A> {
             (M.faults sink.old) (M.faults sink.new) taken) }
         ensures err { IfErr result (λ ended. (limits : Limits) → Ends limits 0
             (M.taken sink.old) (M.taken sink.new) (M.faults sink.old) (M.faults sink.new) ended) }
+        ensures cause { IfErr result (λ ended. fault_in ended ≡ None) }
+        ensures wrote { OnOk result (WroteUntil (A.meaning self.now.runtime.app)
+            (item_of refused.now) self.now (M.taken sink.old) (M.taken sink.new)) }
     {
         let edits = self.caused_until(refused)?;
         write_edits(self.runtime.alloc, edits.as_slice(), sink)

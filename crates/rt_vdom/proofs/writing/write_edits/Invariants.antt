@@ -1,5 +1,6 @@
--- The edits so far were taken.
-use Rattle.std.proofs.Common.{◌≤◌, length}
+-- The edits so far were taken, and with those that are left it is what all lead to.
+use Rattle.std.proofs.Common.{◌≡◌, ◌≤◌, length, drop}
+use Rattle.rt_edits.specs.Sinks.{grown}
 use Rattle.rt_vdom.specs.Ends.{Took}
 use Rattle.rt_vdom.proofs.writing.write_edits.Given as goal
 
@@ -8,3 +9,5 @@ invariant-loop-edit g l =
     Took (g.M.WriteMutations.taken l.fn.sink) (g.M.WriteMutations.taken l.sink) (g.M.WriteMutations.faults l.fn.sink) (g.M.WriteMutations.faults l.sink) l.edit-index
     ×
     (l.edit-index ≤ length l.edits)
+    ×
+    (grown (g.M.WriteMutations.taken l.sink) (drop l.edit-index l.edits) ≡ grown (g.M.WriteMutations.taken l.fn.sink) l.edits)

@@ -1,7 +1,24 @@
+use Rattle.std.proofs.Common.{sym, subst}
 use Rattle.std.proofs.lemmas.Result.{err_from_is_err_and}
+use Rattle.rt_reports.specs.Seen.{entry_of}
+use Rattle.rt_vdom.specs.Writings.{AreEdits}
+use Rattle.rt_vdom.proofs.Keeps.{if_ok_and}
 use Rattle.rt_vdom.proofs.Sinks.{ends-run}
 use Rattle.rt_vdom.proofs.machine.Machine.close.Goals as goal
 
 pub returns-in_err-edits-clause-err : goal.returns-in_err-edits-clause-err
 returns-in_err-edits-clause-err g c =
     let p = err_from_is_err_and c.from_residual.result c.from_residual.ensures.1 in rw (p.1, p.2) (λ limits. ends-run limits _ _ _)
+
+pub returns-clause-closes : goal.returns-clause-closes
+returns-clause-closes g c =
+    if_ok_and c.write_edits.result c.write_edits.ensures.count c.write_edits.ensures.told
+    (
+    λ count counted told.
+    record {
+      wrote = c.as_slice.result.now;
+      told = told;
+      counted = sym counted;
+      are = subst (λ es. AreEdits (g.A.App.meaning c.args.self.now.runtime.app) (entry_of c.args.first) c.args.self.now es) (sym c.as_slice.ensures.items) c.in_ok-edits.ensures.edits;
+    }
+    )

@@ -1,7 +1,23 @@
+use Rattle.std.proofs.Common.{sym, subst}
 use Rattle.std.proofs.lemmas.Result.{err_from_is_err_and}
+use Rattle.rt_work.specs.Items.{item_of}
+use Rattle.rt_vdom.specs.Writings.{AreEditsUntil}
+use Rattle.rt_vdom.proofs.Keeps.{on_ok}
 use Rattle.rt_vdom.proofs.Sinks.{ends-run}
 use Rattle.rt_vdom.proofs.machine.Machine.write_until.Goals as goal
 
 pub returns-in_err-edits-clause-err : goal.returns-in_err-edits-clause-err
 returns-in_err-edits-clause-err g c =
     let p = err_from_is_err_and c.from_residual.result c.from_residual.ensures.1 in rw (p.1, p.2) (λ limits. ends-run limits _ _ _)
+
+pub returns-clause-wrote : goal.returns-clause-wrote
+returns-clause-wrote g c =
+    on_ok c.write_edits.result c.write_edits.ensures.told
+    (
+    λ told.
+    record {
+      wrote = c.as_slice.result.now;
+      told = told;
+      are = subst (λ es. AreEditsUntil (g.A.App.meaning c.args.self.now.runtime.app) (item_of c.args.refused.now) c.args.self.now es) (sym c.as_slice.ensures.items) c.in_ok-edits.ensures;
+    }
+    )

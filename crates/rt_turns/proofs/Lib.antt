@@ -1,0 +1,4 @@
+pub mod Underway
+pub mod Items
+pub mod Beginnings
+pub mod Sessions

@@ -1,0 +1,4 @@
+pub mod Turn
+pub mod Underway
+pub mod Sessions
+pub mod Laws

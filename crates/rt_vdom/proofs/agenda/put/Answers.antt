@@ -1,0 +1,12 @@
+use Rattle.std.proofs.Common.{◌∙◌, ap, sym, []}
+use Rattle.rt_model.specs.State as model
+use Rattle.rt_scopes.specs.Mirror.{state_of}
+use Rattle.rt_work.specs.Items.{work_of}
+use Rattle.rt_vdom.proofs.agenda.put.Goals as goal
+
+pub returns-clause-done : goal.returns-clause-done
+returns-clause-done g c =
+    λ kept. (
+      kept,
+      ap (λ w. model.Done w []) (sym (c.in_ok-put_component.ensures kept)) ∙ ap (λ xs. model.Done (state_of kept c.put_component.new.self) (work_of xs)) (sym c.new.ensures.empty),
+    )

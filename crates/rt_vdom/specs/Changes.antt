@@ -1,0 +1,32 @@
+-- The scopes that a turn may change, and what is kept of them.
+use Rattle.std.specs.Prelude.{◌≡◌, ℕ, true, List, [], ◌∷◌, Option, is_some}
+use Rattle.std.specs.List.{AllByRecursion}
+use Rattle.rt_frame.specs.Frame.{served_by}
+use Rattle.rt_model.specs.Lists.{at}
+use Rattle.rt_model.specs.Tree.{Types}
+use Rattle.rt_model.specs.Next.{Work, RerunScope, PollTask, RunEffects}
+use Rattle.rt_model.specs.OneLog.{types}
+use Rattle.rt_shown.specs.Stands.{Stands}
+use Rattle.rt_shown.specs.declared.look.Stood.{Stood}
+use Rattle.rt_model.specs.State.{Scope, State, Item, Draw, Row, Feed, Make, Drop}
+use Rattle.rt_model.specs.Removal.{next_removed}
+
+module _ {K : Types} where
+  -- those that an item serves; of a drop the one that goes
+  abbrev pub changes_of : State K → Item K → List ℕ
+  changes_of w (Draw s side p k) = served_by w (Draw s side p k)
+  changes_of w (Row b step) = served_by w (Row b step)
+  changes_of w (Feed s side p c) = served_by w (Feed s side p c)
+  changes_of w (Make s side p c) = served_by w (Make s side p c)
+  changes_of w (Drop t s side) = next_removed w t ∷ []
+
+-- of each of these scopes it is kept what it was
+abbrev pub AllKept : {A : Type 0} → List (ℕ × A) → List ℕ → Type 0
+AllKept stood scopes = AllByRecursion (λ (s : ℕ). is_some (at stood s) ≡ true) scopes
+
+module _ {P C Q V H T E L : Type 0} where
+  -- a unit is about to begin: of a rerun it is kept what its own scope is
+  abbrev pub KeepsFor : Work → List (ℕ × Option (Stood P C Q V H T E L)) → List (ℕ × Scope (types C Q V H T E L)) → Type 0
+  KeepsFor (RerunScope s) stood was = Stands stood was was × (is_some (at stood s) ≡ true)
+  KeepsFor (PollTask t) stood was = Unit {0}
+  KeepsFor (RunEffects s) stood was = Unit {0}
