@@ -2,5 +2,6 @@ pub mod Words
 pub mod Listed
 pub mod Texts
 pub mod Outs
+pub mod Ready
 pub mod Runs
 pub mod Statuses

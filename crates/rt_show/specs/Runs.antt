@@ -1,5 +1,5 @@
 -- What the program is given, what it prints of it, and how a run of it comes out.
-use Rattle.std.specs.Prelude.{◌≡◌, ◌⊎◌, ℕ, ◌<◌, ◌≤◌, List, ◌++◌, length, Option, Result, Ok, Err}
+use Rattle.std.specs.Prelude.{◌≡◌, ◌⊎◌, ℕ, ◌<◌, ◌≤◌, List, ◌++◌, length, Option, Some, None, Result, Ok, Err}
 use Rattle.std.specs.List.{AllByRecursion}
 use Rattle.rt_streams.specs.Reads.{IsWhole, IsLonger}
 use Rattle.rt_streams.specs.Writes.{grown, AddsFront}
@@ -7,14 +7,18 @@ use Rattle.rt_model.specs.Document.{Edit}
 use Rattle.rt_model.specs.State.{Fault, OutOfTurns, TooDeep}
 use Rattle.rt_model.specs.Replay.{Entry, Input}
 use Rattle.rt_model.specs.Told.{is_unit, is_body, count_entries}
-use Rattle.rt_model.specs.Headline.{Report, OneEach, logs_of}
+use Rattle.rt_model.specs.Headline.{Report, OneEach, logs_of, Ran, RanTo}
 use Rattle.rt_language.specs.Syntax.{Source}
 use Rattle.rt_language.specs.Expressions.{SourceTypes}
+use Rattle.rt_language.specs.Meaning.{meaning_of, props_of, inputs_of}
 use Rattle.rt_language.specs.Lines.{text_of, fault_text_of}
 use Rattle.rt_language.specs.Generated.{generated, total, summary_line}
+use Rattle.rt_reports.specs.Seen.{limits_of}
 use Rattle.rt_reports.specs.declared.limits.Limits.{Limits}
+use Rattle.rt_script_views.specs.Narrow.{IsNarrowSource}
 use Rattle.rt_sources.specs.Describes.{Describes}
 use Rattle.rt_sources.specs.declared.reading.TheConstants.{SOURCE_LIMIT}
+use Rattle.rt_show.specs.Words.{usual}
 use Rattle.rt_show.specs.declared.words.Wish.{Wish}
 use Rattle.rt_show.specs.declared.words.Wish.TheVariants.{Run, Make}
 use Rattle.rt_show.specs.declared.reason.Stop.{Stop}
@@ -53,13 +57,25 @@ pub record AreReports (reports : List Report) : Type 0 where
   pub one_each : OneEach inputs (logs_of reports)
   pub counts : AllByRecursion CountsItsLog reports
 
+-- where its views are narrow, a source has a session within these limits with these reports; these edits of it were taken, where that is told
+abbrev pub IsRun : Limits → Source → Option (List Edit) → List Report → Type 0
+IsRun limits said taken reports =
+    IsNarrowSource said → Ran (meaning_of said) (props_of said) (inputs_of said.inputs) (limits_of limits) taken reports
+
+-- the same of a session that came to a fault
+abbrev pub IsRunTo : Limits → Source → List Edit → List Report → Fault → Type 0
+IsRunTo limits said edits reports fault =
+    IsNarrowSource said → RanTo (meaning_of said) (props_of said) (inputs_of said.inputs) (limits_of limits) (Some edits) reports fault
+
 -- the text of a run that was done: lines of edits, and lines of reports, numbered from 0
-pub record IsRunText (text : List ℕ) : Type 0 where
+pub record IsRunText (limits : Limits) (said : Source) (text : List ℕ) : Type 0 where
   pub edits : List Edit
   pub reports : List Report
   pub run : AreReports reports
   -- the reports count the edits
   pub counted : length edits ≡ total (λ report. report.edits) reports
+  -- they are those of a session of the source
+  pub ran : IsRun limits said (Some edits) reports
   pub printed : text ≡ text_of edits reports
 
 -- a fault by its cause: spent units are those of the limit, a height is above the limit
@@ -69,7 +85,7 @@ IsCaused limits (TooDeep height) = limits.height < height
 IsCaused limits _ = Unit {0}
 
 -- the text of a run that a fault ended: lines of edits and of finished reports, and the line of the fault
-pub record IsFaultText (limits : Limits) (text : List ℕ) : Type 0 where
+pub record IsFaultText (limits : Limits) (said : Source) (text : List ℕ) : Type 0 where
   pub edits : List Edit
   pub reports : List Report
   pub fault : Fault
@@ -81,40 +97,44 @@ pub record IsFaultText (limits : Limits) (text : List ℕ) : Type 0 where
   pub counts : AllByRecursion CountsItsLog reports
   -- of the edits, the finished reports count no more than all
   pub counted : total (λ report. report.edits) reports ≤ length edits
+  -- they are those of a session of the source, which came to the fault
+  pub ran : IsRunTo limits said edits reports fault
   pub printed : text ≡ fault_text_of edits reports fault
 
 -- the line that sums up the reports of a run of so many rows
-pub record IsSummary (rows : ℕ) (text : List ℕ) : Type 0 where
+pub record IsSummary (rows : ℕ) (said : Source) (text : List ℕ) : Type 0 where
   pub reports : List Report
   pub run : AreReports reports
+  -- they are those of a session of the source
+  pub ran : IsRun usual said None reports
   pub printed : text ≡ summary_line rows reports
 
 -- the text of what was done
-abbrev pub IsDoneText : Wish → List ℕ → Type 0
-IsDoneText (Run limits) text = IsRunText text
-IsDoneText (Make rows) text = IsSummary rows text
+abbrev pub IsDoneText : Wish → Source → List ℕ → Type 0
+IsDoneText (Run limits) said text = IsRunText limits said text
+IsDoneText (Make rows) said text = IsSummary rows said text
 
 -- the text of what a fault ended; a run that is only summed up prints nothing then
-abbrev pub IsEndedText : Wish → List ℕ → Type 0
-IsEndedText (Run limits) text = IsFaultText limits text
-IsEndedText (Make rows) text = ⊥
+abbrev pub IsEndedText : Wish → Source → List ℕ → Type 0
+IsEndedText (Run limits) said text = IsFaultText limits said text
+IsEndedText (Make rows) said text = ⊥
 
 -- what was written is a front of the text of a run
-pub record PrintsFront (wish : Wish) (old new : Option (List ℕ)) : Type 0 where
+pub record PrintsFront (wish : Wish) (said : Source) (old new : Option (List ℕ)) : Type 0 where
   pub text : List ℕ
-  pub run : IsDoneText wish text ⊎ IsEndedText wish text
+  pub run : IsDoneText wish said text ⊎ IsEndedText wish said text
   pub front : AddsFront old new text
 
 -- what was written is this text of a run that was done
-pub record PrintsDone (wish : Wish) (old new : Option (List ℕ)) : Type 0 where
+pub record PrintsDone (wish : Wish) (said : Source) (old new : Option (List ℕ)) : Type 0 where
   pub text : List ℕ
-  pub run : IsDoneText wish text
+  pub run : IsDoneText wish said text
   pub written : new ≡ grown old text
 
 -- what was written is this text of a run that a fault ended
-pub record PrintsEnded (wish : Wish) (old new : Option (List ℕ)) : Type 0 where
+pub record PrintsEnded (wish : Wish) (said : Source) (old new : Option (List ℕ)) : Type 0 where
   pub text : List ℕ
-  pub run : IsEndedText wish text
+  pub run : IsEndedText wish said text
   pub written : new ≡ grown old text
 
 -- what reading comes to, by what is left of the input and its count of failures, before and after
@@ -127,11 +147,11 @@ Reads left after before now stops.Fault = ⊥
 Reads left after before now stops.Out = ⊥
 
 -- what a run comes to, by what is written and the out's count of failures, before and after
-abbrev pub Prints : Wish → (old new : Option (List ℕ)) → (before now : ℕ) → Result (Unit {0}) Stop → Type 0
-Prints wish old new before now (Ok u) = PrintsDone wish old new
-Prints wish old new before now (Err stops.Fault) = PrintsEnded wish old new
-Prints wish old new before now (Err stops.Out) = (before < now) × PrintsFront wish old new
-Prints wish old new before now (Err stops.OutOfMemory) = (new ≡ old) ⊎ PrintsFront wish old new
-Prints wish old new before now (Err stops.Words) = ⊥
-Prints wish old new before now (Err stops.Form) = ⊥
-Prints wish old new before now (Err stops.Source) = ⊥
+abbrev pub Prints : Wish → Source → (old new : Option (List ℕ)) → (before now : ℕ) → Result (Unit {0}) Stop → Type 0
+Prints wish said old new before now (Ok u) = PrintsDone wish said old new
+Prints wish said old new before now (Err stops.Fault) = PrintsEnded wish said old new
+Prints wish said old new before now (Err stops.Out) = (before < now) × PrintsFront wish said old new
+Prints wish said old new before now (Err stops.OutOfMemory) = (new ≡ old) ⊎ PrintsFront wish said old new
+Prints wish said old new before now (Err stops.Words) = ⊥
+Prints wish said old new before now (Err stops.Form) = ⊥
+Prints wish said old new before now (Err stops.Source) = ⊥

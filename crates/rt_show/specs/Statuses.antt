@@ -26,7 +26,7 @@ pub record Done (words : List (List ℕ)) (left after old new : Option (List ℕ
   pub asked : wish_of words ≡ Some wish
   pub said : Source
   pub chosen : Chooses wish said left after
-  pub prints : PrintsDone wish old new
+  pub prints : PrintsDone wish said old new
 
 -- what the words ask for was chosen and ended in a fault, and its text with the fault's line was written
 pub record Ended (words : List (List ℕ)) (left after old new : Option (List ℕ)) : Type 0 where
@@ -34,7 +34,7 @@ pub record Ended (words : List (List ℕ)) (left after old new : Option (List �
   pub asked : wish_of words ≡ Some wish
   pub said : Source
   pub chosen : Chooses wish said left after
-  pub prints : PrintsEnded wish old new
+  pub prints : PrintsEnded wish said old new
 
 -- what the words ask for was chosen, and a front of the text of a run was written
 pub record Cut (words : List (List ℕ)) (left after old new : Option (List ℕ)) : Type 0 where
@@ -42,7 +42,7 @@ pub record Cut (words : List (List ℕ)) (left after old new : Option (List ℕ)
   pub asked : wish_of words ≡ Some wish
   pub said : Source
   pub chosen : Chooses wish said left after
-  pub prints : PrintsFront wish old new
+  pub prints : PrintsFront wish said old new
 
 -- what the program comes to, by its words, what is left of the input, what is written, and the counts of failures, before and after
 abbrev pub Comes :

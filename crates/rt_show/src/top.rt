@@ -1,9 +1,12 @@
 //! The whole program over a source and an out.
-ghost use Rattle.std.specs.Prelude.{◌≡◌, ◌≤◌, map, IfOk, IfErr};
-ghost use Rattle.rt_reports.specs.Seen.{report_of};
+ghost use Rattle.std.specs.Prelude.{◌≡◌, ◌≤◌, None, map, IfOk, IfErr};
+ghost use Rattle.rt_language.specs.Generated as language;
+ghost use Rattle.rt_reports.specs.Seen.{input_of, report_of};
 ghost use Rattle.rt_syntax.specs.Mirror.{source_of};
 ghost use Rattle.rt_show.specs.declared.words.Wish.TheVariants as wishes;
-ghost use Rattle.rt_show.specs.Runs.{DescribedBy, AreReports, Reads, Prints};
+ghost use Rattle.rt_show.specs.Ready.{MadeOf};
+ghost use Rattle.rt_show.specs.Runs.{DescribedBy, AreReports, IsRun, Reads, Prints};
+ghost use Rattle.rt_show.specs.Words.{usual};
 ghost use Rattle.rt_show.specs.Statuses.{Comes, Shows};
 
 use crate::generated::generated;
@@ -13,16 +16,30 @@ use crate::words::{USUAL, Wish, wish_of};
 use crate::writing::{put_ended_run, put_run};
 use rt_edits::{Mutations, NoOpMutations};
 use rt_print::fault_line;
+use rt_refusals::refusal;
 use rt_script::{Script, inputs_of};
+use rt_script_values::Props;
 use rt_sources::read_source;
 use rt_streams::{Out, ReadError, Source, read_all};
 use rt_syntax::Source as Described;
 use rt_values::{List, OutOfMemory, Text};
-use rt_vdom::{Limits, Report, SessionFault, session};
+use rt_vdom::{Input, Limits, Report, SessionFault, session};
 use std::alloc::Global;
 
-/// The application that a source describes.
-fn read_application<S: Source>(alloc: Global, source: &mut S) -> Result<Described, Stop>
+/// Where bytes break the form, and what was wanted there; None where there is no memory to say it.
+fn said_of(alloc: Global, bytes: &[u8]) -> Option<String> {
+    match refusal(alloc, bytes) {
+        Ok(line) => line,
+        Err(OutOfMemory) => None,
+    }
+}
+
+/// The application that a source describes. Where it is in another form, `line` says why.
+fn read_application<S: Source>(
+    alloc: Global,
+    source: &mut S,
+    line: &mut Option<String>,
+) -> Result<Described, Stop>
     ensures described { IfOk result (λ described.
         DescribedBy (source_of described) (S.left source.old) (S.left source.new)) }
     ensures reads { IfErr result (λ stop. Reads (S.left source.old) (S.left source.new)
@@ -36,21 +53,48 @@ fn read_application<S: Source>(alloc: Global, source: &mut S) -> Result<Describe
     };
     match read_source(alloc, bytes.as_slice()) {
         Ok(Some(described)) => Ok(described),
-        Ok(None) => Err(Stop::Form),
+        Ok(None) => {
+            *line = said_of(alloc, bytes.as_slice());
+            Err(Stop::Form)
+        }
         Err(OutOfMemory) => Err(Stop::OutOfMemory),
     }
 }
 
-/// Runs an application and prints what became of it.
-fn run<O: Out>(alloc: Global, described: Described, limits: Limits, out: &mut O) -> Result<(), Stop>
-    ensures prints { Prints (wishes.Run limits) (O.written out.old) (O.written out.new)
-        (O.faults out.old) (O.faults out.new) result }
+/// An application that is ready to run.
+struct Prepared {
+    script: Script,
+    props: Props,
+    inputs: List<Input<Script>>,
+}
+
+/// The application of a source, with the props of its root and its inputs.
+fn prepare(alloc: Global, described: Described) -> Result<Prepared, OutOfMemory>
+    ensures made { IfOk result (λ prepared. MadeOf (source_of described)
+        prepared.script prepared.props (map input_of prepared.inputs)) }
 {
     let inputs = inputs_of(alloc, described.inputs.as_slice())?;
     let Some(script) = Script::new(alloc, described)? else {
-        return Err(Stop::OutOfMemory);
+        return Err(OutOfMemory);
     };
     let props = script.props(alloc)?;
+    Ok(Prepared {
+        script,
+        props,
+        inputs,
+    })
+}
+
+/// Runs an application and prints what became of it.
+fn run<O: Out>(alloc: Global, described: Described, limits: Limits, out: &mut O) -> Result<(), Stop>
+    ensures prints { Prints (wishes.Run limits) (source_of described) (O.written out.old) (O.written out.new)
+        (O.faults out.old) (O.faults out.new) result }
+{
+    let Prepared {
+        script,
+        props,
+        inputs,
+    } = prepare(alloc, described)?;
     let mut sink = Mutations::default_list(alloc);
     match session(alloc, script, props, inputs, &mut sink, limits) {
         Ok(reports) => {
@@ -77,13 +121,14 @@ fn run<O: Out>(alloc: Global, described: Described, limits: Limits, out: &mut O)
 fn make(alloc: Global, rows: u64) -> Result<List<Report>, OutOfMemory>
     requires few { rows ≤ 10000 }
     ensures reports { IfOk result (λ reports. AreReports (map report_of reports)) }
+    ensures ran { IfOk result (λ reports. IsRun usual (language.generated rows) None (map report_of reports)) }
 {
     let described = generated(alloc, rows)?;
-    let inputs = inputs_of(alloc, described.inputs.as_slice())?;
-    let Some(script) = Script::new(alloc, described)? else {
-        return Err(OutOfMemory);
-    };
-    let props = script.props(alloc)?;
+    let Prepared {
+        script,
+        props,
+        inputs,
+    } = prepare(alloc, described)?;
     let mut sink = NoOpMutations;
     match session(alloc, script, props, inputs, &mut sink, USUAL) {
         Ok(reports) => Ok(reports),
@@ -95,7 +140,7 @@ fn make(alloc: Global, rows: u64) -> Result<List<Report>, OutOfMemory>
 #[tactic(auto, using(crate::proofs::Runs::summed_up))]
 fn sum_up<O: Out>(alloc: Global, rows: u64, out: &mut O) -> Result<(), Stop>
     requires few { rows ≤ 10000 }
-    ensures prints { Prints (wishes.Make rows) (O.written out.old) (O.written out.new)
+    ensures prints { Prints (wishes.Make rows) (language.generated rows) (O.written out.old) (O.written out.new)
         (O.faults out.old) (O.faults out.new) result }
 {
     let reports = make(alloc, rows)?;
@@ -110,6 +155,7 @@ fn shown<S: Source, O: Out>(
     words: &[Text],
     source: &mut S,
     out: &mut O,
+    line: &mut Option<String>,
 ) -> Result<(), Stop>
     ensures comes { Comes words.now (S.left source.old) (S.left source.new)
         (O.written out.old) (O.written out.new)
@@ -119,7 +165,7 @@ fn shown<S: Source, O: Out>(
         None => Err(Stop::Words),
         Some(Wish::Make(rows)) => sum_up(alloc, rows, out),
         Some(Wish::Run(limits)) => {
-            let described = read_application(alloc, source)?;
+            let described = read_application(alloc, source, line)?;
             run(alloc, described, limits, out)
         }
     }
@@ -132,7 +178,24 @@ pub fn show<S: Source, O: Out>(alloc: Global, words: &[Text], source: &mut S, ou
         (O.written out.old) (O.written out.new)
         (S.faults source.old) (S.faults source.new) (O.faults out.old) (O.faults out.new) result }
 {
-    match shown(alloc, words, source, out) {
+    let mut line = None;
+    show_and_say(alloc, words, source, out, &mut line)
+}
+
+/// `show`, where at status 3 `line` may say why: where the source breaks the form and what was
+/// wanted there.
+pub fn show_and_say<S: Source, O: Out>(
+    alloc: Global,
+    words: &[Text],
+    source: &mut S,
+    out: &mut O,
+    line: &mut Option<String>,
+) -> u8
+    ensures shows { Shows words.now (S.left source.old) (S.left source.new)
+        (O.written out.old) (O.written out.new)
+        (S.faults source.old) (S.faults source.new) (O.faults out.old) (O.faults out.new) result }
+{
+    match shown(alloc, words, source, out, line) {
         Ok(()) => 0,
         Err(stop) => stop.status(),
     }

@@ -2,12 +2,8 @@
 ghost use Rattle.std.specs.Prelude.{◌≡◌, ◌≤◌, IfSome};
 ghost use Rattle.rt_show.specs.Words as asked;
 
-use crate::reason::Stop;
 use rt_reports::Limits;
 use rt_values::Text;
-use std::env;
-use std::io::{Error, ErrorKind};
-use std::rt::Env;
 
 /// How far a run goes that no word limits.
 pub const USUAL: Limits = Limits {
@@ -32,29 +28,6 @@ pub enum Wish {
     Run(Limits),
     /// The generated application of so many rows.
     Make(u64),
-}
-
-/// Why the words can't be had: a word that isn't text is none that the program knows.
-fn stop_at(error: &Error) -> Stop {
-    match error.kind() {
-        ErrorKind::InvalidData => Stop::Words,
-        _ => Stop::OutOfMemory,
-    }
-}
-
-/// The words, without the program's name.
-pub fn given<R: Env + AllocGlobal>(rt: &R) -> Result<Vec<Text>, Stop> {
-    let words = match env::args(rt) {
-        Ok(words) => words,
-        Err(error) => return Err(stop_at(&error)),
-    };
-    let mut given = Vec::new(rt.alloc());
-    for word in words.skip(1) {
-        if given.push(Text::from_string(word)).is_err() {
-            return Err(Stop::OutOfMemory);
-        }
-    }
-    Ok(given)
 }
 
 /// The number with one more digit, where it is at most `most`.

@@ -2,48 +2,56 @@
 use Rattle.std.proofs.Common.{rules, ◌≡◌, ◌++◌, Some, Err, map}
 use Rattle.std.specs.Prelude.{option_map}
 use Rattle.rt_language.specs.Lines.{line, fault_text}
-use Rattle.rt_reports.specs.Seen.{fault_of, input_of}
+use Rattle.rt_mirror.specs.Mirror.{edit_of}
+use Rattle.rt_reports.specs.Seen.{fault_of, input_of, report_of}
+use Rattle.rt_syntax.specs.Mirror.{source_of}
 use Rattle.rt_show.specs.Outs.{stop_of}
 use Rattle.rt_show.specs.Texts.{text_of}
-use Rattle.rt_show.specs.Runs.{IsRunText, IsFaultText}
+use Rattle.rt_show.specs.Runs.{IsRun, IsRunText, IsFaultText}
 use Rattle.rt_show.specs.declared.words.Wish.TheVariants.{Run}
-use Rattle.rt_show.proofs.Runs.{cut_done, cut_ended, run_of, ended_by}
+use Rattle.rt_show.proofs.Runs.{no_task, cut_done, cut_ended, ran_of, run_of, ended_by}
 use Rattle.rt_show.proofs.top.run.Goals as goal
 
 pub returns-in-Ok : goal.returns-in-Ok
 returns-in-Ok g c =
-    let run : IsRunText (text_of c.edits.result.now c.as_slice-in-Ok.result.now) =
-    run_of (map input_of c.in_ok-inputs.inputs) _ _ c.edits.result.now c.in-Ok.reports c.as_slice-in-Ok.result.now _ _
-    c.default_list-sink.ensures.taken c.edits.ensures.taken (search rules) c.in-Ok.ensures.one_each c.in-Ok.ensures.counts c.in-Ok.ensures.took in
-    record { prints = record { text = text_of c.edits.result.now c.as_slice-in-Ok.result.now; run = run; written = c.in_ok-put_run-in-Ok.ensures.writes.ok } }
+    let ran : IsRun c.args.limits (source_of c.args.described) (Some (map edit_of c.edits.result.now)) (map report_of c.as_slice.result.now) =
+    ran_of c.args.limits (source_of c.args.described) c.in_ok-script.field-0.script c.in_ok-script.field-0.props (map input_of c.in_ok-script.field-0.inputs) _ _ c.edits.result.now c.in-Ok.reports
+    c.as_slice.result.now c.default_list-sink.ensures.taken c.edits.ensures.taken (search rules) c.in_ok-script.ensures.made (c.in-Ok.ensures.ran no_task) in
+    let run : IsRunText c.args.limits (source_of c.args.described) (text_of c.edits.result.now c.as_slice.result.now) =
+    run_of c.args.limits (source_of c.args.described) (map input_of c.in_ok-script.field-0.inputs) _ _ c.edits.result.now c.in-Ok.reports c.as_slice.result.now _ _
+    c.default_list-sink.ensures.taken c.edits.ensures.taken (search rules) c.in-Ok.ensures.one_each c.in-Ok.ensures.counts c.in-Ok.ensures.took ran in
+    record { prints = record { text = text_of c.edits.result.now c.as_slice.result.now; run = run; written = c.in_ok-put_run-in-Ok.ensures.writes.ok } }
 
 pub returns-in_err-put_run-in-Ok : goal.returns-in_err-put_run-in-Ok
 returns-in_err-put_run-in-Ok g c =
     let stopped : c.from_residual-in_err-put_run-in-Ok.result ≡ Err (stop_of c.in_err-put_run-in-Ok.field-0.0) = search rules in
-    let run : IsRunText (text_of c.edits.result.now c.as_slice-in-Ok.result.now) =
-    run_of (map input_of c.in_ok-inputs.inputs) _ _ c.edits.result.now c.in-Ok.reports c.as_slice-in-Ok.result.now _ _
-    c.default_list-sink.ensures.taken c.edits.ensures.taken (search rules) c.in-Ok.ensures.one_each c.in-Ok.ensures.counts c.in-Ok.ensures.took in
-    record { prints = rw stopped (cut_done (Run c.args.limits) _ _ _ _ _ c.in_err-put_run-in-Ok.field-0.0 run c.in_err-put_run-in-Ok.ensures.writes) }
+    let ran : IsRun c.args.limits (source_of c.args.described) (Some (map edit_of c.edits.result.now)) (map report_of c.as_slice.result.now) =
+    ran_of c.args.limits (source_of c.args.described) c.in_ok-script.field-0.script c.in_ok-script.field-0.props (map input_of c.in_ok-script.field-0.inputs) _ _ c.edits.result.now c.in-Ok.reports
+    c.as_slice.result.now c.default_list-sink.ensures.taken c.edits.ensures.taken (search rules) c.in_ok-script.ensures.made (c.in-Ok.ensures.ran no_task) in
+    let run : IsRunText c.args.limits (source_of c.args.described) (text_of c.edits.result.now c.as_slice.result.now) =
+    run_of c.args.limits (source_of c.args.described) (map input_of c.in_ok-script.field-0.inputs) _ _ c.edits.result.now c.in-Ok.reports c.as_slice.result.now _ _
+    c.default_list-sink.ensures.taken c.edits.ensures.taken (search rules) c.in-Ok.ensures.one_each c.in-Ok.ensures.counts c.in-Ok.ensures.took ran in
+    record { prints = rw stopped (cut_done (Run c.args.limits) (source_of c.args.described) _ _ _ _ _ c.in_err-put_run-in-Ok.field-0.0 run c.in_err-put_run-in-Ok.ensures.writes) }
 
 pub returns-in_err-put_ended_run-in-Err : goal.returns-in_err-put_ended_run-in-Err
 returns-in_err-put_ended_run-in-Err g c =
     let stopped : c.from_residual-in_err-put_ended_run-in-Err.result ≡ Err (stop_of c.in_err-put_ended_run-in-Err.field-0.0) = search rules in
-    let same : c.as_slice-in-Err-2.result.now ≡ c.in-Some-2.line = search rules in
-    let own : c.in-Err.field-0.fault ≡ c.in-Err.fault = cc (c.in-Err.fault-is) in
-    let names : Some c.as_slice-in-Err-2.result.now ≡ option_map (λ f. line (fault_text f)) (fault_of c.in-Err.field-0.fault) = cc (own, same, c.in-Some-2.is, c.in_ok-line-in-Err.ensures.line) in
-    let run : IsFaultText c.args.limits (text_of c.edits-in-Err.result.now c.as_slice-in-Err.result.now ++ c.as_slice-in-Err-2.result.now) =
-    ended_by c.args.limits (map input_of c.in_ok-inputs.inputs) _ _ c.edits-in-Err.result.now c.in-Err.field-0 c.as_slice-in-Err.result.now _ _ c.as_slice-in-Err-2.result.now
-    c.default_list-sink.ensures.taken c.edits-in-Err.ensures.taken (search rules) c.in-Err.ensures.refused names in
-    record { prints = rw stopped (cut_ended (Run c.args.limits) _ _ _ _ _ c.in_err-put_ended_run-in-Err.field-0.0 run c.in_err-put_ended_run-in-Err.ensures.writes) }
+    let same : c.as_slice-in-Err-2.result.now ≡ c.in-Some.line = search rules in
+    let names : Some c.as_slice-in-Err-2.result.now ≡ option_map (λ f. line (fault_text f)) (fault_of c.in-Err.field-0.fault) = cc (same, c.in-Some.is, c.in_ok-line-in-Err.ensures.line) in
+    let run : IsFaultText c.args.limits (source_of c.args.described) (text_of c.edits-in-Err.result.now c.as_slice-in-Err.result.now ++ c.as_slice-in-Err-2.result.now) =
+    ended_by c.args.limits (source_of c.args.described) c.in_ok-script.field-0.script c.in_ok-script.field-0.props (map input_of c.in_ok-script.field-0.inputs) _ _ c.edits-in-Err.result.now c.in-Err.field-0
+    c.as_slice-in-Err.result.now _ _ c.as_slice-in-Err-2.result.now c.default_list-sink.ensures.taken c.edits-in-Err.ensures.taken (search rules) c.in-Err.ensures.refused
+    c.in_ok-script.ensures.made (λ fault is. c.in-Err.ensures.ran_to no_task fault is) names in
+    record { prints = rw stopped (cut_ended (Run c.args.limits) (source_of c.args.described) _ _ _ _ _ c.in_err-put_ended_run-in-Err.field-0.0 run c.in_err-put_ended_run-in-Err.ensures.writes) }
 
 pub returns : goal.returns
 returns g c =
-    let same : c.as_slice-in-Err-2.result.now ≡ c.in-Some-2.line = search rules in
-    let own : c.in-Err.field-0.fault ≡ c.in-Err.fault = cc (c.in-Err.fault-is) in
-    let names : Some c.as_slice-in-Err-2.result.now ≡ option_map (λ f. line (fault_text f)) (fault_of c.in-Err.field-0.fault) = cc (own, same, c.in-Some-2.is, c.in_ok-line-in-Err.ensures.line) in
-    let run : IsFaultText c.args.limits (text_of c.edits-in-Err.result.now c.as_slice-in-Err.result.now ++ c.as_slice-in-Err-2.result.now) =
-    ended_by c.args.limits (map input_of c.in_ok-inputs.inputs) _ _ c.edits-in-Err.result.now c.in-Err.field-0 c.as_slice-in-Err.result.now _ _ c.as_slice-in-Err-2.result.now
-    c.default_list-sink.ensures.taken c.edits-in-Err.ensures.taken (search rules) c.in-Err.ensures.refused names in
+    let same : c.as_slice-in-Err-2.result.now ≡ c.in-Some.line = search rules in
+    let names : Some c.as_slice-in-Err-2.result.now ≡ option_map (λ f. line (fault_text f)) (fault_of c.in-Err.field-0.fault) = cc (same, c.in-Some.is, c.in_ok-line-in-Err.ensures.line) in
+    let run : IsFaultText c.args.limits (source_of c.args.described) (text_of c.edits-in-Err.result.now c.as_slice-in-Err.result.now ++ c.as_slice-in-Err-2.result.now) =
+    ended_by c.args.limits (source_of c.args.described) c.in_ok-script.field-0.script c.in_ok-script.field-0.props (map input_of c.in_ok-script.field-0.inputs) _ _ c.edits-in-Err.result.now c.in-Err.field-0
+    c.as_slice-in-Err.result.now _ _ c.as_slice-in-Err-2.result.now c.default_list-sink.ensures.taken c.edits-in-Err.ensures.taken (search rules) c.in-Err.ensures.refused
+    c.in_ok-script.ensures.made (λ fault is. c.in-Err.ensures.ran_to no_task fault is) names in
     record {
       prints = record {
         text = text_of c.edits-in-Err.result.now c.as_slice-in-Err.result.now ++ c.as_slice-in-Err-2.result.now;

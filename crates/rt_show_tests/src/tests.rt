@@ -1,10 +1,9 @@
 //! The program over bytes in memory: words, statuses, and streams that fail.
 
 use crate::rows::{ROWS, Row};
-use crate::top::show;
-use crate::words::USUAL;
 use rt_edits::FailingMutations;
 use rt_script::{Script, inputs_of};
+use rt_show::{USUAL, show, show_and_say};
 use rt_sources::read_source;
 use rt_streams::{BytesOut, BytesSource, SureOut, SureSource};
 use rt_values::{List, OutOfMemory, Text};
@@ -85,6 +84,50 @@ fn knows_no_other_word(rt: HostRuntime) -> Result<(), Fail> {
         let status = show(alloc, given.as_slice(), &mut source, &mut out);
         assert_eq!(rt; status, 2);
         assert!(rt; out.written() == b"".as_slice());
+    }
+    Ok(())
+}
+
+// The line that is said of a source, where it comes to status 3 and nothing is written.
+fn refusal_of(alloc: Global, source: &str) -> Result<Option<String>, AllocError> {
+    let bytes = Vec::from_slice(alloc, source.as_bytes())?;
+    let mut source = SureSource::new(List::from_vec(bytes));
+    let mut out = SureOut::new(alloc);
+    let mut line = None;
+    let status = show_and_say(alloc, &[], &mut source, &mut out, &mut line);
+    if status == 3 && out.written().is_empty() {
+        Ok(line)
+    } else {
+        Ok(None)
+    }
+}
+
+#[test]
+fn says_where_a_source_is_wrong(rt: HostRuntime) -> Result<(), Fail> {
+    let alloc = rt.alloc();
+    let cases = [
+        ("", " at line 1 column 0"),
+        (
+            r#"{"components":{"App":{"view":["hello"]}},"root":"App""#,
+            " at line 1 column 53",
+        ),
+        (
+            r#"{"components":{"App":{"view":["hello"]}},"root":"Ap"}"#,
+            "root: wanted the name of a component",
+        ),
+        (
+            r#"{"components":{"App":{"params":["name"],"view":[]}},"root":"App","props":[1.5]}"#,
+            "props[0]: wanted a text or a whole number of 64 bits with a sign",
+        ),
+        (
+            r#"{"components":{"App":{"params":["name"],"view":[]}},"root":"App","props":[]}"#,
+            "props: wanted as many literals as the root has params: 1",
+        ),
+    ];
+    for (source, want) in cases {
+        let said = refusal_of(alloc, source)?;
+        let told = said.is_some_and(|line| line.as_str().ends_with(want));
+        assert!(rt; told, "{source}");
     }
     Ok(())
 }

@@ -1,7 +1,7 @@
 -- The status is that of where the program stops.
 use Rattle.std.proofs.Common.{Ok, Err, refl}
 use Rattle.rt_show.proofs.Shown.{shows}
-use Rattle.rt_show.proofs.top.show.Goals as goal
+use Rattle.rt_show.proofs.top.show_and_say.Goals as goal
 
 pub returns-in-Ok : goal.returns-in-Ok
 returns-in-Ok g c = record { shows = shows _ _ _ _ _ _ _ _ _ _ (Ok tt) refl c.in-Ok.ensures.comes }

@@ -1,0 +1,72 @@
+//! The program: reads an application from standard input, runs it, and prints its edits and
+//! reports.
+#![tactic(auto)]
+
+use rt_show::show_and_say;
+use rt_streams::{StandardIn, StandardOut};
+use rt_values::Text;
+use std::env;
+use std::io::{Error, ErrorKind};
+use std::process::ExitCode;
+use std::rt::Env;
+
+/// What a status means, where it isn't 0.
+fn meaning(status: u8) -> Option<&'static str> {
+    match status {
+        0 => None,
+        2 => Some(
+            "status 2: the words aren't known; they are --units N and --height N, or --make N",
+        ),
+        3 => Some("status 3: the source is too long, or isn't in the form of an application"),
+        4 => Some("status 4: the run ended in the fault that was printed last"),
+        5 => Some("status 5: standard input couldn't be read to its end"),
+        6 => Some("status 6: standard output didn't take all that was printed"),
+        _ => Some("status 7: out of memory"),
+    }
+}
+
+/// The status where the words can't be had: a word that isn't text is none that the program knows.
+fn status_of(error: &Error) -> u8 {
+    match error.kind() {
+        ErrorKind::InvalidData => 2,
+        _ => 7,
+    }
+}
+
+/// The words, without the program's name; or the status that the program ends with.
+fn words_given<R: Env + AllocGlobal>(rt: &R) -> Result<Vec<Text>, u8> {
+    let words = match env::args(rt) {
+        Ok(words) => words,
+        Err(error) => return Err(status_of(&error)),
+    };
+    let mut given = Vec::new(rt.alloc());
+    for word in words.skip(1) {
+        if given.push(Text::from_string(word)).is_err() {
+            return Err(7);
+        }
+    }
+    Ok(given)
+}
+
+/// The whole program over the standard streams. The answer is the status; of a source that isn't in
+/// the form, `refusal` is where and what was wanted there.
+fn run(rt: &HostRuntime, refusal: &mut Option<String>) -> u8 {
+    let words = match words_given(rt) {
+        Ok(words) => words,
+        Err(status) => return status,
+    };
+    let mut source = StandardIn::new(rt.reader());
+    let mut out = StandardOut::new(rt);
+    show_and_say(rt.alloc(), words.as_slice(), &mut source, &mut out, refusal)
+}
+
+fn main(rt: HostRuntime) -> ExitCode {
+    let mut refusal = None;
+    let status = run(&rt, &mut refusal);
+    if let Some(line) = refusal {
+        let _ = eprintln!(rt; "status {status}: {line}");
+    } else if let Some(text) = meaning(status) {
+        let _ = rt.eprintln(text);
+    }
+    ExitCode::from(status)
+}
