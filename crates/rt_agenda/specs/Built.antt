@@ -20,19 +20,26 @@ use Rattle.rt_agenda.specs.Work.{work_in_all, work_of}
 
 module _ {P C Q V H T E L : Type 0} where
   -- the steps of an answered build, its numbers and its child scopes are those of the agenda
-  pub record IsBuilt (app : Application (types C Q V H T E L)) (tree : VNode P C Q V H T E L) (shown : Bool) (below : List Step) (scope : ℕ) (side : SideName) (ids : List ElementId) (scopes : List ScopeId) (answers : List Answer) : Type 0 where
+  pub record IsBuilt (app : Application (types C Q V H T E L)) (tree : VNode P C Q V H T E L) (shown : Bool) (below : List Step) (scope : ℕ)
+      (side : SideName) (ids : List ElementId) (scopes : List ScopeId) (answers : List Answer) : Type 0 where
     -- the steps do the work of the agenda
     pub work : work_in_all (steps (make_tree shown tree below) ids scopes nothing_kept answers).steps
-        ≡ work_of (serves app scope side [] (spots [] (tree_of tree))) [] (element_numbers (numbers_drawn (wanted_in (make_tree shown tree below)) answers))
+        ≡ work_of (serves app scope side [] (spots [] (tree_of tree))) []
+            (element_numbers (numbers_drawn (wanted_in (make_tree shown tree below)) answers))
     -- its numbers stand for those that were drawn
-    pub numbers : NumbersStand (element_numbers (steps (make_tree shown tree below) ids scopes nothing_kept answers).numbers) (spots [] (tree_of tree))
-        (drawn_at (serves app scope side [] (spots [] (tree_of tree))) (element_numbers (numbers_drawn (wanted_in (make_tree shown tree below)) answers)))
+    pub numbers : NumbersStand (element_numbers (steps (make_tree shown tree below) ids scopes nothing_kept answers).numbers)
+        (spots [] (tree_of tree))
+        (drawn_at (serves app scope side [] (spots [] (tree_of tree)))
+            (element_numbers (numbers_drawn (wanted_in (make_tree shown tree below)) answers)))
     -- its child scopes stand for those that were made
-    pub children : ChildrenStand (scope_numbers (steps (make_tree shown tree below) ids scopes nothing_kept answers).children) (spots [] (tree_of tree))
-        (made_at (serves app scope side [] (spots [] (tree_of tree))) (scope_numbers (scopes_made (wanted_in (make_tree shown tree below)) answers)))
+    pub children : ChildrenStand (scope_numbers (steps (make_tree shown tree below) ids scopes nothing_kept answers).children)
+        (spots [] (tree_of tree))
+        (made_at (serves app scope side [] (spots [] (tree_of tree)))
+            (scope_numbers (scopes_made (wanted_in (make_tree shown tree below)) answers)))
 
   -- that is so of every tree that is built and of all answers to its plan
   abbrev pub BuildIsTheAgenda : Application (types C Q V H T E L) → (tree : VNode P C Q V H T E L) → Type 0
   BuildIsTheAgenda app tree =
-      (shown : Bool) (below : List Step) (scope : ℕ) (side : SideName) (ids : List ElementId) (scopes : List ScopeId) (answers : List Answer)
+      (shown : Bool) (below : List Step) (scope : ℕ) (side : SideName) (ids : List ElementId) (scopes : List ScopeId)
+          (answers : List Answer)
       → AreAnswered (wanted_in (make_tree shown tree below)) answers → IsBuilt app tree shown below scope side ids scopes answers

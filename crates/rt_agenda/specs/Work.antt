@@ -39,7 +39,8 @@ module _ {K : Types} where
   work_of (Draw scope side place kind ∷ rest) children [] = work_of rest children []
   work_of (Draw scope side place kind ∷ rest) children (number ∷ numbers) = draw_number number ∷ work_of rest children numbers
   work_of (Row boundary step ∷ rest) children numbers = work_of rest children numbers
-  work_of (Feed scope side place component ∷ rest) children numbers = feed_child (or_else 0 (child_at children place)) component ∷ work_of rest children numbers
+  work_of (Feed scope side place component ∷ rest) children numbers =
+      feed_child (or_else 0 (child_at children place)) component ∷ work_of rest children numbers
   work_of (Make scope side place component ∷ rest) children numbers = make_child component ∷ work_of rest children numbers
   work_of (Drop child scope side ∷ rest) children numbers = remove_child child ∷ work_of rest children numbers
 
@@ -67,10 +68,14 @@ module _ {P C Q V H T E L : Type 0} where
   -- the steps of an answered patch do the work of the whole agenda: what is served, then what is dropped
   abbrev pub StepsAreTheAgenda : Application (types C Q V H T E L) → (old new : VNode P C Q V H T E L) → Type 0
   StepsAreTheAgenda app old new =
-      fits old ≡ true → fits new ≡ true → Tests C app.same_component → (equality : Equality C) (shown : Bool) (below : List Step) (scope : ℕ) (side : SideName)
-      → (ids : List ElementId) (scopes : List ScopeId) (answers : List Answer) → HasItsScopes old scopes → AreAnswered (wanted_in (pair_tree equality shown old new below)) answers
+      fits old ≡ true → fits new ≡ true → Tests C app.same_component
+          → (equality : Equality C) (shown : Bool) (below : List Step) (scope : ℕ) (side : SideName)
+      → (ids : List ElementId) (scopes : List ScopeId) (answers : List Answer) → HasItsScopes old scopes
+      → AreAnswered (wanted_in (pair_tree equality shown old new below)) answers
       → work_in_all (steps (pair_tree equality shown old new below) ids scopes nothing_kept answers).steps
       ≡ work_of
-      (serves app scope side (spots [] (tree_of old)) (spots [] (tree_of new)) ++ drops_of app scope side (spots [] (tree_of new)) (children_at (spots [] (tree_of old)) (scope_numbers scopes)) (spots [] (tree_of old)))
+      (serves app scope side (spots [] (tree_of old)) (spots [] (tree_of new))
+          ++ drops_of app scope side (spots [] (tree_of new)) (children_at (spots [] (tree_of old)) (scope_numbers scopes))
+          (spots [] (tree_of old)))
       (children_at (spots [] (tree_of old)) (scope_numbers scopes))
       (element_numbers (numbers_drawn (wanted_in (pair_tree equality shown old new below)) answers))

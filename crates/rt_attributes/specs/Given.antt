@@ -55,7 +55,8 @@ piece_elements numbers above template piece = elements_met numbers above (templa
 -- the elements among pieces
 abbrev pub pieces_elements : List Numbered → Place → CodeTemplate → List Piece → List (ℕ × List TemplateAttribute)
 pieces_elements numbers above template [] = []
-pieces_elements numbers above template (piece ∷ pieces) = piece_elements numbers above template piece ++ pieces_elements numbers above template pieces
+pieces_elements numbers above template (piece ∷ pieces) = piece_elements numbers above template piece
+    ++ pieces_elements numbers above template pieces
 
 module _ {P C Q V H T E L : Type 0} where
   -- two attributes have one name and namespace
@@ -112,30 +113,36 @@ module _ {P C Q V H T E L : Type 0} where
   pass_of passes.Come new old number = all_come new old number
 
   -- what one pass over an entry of a template writes: an attribute slot has a number
-  abbrev pub written_at : Pass → List (List (Attribute P C Q V H T E L)) → List (List (Attribute P C Q V H T E L)) → ℕ → TemplateAttribute → List doc.Edit
+  abbrev pub written_at : Pass → List (List (Attribute P C Q V H T E L)) → List (List (Attribute P C Q V H T E L)) → ℕ → TemplateAttribute
+      → List doc.Edit
   written_at pass new old number (fixed name namespace value) = []
   written_at pass new old number (from_slot id) = pass_of pass (slice_index_or new id []) (slice_index_or old id []) number
 
   -- the same of an entry of code
-  unfoldable pub entry_written : Pass → List (List (Attribute P C Q V H T E L)) → List (List (Attribute P C Q V H T E L)) → ℕ → CodeEntry → List doc.Edit
+  unfoldable pub entry_written : Pass → List (List (Attribute P C Q V H T E L)) → List (List (Attribute P C Q V H T E L)) → ℕ → CodeEntry
+      → List doc.Edit
   entry_written pass new old number entry = written_at pass new old number (attribute_in entry)
 
   -- over the entries of an element
-  abbrev pub entries_written : Pass → List (List (Attribute P C Q V H T E L)) → List (List (Attribute P C Q V H T E L)) → ℕ → List CodeEntry → List doc.Edit
+  abbrev pub entries_written : Pass → List (List (Attribute P C Q V H T E L)) → List (List (Attribute P C Q V H T E L)) → ℕ → List CodeEntry
+      → List doc.Edit
   entries_written pass new old number [] = []
   entries_written pass new old number (entry ∷ rest) = entry_written pass new old number entry ++ entries_written pass new old number rest
 
   -- over an element with its number
-  unfoldable pub element_written : Pass → List (List (Attribute P C Q V H T E L)) → List (List (Attribute P C Q V H T E L)) → Entries → List doc.Edit
+  unfoldable pub element_written : Pass → List (List (Attribute P C Q V H T E L)) → List (List (Attribute P C Q V H T E L)) → Entries
+      → List doc.Edit
   element_written pass new old element = entries_written pass new old element.number element.entries
 
   -- over several elements
-  abbrev pub elements_written : Pass → List (List (Attribute P C Q V H T E L)) → List (List (Attribute P C Q V H T E L)) → List Entries → List doc.Edit
+  abbrev pub elements_written : Pass → List (List (Attribute P C Q V H T E L)) → List (List (Attribute P C Q V H T E L)) → List Entries
+      → List doc.Edit
   elements_written pass new old [] = []
   elements_written pass new old (element ∷ rest) = element_written pass new old element ++ elements_written pass new old rest
 
   -- the two passes over several elements
-  abbrev pub passes_written : List (List (Attribute P C Q V H T E L)) → List (List (Attribute P C Q V H T E L)) → List Entries → List doc.Edit
+  abbrev pub passes_written : List (List (Attribute P C Q V H T E L)) → List (List (Attribute P C Q V H T E L)) → List Entries
+      → List doc.Edit
   passes_written new old elements = elements_written passes.Left new old elements ++ elements_written passes.Come new old elements
 
   -- edits are those of a matched block

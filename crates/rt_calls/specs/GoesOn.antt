@@ -19,7 +19,8 @@ module _ (P C Q V H T E L A B : Type 0) where
   -- a call begins as the model's does, ends as it does, and goes on after a refusal as it does
   pub record CallsStandFor : Type 0 where
     pub begun : (in_body : Bool) (w : CallWorld P C Q V H T E L) → call_of (turns.begun in_body w) ≡ begun in_body (firsts_of w.next)
-    pub ended : (f : A → B) (c : turns.Call P C Q V H T E L) (a : A) → meaning_of f (turns.ended c a).meaning ≡ program.ended (call_of c) (f a)
+    pub ended : (f : A → B) (c : turns.Call P C Q V H T E L) (a : A)
+        → meaning_of f (turns.ended c a).meaning ≡ program.ended (call_of c) (f a)
     -- where no call has wanted memory
     pub refused : (c : turns.Call P C Q V H T E L) (fault : CxFault) (told : model.CallFault)
         → c.fault ≢ Some OutOfMemory → refusal_of (Some fault) ≡ Some told → call_of (refused c fault) ≡ faults (call_of c) told
@@ -30,7 +31,8 @@ module _ (K : Types) (A : Type 0) where
     pub current_scope : (w : World K) (c : Call K) (f : ℕ → Program K A) → exec w (program.current_scope f) c ≡ exec w (f w.given.scope) c
     pub parent_scope : (w : World K) (c : Call K) (f : Option ℕ → Program K A)
         → exec w (program.parent_scope f) c ≡ exec w (f (parent_in w.given.parents w.given.scope)) c
-    pub current_task : (w : World K) (c : Call K) (f : Option ℕ → Program K A) → exec w (program.current_task f) c ≡ exec w (f w.given.task) c
+    pub current_task : (w : World K) (c : Call K) (f : Option ℕ → Program K A)
+        → exec w (program.current_task f) c ≡ exec w (f w.given.task) c
     pub rendering : (w : World K) (c : Call K) (f : Bool → Program K A) → exec w (program.rendering f) c ≡ exec w (f w.given.rendering) c
     pub generation : (w : World K) (c : Call K) (f : ℕ → Program K A) → exec w (program.generation f) c ≡ exec w (f w.given.renders) c
 
@@ -62,20 +64,26 @@ module _ (K : Types) (A : Type 0) where
         → exec w (program.new_cell v f) c ≡ exec w (f (Some c.next.cells)) (drew_cell c v)
     pub no_cell : (w : World K) (c : Call K) (v : K.Value) (f : Option ℕ → Program K A) → at_end c.next.cells ≡ true
         → exec w (program.new_cell v f) c ≡ exec w (f None) (faults c (CounterAtEnd model.Cells))
-    pub write : (w : World K) (c : Call K) (n : ℕ) (v : K.Value) (p : Program K A) → exec w (program.write n v p) c ≡ exec w p (says c (model.Write n v))
-    pub drop_cell : (w : World K) (c : Call K) (n : ℕ) (p : Program K A) → exec w (program.drop_cell n p) c ≡ exec w p (says c (model.DropCell n))
+    pub write : (w : World K) (c : Call K) (n : ℕ) (v : K.Value) (p : Program K A)
+        → exec w (program.write n v p) c ≡ exec w p (says c (model.Write n v))
+    pub drop_cell : (w : World K) (c : Call K) (n : ℕ) (p : Program K A)
+        → exec w (program.drop_cell n p) c ≡ exec w p (says c (model.DropCell n))
 
   -- tasks, effects and the suspense boundary
   pub record TasksGoOn : Type 0 where
-    pub spawn : (w : World K) (c : Call K) (a : K.TaskState) (forever isomorphic : Bool) (f : Option ℕ → Program K A) → at_end c.next.tasks ≡ false
+    pub spawn : (w : World K) (c : Call K) (a : K.TaskState) (forever isomorphic : Bool) (f : Option ℕ → Program K A)
+        → at_end c.next.tasks ≡ false
         → exec w (program.spawn a forever isomorphic f) c ≡ exec w (f (Some c.next.tasks)) (drew_task c a forever isomorphic)
-    pub no_task : (w : World K) (c : Call K) (a : K.TaskState) (forever isomorphic : Bool) (f : Option ℕ → Program K A) → at_end c.next.tasks ≡ true
+    pub no_task : (w : World K) (c : Call K) (a : K.TaskState) (forever isomorphic : Bool) (f : Option ℕ → Program K A)
+        → at_end c.next.tasks ≡ true
         → exec w (program.spawn a forever isomorphic f) c ≡ exec w (f None) (faults c (CounterAtEnd model.Tasks))
-    pub remove_future : (w : World K) (c : Call K) (t : ℕ) (p : Program K A) → exec w (program.remove_future t p) c ≡ exec w p (says c (model.RemoveFuture t))
+    pub remove_future : (w : World K) (c : Call K) (t : ℕ) (p : Program K A)
+        → exec w (program.remove_future t p) c ≡ exec w p (says c (model.RemoveFuture t))
     pub wake : (w : World K) (c : Call K) (t : ℕ) (p : Program K A) → exec w (program.wake t p) c ≡ exec w p (says c (model.Wake t))
     pub set_active : (w : World K) (c : Call K) (t : ℕ) (active : Bool) (p : Program K A)
         → exec w (program.set_active t active p) c ≡ exec w p (says c (model.SetActive t active))
-    pub queue_effect : (w : World K) (c : Call K) (e : K.Effect) (p : Program K A) → exec w (program.queue_effect e p) c ≡ exec w p (says c (model.QueueEffect e))
+    pub queue_effect : (w : World K) (c : Call K) (e : K.Effect) (p : Program K A)
+        → exec w (program.queue_effect e p) c ≡ exec w p (says c (model.QueueEffect e))
     pub after_suspense_resolved : (w : World K) (c : Call K) (e : K.Effect) (p : Program K A)
         → exec w (program.after_suspense_resolved e p) c ≡ exec w p (says c (model.Resolved e))
     pub freeze : (w : World K) (c : Call K) (p : Program K A) → exec w (program.freeze p) c ≡ exec w p (says c model.Freeze)
@@ -84,13 +92,16 @@ module _ (K : Types) (A : Type 0) where
   pub record ErrorsGoOn : Type 0 where
     pub provide : (w : World K) (c : Call K) (root : Bool) (k : ℕ) (v : K.Value) (p : Program K A)
         → exec w (program.provide root k v p) c ≡ exec w p (provides w c root k v)
-    pub needs_update : (w : World K) (c : Call K) (s : ℕ) (p : Program K A) → exec w (program.needs_update s p) c ≡ exec w p (says c (model.Update s))
+    pub needs_update : (w : World K) (c : Call K) (s : ℕ) (p : Program K A)
+        → exec w (program.needs_update s p) c ≡ exec w p (says c (model.Update s))
     pub captured : (w : World K) (c : Call K) (text : Text) (f : Option CapturedError → Program K A) → at_end c.next.errors ≡ false
         → exec w (program.captured text f) c ≡ exec w (f (Some (record { serial = c.next.errors; text = text }))) (drew_error c)
     pub none_captured : (w : World K) (c : Call K) (text : Text) (f : Option CapturedError → Program K A) → at_end c.next.errors ≡ true
         → exec w (program.captured text f) c ≡ exec w (f None) (faults c (CounterAtEnd model.Errors))
-    pub throw : (w : World K) (c : Call K) (e : CapturedError) (p : Program K A) → exec w (program.throw e p) c ≡ exec w p (says c (model.Throw e))
-    pub clear_errors : (w : World K) (c : Call K) (p : Program K A) → exec w (program.clear_errors p) c ≡ exec w p (says c model.ClearErrors)
+    pub throw : (w : World K) (c : Call K) (e : CapturedError) (p : Program K A)
+        → exec w (program.throw e p) c ≡ exec w p (says c (model.Throw e))
+    pub clear_errors : (w : World K) (c : Call K) (p : Program K A)
+        → exec w (program.clear_errors p) c ≡ exec w p (says c model.ClearErrors)
 
   -- hooks of a body
   pub record HooksGoOn : Type 0 where

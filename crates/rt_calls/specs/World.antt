@@ -11,7 +11,8 @@ use Rattle.rt_calls.specs.declared.rest.Scope.{Scope}
 use Rattle.rt_calls.specs.declared.rows.Provided.{Provided}
 
 module _ (P Component Props Value Handler TaskState Effect Payload : Type 0) where
-  -- the caller's scope, the live scopes by number and which of them are error boundaries, the cells by number, the next numbers, the task that is polled, and whether a patch is running
+  -- the caller's scope, the live scopes by number and which of them are error boundaries, the cells by number, the
+  -- next numbers, the task that is polled, and whether a patch is running
   pub record CallWorld : Type 0 where
     pub scope : ScopeId
     pub rows : List (ℕ × ScopeRow P Component Props Value Handler TaskState Effect Payload)
@@ -23,14 +24,16 @@ module _ (P Component Props Value Handler TaskState Effect Payload : Type 0) whe
 
 module _ {P Component Props Value Handler TaskState Effect Payload : Type 0} where
   -- the rows alone, of all that is kept of scopes
-  abbrev pub rows_in : List (ℕ × Scope P Component Props Value Handler TaskState Effect Payload) → List (ℕ × ScopeRow P Component Props Value Handler TaskState Effect Payload)
+  abbrev pub rows_in : List (ℕ × Scope P Component Props Value Handler TaskState Effect Payload)
+      → List (ℕ × ScopeRow P Component Props Value Handler TaskState Effect Payload)
   rows_in [] = []
   rows_in (entry ∷ scopes) = (entry.0, (entry.1).row) ∷ rows_in scopes
 
   -- the error boundaries among the scopes
   abbrev pub boundaries_in : List (ℕ × Scope P Component Props Value Handler TaskState Effect Payload) → List ℕ
   boundaries_in [] = []
-  boundaries_in (entry ∷ scopes) = if is_error_boundary (component_of (entry.1.rest).component) then entry.0 ∷ boundaries_in scopes else boundaries_in scopes
+  boundaries_in (entry ∷ scopes) = if is_error_boundary (component_of (entry.1.rest).component) then entry.0 ∷ boundaries_in scopes
+      else boundaries_in scopes
 
   -- what is provided of a kind in a list
   abbrev pub provided : List (Provided P Component Props Value Handler TaskState Effect Payload) → ℕ → Option Value

@@ -68,7 +68,8 @@ suits (edits.RemoveEventListener id name) kind = listens name (parts_of kind)
 -- an attribute of a value, or none
 abbrev pub valued : List ℕ → Option (List ℕ) → Option (List ℕ) → List DocAttr → List DocAttr
 valued name namespace None attrs = taken_out (attribute_order name namespace) attrs
-valued name namespace (Some value) attrs = put_in (attribute_order name namespace) (record { name = name; namespace = namespace; value = value }) attrs
+valued name namespace (Some value) attrs =
+    put_in (attribute_order name namespace) (record { name = name; namespace = namespace; value = value }) attrs
 
 -- an element after an edit of itself
 abbrev pub parts_after : Edit → Parts → Parts

@@ -16,7 +16,8 @@ pub record Parts : Type 0 where
 
 -- the parts of a node that is an element
 unfoldable pub parts_of : DocKind → Option Parts
-parts_of (Element' tag namespace attrs listeners shape row) = Some (record { tag = tag; namespace = namespace; attrs = attrs; listeners = listeners; children = items-the_row-DocNode _ row })
+parts_of (Element' tag namespace attrs listeners shape row) =
+    Some (record { tag = tag; namespace = namespace; attrs = attrs; listeners = listeners; children = items-the_row-DocNode _ row })
 parts_of (Text text) = None
 parts_of Placeholder = None
 
@@ -69,7 +70,8 @@ unfoldable mutual
 
   pub found_in : {m : _} → ℕ → Row_of-DocNode m → Option DocKind
   found_in number end_of-DocNode = None
-  found_in number (more_of-DocNode id kind rest) = if id.0 == number then Some kind else either (found_below number kind) (found_in number rest)
+  found_in number (more_of-DocNode id kind rest) = if id.0 == number then Some kind
+      else either (found_below number kind) (found_in number rest)
 
 -- the kind of the first node of a number, in document order
 abbrev pub found : ℕ → List DocNode → Option DocKind
@@ -79,7 +81,8 @@ found number (node ∷ nodes) = if node.id.0 == number then Some node.kind else 
 -- a node's kind with the first node of a number put through a change, below it
 unfoldable mutual
   pub changed_below : ℕ → (DocNode → List DocNode) → DocKind → DocKind
-  changed_below number change (Element' tag namespace attrs listeners shape row) = Element tag namespace attrs listeners (changed_in number change row)
+  changed_below number change (Element' tag namespace attrs listeners shape row) =
+      Element tag namespace attrs listeners (changed_in number change row)
   changed_below number change (Text text) = Text text
   changed_below number change Placeholder = Placeholder
 

@@ -1,4 +1,5 @@
--- Worked rows of what actions and steps do: tasks that stay, pause and resume, cells that are dropped, errors that are thrown, contexts of an action.
+-- Worked rows of what actions and steps do: tasks that stay, pause and resume, cells that are dropped, errors that
+-- are thrown, contexts of an action.
 use Rattle.std.specs.Prelude.{List, [], ◌∷◌, ◌++◌, codes}
 use Rattle.rt_model.specs.Replay.{Taken, Heard, Rerun, Poll, Effects, Removed, Kept}
 use Rattle.rt_language.specs.Syntax.{Get, Read, Cat, Add, Less, IsAbsent, LookUp, Me, AtRemoval, AfterRender, Forever, Statement, UseCell, SpawnTask, CallAt, EffectOf, When, ProvideAs, WriteTo, Forget, ActOn, Pause, Resume, MarkScopeOf, ThrowText, Stay, NoViews, SlotView, TextOf, PickOf, WakeInput, Source}

@@ -102,4 +102,5 @@ unfoldable mutual
   -- the values of expressions, from left to right
   pub evaluate_all : Caller → List Value → Expressions → Program SourceTypes (List Value)
   evaluate_all by held NoExpressions = done []
-  evaluate_all by held (MoreExpressions first rest) = go_on (evaluate by held first) (λ v. go_on (evaluate_all by held rest) (λ vs. done (v ∷ vs)))
+  evaluate_all by held (MoreExpressions first rest) =
+      go_on (evaluate by held first) (λ v. go_on (evaluate_all by held rest) (λ vs. done (v ∷ vs)))

@@ -71,7 +71,8 @@ titled =
     (UseCell (words (codes "x")) ∷ [])
     (element_with
     (codes "p")
-    (StaticAttribute (codes "id") (codes "k") ∷ SlotAttribute (codes "title") (If (Equal (Read 0) (words [])) (Parse (words [])) (Read 0)) ∷ [])
+    (StaticAttribute (codes "id") (codes "k") ∷ SlotAttribute (codes "title") (If (Equal (Read 0) (words [])) (Parse (words [])) (Read 0))
+        ∷ [])
     NoViews
     NoViews)
     ∷ [])

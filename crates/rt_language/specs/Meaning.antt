@@ -44,7 +44,8 @@ stepped at steps WasRefused = ready
 -- the poll of a step; with no step a task is ready
 abbrev pub poll_step : Standing → ℕ → Option Statements → Program SourceTypes (TaskStep SourceTypes)
 poll_step at steps None = done ready
-poll_step at steps (Some statements) = go_on (run_statements AnotherCall (frame_of at.arguments) statements) (λ o. done (stepped at steps o))
+poll_step at steps (Some statements) =
+    go_on (run_statements AnotherCall (frame_of at.arguments) statements) (λ o. done (stepped at steps o))
 
 -- the statements of an action
 abbrev pub action_run : Caller → List Statements → Doing → Running

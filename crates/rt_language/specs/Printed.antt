@@ -44,13 +44,15 @@ abbrev pub usual : Limits
 usual = record { units = 10000; height = 128; drain = 1024 }
 
 -- the text up to a refusal: the edits that were taken, the reports that are finished, the fault
-abbrev pub text_at : Limits → Application SourceTypes → List (List Entry) → List (Told SourceTypes) → Telling SourceTypes → Option Fault → Option Text
+abbrev pub text_at : Limits → Application SourceTypes → List (List Entry) → List (Told SourceTypes) → Telling SourceTypes → Option Fault
+    → Option Text
 text_at limits app logs told t None = None
 text_at limits app logs told t (Some fault) =
     Some (fault_text_of (joined (edits_of told) ++ edits_at_refusal app limits t) (reports_of logs told) fault)
 
 -- the text of finished reports, and of a log that goes on to a refusal
-abbrev pub text_on : Limits → Application SourceTypes → List (List Entry) → List (Told SourceTypes) → Option (Telling SourceTypes) → Option Text
+abbrev pub text_on : Limits → Application SourceTypes → List (List Entry) → List (Told SourceTypes) → Option (Telling SourceTypes)
+    → Option Text
 text_on limits app logs told None = None
 text_on limits app logs told (Some t) = if is_finished app told then text_at limits app logs told t (refusal limits t.machine) else None
 

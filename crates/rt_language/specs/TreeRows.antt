@@ -8,7 +8,8 @@ use Rattle.rt_language.specs.Shorthand.{number, words, these, slot, text_slot, e
 -- a paragraph with two attributes
 abbrev pub two_texts : List Expression → View
 two_texts parts =
-    element_with (codes "p") (SlotAttribute (codes "a") (Cat (these parts)) ∷ SlotAttribute (codes "b") (Cat (these [])) ∷ []) NoViews NoViews
+    element_with (codes "p") (SlotAttribute (codes "a") (Cat (these parts)) ∷ SlotAttribute (codes "b") (Cat (these [])) ∷ []) NoViews
+        NoViews
 
 -- a paragraph with an attribute and a listener
 abbrev pub text_and_listener : View
@@ -170,7 +171,8 @@ boxed =
     with_actions
     (of_components
     (component [] (use_alone 1 [])
-    ∷ component [] (slot (FragmentOf (slot (ErrorBoundaryOf (element_with (codes "b") (on (codes "onclick") 0 [] ∷ []) NoViews NoViews) None))))
+    ∷ component [] (slot (FragmentOf
+        (slot (ErrorBoundaryOf (element_with (codes "b") (on (codes "onclick") 0 [] ∷ []) NoViews NoViews) None))))
     ∷ [])
     (event (codes "click") 1 ∷ []))
     ([] ∷ [])

@@ -42,7 +42,8 @@ all_before (node ∷ nodes) rest = node (all_before nodes rest)
 
 -- one level of a template, before the nodes that come after it
 abbrev pub before_step : TemplateNode-F (TemplateNodes → TemplateNodes) → TemplateNodes → TemplateNodes
-before_step (TemplateNode-F.Element tag namespace attrs children) rest = element_node tag namespace (map attribute_in attrs) (all_before children no_nodes) rest
+before_step (TemplateNode-F.Element tag namespace attrs children) rest =
+    element_node tag namespace (map attribute_in attrs) (all_before children no_nodes) rest
 before_step (TemplateNode-F.Text text) rest = text_node text rest
 before_step (TemplateNode-F.Dynamic id) rest = slot_node id rest
 
@@ -102,14 +103,18 @@ module _ {K : model.Types} where
 
 module _ {P C Q V H T E L : Type 0} where
   -- what stands in a slot, with what is below it done already
-  abbrev pub slot_step : DynamicNode-F P C Q V H T E L (Slot (types C Q V H T E L)) (VComponent (types C Q V H T E L)) (VComponent (types C Q V H T E L)) (VComponent (types C Q V H T E L)) (VComponent (types C Q V H T E L)) (Tree (types C Q V H T E L)) → Slot (types C Q V H T E L)
+  abbrev pub slot_step :
+      DynamicNode-F P C Q V H T E L (Slot (types C Q V H T E L)) (VComponent (types C Q V H T E L)) (VComponent (types C Q V H T E L))
+      (VComponent (types C Q V H T E L)) (VComponent (types C Q V H T E L)) (Tree (types C Q V H T E L)) → Slot (types C Q V H T E L)
   slot_step (DynamicNode-F.Text text) = text_slot text
   slot_step DynamicNode-F.Placeholder = placeholder_slot
   slot_step (DynamicNode-F.Component c) = component_slot c
   slot_step (DynamicNode-F.DynamicNode::Fragment trees) = fragment_slot (trees_from trees)
 
   -- a component, with the children of a built-in one done already
-  abbrev pub component_step : VComponent-F P C Q V H T E L (Slot (types C Q V H T E L)) (VComponent (types C Q V H T E L)) (VComponent (types C Q V H T E L)) (VComponent (types C Q V H T E L)) (VComponent (types C Q V H T E L)) (Tree (types C Q V H T E L)) → VComponent (types C Q V H T E L)
+  abbrev pub component_step :
+      VComponent-F P C Q V H T E L (Slot (types C Q V H T E L)) (VComponent (types C Q V H T E L)) (VComponent (types C Q V H T E L))
+      (VComponent (types C Q V H T E L)) (VComponent (types C Q V H T E L)) (Tree (types C Q V H T E L)) → VComponent (types C Q V H T E L)
   component_step (VComponent-F.App c q) = Own c q
   component_step (VComponent-F.VComponent::Fragment c) = c
   component_step (VComponent-F.ErrorBoundary c) = c
@@ -117,24 +122,36 @@ module _ {P C Q V H T E L : Type 0} where
   component_step (VComponent-F.Root props) = Root props.component props.props
 
   -- an error boundary round children that are done already
-  abbrev pub error_boundary_step : ErrorBoundaryProps-F P C Q V H T E L (Slot (types C Q V H T E L)) (VComponent (types C Q V H T E L)) (VComponent (types C Q V H T E L)) (VComponent (types C Q V H T E L)) (VComponent (types C Q V H T E L)) (Tree (types C Q V H T E L)) → VComponent (types C Q V H T E L)
+  abbrev pub error_boundary_step :
+      ErrorBoundaryProps-F P C Q V H T E L (Slot (types C Q V H T E L)) (VComponent (types C Q V H T E L))
+      (VComponent (types C Q V H T E L)) (VComponent (types C Q V H T E L)) (VComponent (types C Q V H T E L)) (Tree (types C Q V H T E L))
+      → VComponent (types C Q V H T E L)
   error_boundary_step props = ErrorBoundary (answer_from props.children) (handler_of props.handle_error)
 
   -- a fragment of children that are done already
-  abbrev pub fragment_step : FragmentProps-F P C Q V H T E L (Slot (types C Q V H T E L)) (VComponent (types C Q V H T E L)) (VComponent (types C Q V H T E L)) (VComponent (types C Q V H T E L)) (VComponent (types C Q V H T E L)) (Tree (types C Q V H T E L)) → VComponent (types C Q V H T E L)
+  abbrev pub fragment_step :
+      FragmentProps-F P C Q V H T E L (Slot (types C Q V H T E L)) (VComponent (types C Q V H T E L)) (VComponent (types C Q V H T E L))
+      (VComponent (types C Q V H T E L)) (VComponent (types C Q V H T E L)) (Tree (types C Q V H T E L)) → VComponent (types C Q V H T E L)
   fragment_step props = Fragment (answer_from props.children)
 
   -- a suspense boundary round children that are done already
-  abbrev pub suspense_boundary_step : SuspenseBoundaryProps-F P C Q V H T E L (Slot (types C Q V H T E L)) (VComponent (types C Q V H T E L)) (VComponent (types C Q V H T E L)) (VComponent (types C Q V H T E L)) (VComponent (types C Q V H T E L)) (Tree (types C Q V H T E L)) → VComponent (types C Q V H T E L)
+  abbrev pub suspense_boundary_step :
+      SuspenseBoundaryProps-F P C Q V H T E L (Slot (types C Q V H T E L)) (VComponent (types C Q V H T E L))
+      (VComponent (types C Q V H T E L)) (VComponent (types C Q V H T E L)) (VComponent (types C Q V H T E L)) (Tree (types C Q V H T E L))
+      → VComponent (types C Q V H T E L)
   suspense_boundary_step props = SuspenseBoundary (answer_from props.children) (fallback_of props.fallback)
 
   -- a tree, with what stands in its slots done already
-  abbrev pub tree_step : VNode-F P C Q V H T E L (Slot (types C Q V H T E L)) (VComponent (types C Q V H T E L)) (VComponent (types C Q V H T E L)) (VComponent (types C Q V H T E L)) (VComponent (types C Q V H T E L)) (Tree (types C Q V H T E L)) → Tree (types C Q V H T E L)
+  abbrev pub tree_step :
+      VNode-F P C Q V H T E L (Slot (types C Q V H T E L)) (VComponent (types C Q V H T E L)) (VComponent (types C Q V H T E L))
+      (VComponent (types C Q V H T E L)) (VComponent (types C Q V H T E L)) (Tree (types C Q V H T E L)) → Tree (types C Q V H T E L)
   tree_step tree = block (template_of tree.template) (map (map attribute_of) tree.dynamic_attrs) (slots_from tree.dynamic_nodes)
 
   -- a tree
   abbrev pub tree_of : VNode P C Q V H T E L → Tree (types C Q V H T E L)
-  tree_of = fold-VNode P C Q V H T E L (Slot (types C Q V H T E L)) (VComponent (types C Q V H T E L)) (VComponent (types C Q V H T E L)) (VComponent (types C Q V H T E L)) (VComponent (types C Q V H T E L)) (Tree (types C Q V H T E L)) slot_step component_step error_boundary_step fragment_step suspense_boundary_step tree_step
+  tree_of = fold-VNode P C Q V H T E L (Slot (types C Q V H T E L)) (VComponent (types C Q V H T E L)) (VComponent (types C Q V H T E L))
+      (VComponent (types C Q V H T E L)) (VComponent (types C Q V H T E L)) (Tree (types C Q V H T E L)) slot_step component_step
+      error_boundary_step fragment_step suspense_boundary_step tree_step
 
   -- a body's answer
   abbrev pub element_of : Result (VNode P C Q V H T E L) RenderError → Element (types C Q V H T E L)

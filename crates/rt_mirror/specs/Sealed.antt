@@ -38,7 +38,9 @@ module _ {P C Q V H T E L : Type 0} where
 
   -- a component
   unfoldable pub component_of : CodeComponent P C Q V H T E L → VComponent (types C Q V H T E L)
-  component_of = fold-VComponent P C Q V H T E L (Slot (types C Q V H T E L)) (VComponent (types C Q V H T E L)) (VComponent (types C Q V H T E L)) (VComponent (types C Q V H T E L)) (VComponent (types C Q V H T E L)) (Tree (types C Q V H T E L)) slot_step component_step error_boundary_step fragment_step suspense_boundary_step tree_step
+  component_of = fold-VComponent P C Q V H T E L (Slot (types C Q V H T E L)) (VComponent (types C Q V H T E L))
+      (VComponent (types C Q V H T E L)) (VComponent (types C Q V H T E L)) (VComponent (types C Q V H T E L)) (Tree (types C Q V H T E L))
+      slot_step component_step error_boundary_step fragment_step suspense_boundary_step tree_step
 
   -- a body's answer
   abbrev pub element_of : Result (VNode P C Q V H T E L) RenderError → Element (types C Q V H T E L)

@@ -1,4 +1,5 @@
--- The edits that a unit writes, by comparing the states before and after it; a unit that a fault ended wrote those before the refused place.
+-- The edits that a unit writes, by comparing the states before and after it; a unit that a fault ended wrote those
+-- before the refused place.
 use Rattle.std.specs.Prelude.{ℕ, zero, suc, ◌+◌, Bool, true, false, ◌&&◌, ◌||◌, not, nat_eq, List, [], ◌∷◌, ◌++◌, length, Option, Some, None, if◌then◌else◌, is_some}
 use Rattle.rt_model.specs.Lists.{Text, at, same_numbers, same_option}
 use Rattle.rt_model.specs.Tree.{Types, TemplateAttribute, fixed, from_slot, TemplateNodes, no_nodes, element_node, text_node, slot_node, Template, same_template, AttributeValue, text_value, no_value, listener, Attribute, Tree, block, template_of, attributes_of, slots_of, Slots, no_slots, more_slots, first_slot, rest_slots, Slot, text_slot, placeholder_slot, component_slot, fragment_slot, Trees, no_trees, more_trees, item, same_step, same_place, Place, Kind, an_element, a_text, place_in, attributes_in}
@@ -143,7 +144,8 @@ module _ {K : Types} where
   come (a ∷ rest) old number = one_come number old a a.value ++ come rest old number
 
   -- the attribute slots of a matched block, together
-  abbrev pub attributes_written : List (Place × Kind × ℕ) → Place → Template → List (List (Attribute K)) → List (List (Attribute K)) → List Edit
+  abbrev pub attributes_written : List (Place × Kind × ℕ) → Place → Template → List (List (Attribute K)) → List (List (Attribute K))
+      → List Edit
   attributes_written numbers above whole new old =
       let number : List ℕ → ℕ → ℕ = λ up i. number_at numbers (place_in whole above up i) an_element in
       attribute_pass (λ k n. left (attributes_in old k) (attributes_in new k) n) number [] 0 whole.roots

@@ -46,7 +46,8 @@ module _ {K : Types} where
 
   -- the units are spent and one more is owed
   abbrev pub turns_refused : Limits → Machine K → Option Fault
-  turns_refused limits m = if m.built && is_quiet m && nat_eq m.units limits.units && owes m.state then Some (OutOfTurns limits.units) else None
+  turns_refused limits m = if m.built && is_quiet m && nat_eq m.units limits.units && owes m.state then Some (OutOfTurns limits.units)
+      else None
 
   -- the fault with which a run stops here: one that ended the last entry's change; else a make that is too deep; else units that are spent
   abbrev pub refusal : Limits → Machine K → Option Fault

@@ -49,7 +49,8 @@ module _ {K : Types} where
   leaf_climb number n = if nat_eq n number then Some ([] ∷ []) else None
 
   -- the climb from a number among a template's nodes
-  abbrev pub find_nodes : List (Place × Kind × ℕ) → ℕ → Template → Place → List (List (Attribute K)) → (ℕ → Place → Option (Climb K)) → List ℕ → ℕ → TemplateNodes → Option (Climb K)
+  abbrev pub find_nodes : List (Place × Kind × ℕ) → ℕ → Template → Place → List (List (Attribute K)) → (ℕ → Place → Option (Climb K))
+      → List ℕ → ℕ → TemplateNodes → Option (Climb K)
   find_nodes numbers number whole above given slot up i no_nodes = None
   find_nodes numbers number whole above given slot up i (element_node tag namespace attributes children rest) =
       or_later

@@ -58,22 +58,28 @@ module _ {K : Types} where
     -- under a live parent the height is the parent's plus one
     pub heights : (s p : ℕ) (x y : Scope K) → at w.scopes s ≡ Some x → x.parent ≡ Some p → at w.scopes p ≡ Some y → x.height ≡ y.height + 1
 
--- along an accepted log numbers are new, heights rise by one from parent to child, a scope that is gone is never named, and a task that has ended is never polled
-pub record Lasts {K : Types} (app : Application K) (props : K.Props) (inputs : List (Input K)) (log : List Entry) (m : Machine K) : Type 0 where
+-- along an accepted log numbers are new, heights rise by one from parent to child, a scope that is gone is never
+-- named, and a task that has ended is never polled
+pub record Lasts {K : Types} (app : Application K) (props : K.Props) (inputs : List (Input K)) (log : List Entry) (m : Machine K) :
+    Type 0 where
   -- the live scopes' numbers and heights are right after the log
   pub rooted : IsRooted m.state
   -- each scope that is made has a greater number than all before it
   pub made : MadeFrom 1 log
   -- no later entry names a scope that is gone
-  pub gone : (s : ℕ) (rest : List Entry) (u : Machine K) → s < m.state.next_scope → at m.state.scopes s ≡ None → replay_on app (Some m) rest ≡ Some u → AllByRecursion (λ (e : Entry). Names e s → ⊥) rest
+  pub gone : (s : ℕ) (rest : List Entry) (u : Machine K) → s < m.state.next_scope → at m.state.scopes s ≡ None
+      → replay_on app (Some m) rest ≡ Some u → AllByRecursion (λ (e : Entry). Names e s → ⊥) rest
   -- no later entry polls a task that has ended
-  pub ended : (t : ℕ) (rest : List Entry) (u : Machine K) → t < m.state.next.tasks → at m.state.tasks t ≡ None → replay_on app (Some m) rest ≡ Some u → AllByRecursion (λ (e : Entry). Polls e t → ⊥) rest
+  pub ended : (t : ℕ) (rest : List Entry) (u : Machine K) → t < m.state.next.tasks → at m.state.tasks t ≡ None
+      → replay_on app (Some m) rest ≡ Some u → AllByRecursion (λ (e : Entry). Polls e t → ⊥) rest
   -- no entry after a removal names its scope
-  pub removed : (s : ℕ) (rest : List Entry) (u : Machine K) → replay_on app (Some m) (Removed s ∷ rest) ≡ Some u → AllByRecursion (λ (e : Entry). Names e s → ⊥) rest
+  pub removed : (s : ℕ) (rest : List Entry) (u : Machine K) → replay_on app (Some m) (Removed s ∷ rest) ≡ Some u
+      → AllByRecursion (λ (e : Entry). Names e s → ⊥) rest
   -- no counter falls
   pub rises : (rest : List Entry) (u : Machine K) → replay_on app (Some m) rest ≡ Some u → Rises m.state.next u.state.next
 
 -- this holds of every accepted log of a lawful application
 abbrev pub LawfulLogsLast : {K : Types} → Application K → Type 0
 LawfulLogsLast {K = K} app =
-    IsLawful K app → (props : K.Props) (inputs : List (Input K)) (log : List Entry) (m : Machine K) → replay_on app (Some (start app props inputs)) log ≡ Some m → Lasts app props inputs log m
+    IsLawful K app → (props : K.Props) (inputs : List (Input K)) (log : List Entry) (m : Machine K)
+        → replay_on app (Some (start app props inputs)) log ≡ Some m → Lasts app props inputs log m

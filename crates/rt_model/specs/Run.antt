@@ -147,7 +147,8 @@ module _ {K : Types} where
   -- a scope suspends on a task, which has to be live
   abbrev pub suspends_on : State K → ℕ → ℕ → ℕ → Option (TaskRow K) → Outcome K
   suspends_on w s origin t None = Cut w (NoSuchTask s t)
-  suspends_on w s origin t (Some x) = Done (joins (record w { tasks = put w.tasks t (record x { kind = SuspendedTask }) }) origin t (location w s)) []
+  suspends_on w s origin t (Some x) =
+      Done (joins (record w { tasks = put w.tasks t (record x { kind = SuspendedTask }) }) origin t (location w s)) []
 
   -- the marks of the scope go, and it isn't skipped any more
   abbrev pub unmarked : State K → ℕ → State K

@@ -80,7 +80,8 @@ module _ {K : Types} where
   keeps_hooks (KeepHook h ∷ rest) = not (is_kind after_render_kind h) && keeps_hooks rest
   keeps_hooks (c ∷ rest) = false
 
-  -- what the first call of the root component's body sees: the root wrapper, its two boundaries and the root component; no value is there to read
+  -- what the first call of the root component's body sees: the root wrapper, its two boundaries and the root
+  -- component; no value is there to read
   abbrev pub first_world : World K
   first_world =
       record {
@@ -102,7 +103,8 @@ module _ {K : Types} where
   abbrev pub first_call : (app : Application K) → K.Props → Meaning K (Element K)
   first_call app props = app.body app.root props first_world
 
--- the first call met no refusal, kept hooks at most, and answered a tree that stands still and passes the node test; it drew no element, which is the law of numbers
+-- the first call met no refusal, kept hooks at most, and answered a tree that stands still and passes the node test;
+-- it drew no element, which is the law of numbers
 pub record AnswersStill {K : Types} (app : Application K) (props : K.Props) (template : Template) : Type 0 where
   pub fault : (first_call app props).fault ≡ None
   pub answer : (first_call app props).answer ≡ rendered (still_tree template)
@@ -172,7 +174,8 @@ module _ {K : Types} (app : Application K) where
   -- a session comes to one fault at most
   abbrev pub OneFault : Type 0
   OneFault =
-      (props : K.Props) (inputs : List (Input K)) (limits : Limits) (taken also : Option (List Edit)) (reports others : List Report) (fault other : Fault)
+      (props : K.Props) (inputs : List (Input K)) (limits : Limits) (taken also : Option (List Edit)) (reports others : List Report)
+          (fault other : Fault)
       → CameTo app props inputs limits taken reports fault
       → CameTo app props inputs limits also others other
       → fault ≡ other

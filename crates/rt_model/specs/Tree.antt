@@ -27,7 +27,8 @@ pub data TemplateAttribute : Type 0 where
 -- a row of a template's nodes: each node with its children and the nodes after it
 pub data TemplateNodes : Type 0 where
   no_nodes : TemplateNodes
-  element_node : (tag : Text) (namespace : Option Text) (attributes : List TemplateAttribute) (children rest : TemplateNodes) → TemplateNodes
+  element_node : (tag : Text) (namespace : Option Text) (attributes : List TemplateAttribute) (children rest : TemplateNodes)
+      → TemplateNodes
   text_node : (text : Text) (rest : TemplateNodes) → TemplateNodes
   slot_node : (slot : ℕ) (rest : TemplateNodes) → TemplateNodes
 
@@ -55,7 +56,8 @@ same_nodes _ _ = false
 -- templates are equal by value
 abbrev pub same_template : Template → Template → Bool
 same_template t u =
-    same_nodes t.roots u.roots && same_list same_numbers t.node_paths u.node_paths && same_list same_numbers t.attribute_paths u.attribute_paths
+    same_nodes t.roots u.roots && same_list same_numbers t.node_paths u.node_paths
+        && same_list same_numbers t.attribute_paths u.attribute_paths
 
 -- an error that a body made; its serial number tells it from others
 pub record CapturedError : Type 0 where
@@ -203,7 +205,8 @@ module _ {K : Types} where
       node_at (place_in whole above up i) an_element
       ∷
       (node_spots whole above slot (up ++ i ∷ []) 0 children ++ node_spots whole above slot up (i + 1) rest)
-  node_spots whole above slot up i (text_node text rest) = node_at (place_in whole above up i) a_static_text ∷ node_spots whole above slot up (i + 1) rest
+  node_spots whole above slot up i (text_node text rest) =
+      node_at (place_in whole above up i) a_static_text ∷ node_spots whole above slot up (i + 1) rest
   node_spots whole above slot up i (slot_node k rest) = slot k (place_in whole above up i) ++ node_spots whole above slot up (i + 1) rest
 
   abbrev mutual
@@ -282,4 +285,5 @@ paths_of (e ∷ es) = e.1 ∷ paths_of es
 
 -- the template of these roots, with the paths that they have
 abbrev pub template_with : TemplateNodes → Template
-template_with roots = record { roots = roots; node_paths = paths_of (node_slots [] 0 roots); attribute_paths = paths_of (attribute_slots [] 0 roots) }
+template_with roots =
+    record { roots = roots; node_paths = paths_of (node_slots [] 0 roots); attribute_paths = paths_of (attribute_slots [] 0 roots) }

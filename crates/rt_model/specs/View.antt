@@ -49,7 +49,8 @@ module _ {K : Types} where
   element_listeners given all (from_slot k ∷ rest) = element_listeners given (given_listeners all (attributes_in given k)) rest
 
   -- the nodes of a template, where slot gives those of a numbered slot at a place
-  abbrev pub nodes_view : List (Place × Kind × ℕ) → Template → Place → List (List (Attribute K)) → (ℕ → Place → Forest) → List ℕ → ℕ → TemplateNodes → Forest
+  abbrev pub nodes_view : List (Place × Kind × ℕ) → Template → Place → List (List (Attribute K)) → (ℕ → Place → Forest) → List ℕ → ℕ
+      → TemplateNodes → Forest
   nodes_view numbers whole above given slot up i no_nodes = Empty
   nodes_view numbers whole above given slot up i (element_node tag namespace attributes children rest) =
       Node

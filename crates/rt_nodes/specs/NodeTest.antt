@@ -49,11 +49,13 @@ module _ {P Component Props Value Handler TaskState Effect Payload : Type 0} whe
   fragment_step props levels = children_fit props.children levels
 
   -- the children of an error boundary
-  abbrev pub error_boundary_step : ErrorBoundaryProps-F P Component Props Value Handler TaskState Effect Payload Test Test Test Test Test Test → Test
+  abbrev pub error_boundary_step :
+      ErrorBoundaryProps-F P Component Props Value Handler TaskState Effect Payload Test Test Test Test Test Test → Test
   error_boundary_step props levels = children_fit props.children levels
 
   -- the children of a suspense boundary
-  abbrev pub suspense_boundary_step : SuspenseBoundaryProps-F P Component Props Value Handler TaskState Effect Payload Test Test Test Test Test Test → Test
+  abbrev pub suspense_boundary_step :
+      SuspenseBoundaryProps-F P Component Props Value Handler TaskState Effect Payload Test Test Test Test Test Test → Test
   suspense_boundary_step props levels = children_fit props.children levels
 
   -- a tree fits where it does without its slots, and what stands in them does
@@ -63,15 +65,19 @@ module _ {P Component Props Value Handler TaskState Effect Payload : Type 0} whe
 
   -- whether a tree fits into a number of levels
   abbrev pub fits_within : VNode P Component Props Value Handler TaskState Effect Payload → Test
-  fits_within = fold-VNode P Component Props Value Handler TaskState Effect Payload Test Test Test Test Test Test node_step component_step error_boundary_step fragment_step suspense_boundary_step tree_step
+  fits_within = fold-VNode P Component Props Value Handler TaskState Effect Payload Test Test Test Test Test Test node_step component_step
+      error_boundary_step fragment_step suspense_boundary_step tree_step
 
   -- whether the value of a slot fits into a number of levels
   abbrev pub node_fits_within : DynamicNode P Component Props Value Handler TaskState Effect Payload → Test
-  node_fits_within = fold-DynamicNode P Component Props Value Handler TaskState Effect Payload Test Test Test Test Test Test node_step component_step error_boundary_step fragment_step suspense_boundary_step tree_step
+  node_fits_within = fold-DynamicNode P Component Props Value Handler TaskState Effect Payload Test Test Test Test Test Test node_step
+      component_step error_boundary_step fragment_step suspense_boundary_step tree_step
 
   -- whether a component fits into a number of levels
   abbrev pub component_fits_within : VComponent P Component Props Value Handler TaskState Effect Payload → Test
-  component_fits_within = fold-VComponent P Component Props Value Handler TaskState Effect Payload Test Test Test Test Test Test node_step component_step error_boundary_step fragment_step suspense_boundary_step tree_step
+  component_fits_within =
+      fold-VComponent P Component Props Value Handler TaskState Effect Payload Test Test Test Test Test Test node_step component_step
+      error_boundary_step fragment_step suspense_boundary_step tree_step
 
   -- whether children fit: a tree, or an error, which always does
   abbrev pub element_fits_within : Result (VNode P Component Props Value Handler TaskState Effect Payload) RenderError → Test

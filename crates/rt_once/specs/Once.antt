@@ -26,7 +26,8 @@ PollsFirst [] = Unit {0}
 PollsFirst (Poll t ∷ log) = PollsFirst log
 PollsFirst (e ∷ log) = (renders e ≡ true) × AllByRecursion (λ (x : Entry). renders x ≡ true) log
 
--- of a lawful application, wherever moves lead and nothing is at work: in a completed render that polls no task after its first rerun no body runs twice
+-- of a lawful application, wherever moves lead and nothing is at work: in a completed render that polls no task
+-- after its first rerun no body runs twice
 abbrev pub RendersOnce : {K : Types} → Application K → Type 0
 RendersOnce {K = K} app =
     IsLawful K app

@@ -33,7 +33,8 @@ last_or other (x ∷ xs) = last_or x xs
 -- the number so far from the end
 abbrev pub number_back : List ElementId → ℕ → ElementId
 number_back numbers back =
-    if nat_lt (length numbers) back then no_number else (if nat_lt 0 back then slice_index_or numbers (length numbers - back) no_number else no_number)
+    if nat_lt (length numbers) back then no_number
+        else (if nat_lt 0 back then slice_index_or numbers (length numbers - back) no_number else no_number)
 
 -- the numbers of nodes
 abbrev pub numbers_of : List DocNode → List ElementId

@@ -53,7 +53,8 @@ module _ {P Component Props Value Handler TaskState Effect Payload : Type 0} whe
   }
 
   -- what is left, by what the patch waits for
-  abbrev pub left_from : Phase → List (Instruction P Component Props Value Handler TaskState Effect Payload) → List ElementId → List ScopeId → Kept → List Answer → Rest P Component Props Value Handler TaskState Effect Payload
+  abbrev pub left_from : Phase → List (Instruction P Component Props Value Handler TaskState Effect Payload) → List ElementId → List ScopeId
+      → Kept → List Answer → Rest P Component Props Value Handler TaskState Effect Payload
   left_from phase.Free is ids scopes kept answers = steps is ids scopes kept answers
   left_from phase.Removing is ids scopes kept answers = removing kept.roots (steps is ids scopes (record kept { roots = [] }) answers)
   left_from phase.Make is ids scopes kept answers = given (λ scope nodes rest. steps is ids scopes (making scope nodes kept) rest) answers
@@ -63,11 +64,14 @@ module _ {P Component Props Value Handler TaskState Effect Payload : Type 0} whe
       given (λ scope nodes rest. steps is ids scopes (record kept { behind = last_or kept.behind (numbers_of nodes) }) rest) answers
 
   -- the steps that a patch has left and what it mounts in the end, for each list of answers
-  abbrev pub left : Patch P Component Props Value Handler TaskState Effect Payload → List Answer → Rest P Component Props Value Handler TaskState Effect Payload
+  abbrev pub left : Patch P Component Props Value Handler TaskState Effect Payload → List Answer
+      → Rest P Component Props Value Handler TaskState Effect Payload
   left p answers = left_from p.phase p.plan.items p.old_numbers.items p.old_children.items (kept p) answers
 
   -- the same with one more instruction ahead
-  abbrev pub ahead : Instruction P Component Props Value Handler TaskState Effect Payload → Patch P Component Props Value Handler TaskState Effect Payload → List Answer → Rest P Component Props Value Handler TaskState Effect Payload
+  abbrev pub ahead : Instruction P Component Props Value Handler TaskState Effect Payload
+      → Patch P Component Props Value Handler TaskState Effect Payload → List Answer
+      → Rest P Component Props Value Handler TaskState Effect Payload
   ahead i p answers = left_from p.phase (i ∷ p.plan.items) p.old_numbers.items p.old_children.items (kept p) answers
 
   -- the answers, with the number that was drawn for the step
@@ -82,7 +86,8 @@ module _ {P Component Props Value Handler TaskState Effect Payload : Type 0} whe
   named s.Done answers = answers
 
   -- a step, and then the rest; after the last one there is none
-  abbrev pub seen : PatchStep P Component Props Value Handler TaskState Effect Payload → Rest P Component Props Value Handler TaskState Effect Payload → Rest P Component Props Value Handler TaskState Effect Payload
+  abbrev pub seen : PatchStep P Component Props Value Handler TaskState Effect Payload
+      → Rest P Component Props Value Handler TaskState Effect Payload → Rest P Component Props Value Handler TaskState Effect Payload
   seen (s.Drawn id places path) rest = told (s.Drawn id places path) rest
   seen (s.Make component) rest = told (s.Make component) rest
   seen (s.Feed scope component) rest = told (s.Feed scope component) rest
@@ -109,7 +114,8 @@ module _ {P Component Props Value Handler TaskState Effect Payload : Type 0} whe
   due p = due_from p.phase p.plan.items (length p.roots.items)
 
   -- the same with one more instruction ahead
-  abbrev pub due_ahead : Instruction P Component Props Value Handler TaskState Effect Payload → Patch P Component Props Value Handler TaskState Effect Payload → ℕ
+  abbrev pub due_ahead : Instruction P Component Props Value Handler TaskState Effect Payload
+      → Patch P Component Props Value Handler TaskState Effect Payload → ℕ
   due_ahead i p = due_from p.phase (i ∷ p.plan.items) (length p.roots.items)
 
   -- all steps of a patch were done

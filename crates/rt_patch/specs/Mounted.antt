@@ -54,9 +54,11 @@ module _ {P Component Props Value Handler TaskState Effect Payload : Type 0} whe
   AreFor (i.Insert ∷ is) answers = ⊥
 
   -- a build of all of a tree
-  abbrev pub build : Bool → VNode P Component Props Value Handler TaskState Effect Payload → List Answer → Rest P Component Props Value Handler TaskState Effect Payload
+  abbrev pub build : Bool → VNode P Component Props Value Handler TaskState Effect Payload → List Answer
+      → Rest P Component Props Value Handler TaskState Effect Payload
   build shown tree answers = steps (make_tree shown tree []) [] [] nothing_kept answers
 
   -- the same, at whose end what was built is inserted
-  abbrev pub inserted_build : VNode P Component Props Value Handler TaskState Effect Payload → List Answer → Rest P Component Props Value Handler TaskState Effect Payload
+  abbrev pub inserted_build : VNode P Component Props Value Handler TaskState Effect Payload → List Answer
+      → Rest P Component Props Value Handler TaskState Effect Payload
   inserted_build tree answers = steps (make_tree true tree [] ++ i.Insert ∷ []) [] [] nothing_kept answers

@@ -28,7 +28,8 @@ rebuilt_of r = record { built = built_of r.built; numbers = r.numbers.items; chi
 module _ {P Component Props Value Handler TaskState Effect Payload : Type 0} where
   -- one instruction more: a node takes the next number, a child scope has the next nodes
   abbrev pub rebuilt_by : Instruction P Component Props Value Handler TaskState Effect Payload → Rebuilt → Rebuilt
-  rebuilt_by (i.Draw places path shape) r = record r { built = with_shape (first_or no_number r.numbers) shape r.built; numbers = after_first r.numbers }
+  rebuilt_by (i.Draw places path shape) r =
+      record r { built = with_shape (first_or no_number r.numbers) shape r.built; numbers = after_first r.numbers }
   rebuilt_by i.Close r = record r { built = closed r.built }
   rebuilt_by (i.Make component) r = record r { built = with_nodes (first_or [] r.children) r.built; children = after_first r.children }
   rebuilt_by i.Keep r = r
@@ -50,5 +51,6 @@ module _ {P Component Props Value Handler TaskState Effect Payload : Type 0} whe
   rebuilt (i ∷ is) r = rebuilt is (rebuilt_by i r)
 
   -- the nodes of a tree with these numbers, where `children` are the nodes of each of its child scopes
-  abbrev pub nodes_of_tree : VNode P Component Props Value Handler TaskState Effect Payload → List ElementId → List (List DocNode) → List DocNode
+  abbrev pub nodes_of_tree : VNode P Component Props Value Handler TaskState Effect Payload → List ElementId → List (List DocNode)
+      → List DocNode
   nodes_of_tree tree numbers children = (rebuilt (make_tree true tree []) (unbuilt numbers children)).built.row

@@ -45,28 +45,33 @@ module _ {P Component Props Value Handler TaskState Effect Payload : Type 0} whe
   no_rest = record { steps = []; numbers = []; children = [] }
 
   -- a step, and then the rest
-  abbrev pub told : PatchStep P Component Props Value Handler TaskState Effect Payload → Rest P Component Props Value Handler TaskState Effect Payload → Rest P Component Props Value Handler TaskState Effect Payload
+  abbrev pub told : PatchStep P Component Props Value Handler TaskState Effect Payload
+      → Rest P Component Props Value Handler TaskState Effect Payload → Rest P Component Props Value Handler TaskState Effect Payload
   told step rest = record rest { steps = step ∷ rest.steps }
 
   -- each of these nodes is removed, and then the rest
-  abbrev pub removing : List ElementId → Rest P Component Props Value Handler TaskState Effect Payload → Rest P Component Props Value Handler TaskState Effect Payload
+  abbrev pub removing : List ElementId → Rest P Component Props Value Handler TaskState Effect Payload
+      → Rest P Component Props Value Handler TaskState Effect Payload
   removing [] rest = rest
   removing (id ∷ ids) rest = told (s.Edit (edit.RemoveNode id)) (removing ids rest)
 
   -- what follows a number that is drawn
-  abbrev pub drawn : (ℕ → List Answer → Rest P Component Props Value Handler TaskState Effect Payload) → List Answer → Rest P Component Props Value Handler TaskState Effect Payload
+  abbrev pub drawn : (ℕ → List Answer → Rest P Component Props Value Handler TaskState Effect Payload) → List Answer
+      → Rest P Component Props Value Handler TaskState Effect Payload
   drawn f [] = no_rest
   drawn f (numbered number ∷ answers) = f number answers
   drawn f (answered scope nodes ∷ answers) = no_rest
 
   -- what follows a question, with the scope and the nodes that it is answered
-  abbrev pub given : (ScopeId → List DocNode → List Answer → Rest P Component Props Value Handler TaskState Effect Payload) → List Answer → Rest P Component Props Value Handler TaskState Effect Payload
+  abbrev pub given : (ScopeId → List DocNode → List Answer → Rest P Component Props Value Handler TaskState Effect Payload) → List Answer
+      → Rest P Component Props Value Handler TaskState Effect Payload
   given f [] = no_rest
   given f (numbered number ∷ answers) = no_rest
   given f (answered scope nodes ∷ answers) = f scope nodes answers
 
   -- the edits by which roots go and what was built takes their place
-  abbrev pub replaced : List ElementId → List DocNode → Rest P Component Props Value Handler TaskState Effect Payload → Rest P Component Props Value Handler TaskState Effect Payload
+  abbrev pub replaced : List ElementId → List DocNode → Rest P Component Props Value Handler TaskState Effect Payload
+      → Rest P Component Props Value Handler TaskState Effect Payload
   replaced [] built rest = rest
   replaced (id ∷ ids) built rest = told (s.Edit (edit.ReplaceNodeWith id built)) (removing ids rest)
 
@@ -76,7 +81,8 @@ module _ {P Component Props Value Handler TaskState Effect Payload : Type 0} whe
 
   -- what the instructions lead to, with the old numbers and child scopes that weren't looked at, for
   -- each list of answers
-  abbrev pub steps : List (Instruction P Component Props Value Handler TaskState Effect Payload) → List ElementId → List ScopeId → Kept → List Answer → Rest P Component Props Value Handler TaskState Effect Payload
+  abbrev pub steps : List (Instruction P Component Props Value Handler TaskState Effect Payload) → List ElementId → List ScopeId → Kept
+      → List Answer → Rest P Component Props Value Handler TaskState Effect Payload
   steps [] ids scopes kept answers = record { steps = ends kept.drops kept.gone; numbers = kept.numbers; children = kept.children }
   steps (i.Keep ∷ is) ids scopes kept answers = steps is (after_first ids) scopes (with_number (first_or no_number ids) kept) answers
   steps (i.Rewrite text ∷ is) ids scopes kept answers =
@@ -94,19 +100,24 @@ module _ {P Component Props Value Handler TaskState Effect Payload : Type 0} whe
       told
       (s.Nodes (first_or no_scope scopes))
       (given
-      (λ scope nodes rest. steps is ids (after_first scopes) (record (leaving (first_or no_scope scopes) kept) { roots = kept.roots ++ numbers_of nodes }) rest)
+      (λ scope nodes rest. steps is ids (after_first scopes)
+          (record (leaving (first_or no_scope scopes) kept) { roots = kept.roots ++ numbers_of nodes }) rest)
       answers)
   steps (i.Leave false ∷ is) ids scopes kept answers =
       steps is ids (after_first scopes) (leaving (first_or no_scope scopes) kept) answers
   steps (i.Draw places path shape ∷ is) ids scopes kept answers =
-      drawn (λ number rest. told (s.Drawn (record { 0 = number }) places path) (steps is ids scopes (drawing (record { 0 = number }) shape kept) rest)) answers
+      drawn (λ number rest.
+          told (s.Drawn (record { 0 = number }) places path) (steps is ids scopes (drawing (record { 0 = number }) shape kept) rest))
+          answers
   steps (i.Close ∷ is) ids scopes kept answers = steps is ids scopes (record kept { built = closed kept.built }) answers
   steps (i.Make component ∷ is) ids scopes kept answers =
       told (s.Make component) (given (λ scope nodes rest. steps is ids scopes (making scope nodes kept) rest) answers)
-  steps (i.Replace ∷ is) ids scopes kept answers = replaced kept.roots kept.built.row (steps is ids scopes (after_replaced kept.roots kept) answers)
+  steps (i.Replace ∷ is) ids scopes kept answers =
+      replaced kept.roots kept.built.row (steps is ids scopes (after_replaced kept.roots kept) answers)
   steps (i.Erase ∷ is) ids scopes kept answers = removing kept.roots (steps is ids scopes (record kept { roots = [] }) answers)
   steps (i.Behind back ∷ is) ids scopes kept answers = steps is ids scopes (record kept { behind = number_back kept.numbers back }) answers
-  steps (i.BehindChild ∷ is) ids scopes kept answers = steps is ids scopes (record kept { neighbour = last_or no_scope kept.children }) answers
+  steps (i.BehindChild ∷ is) ids scopes kept answers =
+      steps is ids scopes (record kept { neighbour = last_or no_scope kept.children }) answers
   steps (i.Ask ∷ is) ids scopes kept answers =
       told
       (s.Nodes kept.neighbour)

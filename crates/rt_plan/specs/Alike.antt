@@ -44,7 +44,8 @@ module _ {P Component Props Value Handler TaskState Effect Payload : Type 0} whe
   kind_in (VComponent-F.Root props) = kind.Root
 
   -- the component of the application that a variant names
-  abbrev pub own_in : {N C E F S T : Type 0} → VComponent-F P Component Props Value Handler TaskState Effect Payload N C E F S T → Option Component
+  abbrev pub own_in : {N C E F S T : Type 0} → VComponent-F P Component Props Value Handler TaskState Effect Payload N C E F S T
+      → Option Component
   own_in (VComponent-F.App component props) = Some component
   own_in (VComponent-F.VComponent::Fragment props) = None
   own_in (VComponent-F.ErrorBoundary props) = None
@@ -60,5 +61,6 @@ module _ {P Component Props Value Handler TaskState Effect Payload : Type 0} whe
   own_of component = own_in (out-VComponent P Component Props Value Handler TaskState Effect Payload component)
 
   -- whether two components are the same: of one kind, and, of the application's own, the same one
-  abbrev pub are_alike : Equality Component → VComponent P Component Props Value Handler TaskState Effect Payload → VComponent P Component Props Value Handler TaskState Effect Payload → Bool
+  abbrev pub are_alike : Equality Component → VComponent P Component Props Value Handler TaskState Effect Payload
+      → VComponent P Component Props Value Handler TaskState Effect Payload → Bool
   are_alike equality left right = same_kind (kind_of left) (kind_of right) && same_own equality (own_of left) (own_of right)

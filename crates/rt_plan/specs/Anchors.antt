@@ -49,24 +49,32 @@ module _ {P Component Props Value Handler TaskState Effect Payload : Type 0} whe
   counted value = (count_value value.0, value.1)
 
   -- the last root in a slot
-  abbrev pub last_value_step : {C E F S T : Type 0} → DynamicNode-F P Component Props Value Handler TaskState Effect Payload (With (DynamicNode P Component Props Value Handler TaskState Effect Payload) Anchor) (With C (Unit {0})) (With E (Unit {0})) (With F (Unit {0})) (With S (Unit {0})) (With T Anchor) → Anchor
+  abbrev pub last_value_step : {C E F S T : Type 0}
+      → DynamicNode-F P Component Props Value Handler TaskState Effect Payload
+      (With (DynamicNode P Component Props Value Handler TaskState Effect Payload) Anchor) (With C (Unit {0})) (With E (Unit {0}))
+      (With F (Unit {0})) (With S (Unit {0})) (With T Anchor) → Anchor
   last_value_step (DynamicNode-F.Text text) = Number 1
   last_value_step DynamicNode-F.Placeholder = Number 1
   last_value_step (DynamicNode-F.Component component) = Child
   last_value_step (DynamicNode-F.DynamicNode::Fragment items) = last_item (Number 1) (plans_of items)
 
   -- the last root of a tree, where those in its slots are known
-  abbrev pub last_tree_step : {C E F S T : Type 0} → VNode-F P Component Props Value Handler TaskState Effect Payload (With (DynamicNode P Component Props Value Handler TaskState Effect Payload) Anchor) (With C (Unit {0})) (With E (Unit {0})) (With F (Unit {0})) (With S (Unit {0})) (With T Anchor) → Anchor
+  abbrev pub last_tree_step : {C E F S T : Type 0}
+      → VNode-F P Component Props Value Handler TaskState Effect Payload
+      (With (DynamicNode P Component Props Value Handler TaskState Effect Payload) Anchor) (With C (Unit {0})) (With E (Unit {0}))
+      (With F (Unit {0})) (With S (Unit {0})) (With T Anchor) → Anchor
   last_tree_step tree = last_among (map counted tree.dynamic_nodes) Child (tokens_in tree.template.roots)
 
   -- the last root of a tree
   unfoldable pub last_of_tree : VNode P Component Props Value Handler TaskState Effect Payload → Anchor
-  last_of_tree = para-VNode P Component Props Value Handler TaskState Effect Payload Anchor (Unit {0}) (Unit {0}) (Unit {0}) (Unit {0}) Anchor
+  last_of_tree = para-VNode P Component Props Value Handler TaskState Effect Payload Anchor (Unit {0}) (Unit {0}) (Unit {0}) (Unit {0})
+      Anchor
       last_value_step (λ component. tt) (λ props. tt) (λ props. tt) (λ props. tt) last_tree_step
 
   -- the last root in a slot
   unfoldable pub last_of_value : DynamicNode P Component Props Value Handler TaskState Effect Payload → Anchor
-  last_of_value = para-DynamicNode P Component Props Value Handler TaskState Effect Payload Anchor (Unit {0}) (Unit {0}) (Unit {0}) (Unit {0}) Anchor
+  last_of_value = para-DynamicNode P Component Props Value Handler TaskState Effect Payload Anchor (Unit {0}) (Unit {0}) (Unit {0})
+      (Unit {0}) Anchor
       last_value_step (λ component. tt) (λ props. tt) (λ props. tt) (λ props. tt) last_tree_step
 
   -- how many numbers the value of a slot has, and its last root

@@ -6,7 +6,8 @@ use Rattle.rt_queues.specs.declared.place.Place.{Place}
 
 -- whether the place p comes before the place q
 abbrev pub place_before : Place → Place → Bool
-place_before p q = order_before p.order q.order || (same_order p.order q.order && (nat_lt p.arrival q.arrival || (p.arrival == q.arrival && nat_lt p.number q.number)))
+place_before p q = order_before p.order q.order
+    || (same_order p.order q.order && (nat_lt p.arrival q.arrival || (p.arrival == q.arrival && nat_lt p.number q.number)))
 
 -- whether p and q are one place
 abbrev pub same_place : Place → Place → Bool

@@ -42,14 +42,19 @@ module _ {P C Q V H T E L : Type 0} where
   answer_in (Err stop) = Err stop
 
   -- a call of a body came to its answer, whatever follows
-  abbrev pub Answers : (state.State (types C Q V H T E L) → (state.State (types C Q V H T E L) → tree.Element (types C Q V H T E L) → Outcome (types C Q V H T E L)) → Outcome (types C Q V H T E L)) → State P C Q V H T E L → State P C Q V H T E L → Result (Result (VNode P C Q V H T E L) RenderError) Stop → Type 0
+  abbrev pub Answers : (state.State (types C Q V H T E L)
+      → (state.State (types C Q V H T E L) → tree.Element (types C Q V H T E L) → Outcome (types C Q V H T E L))
+      → Outcome (types C Q V H T E L)) → State P C Q V H T E L → State P C Q V H T E L
+          → Result (Result (VNode P C Q V H T E L) RenderError) Stop → Type 0
   Answers call old new result =
       (g : Unkept (types C Q V H T E L))
       → (h : Unkept (types C Q V H T E L))
-      × ((then_on : state.State (types C Q V H T E L) → tree.Element (types C Q V H T E L) → Outcome (types C Q V H T E L)) → Answered (call (state_of g old) then_on) then_on (state_of h new) (answer_in result))
+      × ((then_on : state.State (types C Q V H T E L) → tree.Element (types C Q V H T E L) → Outcome (types C Q V H T E L))
+          → Answered (call (state_of g old) then_on) then_on (state_of h new) (answer_in result))
 
   -- what a call left means this, with what it read aside
-  abbrev pub meaning_left : TurnParts P (Result (VNode P C Q V H T E L) RenderError) C Q V H T E L → List model.Source → model.Meaning (types C Q V H T E L) (tree.Element (types C Q V H T E L))
+  abbrev pub meaning_left : TurnParts P (Result (VNode P C Q V H T E L) RenderError) C Q V H T E L → List model.Source
+      → model.Meaning (types C Q V H T E L) (tree.Element (types C Q V H T E L))
   meaning_left parts aside =
       record {
         answer = element_of parts.answer;
@@ -61,7 +66,8 @@ module _ {P C Q V H T E L : Type 0} where
       }
 
   -- what a call left is what this means in the present world, where it had memory
-  abbrev pub Leaves : (model.World (types C Q V H T E L) → model.Meaning (types C Q V H T E L) (tree.Element (types C Q V H T E L))) → State P C Q V H T E L → ℕ → TurnParts P (Result (VNode P C Q V H T E L) RenderError) C Q V H T E L → Type 0
+  abbrev pub Leaves : (model.World (types C Q V H T E L) → model.Meaning (types C Q V H T E L) (tree.Element (types C Q V H T E L)))
+      → State P C Q V H T E L → ℕ → TurnParts P (Result (VNode P C Q V H T E L) RenderError) C Q V H T E L → Type 0
   Leaves body d scope parts =
       parts.fault ≢ Some OutOfMemory
       → (g : Unkept (types C Q V H T E L))
@@ -69,16 +75,21 @@ module _ {P C Q V H T E L : Type 0} where
       × (meaning_left parts aside ≡ body (world_of (state_of g d) scope None true))
 
   -- an answer that was taken on, or the stop
-  abbrev pub settled_result : Result (VNode P C Q V H T E L) RenderError → Result (Unit {0}) Stop → Result (tree.Element (types C Q V H T E L)) Stop
+  abbrev pub settled_result : Result (VNode P C Q V H T E L) RenderError → Result (Unit {0}) Stop
+      → Result (tree.Element (types C Q V H T E L)) Stop
   settled_result answer (Ok u) = Ok (element_of answer)
   settled_result answer (Err stop) = Err stop
 
   -- what a call left was taken on, whatever its world and whatever follows
-  abbrev pub Settles : Application (types C Q V H T E L) → State P C Q V H T E L → ℕ → TurnParts P (Result (VNode P C Q V H T E L) RenderError) C Q V H T E L → State P C Q V H T E L → Result (tree.Element (types C Q V H T E L)) Stop → Type 0
+  abbrev pub Settles : Application (types C Q V H T E L) → State P C Q V H T E L → ℕ
+      → TurnParts P (Result (VNode P C Q V H T E L) RenderError) C Q V H T E L → State P C Q V H T E L
+      → Result (tree.Element (types C Q V H T E L)) Stop → Type 0
   Settles app old scope parts new result =
       (g : Unkept (types C Q V H T E L)) (own : Bool) (world : model.World (types C Q V H T E L)) (aside : List model.Source)
       → (h : Unkept (types C Q V H T E L))
-      × ((then_on : state.State (types C Q V H T E L) → tree.Element (types C Q V H T E L) → Outcome (types C Q V H T E L)) → Answered (answered_with app (called_where own (state_of g old)) scope world then_on (meaning_left parts aside)) then_on (state_of h new) result)
+      × ((then_on : state.State (types C Q V H T E L) → tree.Element (types C Q V H T E L) → Outcome (types C Q V H T E L))
+          → Answered (answered_with app (called_where own (state_of g old)) scope world then_on (meaning_left parts aside)) then_on
+          (state_of h new) result)
 
   -- the error that an error boundary keeps, where it is live
   abbrev pub error_kept : Option (Scope P C Q V H T E L) → Option CapturedError
@@ -86,12 +97,14 @@ module _ {P C Q V H T E L : Type 0} where
   error_kept (Some x) = (x.row).error
 
   -- an answer for which nothing was called
-  abbrev pub plain_left : Firsts → Result (VNode P C Q V H T E L) RenderError → TurnParts P (Result (VNode P C Q V H T E L) RenderError) C Q V H T E L
+  abbrev pub plain_left : Firsts → Result (VNode P C Q V H T E L) RenderError
+      → TurnParts P (Result (VNode P C Q V H T E L) RenderError) C Q V H T E L
   plain_left next answer = record { answer = answer; reads = []; commands = []; next = next; fault = None }
 
 module _ {K : Types} (app : Application K) where
   -- an error boundary's answer, but for its read of the error that it keeps
-  abbrev pub handled_by : tree.Element K → Option (K.Component × K.Props) → Option tree.CapturedError → model.World K → model.Meaning K (tree.Element K)
+  abbrev pub handled_by : tree.Element K → Option (K.Component × K.Props) → Option tree.CapturedError → model.World K
+      → model.Meaning K (tree.Element K)
   handled_by children handler None w = plain w [] (tree.rendered (children_tree children))
   handled_by children None (Some e) w = plain w [] (tree.rendered (error_tree e.text))
   handled_by children (Some h) (Some e) w = app.body h.0 h.1 w

@@ -21,14 +21,18 @@ module _ {K : Types} (app : Application K) where
 
 module _ {K : Types} where
   -- it came to what follows, on this state and with these commands waiting, or was cut
-  abbrev pub CameWaiting : Outcome K → (model.State K → List (Command K) → Outcome K) → model.State K → List (Command K) → Result (Unit {0}) Stop → Type 0
+  abbrev pub CameWaiting : Outcome K → (model.State K → List (Command K) → Outcome K) → model.State K → List (Command K)
+      → Result (Unit {0}) Stop → Type 0
   CameWaiting outcome go v waiting (Ok u) = outcome ≡ go v waiting
   CameWaiting outcome go v waiting (Err stop) = CutBy outcome v stop
 
 module _ {P C Q V H T E L : Type 0} where
   -- a step that leaves commands that wait came to what follows it, whatever that is
-  abbrev pub ComesWaiting : ((model.State (types C Q V H T E L) → List (Command (types C Q V H T E L)) → Outcome (types C Q V H T E L)) → model.State (types C Q V H T E L) → List (Command (types C Q V H T E L)) → Outcome (types C Q V H T E L)) → State P C Q V H T E L → List (CodeCommand P C Q V H T E L) → State P C Q V H T E L → List (CodeCommand P C Q V H T E L) → Result (Unit {0}) Stop → Type 0
+  abbrev pub ComesWaiting : ((model.State (types C Q V H T E L) → List (Command (types C Q V H T E L)) → Outcome (types C Q V H T E L))
+      → model.State (types C Q V H T E L) → List (Command (types C Q V H T E L)) → Outcome (types C Q V H T E L)) → State P C Q V H T E L
+      → List (CodeCommand P C Q V H T E L) → State P C Q V H T E L → List (CodeCommand P C Q V H T E L) → Result (Unit {0}) Stop → Type 0
   ComesWaiting step old before new after result =
       (g : Unkept (types C Q V H T E L))
       → (h : Unkept (types C Q V H T E L))
-      × ((go : model.State (types C Q V H T E L) → List (Command (types C Q V H T E L)) → Outcome (types C Q V H T E L)) → CameWaiting (step go (state_of g old) (map command_of before)) go (state_of h new) (map command_of after) result)
+      × ((go : model.State (types C Q V H T E L) → List (Command (types C Q V H T E L)) → Outcome (types C Q V H T E L))
+          → CameWaiting (step go (state_of g old) (map command_of before)) go (state_of h new) (map command_of after) result)

@@ -42,8 +42,10 @@ module _ {K : Types} (app : Application K) where
 
 module _ {P C Q V H T E L : Type 0} where
   -- a listener of a scope was called with an event
-  abbrev pub Hears : Application (types C Q V H T E L) → State P C Q V H T E L → ℕ → H → CodeEvent L → State P C Q V H T E L → CodeEvent L → Result (Unit {0}) Stop → Type 0
+  abbrev pub Hears : Application (types C Q V H T E L) → State P C Q V H T E L → ℕ → H → CodeEvent L → State P C Q V H T E L → CodeEvent L
+      → Result (Unit {0}) Stop → Type 0
   Hears app old scope handler before new after result =
       (g : Unkept (types C Q V H T E L))
       → (h : Unkept (types C Q V H T E L))
-      × HearsAs app (state_of g old) scope (hearing app (state_of g old) scope handler (event_of before)) (state_of h new) (event_of after) result
+      × HearsAs app (state_of g old) scope (hearing app (state_of g old) scope handler (event_of before)) (state_of h new) (event_of after)
+          result

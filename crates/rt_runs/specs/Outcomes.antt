@@ -36,5 +36,7 @@ module _ {K : Types} where
 
 module _ {P C Q V H T E L : Type 0} where
   -- from the old state, with whatever it has that code doesn't keep, a change came to the new one
-  abbrev pub Comes : {A : Type 0} → (model.State (types C Q V H T E L) → Outcome (types C Q V H T E L)) → State P C Q V H T E L → State P C Q V H T E L → (A → List (Item (types C Q V H T E L))) → Result A Stop → Type 0
-  Comes change old new work result = (g : Unkept (types C Q V H T E L)) → (h : Unkept (types C Q V H T E L)) × Came (change (state_of g old)) (state_of h new) work result
+  abbrev pub Comes : {A : Type 0} → (model.State (types C Q V H T E L) → Outcome (types C Q V H T E L)) → State P C Q V H T E L
+      → State P C Q V H T E L → (A → List (Item (types C Q V H T E L))) → Result A Stop → Type 0
+  Comes change old new work result = (g : Unkept (types C Q V H T E L)) → (h : Unkept (types C Q V H T E L))
+      × Came (change (state_of g old)) (state_of h new) work result

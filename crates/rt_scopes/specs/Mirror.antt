@@ -13,7 +13,8 @@ use Rattle.rt_scopes.specs.declared.state.ContextRow.{ContextRow}
 use Rattle.rt_scopes.specs.declared.state.TaskRow.{TaskRow}
 use Rattle.rt_scopes.specs.declared.state.State.{State}
 
--- what the model's state has and code doesn't keep here: the last calls, the state of a task while it is polled, and how often the application was called
+-- what the model's state has and code doesn't keep here: the last calls, the state of a task while it is polled, and
+-- how often the application was called
 pub record Unkept (K : tree.Types) : Type 0 where
   pub last_calls : List (ℕ × state.LastCall K)
   pub polled : K.TaskState
@@ -52,7 +53,8 @@ module _ {C Q V H T E L : Type 0} where
 module _ {P C Q V H T E L : Type 0} where
   -- a task
   abbrev pub task_of : T → TaskRow P C Q V H T E L → state.TaskRow (types C Q V H T E L)
-  task_of polled x = record { scope = x.scope; parent = x.parent; state = or_else polled x.state; active = x.active; kind = task_kind_of x.kind }
+  task_of polled x = record { scope = x.scope; parent = x.parent; state = or_else polled x.state; active = x.active;
+      kind = task_kind_of x.kind }
 
   -- the scopes
   abbrev pub scopes_of : List (ℕ × Scope P C Q V H T E L) → List (ℕ × state.Scope (types C Q V H T E L))

@@ -10,7 +10,8 @@ module _ {P C Q V H T E L : Type 0} where
   -- a value in the place of the first one of its kind, or at the end
   abbrev pub put_provided : List (Provided P C Q V H T E L) → ℕ → V → List (Provided P C Q V H T E L)
   put_provided [] kind value = record { kind = kind; value = value } ∷ []
-  put_provided (p ∷ ps) kind value = if nat_eq p.kind kind then record { kind = kind; value = value } ∷ ps else p ∷ put_provided ps kind value
+  put_provided (p ∷ ps) kind value = if nat_eq p.kind kind then record { kind = kind; value = value } ∷ ps
+      else p ∷ put_provided ps kind value
 
 module _ {K : Types} where
   module _ (app : Application K) where

@@ -48,7 +48,8 @@ programs_of_script s =
       same_handler = same_doing;
       memoize = λ c p q. same_values p q;
       body = λ c p. body_of (nth s.components c) p;
-      poll = λ at. let steps = or_else [] (nth (map (map statements_of) s.tasks) at.task) in poll_step at (length steps) (nth steps at.step);
+      poll = λ at. let steps =
+          or_else [] (nth (map (map statements_of) s.tasks) at.task) in poll_step at (length steps) (nth steps at.step);
       effect = λ d. go_on (action_run AnotherCall (map statements_of s.actions) d) (λ o. done nothing);
       handle = λ d event. go_on (action_run (AListener event.payload) (map statements_of s.actions) d) (λ o. done (left_event event o));
     }

@@ -16,7 +16,8 @@ numbered_attributes p attributes = template_attributes (length p.attr_paths) att
 -- one attribute is built, before those that come after it
 pub record AttributeBuilt (before after : Paths) (attribute : ViewAttribute) (made : TemplateAttribute) : Type 0 where
   pub stands : (rest : List ViewAttribute) → numbered_attributes before (attribute ∷ rest) ≡ made ∷ numbered_attributes after rest
-  pub paths : (rest : List TemplateAttribute) → before.attr_paths ++ paths_of (slots_among (made ∷ rest) before.path) ≡ after.attr_paths ++ paths_of (slots_among rest before.path)
+  pub paths : (rest : List TemplateAttribute) → before.attr_paths ++ paths_of (slots_among (made ∷ rest) before.path) ≡ after.attr_paths
+      ++ paths_of (slots_among rest before.path)
   pub node_paths : after.node_paths ≡ before.node_paths
   pub path : after.path ≡ before.path
 

@@ -28,7 +28,8 @@ closing shown = if shown then Close ∷ [] else []
 
 module _ {P Component Props Value Handler TaskState Effect Payload : Type 0} where
   -- one level of a template: an element, its children, its end
-  abbrev pub pieces_step : Bool → List (List (Attribute P Component Props Value Handler TaskState Effect Payload)) → TemplateNode-F Pieces → Pieces
+  abbrev pub pieces_step : Bool → List (List (Attribute P Component Props Value Handler TaskState Effect Payload)) → TemplateNode-F Pieces
+      → Pieces
   pieces_step shown slots (TemplateNode-F.Element tag namespace attrs children) path =
       Node path (shown_as shown (shape.Element tag namespace (attrs_with slots [] attrs) (listeners_with slots [] attrs)))
       ∷

@@ -37,17 +37,20 @@ module _ {P Component Props Value Handler TaskState Effect Payload : Type 0} whe
   slot_with all (attribute ∷ rest) = slot_with (value_with all (name_of attribute) attribute.value) rest
 
   -- with one attribute of a template, or with the texts of its slot
-  abbrev pub attr_with : List (List (Attribute P Component Props Value Handler TaskState Effect Payload)) → List DocAttr → TemplateAttribute → List DocAttr
+  abbrev pub attr_with : List (List (Attribute P Component Props Value Handler TaskState Effect Payload)) → List DocAttr → TemplateAttribute
+      → List DocAttr
   attr_with slots all (Static name namespace value) = attr_put all (name, namespace) value
   attr_with slots all (Dynamic id) = slot_with all (slice_index_or slots id [])
 
   -- with all attributes of an element
-  abbrev pub attrs_with : List (List (Attribute P Component Props Value Handler TaskState Effect Payload)) → List DocAttr → List TemplateAttribute → List DocAttr
+  abbrev pub attrs_with : List (List (Attribute P Component Props Value Handler TaskState Effect Payload)) → List DocAttr
+      → List TemplateAttribute → List DocAttr
   attrs_with slots all [] = all
   attrs_with slots all (attr ∷ rest) = attrs_with slots (attr_with slots all attr) rest
 
   -- the names that are listened to, with the one of a listener
-  abbrev pub value_listener : List (List ℕ) → List ℕ → AttributeValue P Component Props Value Handler TaskState Effect Payload → List (List ℕ)
+  abbrev pub value_listener : List (List ℕ) → List ℕ → AttributeValue P Component Props Value Handler TaskState Effect Payload
+      → List (List ℕ)
   value_listener all name (TextValue text) = all
   value_listener all name NoValue = all
   value_listener all name (Listener listener) = name_put all name
@@ -58,11 +61,13 @@ module _ {P Component Props Value Handler TaskState Effect Payload : Type 0} whe
   slot_listeners all (attribute ∷ rest) = slot_listeners (value_listener all attribute.name attribute.value) rest
 
   -- with those of one attribute of a template
-  abbrev pub listener_with : List (List (Attribute P Component Props Value Handler TaskState Effect Payload)) → List (List ℕ) → TemplateAttribute → List (List ℕ)
+  abbrev pub listener_with : List (List (Attribute P Component Props Value Handler TaskState Effect Payload)) → List (List ℕ)
+      → TemplateAttribute → List (List ℕ)
   listener_with slots all (Static name namespace value) = all
   listener_with slots all (Dynamic id) = slot_listeners all (slice_index_or slots id [])
 
   -- with those of all attributes of an element
-  abbrev pub listeners_with : List (List (Attribute P Component Props Value Handler TaskState Effect Payload)) → List (List ℕ) → List TemplateAttribute → List (List ℕ)
+  abbrev pub listeners_with : List (List (Attribute P Component Props Value Handler TaskState Effect Payload)) → List (List ℕ)
+      → List TemplateAttribute → List (List ℕ)
   listeners_with slots all [] = all
   listeners_with slots all (attr ∷ rest) = listeners_with slots (listener_with slots all attr) rest

@@ -57,7 +57,8 @@ pub record AreReports (reports : List Report) : Type 0 where
   pub one_each : OneEach inputs (logs_of reports)
   pub counts : AllByRecursion CountsItsLog reports
 
--- where its views are narrow, a source has a session within these limits with these reports; these edits of it were taken, where that is told
+-- where its views are narrow, a source has a session within these limits with these reports; these edits of it were
+-- taken, where that is told
 abbrev pub IsRun : Limits → Source → Option (List Edit) → List Report → Type 0
 IsRun limits said taken reports =
     IsNarrowSource said → Ran (meaning_of said) (props_of said) (inputs_of said.inputs) (limits_of limits) taken reports

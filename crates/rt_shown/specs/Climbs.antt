@@ -33,16 +33,19 @@ module _ {P C Q V H T E L : Type 0} where
   climb_found climb = option_map climb_of climb
 
   -- what one entry of an element gives
-  unfoldable pub entry_slots : List (List (Attribute P C Q V H T E L)) → TemplateAttribute → List (List (model.Attribute (types C Q V H T E L)))
+  unfoldable pub entry_slots : List (List (Attribute P C Q V H T E L)) → TemplateAttribute
+      → List (List (model.Attribute (types C Q V H T E L)))
   entry_slots given entry = slots_on (slots_of given) (attribute_in entry ∷ [])
 
   -- what all entries give
-  abbrev pub entries_slots : List (List (Attribute P C Q V H T E L)) → List TemplateAttribute → List (List (model.Attribute (types C Q V H T E L)))
+  abbrev pub entries_slots : List (List (Attribute P C Q V H T E L)) → List TemplateAttribute
+      → List (List (model.Attribute (types C Q V H T E L)))
   entries_slots given [] = []
   entries_slots given (entry ∷ entries) = entry_slots given entry ++ entries_slots given entries
 
   -- the climb on a side, if there is one
-  abbrev pub climb_on : ℕ → (ℕ → Option (Climb (types C Q V H T E L))) → Option (Side P C Q V H T E L) → Option (Climb (types C Q V H T E L))
+  abbrev pub climb_on : ℕ → (ℕ → Option (Climb (types C Q V H T E L))) → Option (Side P C Q V H T E L)
+      → Option (Climb (types C Q V H T E L))
   climb_on number inner None = None
   climb_on number inner (Some side) = find_side number inner (side_of side)
 
@@ -64,28 +67,34 @@ module _ {P C Q V H T E L : Type 0} where
   child_climb look number n side place = find_child (λ t. climb_within look number n t) (child_in side.children place)
 
   -- the climb in a tree
-  unfoldable pub tree_climb : Look P C Q V H T E L → ℕ → ℕ → Side P C Q V H T E L → VNode P C Q V H T E L → Place → Option (Climb (types C Q V H T E L))
+  unfoldable pub tree_climb : Look P C Q V H T E L → ℕ → ℕ → Side P C Q V H T E L → VNode P C Q V H T E L → Place
+      → Option (Climb (types C Q V H T E L))
   tree_climb look number n side tree above = find_tree (side_of side) number (λ t. climb_within look number n t) above (tree_of tree)
 
   -- the climb in what stands in a slot
-  unfoldable pub value_climb : Look P C Q V H T E L → ℕ → ℕ → Side P C Q V H T E L → DynamicNode P C Q V H T E L → Place → Option (Climb (types C Q V H T E L))
+  unfoldable pub value_climb : Look P C Q V H T E L → ℕ → ℕ → Side P C Q V H T E L → DynamicNode P C Q V H T E L → Place
+      → Option (Climb (types C Q V H T E L))
   value_climb look number n side value place = find_slot (side_of side) number (λ t. climb_within look number n t) (slot_of value) place
 
   -- the climb in a fragment's items, from a position on
-  abbrev pub items_climb : Look P C Q V H T E L → ℕ → ℕ → Side P C Q V H T E L → ℕ → Place → List (VNode P C Q V H T E L) → Option (Climb (types C Q V H T E L))
+  abbrev pub items_climb : Look P C Q V H T E L → ℕ → ℕ → Side P C Q V H T E L → ℕ → Place → List (VNode P C Q V H T E L)
+      → Option (Climb (types C Q V H T E L))
   items_climb look number n side i place [] = None
   items_climb look number n side i place (tree ∷ trees) =
       or_later (tree_climb look number n side tree (place ++ item i ∷ [])) (items_climb look number n side (i + 1) place trees)
 
   -- the climb in a node of a tree's template
-  unfoldable pub node_climb : Look P C Q V H T E L → ℕ → ℕ → Side P C Q V H T E L → VNode P C Q V H T E L → Place → List ℕ → ℕ → TemplateNode → Option (Climb (types C Q V H T E L))
+  unfoldable pub node_climb : Look P C Q V H T E L → ℕ → ℕ → Side P C Q V H T E L → VNode P C Q V H T E L → Place → List ℕ → ℕ
+      → TemplateNode → Option (Climb (types C Q V H T E L))
   node_climb look number n side tree above up i node =
       find_nodes (map number_of side.numbers) number (template_of tree.template) above (slots_of tree.dynamic_attrs)
-      (λ k place. find_slots (side_of side) number (λ t. climb_within look number n t) (slots_from (map slot_of tree.dynamic_nodes)) k place)
+      (λ k place. find_slots (side_of side) number (λ t. climb_within look number n t) (slots_from (map slot_of tree.dynamic_nodes)) k
+          place)
       up i (node_before node no_nodes)
 
   -- the climb in a row of nodes
-  abbrev pub row_climb : Look P C Q V H T E L → ℕ → ℕ → Side P C Q V H T E L → VNode P C Q V H T E L → Place → List ℕ → ℕ → List TemplateNode → Option (Climb (types C Q V H T E L))
+  abbrev pub row_climb : Look P C Q V H T E L → ℕ → ℕ → Side P C Q V H T E L → VNode P C Q V H T E L → Place → List ℕ → ℕ
+      → List TemplateNode → Option (Climb (types C Q V H T E L))
   row_climb look number n side tree above up i [] = None
   row_climb look number n side tree above up i (node ∷ nodes) =
       or_later (node_climb look number n side tree above up i node) (row_climb look number n side tree above up (i + 1) nodes)
@@ -105,9 +114,11 @@ module _ {P C Q V H T E L : Type 0} where
   -- in a node of a tree that stands on it
   abbrev pub node_climb_in : Standing P C Q V H T E L → ℕ → List ℕ → ℕ → TemplateNode → Option (Climb (types C Q V H T E L))
   node_climb_in standing number up i node =
-      node_climb (standing.shown.now).look.now number (standing.shown.now).depth (standing.shown.now).side.now standing.tree.now (place_of standing.above.now) up i node
+      node_climb (standing.shown.now).look.now number (standing.shown.now).depth (standing.shown.now).side.now standing.tree.now
+          (place_of standing.above.now) up i node
 
   -- in a row of nodes of it
   abbrev pub row_climb_in : Standing P C Q V H T E L → ℕ → List ℕ → ℕ → List TemplateNode → Option (Climb (types C Q V H T E L))
   row_climb_in standing number up i nodes =
-      row_climb (standing.shown.now).look.now number (standing.shown.now).depth (standing.shown.now).side.now standing.tree.now (place_of standing.above.now) up i nodes
+      row_climb (standing.shown.now).look.now number (standing.shown.now).depth (standing.shown.now).side.now standing.tree.now
+          (place_of standing.above.now) up i nodes

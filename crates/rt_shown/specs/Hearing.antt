@@ -48,7 +48,8 @@ module _ {P C Q V H T E L : Type 0} where
   -- the slot's first matching listener
   abbrev pub first_listening : Text → List (Attribute P C Q V H T E L) → List (heard.Listener (types C Q V H T E L))
   first_listening event [] = []
-  first_listening event (a ∷ rest) = if matches a.name event && value_listens a.value then value_heard a.value else first_listening event rest
+  first_listening event (a ∷ rest) = if matches a.name event && value_listens a.value then value_heard a.value
+      else first_listening event rest
 
   -- the matching listeners of a slot, last first
   abbrev pub slot_heard : Text → List (Attribute P C Q V H T E L) → List (heard.Listener (types C Q V H T E L))

@@ -29,4 +29,5 @@ module _ {P C Q V H T E L : Type 0} where
   -- the edits are those of the build
   abbrev pub AreBuilt : List Edit → Look P C Q V H T E L → Type 0
   AreBuilt edits after =
-      (app : Application (types C Q V H T E L)) (w v : state.State (types C Q V H T E L)) → ShowsScopes after v → map edit_of edits ≡ caused.caused app w v Build
+      (app : Application (types C Q V H T E L)) (w v : state.State (types C Q V H T E L)) → ShowsScopes after v
+          → map edit_of edits ≡ caused.caused app w v Build

@@ -1,4 +1,5 @@
--- What a rerun writes, by the definitions, for each pair of states whose scopes the looks show, and each application that tells its components apart.
+-- What a rerun writes, by the definitions, for each pair of states whose scopes the looks show, and each application
+-- that tells its components apart.
 use Rattle.std.specs.Prelude.{ℕ, List, map, Some, ◌≡◌}
 use Rattle.rt_edits.specs.declared.edit.Edit.{Edit}
 use Rattle.rt_model.specs.OneLog.{types}
@@ -24,4 +25,5 @@ module _ {P C Q V H T E L : Type 0} where
   abbrev pub AreCausedUntil : List Edit → Look P C Q V H T E L → Look P C Q V H T E L → Item P C Q V H T E L → ℕ → Type 0
   AreCausedUntil edits before after refused s =
       (app : Application (types C Q V H T E L)) (w v : state.State (types C Q V H T E L))
-      → Tests C app.same_component → ShowsScopes before w → ShowsScopes after v → map edit_of edits ≡ caused.caused_until app w v (Some (item_of refused)) (Rerun s)
+      → Tests C app.same_component → ShowsScopes before w → ShowsScopes after v
+      → map edit_of edits ≡ caused.caused_until app w v (Some (item_of refused)) (Rerun s)

@@ -54,14 +54,16 @@ module _ {P C Q V H T E L : Type 0} where
       join_rows (tree_seen look n side tree (place ++ item (first + i) ∷ [])) (items_seen look n side first (i + 1) place trees)
 
   -- what a node of a tree's template shows
-  unfoldable pub node_seen : Look P C Q V H T E L → ℕ → Side P C Q V H T E L → VNode P C Q V H T E L → Place → List ℕ → ℕ → TemplateNode → Forest
+  unfoldable pub node_seen : Look P C Q V H T E L → ℕ → Side P C Q V H T E L → VNode P C Q V H T E L → Place → List ℕ → ℕ → TemplateNode
+      → Forest
   node_seen look n side tree above up i node =
       nodes_view (map number_of side.numbers) (template_of tree.template) above (map (map attribute_of) tree.dynamic_attrs)
       (λ k place. slots_view (side_of side) (λ t. seen_within look n t) (slots_from (map slot_of tree.dynamic_nodes)) k place)
       up i (node_before node no_nodes)
 
   -- what a row of nodes shows
-  abbrev pub row_seen : Look P C Q V H T E L → ℕ → Side P C Q V H T E L → VNode P C Q V H T E L → Place → List ℕ → ℕ → List TemplateNode → Forest
+  abbrev pub row_seen : Look P C Q V H T E L → ℕ → Side P C Q V H T E L → VNode P C Q V H T E L → Place → List ℕ → ℕ → List TemplateNode
+      → Forest
   row_seen look n side tree above up i [] = Empty
   row_seen look n side tree above up i (node ∷ nodes) =
       join_rows (node_seen look n side tree above up i node) (row_seen look n side tree above up (i + 1) nodes)
@@ -81,9 +83,11 @@ module _ {P C Q V H T E L : Type 0} where
   -- a node of a tree that stands on a shown side
   abbrev pub node_in : Standing P C Q V H T E L → List ℕ → ℕ → TemplateNode → Forest
   node_in standing up i node =
-      node_seen (standing.shown.now).look.now (standing.shown.now).depth (standing.shown.now).side.now standing.tree.now (place_of standing.above.now) up i node
+      node_seen (standing.shown.now).look.now (standing.shown.now).depth (standing.shown.now).side.now standing.tree.now
+          (place_of standing.above.now) up i node
 
   -- a row of nodes of it
   abbrev pub row_in : Standing P C Q V H T E L → List ℕ → ℕ → List TemplateNode → Forest
   row_in standing up i nodes =
-      row_seen (standing.shown.now).look.now (standing.shown.now).depth (standing.shown.now).side.now standing.tree.now (place_of standing.above.now) up i nodes
+      row_seen (standing.shown.now).look.now (standing.shown.now).depth (standing.shown.now).side.now standing.tree.now
+          (place_of standing.above.now) up i nodes

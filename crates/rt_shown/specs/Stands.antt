@@ -11,7 +11,8 @@ use Rattle.rt_shown.specs.Look.{ShowsScopes, sight_in, sight_of}
 
 module _ {P C Q V H T E L : Type 0} where
   -- of each scope it is kept what it was, or it still shows what it did
-  pub record Stands (stood : List (ℕ × Option (Stood P C Q V H T E L))) (was is : List (ℕ × state.Scope (types C Q V H T E L))) : Type 0 where
+  pub record Stands (stood : List (ℕ × Option (Stood P C Q V H T E L))) (was is : List (ℕ × state.Scope (types C Q V H T E L))) :
+      Type 0 where
     -- what is kept of a scope is what it was, None where it wasn't live
     pub kept : (s : ℕ) (o : Option (Stood P C Q V H T E L)) → at stood s ≡ Some o → option_map sight_in o ≡ option_map sight_of (at was s)
     -- a scope of which nothing is kept shows what it did

@@ -44,16 +44,19 @@ module _ {C Q V H T E L : Type 0} where
 module _ {P C Q V H T E L : Type 0} where
   -- a slot's old nodes give way to its new ones
   abbrev pub slot_replaces : Sides P C Q V H T E L → Place → DynamicNode P C Q V H T E L → DynamicNode P C Q V H T E L → Written
-  slot_replaces b place new old = built_whole (place_found b.stop) place (replaced_by (value_in b.old.now old place) (value_in b.new.now new place))
+  slot_replaces b place new old =
+      built_whole (place_found b.stop) place (replaced_by (value_in b.old.now old place) (value_in b.new.now new place))
 
   -- a tree's old nodes give way to its new ones
   abbrev pub tree_replaces : Sides P C Q V H T E L → Place → VNode P C Q V H T E L → VNode P C Q V H T E L → Written
-  tree_replaces b above new old = built_whole (place_found b.stop) above (replaced_by (tree_in b.old.now old above) (tree_in b.new.now new above))
+  tree_replaces b above new old =
+      built_whole (place_found b.stop) above (replaced_by (tree_in b.old.now old above) (tree_in b.new.now new above))
 
   -- the number of the last node of items, or the one that came before them
   abbrev pub last_among : Shown P C Q V H T E L → Place → ℕ → ℕ → List (VNode P C Q V H T E L) → ℕ
   last_among shown place i last [] = last
-  last_among shown place i last (tree ∷ trees) = last_among shown place (i + 1) (last_of last (tree_in shown tree (place ++ item i ∷ []))) trees
+  last_among shown place i last (tree ∷ trees) =
+      last_among shown place (i + 1) (last_of last (tree_in shown tree (place ++ item i ∷ []))) trees
 
   -- the items from a position on are new: they come after the last node before them
   abbrev pub items_inserts : Sides P C Q V H T E L → Place → ℕ → ℕ → List (VNode P C Q V H T E L) → Written
@@ -64,7 +67,8 @@ module _ {P C Q V H T E L : Type 0} where
 
   module _ (app : Application (types C Q V H T E L)) where
     -- one side of a scope in two looks, with what its components show and write
-    abbrev pub sides_at : Look P C Q V H T E L → Look P C Q V H T E L → Way → (ℕ → Written) → Side P C Q V H T E L → Side P C Q V H T E L → Option Place → caused.Both (types C Q V H T E L)
+    abbrev pub sides_at : Look P C Q V H T E L → Look P C Q V H T E L → Way → (ℕ → Written) → Side P C Q V H T E L → Side P C Q V H T E L
+        → Option Place → caused.Both (types C Q V H T E L)
     sides_at before after way under old new stop =
         record {
           old = side_of old;
@@ -77,13 +81,17 @@ module _ {P C Q V H T E L : Type 0} where
         }
 
     -- what a side of a scope writes, where it is there in both looks
-    abbrev pub side_writes : Look P C Q V H T E L → Look P C Q V H T E L → Way → (ℕ → Written) → ℕ → SideName → Option (Side P C Q V H T E L) → Option (Side P C Q V H T E L) → Written
+    abbrev pub side_writes : Look P C Q V H T E L → Look P C Q V H T E L → Way → (ℕ → Written) → ℕ → SideName
+        → Option (Side P C Q V H T E L) → Option (Side P C Q V H T E L) → Written
     side_writes before after way under s name (Some old) (Some new) =
-        caused.outputs_written app (sides_at before after way under old new (caused.stop_on (side_name_of name) (at way s))) (output_of new.output) (output_of old.output)
+        caused.outputs_written app (sides_at before after way under old new (caused.stop_on (side_name_of name) (at way s)))
+            (output_of new.output) (output_of old.output)
     side_writes before after way under s name _ _ = writes []
 
     -- the side that shows in both, or one side in place of the other
-    abbrev pub shown_writes : Look P C Q V H T E L → Look P C Q V H T E L → Way → (ℕ → Written) → ℕ → (SideName → Option (Side P C Q V H T E L)) → (SideName → Option (Side P C Q V H T E L)) → Option SideName → Option SideName → Written
+    abbrev pub shown_writes : Look P C Q V H T E L → Look P C Q V H T E L → Way → (ℕ → Written) → ℕ
+        → (SideName → Option (Side P C Q V H T E L)) → (SideName → Option (Side P C Q V H T E L)) → Option SideName → Option SideName
+        → Written
     shown_writes before after way under s olds news (Some a) (Some b) =
         if state.same_side (side_name_of a) (side_name_of b)
         then side_writes before after way under s a (olds a) (news a)
@@ -96,7 +104,8 @@ module _ {P C Q V H T E L : Type 0} where
     unit_within before after way (suc n) s =
         then_on
         (if look_is_shown before s && look_is_shown after s
-        then shown_writes before after way (λ t. unit_within before after way n t) s (λ name. look_side before s name) (λ name. look_side after s name) (look_shows before s) (look_shows after s)
+        then shown_writes before after way (λ t. unit_within before after way n t) s (λ name. look_side before s name) (λ name.
+            look_side after s name) (look_shows before s) (look_shows after s)
         else writes [])
         (if is_some (at way s) then halts else writes [])
 
@@ -107,13 +116,16 @@ module _ {P C Q V H T E L : Type 0} where
     -- what the side that shows writes
     unfoldable pub scope_writes : CodeUnit P C Q V H T E L → ℕ → ℕ → Written
     scope_writes unit n s =
-        shown_writes unit.before.now unit.after.now (way_of unit.way.now) (λ t. unit_within unit.before.now unit.after.now (way_of unit.way.now) n t) s
-        (λ name. look_side unit.before.now s name) (λ name. look_side unit.after.now s name) (look_shows unit.before.now s) (look_shows unit.after.now s)
+        shown_writes unit.before.now unit.after.now (way_of unit.way.now) (λ t.
+            unit_within unit.before.now unit.after.now (way_of unit.way.now) n t) s
+        (λ name. look_side unit.before.now s name) (λ name. look_side unit.after.now s name) (look_shows unit.before.now s)
+            (look_shows unit.after.now s)
 
     -- what a side of a scope writes
     unfoldable pub name_writes : CodeUnit P C Q V H T E L → ℕ → ℕ → SideName → Written
     name_writes unit n s name =
-        side_writes unit.before.now unit.after.now (way_of unit.way.now) (λ t. unit_within unit.before.now unit.after.now (way_of unit.way.now) n t) s name
+        side_writes unit.before.now unit.after.now (way_of unit.way.now) (λ t.
+            unit_within unit.before.now unit.after.now (way_of unit.way.now) n t) s name
         (look_side unit.before.now s name) (look_side unit.after.now s name)
 
     -- the two sides that are compared
@@ -131,7 +143,8 @@ module _ {P C Q V H T E L : Type 0} where
 
     -- what an output writes where there was one before
     unfoldable pub output_writes : Sides P C Q V H T E L → Written
-    output_writes b = caused.outputs_written app (both_of b) (output_of ((b.new.now).side.now).output) (output_of ((b.old.now).side.now).output)
+    output_writes b = caused.outputs_written app (both_of b) (output_of ((b.new.now).side.now).output)
+        (output_of ((b.old.now).side.now).output)
 
     -- what a tree writes
     unfoldable pub tree_writes : Sides P C Q V H T E L → Place → VNode P C Q V H T E L → VNode P C Q V H T E L → Written
@@ -146,15 +159,18 @@ module _ {P C Q V H T E L : Type 0} where
     child_writes b place = caused.child_written app (both_of b) place (child_in ((b.old.now).side.now).children place)
 
     -- what the items of a fragment write, from a position on, where the last node before them has a number
-    unfoldable pub items_writes : Sides P C Q V H T E L → Place → ℕ → ℕ → List (VNode P C Q V H T E L) → List (VNode P C Q V H T E L) → Written
-    items_writes b place i last new old = caused.items_written app (both_of b) place i last (trees_from (map tree_of new)) (trees_from (map tree_of old))
+    unfoldable pub items_writes : Sides P C Q V H T E L → Place → ℕ → ℕ → List (VNode P C Q V H T E L) → List (VNode P C Q V H T E L)
+        → Written
+    items_writes b place i last new old =
+        caused.items_written app (both_of b) place i last (trees_from (map tree_of new)) (trees_from (map tree_of old))
 
     -- what is met in a tree's template writes
     abbrev pub met_writes : Sides P C Q V H T E L → Place → VNode P C Q V H T E L → VNode P C Q V H T E L → Met → Written
     met_writes b above new old (met_element path attributes) = writes []
     met_writes b above new old (met_text path) = writes []
     met_writes b above new old (met_slot k path) =
-        caused.slots_written app (both_of b) (slots_from (map slot_of new.dynamic_nodes)) (slots_from (map slot_of old.dynamic_nodes)) k (at_path (template_of new.template) above path)
+        caused.slots_written app (both_of b) (slots_from (map slot_of new.dynamic_nodes)) (slots_from (map slot_of old.dynamic_nodes)) k
+            (at_path (template_of new.template) above path)
 
     -- what a piece of a tree's template writes
     unfoldable pub piece_writes : Sides P C Q V H T E L → Place → VNode P C Q V H T E L → VNode P C Q V H T E L → Piece → Written
@@ -166,18 +182,22 @@ module _ {P C Q V H T E L : Type 0} where
     pieces_writes b above new old (piece ∷ pieces) = then_on (piece_writes b above new old piece) (pieces_writes b above new old pieces)
 
   -- the pieces so far, with what those that are left write, whatever the application
-  abbrev pub PiecesLeft : Written → Sides P C Q V H T E L → Place → VNode P C Q V H T E L → VNode P C Q V H T E L → List Piece → List Piece → Type 0
+  abbrev pub PiecesLeft : Written → Sides P C Q V H T E L → Place → VNode P C Q V H T E L → VNode P C Q V H T E L → List Piece → List Piece
+      → Type 0
   PiecesLeft written b above new old left pieces =
-      (app : Application (types C Q V H T E L)) → Tests C app.same_component → then_on written (pieces_writes app b above new old left) ≡ pieces_writes app b above new old pieces
+      (app : Application (types C Q V H T E L)) → Tests C app.same_component
+          → then_on written (pieces_writes app b above new old left) ≡ pieces_writes app b above new old pieces
 
   -- the items so far, with what those that are left write, whatever the application
   abbrev pub ItemsLeft : Written → Sides P C Q V H T E L → Place → ℕ → List (VNode P C Q V H T E L) → List (VNode P C Q V H T E L) → Type 0
   ItemsLeft written b place i new old =
       (app : Application (types C Q V H T E L)) → Tests C app.same_component
-      → then_on written (items_writes app b place i (last_among b.new.now place 0 0 (take i new)) (drop i new) (drop i old)) ≡ items_writes app b place 0 0 new old
+      → then_on written (items_writes app b place i (last_among b.new.now place 0 0 (take i new)) (drop i new) (drop i old))
+          ≡ items_writes app b place 0 0 new old
 
   -- the edits are those of a scope on the way to a refusal
   abbrev pub AreOnWay : List Edit → Look P C Q V H T E L → Look P C Q V H T E L → caused.Way → ℕ → Type 0
   AreOnWay edits before after way s =
       (app : Application (types C Q V H T E L)) (w v : state.State (types C Q V H T E L))
-      → Tests C app.same_component → ShowsScopes before w → ShowsScopes after v → map edit_of edits ≡ (caused.written_within app way w v before.scopes s).edits
+      → Tests C app.same_component → ShowsScopes before w → ShowsScopes after v
+      → map edit_of edits ≡ (caused.written_within app way w v before.scopes s).edits

@@ -15,7 +15,8 @@ use Rattle.rt_work.specs.Items.{work_of}
 
 module _ {P C Q V H T E L : Type 0} where
   -- a side with another output: what it keeps, and the work that this leads to
-  pub record PatchesBy (app : Application (types C Q V H T E L)) (scope : ℕ) (name : SideName) (tree : VNode P C Q V H T E L) (was : Side P C Q V H T E L) (work : List (Item P C Q V H T E L)) (side : Side P C Q V H T E L) : Type 0 where
+  pub record PatchesBy (app : Application (types C Q V H T E L)) (scope : ℕ) (name : SideName) (tree : VNode P C Q V H T E L)
+      (was : Side P C Q V H T E L) (work : List (Item P C Q V H T E L)) (side : Side P C Q V H T E L) : Type 0 where
     pub work_is :
         work_of work
         ≡
@@ -32,6 +33,7 @@ module _ {P C Q V H T E L : Type 0} where
         }
 
   -- the same whatever the application
-  abbrev pub Patches : ℕ → SideName → VNode P C Q V H T E L → Side P C Q V H T E L → List (Item P C Q V H T E L) → Side P C Q V H T E L → Type 0
+  abbrev pub Patches : ℕ → SideName → VNode P C Q V H T E L → Side P C Q V H T E L → List (Item P C Q V H T E L) → Side P C Q V H T E L
+      → Type 0
   Patches scope name tree was work side =
       (app : Application (types C Q V H T E L)) → Tests C app.same_component → PatchesBy app scope name tree was work side

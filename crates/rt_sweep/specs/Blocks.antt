@@ -78,14 +78,16 @@ fragment_part (item ∷ rest) = all_parts (item ∷ rest)
 
 module _ {P Component Props Value Handler TaskState Effect Payload : Type 0} where
   -- the value of a slot, where the parts of its items are known
-  abbrev pub value_part_step : DynamicNode-F P Component Props Value Handler TaskState Effect Payload Part (Unit {0}) (Unit {0}) (Unit {0}) (Unit {0}) Part → Part
+  abbrev pub value_part_step :
+      DynamicNode-F P Component Props Value Handler TaskState Effect Payload Part (Unit {0}) (Unit {0}) (Unit {0}) (Unit {0}) Part → Part
   value_part_step (DynamicNode-F.Text text) = numbered_part (shape_pieces (shape.Text text))
   value_part_step DynamicNode-F.Placeholder = numbered_part (shape_pieces shape.Placeholder)
   value_part_step (DynamicNode-F.Component component) = scope_part
   value_part_step (DynamicNode-F.DynamicNode::Fragment items) = fragment_part items
 
   -- a tree, where the parts of its slots are known
-  abbrev pub tree_part_step : VNode-F P Component Props Value Handler TaskState Effect Payload Part (Unit {0}) (Unit {0}) (Unit {0}) (Unit {0}) Part → Part
+  abbrev pub tree_part_step :
+      VNode-F P Component Props Value Handler TaskState Effect Payload Part (Unit {0}) (Unit {0}) (Unit {0}) (Unit {0}) Part → Part
   tree_part_step tree =
       all_parts (map (template_part tree.dynamic_nodes) (pieces_among (map (node_pieces true tree.dynamic_attrs) tree.template.roots) [] 0))
 
@@ -96,9 +98,11 @@ module _ {P Component Props Value Handler TaskState Effect Payload : Type 0} whe
 
   -- the value of a slot
   abbrev pub value_part : DynamicNode P Component Props Value Handler TaskState Effect Payload → Part
-  value_part = fold-DynamicNode P Component Props Value Handler TaskState Effect Payload Part (Unit {0}) (Unit {0}) (Unit {0}) (Unit {0}) Part
+  value_part = fold-DynamicNode P Component Props Value Handler TaskState Effect Payload Part (Unit {0}) (Unit {0}) (Unit {0}) (Unit {0})
+      Part
       value_part_step (λ component. tt) (λ props. tt) (λ props. tt) (λ props. tt) tree_part_step
 
   -- the nodes of a block, written flat
-  abbrev pub block_pieces : VNode P Component Props Value Handler TaskState Effect Payload → List ElementId → List (List DocNode) → List Piece
+  abbrev pub block_pieces : VNode P Component Props Value Handler TaskState Effect Payload → List ElementId → List (List DocNode)
+      → List Piece
   block_pieces tree numbers nodes = (tree_part tree (record { numbers = numbers; nodes = nodes })).0

@@ -7,4 +7,5 @@ use Rattle.rt_sweep.specs.Blocks.{Marks, tree_part}
 module _ (P Component Props Value Handler TaskState Effect Payload : Type 0) where
   -- a tree takes as many numbers as it is counted to have
   abbrev pub TakesCounted : Type 0
-  TakesCounted = (tree : VNode P Component Props Value Handler TaskState Effect Payload) (marks : Marks) → (tree_part tree marks).1.numbers ≡ drop (count_tree tree) marks.numbers
+  TakesCounted = (tree : VNode P Component Props Value Handler TaskState Effect Payload) (marks : Marks)
+      → (tree_part tree marks).1.numbers ≡ drop (count_tree tree) marks.numbers

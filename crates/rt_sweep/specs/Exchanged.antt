@@ -36,7 +36,8 @@ module _ {P Component Props Value Handler TaskState Effect Payload : Type 0} whe
 
   -- a plan that leads by its steps, with these answers, to the edits of a cell at which the old part stood, and that
   -- takes the part's numbers and children
-  pub record LeadsTo (plan : List (Instruction P Component Props Value Handler TaskState Effect Payload)) (old : Part) (cell : Cell) (numbers : List ElementId) (children : List Child) (answers given : List Answer) : Type 0 where
+  pub record LeadsTo (plan : List (Instruction P Component Props Value Handler TaskState Effect Payload)) (old : Part) (cell : Cell)
+      (numbers : List ElementId) (children : List Child) (answers given : List Answer) : Type 0 where
     -- the numbers and the child scopes that go
     pub gone : List ElementId
     pub drops : List ScopeId
@@ -47,11 +48,13 @@ module _ {P Component Props Value Handler TaskState Effect Payload : Type 0} whe
     pub leads : (is : List (Instruction P Component Props Value Handler TaskState Effect Payload)) (kept : Kept) (later : List Answer) →
         (first : List (PatchStep P Component Props Value Handler TaskState Effect Payload)) × (edits_among first ≡ edits_of_cell cell) × (
         steps (plan ++ is) numbers (scopes_of children) (clear_of kept) (answers ++ later) ≡
-        first_steps first (steps is numbers_left (scopes_of children_left) (built_on (lost_on (clear_of kept) [] gone drops) given []) later))
+        first_steps first (steps is numbers_left (scopes_of children_left) (built_on (lost_on (clear_of kept) [] gone drops) given [])
+            later))
 
   -- the plan of what goes and the plan of what is made in its place lead to the edits of a cell: what stood at it is
   -- the old part and what stands there then is the new one, where there is a first node that goes
-  abbrev pub Exchanges : List (Instruction P Component Props Value Handler TaskState Effect Payload) → Part → List (Instruction P Component Props Value Handler TaskState Effect Payload) → Part → Type 0
+  abbrev pub Exchanges : List (Instruction P Component Props Value Handler TaskState Effect Payload) → Part
+      → List (Instruction P Component Props Value Handler TaskState Effect Payload) → Part → Type 0
   Exchanges lost old made new = (numbers : List ElementId) (children : List Child) (answers : List Answer) → AreAnswersTo made answers →
       (goes comes : List DocNode) ×
       ((old (marks_with numbers children)).0 ≡ flat goes) ×
@@ -62,13 +65,19 @@ module _ {P Component Props Value Handler TaskState Effect Payload : Type 0} whe
 module _ (P Component Props Value Handler TaskState Effect Payload : Type 0) where
   -- a tree in the place of one of another template
   abbrev pub TreesExchange : Type 0
-  TreesExchange = (old new : VNode P Component Props Value Handler TaskState Effect Payload) (places : List Step) → Exchanges (lose_tree old true) (tree_part old) (make_tree true new places) (tree_part new)
+  TreesExchange = (old new : VNode P Component Props Value Handler TaskState Effect Payload) (places : List Step)
+      → Exchanges (lose_tree old true) (tree_part old) (make_tree true new places) (tree_part new)
 
   -- a value of a slot in the place of one of another kind
   abbrev pub ValuesExchange : Type 0
-  ValuesExchange = (old new : DynamicNode P Component Props Value Handler TaskState Effect Payload) (places : List Step) (slot : ℕ) (path : List ℕ) → Exchanges (lose_value old true) (value_part old) (make_value true new places slot path) (value_part new)
+  ValuesExchange = (old new : DynamicNode P Component Props Value Handler TaskState Effect Payload) (places : List Step) (slot : ℕ)
+      (path : List ℕ) → Exchanges (lose_value old true) (value_part old) (make_value true new places slot path) (value_part new)
 
   -- items of a fragment that go
   abbrev pub ItemsGo : Type 0
-  ItemsGo = (items : List (VNode P Component Props Value Handler TaskState Effect Payload)) (numbers : List ElementId) (children : List Child) →
-      (goes : List DocNode) × LeadsTo (lose_all (map lose_tree items) true ++ i.Erase ∷ []) (all_parts (map tree_part items)) (Shrunk goes) numbers children (asked (lose_all (map lose_tree items) true) children) []
+  ItemsGo = (items : List (VNode P Component Props Value Handler TaskState Effect Payload)) (numbers : List ElementId)
+      (children : List Child) →
+      (goes : List DocNode)
+          × LeadsTo (lose_all (map lose_tree items) true
+          ++ i.Erase ∷ []) (all_parts (map tree_part items)) (Shrunk goes) numbers children
+          (asked (lose_all (map lose_tree items) true) children) []

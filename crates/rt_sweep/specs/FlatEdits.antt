@@ -74,7 +74,8 @@ pieces_instead (edits.ReplaceNodeWith id nodes) first later = flat nodes
 pieces_instead (edits.InsertNodesAfter id nodes) first later = first ∷ (later ++ flat nodes)
 pieces_instead (edits.RemoveNode id) first later = []
 pieces_instead (edits.SetNodeText id text) first later = words id.0 text ∷ []
-pieces_instead (edits.SetAttribute id name namespace value) first later = with_head (head_after (edits.SetAttribute id name namespace value)) first ∷ later
+pieces_instead (edits.SetAttribute id name namespace value) first later =
+    with_head (head_after (edits.SetAttribute id name namespace value)) first ∷ later
 pieces_instead (edits.CreateEventListener id name) first later = with_head (head_after (edits.CreateEventListener id name)) first ∷ later
 pieces_instead (edits.RemoveEventListener id name) first later = with_head (head_after (edits.RemoveEventListener id name)) first ∷ later
 

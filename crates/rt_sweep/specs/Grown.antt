@@ -27,7 +27,8 @@ behind_of kept ChildScope nodes = last_or kept.behind (numbers_of nodes)
 -- what was gathered, once that node is known
 abbrev pub kept_behind : Kept → Anchor → List DocNode → Kept
 kept_behind kept (Number back) nodes = record kept { behind = number_back kept.numbers back }
-kept_behind kept ChildScope nodes = record kept { behind = last_or kept.behind (numbers_of nodes); neighbour = last_or no_scope kept.children }
+kept_behind kept ChildScope nodes =
+    record kept { behind = last_or kept.behind (numbers_of nodes); neighbour = last_or no_scope kept.children }
 
 -- the answer to the question for that scope's nodes, where there is one
 abbrev pub answers_behind : Anchor → ScopeId → List DocNode → List Answer
@@ -37,11 +38,16 @@ answers_behind ChildScope scope nodes = answered scope nodes ∷ []
 module _ (P Component Props Value Handler TaskState Effect Payload : Type 0) where
   -- the plan of items that come leads to one edit, which inserts just the nodes of these items
   abbrev pub ItemsCome : Type 0
-  ItemsCome = (items : List (VNode P Component Props Value Handler TaskState Effect Payload)) (places : List Step) (slot k : ℕ) (answers : List Answer) → AreAnswersTo (items_made (map (make_tree true) items) places slot k) answers →
+  ItemsCome = (items : List (VNode P Component Props Value Handler TaskState Effect Payload)) (places : List Step) (slot k : ℕ)
+      (answers : List Answer) → AreAnswersTo (items_made (map (make_tree true) items) places slot k) answers →
       (comes : List DocNode) ×
-      (all_parts (map tree_part items) (record { numbers = drawn_in answers; nodes = nodes_in answers }) ≡ (flat comes, record { numbers = []; nodes = [] })) × (
-      (anchor : Anchor) (scope : ScopeId) (nodes : List DocNode) (is : List (Instruction P Component Props Value Handler TaskState Effect Payload)) (ids : List ElementId) (scopes : List ScopeId) (kept : Kept) (later : List Answer) →
+      (all_parts (map tree_part items) (record { numbers = drawn_in answers; nodes = nodes_in answers })
+          ≡ (flat comes, record { numbers = []; nodes = [] })) × (
+      (anchor : Anchor) (scope : ScopeId) (nodes : List DocNode)
+          (is : List (Instruction P Component Props Value Handler TaskState Effect Payload)) (ids : List ElementId) (scopes : List ScopeId)
+          (kept : Kept) (later : List Answer) →
       (first : List (PatchStep P Component Props Value Handler TaskState Effect Payload)) ×
       (edits_among first ≡ edits.InsertNodesAfter (behind_of kept anchor nodes) comes ∷ []) × (
-      steps ((beginning true anchor ++ (items_made (map (make_tree true) items) places slot k ++ inserting true anchor)) ++ is) ids scopes (clear_of kept) ((answers ++ answers_behind anchor scope nodes) ++ later) ≡
+      steps ((beginning true anchor ++ (items_made (map (make_tree true) items) places slot k ++ inserting true anchor))
+          ++ is) ids scopes (clear_of kept) ((answers ++ answers_behind anchor scope nodes) ++ later) ≡
       first_steps first (steps is ids scopes (built_on (kept_behind (clear_of kept) anchor nodes) answers []) later)))

@@ -28,13 +28,17 @@ module _ {P Component Props Value Handler TaskState Effect Payload : Type 0} whe
 
   -- a plan that leads to such steps alone, whatever is gathered and answered
   abbrev pub WritesNothing : List (Instruction P Component Props Value Handler TaskState Effect Payload) → Type 0
-  WritesNothing plan = (ids : List ElementId) (scopes : List ScopeId) (kept : Kept) (answers : List Answer) → AllByRecursion IsQuiet (steps plan ids scopes kept answers).steps
+  WritesNothing plan = (ids : List ElementId) (scopes : List ScopeId) (kept : Kept) (answers : List Answer)
+      → AllByRecursion IsQuiet (steps plan ids scopes kept answers).steps
 
 module _ (P Component Props Value Handler TaskState Effect Payload : Type 0) where
   -- a new tree in the place of an old one writes nothing where it isn't shown
   abbrev pub HiddenWritesNothing : Type 0
-  HiddenWritesNothing = (equality : Equality Component) (old new : VNode P Component Props Value Handler TaskState Effect Payload) (places : List Step) → WritesNothing (pair_tree equality false old new places)
+  HiddenWritesNothing =
+      (equality : Equality Component) (old new : VNode P Component Props Value Handler TaskState Effect Payload) (places : List Step)
+      → WritesNothing (pair_tree equality false old new places)
 
   -- a tree that is made writes nothing, shown or not: its nodes are told at the end
   abbrev pub MakingWritesNothing : Type 0
-  MakingWritesNothing = (shown : Bool) (tree : VNode P Component Props Value Handler TaskState Effect Payload) (places : List Step) → WritesNothing (make_tree shown tree places)
+  MakingWritesNothing = (shown : Bool) (tree : VNode P Component Props Value Handler TaskState Effect Payload) (places : List Step)
+      → WritesNothing (make_tree shown tree places)

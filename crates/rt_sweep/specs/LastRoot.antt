@@ -16,6 +16,8 @@ module _ (P Component Props Value Handler TaskState Effect Payload : Type 0) whe
   -- where the last root of a tree is told by a number, so far from the end of the tree's own numbers, its nodes end with
   -- all pieces of the node that has this number
   abbrev pub LastRootIsNamed : Type 0
-  LastRootIsNamed = (tree : VNode P Component Props Value Handler TaskState Effect Payload) (own more : List ElementId) (children : List Child) (back : ℕ) →
+  LastRootIsNamed = (tree : VNode P Component Props Value Handler TaskState Effect Payload) (own more : List ElementId)
+      (children : List Child) (back : ℕ) →
       length own ≡ count_tree tree → last_of_tree tree ≡ Number back →
-      (start : List Piece) × (last : DocNode) × (block_pieces tree (own ++ more) (nodes_of children) ≡ start ++ flat (last ∷ [])) × (last.id ≡ number_back own back)
+      (start : List Piece) × (last : DocNode) × (block_pieces tree (own ++ more) (nodes_of children) ≡ start ++ flat (last ∷ []))
+          × (last.id ≡ number_back own back)

@@ -55,13 +55,15 @@ module _ {P Component Props Value Handler TaskState Effect Payload : Type 0} whe
   -- the answers to the questions of a plan of what goes: the nodes of each child that is a root
   abbrev pub asked : List (Instruction P Component Props Value Handler TaskState Effect Payload) → List Child → List Answer
   asked [] children = []
-  asked (i.Leave true ∷ is) children = answered (first_or no_child children).0 (first_or no_child children).1 ∷ asked is (after_first children)
+  asked (i.Leave true ∷ is) children =
+      answered (first_or no_child children).0 (first_or no_child children).1 ∷ asked is (after_first children)
   asked (i.Leave false ∷ is) children = asked is (after_first children)
   asked (i ∷ is) children = asked is children
 
   -- what is gathered by a plan of what goes: its part's nodes go, their numbers and child scopes are gathered; of
   -- the roots, if these are to be taken away by edits, the numbers once more
-  pub record Loss (lost : List (Instruction P Component Props Value Handler TaskState Effect Payload)) (part : Part) (root : Bool) (numbers : List ElementId) (children : List Child) : Type 0 where
+  pub record Loss (lost : List (Instruction P Component Props Value Handler TaskState Effect Payload)) (part : Part) (root : Bool)
+      (numbers : List ElementId) (children : List Child) : Type 0 where
     -- the nodes that go
     pub nodes : List DocNode
     -- their numbers but for those of child scopes
@@ -73,7 +75,8 @@ module _ {P Component Props Value Handler TaskState Effect Payload : Type 0} whe
     -- the children that are left
     pub children_left : List Child
     pub laid : part (marks_with numbers children) ≡ (flat nodes, marks_with numbers_left children_left)
-    pub asks : (is : List (Instruction P Component Props Value Handler TaskState Effect Payload)) → asked (lost ++ is) children ≡ asked lost children ++ asked is children_left
+    pub asks : (is : List (Instruction P Component Props Value Handler TaskState Effect Payload))
+        → asked (lost ++ is) children ≡ asked lost children ++ asked is children_left
     pub leads : (is : List (Instruction P Component Props Value Handler TaskState Effect Payload)) (kept : Kept) (later : List Answer) →
         (first : List (PatchStep P Component Props Value Handler TaskState Effect Payload)) × AllByRecursion IsNoEdit first × (
         steps (lost ++ is) numbers (scopes_of children) kept (asked lost children ++ later) ≡
@@ -82,4 +85,5 @@ module _ {P Component Props Value Handler TaskState Effect Payload : Type 0} whe
 module _ (P Component Props Value Handler TaskState Effect Payload : Type 0) where
   -- the plan of a tree that goes gathers the nodes of that tree
   abbrev pub LosingGathers : Type 0
-  LosingGathers = (tree : VNode P Component Props Value Handler TaskState Effect Payload) (root : Bool) (numbers : List ElementId) (children : List Child) → Loss (lose_tree tree root) (tree_part tree) root numbers children
+  LosingGathers = (tree : VNode P Component Props Value Handler TaskState Effect Payload) (root : Bool) (numbers : List ElementId)
+      (children : List Child) → Loss (lose_tree tree root) (tree_part tree) root numbers children

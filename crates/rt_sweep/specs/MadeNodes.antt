@@ -70,13 +70,15 @@ module _ {P Component Props Value Handler TaskState Effect Payload : Type 0} whe
   AreAnswersTo (i.Insert ∷ is) answers = ⊥
 
   -- steps that come before the rest
-  abbrev pub first_steps : List (PatchStep P Component Props Value Handler TaskState Effect Payload) → Rest P Component Props Value Handler TaskState Effect Payload → Rest P Component Props Value Handler TaskState Effect Payload
+  abbrev pub first_steps : List (PatchStep P Component Props Value Handler TaskState Effect Payload)
+      → Rest P Component Props Value Handler TaskState Effect Payload → Rest P Component Props Value Handler TaskState Effect Payload
   first_steps first rest = record rest { steps = first ++ rest.steps }
 
   -- a plan by which, with these answers, these nodes are built without an edit or a question, whatever comes next
   abbrev pub BuildsNodes : List (Instruction P Component Props Value Handler TaskState Effect Payload) → List Answer → List DocNode → Type 0
   BuildsNodes made answers nodes =
-      (is : List (Instruction P Component Props Value Handler TaskState Effect Payload)) (ids : List ElementId) (scopes : List ScopeId) (kept : Kept) (later : List Answer) →
+      (is : List (Instruction P Component Props Value Handler TaskState Effect Payload)) (ids : List ElementId) (scopes : List ScopeId)
+          (kept : Kept) (later : List Answer) →
       (first : List (PatchStep P Component Props Value Handler TaskState Effect Payload)) × AllByRecursion IsQuiet first × (
       steps (made ++ is) ids scopes kept (answers ++ later) ≡ first_steps first (steps is ids scopes (built_on kept answers nodes) later))
 
@@ -84,5 +86,7 @@ module _ (P Component Props Value Handler TaskState Effect Payload : Type 0) whe
   -- the plan of a tree that is made and shown builds the nodes of that tree, with the numbers that were drawn and
   -- the nodes that were given
   abbrev pub MakingBuilds : Type 0
-  MakingBuilds = (tree : VNode P Component Props Value Handler TaskState Effect Payload) (places : List Step) (answers : List Answer) → AreAnswersTo (make_tree true tree places) answers →
-      (nodes : List DocNode) × (flat nodes ≡ block_pieces tree (drawn_in answers) (nodes_in answers)) × BuildsNodes (make_tree true tree places) answers nodes
+  MakingBuilds = (tree : VNode P Component Props Value Handler TaskState Effect Payload) (places : List Step) (answers : List Answer)
+      → AreAnswersTo (make_tree true tree places) answers →
+      (nodes : List DocNode) × (flat nodes ≡ block_pieces tree (drawn_in answers) (nodes_in answers))
+          × BuildsNodes (make_tree true tree places) answers nodes

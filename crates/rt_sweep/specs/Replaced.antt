@@ -31,7 +31,8 @@ module _ (P Component Props Value Handler TaskState Effect Payload : Type 0) whe
   -- to the one in which the new block's nodes stand in their place, without a fault: if the old block has a node, and
   -- no number of the document or of the new block is 0 or stands twice
   abbrev pub OthersReplace : Type 0
-  OthersReplace = (equality : Equality Component) (old new : VNode P Component Props Value Handler TaskState Effect Payload) (numbers : List ElementId) (children : List Child) (answers : List Answer)
+  OthersReplace = (equality : Equality Component) (old new : VNode P Component Props Value Handler TaskState Effect Payload)
+      (numbers : List ElementId) (children : List Child) (answers : List Answer)
       (document : List DocNode) (front back rest : List Piece) (first : Piece) →
       equality.templates old.template new.template ≡ false →
       AreAnswersTo (make_tree true new []) answers →
@@ -40,4 +41,6 @@ module _ (P Component Props Value Handler TaskState Effect Payload : Type 0) whe
       AreApart (piece_numbers (flat document) ++ piece_numbers (block_pieces new (drawn_in answers) (nodes_in answers))) →
       (made : List DocNode) ×
       (flat made ≡ front ++ (block_pieces new (drawn_in answers) (nodes_in answers) ++ back)) × (
-      run_document (edits_among (steps (pair_tree equality true old new []) numbers (scopes_of children) nothing_kept (asked (lose_tree old true) children ++ answers)).steps) document ≡ Ok made)
+      run_document (edits_among
+          (steps (pair_tree equality true old new []) numbers (scopes_of children) nothing_kept (asked (lose_tree old true) children
+          ++ answers)).steps) document ≡ Ok made)

@@ -145,7 +145,8 @@ alone nodes = all_before nodes language.NoViews
 -- one level of a node, before the nodes that come after it
 abbrev pub node_step : ViewNode-F (language.View → language.View) language.ViewSlot → language.View → language.View
 node_step (ViewNode-F.Text text) rest = language.TextView text rest
-node_step (ViewNode-F.Element tag namespace attributes kids) rest = language.ElementView tag namespace (map attribute_of attributes) (alone kids) rest
+node_step (ViewNode-F.Element tag namespace attributes kids) rest =
+    language.ElementView tag namespace (map attribute_of attributes) (alone kids) rest
 node_step (ViewNode-F.Slot slot) rest = language.SlotView slot rest
 
 -- one level of a slot

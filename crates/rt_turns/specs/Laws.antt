@@ -21,7 +21,8 @@ module _ {K : Types} (app : Application K) where
   -- a report that rests where nothing is owed joins those before it
   abbrev pub SofarMore : Type 0
   SofarMore =
-      (limits : Limits) (props : K.Props) (inputs : List (Input K)) (reports : List Report) (edits more : List Edit) (from m : Machine K) (report : Report)
+      (limits : Limits) (props : K.Props) (inputs : List (Input K)) (reports : List Report) (edits more : List Edit) (from m : Machine K)
+          (report : Report)
       → Sofar app limits props inputs reports edits from
       → Rests app limits props inputs from report.log more m
       → is_settled m ≡ true
@@ -39,7 +40,8 @@ module _ {K : Types} (app : Application K) where
   -- the same where a refusal came in the last one
   abbrev pub SofarRanTo : Type 0
   SofarRanTo =
-      (limits : Limits) (props : K.Props) (inputs : List (Input K)) (reports : List Report) (edits more : List Edit) (from : Machine K) (log : List Entry) (fault : Fault)
+      (limits : Limits) (props : K.Props) (inputs : List (Input K)) (reports : List Report) (edits more : List Edit) (from : Machine K)
+          (log : List Entry) (fault : Fault)
       → Sofar app limits props inputs reports edits from
       → Refused app limits props inputs from log more fault
       → OneEachThen inputs (logs_of reports) log

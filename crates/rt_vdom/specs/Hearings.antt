@@ -43,10 +43,12 @@ module _ {P C Q V H T E L : Type 0} where
   silent (Some h) = Some (record h { listeners = [] })
 
   -- a machine at this state, with this event on its way
-  abbrev pub hearing_at : replay.Machine (types C Q V H T E L) → State (types C Q V H T E L) → Option (Hearing P C Q V H T E L) → replay.Machine (types C Q V H T E L)
+  abbrev pub hearing_at : replay.Machine (types C Q V H T E L) → State (types C Q V H T E L) → Option (Hearing P C Q V H T E L)
+      → replay.Machine (types C Q V H T E L)
   hearing_at m w h = record m { state = w; listeners = listeners_in h; event = event_in h; bubbles = bubbles_in h }
 
   -- the first listener that waits is taken, and the others that wait are left; where none waits all stay
-  abbrev pub TakesWaiting : State (types C Q V H T E L) → Option (Listener P C Q V H T E L) → List (Listener P C Q V H T E L) → List (Listener P C Q V H T E L) → Type 0
+  abbrev pub TakesWaiting : State (types C Q V H T E L) → Option (Listener P C Q V H T E L) → List (Listener P C Q V H T E L)
+      → List (Listener P C Q V H T E L) → Type 0
   TakesWaiting w None old new = (live_listeners w (listeners_of old) ≡ []) × (new ≡ old)
   TakesWaiting w (Some l) old new = live_listeners w (listeners_of old) ≡ listener_in l ∷ listeners_of new

@@ -92,7 +92,8 @@ module _ {P C Q V H T E L : Type 0} where
 
   -- the machine that a session stands for, with these inputs left and so many taken
   abbrev pub machine_of :
-      Unkept (types C Q V H T E L) → List (replay.Input (types C Q V H T E L)) → ℕ → Machine P C Q V H T E L → replay.Machine (types C Q V H T E L)
+      Unkept (types C Q V H T E L) → List (replay.Input (types C Q V H T E L)) → ℕ → Machine P C Q V H T E L
+          → replay.Machine (types C Q V H T E L)
   machine_of g left taken d =
       record {
         state = state_of g (d.runtime).state;
@@ -135,7 +136,8 @@ module _ {P C Q V H T E L : Type 0} where
 
   -- while it remembered, it still does; where memory was wanting nothing is said
   abbrev pub StillRemembers : Machine P C Q V H T E L → Machine P C Q V H T E L → Type 0
-  StillRemembers old new = (g : Unkept (types C Q V H T E L)) (was : List (ℕ × model.Scope (types C Q V H T E L))) → Remembers old was → Remembers new was
+  StillRemembers old new = (g : Unkept (types C Q V H T E L)) (was : List (ℕ × model.Scope (types C Q V H T E L))) → Remembers old was
+      → Remembers new was
 
   abbrev pub KeepsLow : Machine P C Q V H T E L → Machine P C Q V H T E L → Result (Unit {0}) Stop → Type 0
   KeepsLow old new (Ok u) = StillRemembers old new
@@ -159,9 +161,11 @@ module _ {P C Q V H T E L : Type 0} where
 
     -- a listener's call
     abbrev pub Calls :
-        Machine P C Q V H T E L → Listener P C Q V H T E L → Event L → Bool → List (Listener P C Q V H T E L) → Machine P C Q V H T E L → Result (Unit {0}) Stop → Type 0
+        Machine P C Q V H T E L → Listener P C Q V H T E L → Event L → Bool → List (Listener P C Q V H T E L) → Machine P C Q V H T E L
+            → Result (Unit {0}) Stop → Type 0
     Calls old first event bubbles others new result =
-        (g : Unkept (types C Q V H T E L)) (left : List (replay.Input (types C Q V H T E L))) (taken : ℕ) (all : List (heard.Listener (types C Q V H T E L)))
+        (g : Unkept (types C Q V H T E L)) (left : List (replay.Input (types C Q V H T E L))) (taken : ℕ)
+            (all : List (heard.Listener (types C Q V H T E L)))
         → CallsAs
         app
         (record (machine_of g left taken old) { listeners = all; event = Some (event_of event); bubbles = bubbles })
@@ -181,20 +185,23 @@ module _ {P C Q V H T E L : Type 0} where
       pub logged : noted new ≡ noted old ++ es
 
     -- it was cut
-    pub record WasCut (o : Outcome (types C Q V H T E L)) (es : List replay.Entry) (fault : model.Fault) (old new : Machine P C Q V H T E L) : Type 0 where
+    pub record WasCut (o : Outcome (types C Q V H T E L)) (es : List replay.Entry) (fault : model.Fault)
+        (old new : Machine P C Q V H T E L) : Type 0 where
       pub kept : Unkept (types C Q V H T E L)
       pub cut : o ≡ Cut (state_of kept (new.runtime).state) fault
       pub logged : noted new ≡ noted old ++ es
 
     -- by what is answered
-    abbrev pub DidAs : Outcome (types C Q V H T E L) → List replay.Entry → Machine P C Q V H T E L → Machine P C Q V H T E L → Result (Unit {0}) Stop → Type 0
+    abbrev pub DidAs : Outcome (types C Q V H T E L) → List replay.Entry → Machine P C Q V H T E L → Machine P C Q V H T E L
+        → Result (Unit {0}) Stop → Type 0
     DidAs o es old new (Ok u) = Did o es old new
     DidAs o es old new (Err stops.OutOfMemory) = Unit {0}
     DidAs o es old new (Err (stops.Fault what)) = WasCut o es (fault_of what) old new
 
     -- the build's own call
     abbrev pub Builds : Machine P C Q V H T E L → Machine P C Q V H T E L → Result (Unit {0}) Stop → Type 0
-    Builds old new result = (g : Unkept (types C Q V H T E L)) → DidAs (unit_of app (state_of g (old.runtime).state) (next.RerunScope 0)) [] old new result
+    Builds old new result = (g : Unkept (types C Q V H T E L))
+        → DidAs (unit_of app (state_of g (old.runtime).state) (next.RerunScope 0)) [] old new result
 
     -- a unit's own call
     abbrev pub BeginsUnit : next.Work → Machine P C Q V H T E L → Machine P C Q V H T E L → Result (Unit {0}) Stop → Type 0
@@ -202,29 +209,34 @@ module _ {P C Q V H T E L : Type 0} where
         (g : Unkept (types C Q V H T E L)) → DidAs (unit_of app (state_of g (old.runtime).state) work) (entry_for work ∷ []) old new result
 
     -- a turn at an item, at any height
-    abbrev pub ServesLow : model.Item (types C Q V H T E L) → Machine P C Q V H T E L → Machine P C Q V H T E L → Result (Unit {0}) Stop → Type 0
+    abbrev pub ServesLow : model.Item (types C Q V H T E L) → Machine P C Q V H T E L → Machine P C Q V H T E L → Result (Unit {0}) Stop
+        → Type 0
     ServesLow item old new result =
         (g : Unkept (types C Q V H T E L))
         → DidAs (turn_of app (state_of g (old.runtime).state) item) (entries_at app (state_of g (old.runtime).state) item) old new result
 
     -- a unit begins, where units are left
     abbrev pub BeginsAs :
-        causes.Limits → Outcome (types C Q V H T E L) → List replay.Entry → Machine P C Q V H T E L → Machine P C Q V H T E L → Result (Unit {0}) Ended → Type 0
+        causes.Limits → Outcome (types C Q V H T E L) → List replay.Entry → Machine P C Q V H T E L → Machine P C Q V H T E L
+            → Result (Unit {0}) Ended → Type 0
     BeginsAs limits o es old new (Ok u) = (nat_eq old.units limits.units ≡ false) × Did o es old new
     BeginsAs limits o es old new (Err ends.Sink) = ⊥
     BeginsAs limits o es old new (Err (ends.OutOfTurns units)) =
         (nat_eq old.units limits.units ≡ true) × (units ≡ limits.units) × (noted new ≡ noted old)
     BeginsAs limits o es old new (Err (ends.TooDeep height)) = ⊥
     BeginsAs limits o es old new (Err (ends.Run stops.OutOfMemory)) = Unit {0}
-    BeginsAs limits o es old new (Err (ends.Run (stops.Fault what))) = (nat_eq old.units limits.units ≡ false) × WasCut o es (fault_of what) old new
+    BeginsAs limits o es old new (Err (ends.Run (stops.Fault what))) = (nat_eq old.units limits.units ≡ false)
+        × WasCut o es (fault_of what) old new
 
     abbrev pub Begins : causes.Limits → next.Work → Machine P C Q V H T E L → Machine P C Q V H T E L → Result (Unit {0}) Ended → Type 0
     Begins limits work old new result =
-        (g : Unkept (types C Q V H T E L)) → BeginsAs limits (unit_of app (state_of g (old.runtime).state) work) (entry_for work ∷ []) old new result
+        (g : Unkept (types C Q V H T E L))
+            → BeginsAs limits (unit_of app (state_of g (old.runtime).state) work) (entry_for work ∷ []) old new result
 
     -- an item is served, unless it makes a scope that is too deep
     abbrev pub ServesAs :
-        Option model.Fault → Outcome (types C Q V H T E L) → List replay.Entry → Machine P C Q V H T E L → Machine P C Q V H T E L → Result (Unit {0}) Ended → Type 0
+        Option model.Fault → Outcome (types C Q V H T E L) → List replay.Entry → Machine P C Q V H T E L → Machine P C Q V H T E L
+            → Result (Unit {0}) Ended → Type 0
     ServesAs deep o es old new (Ok u) = (deep ≡ None) × Did o es old new
     ServesAs deep o es old new (Err ends.Sink) = ⊥
     ServesAs deep o es old new (Err (ends.OutOfTurns units)) = ⊥
@@ -232,7 +244,8 @@ module _ {P C Q V H T E L : Type 0} where
     ServesAs deep o es old new (Err (ends.Run stops.OutOfMemory)) = Unit {0}
     ServesAs deep o es old new (Err (ends.Run (stops.Fault what))) = (deep ≡ None) × WasCut o es (fault_of what) old new
 
-    abbrev pub Serves : causes.Limits → model.Item (types C Q V H T E L) → Machine P C Q V H T E L → Machine P C Q V H T E L → Result (Unit {0}) Ended → Type 0
+    abbrev pub Serves : causes.Limits → model.Item (types C Q V H T E L) → Machine P C Q V H T E L → Machine P C Q V H T E L
+        → Result (Unit {0}) Ended → Type 0
     Serves limits item old new result =
         (g : Unkept (types C Q V H T E L))
         → ServesAs

@@ -10,7 +10,8 @@ use Rattle.rt_model.specs.Replay.{Input}
 use Rattle.rt_model.specs.Causes.{Limits}
 use Rattle.rt_model.specs.Headline.{Report, Ran, RanTo, Headline, CameTo}
 
-module _ {K : Types} (app : Application K) (props : K.Props) (inputs : List (Input K)) (limits : Limits) (before after : Option (List Edit)) (reports : List Report) where
+module _ {K : Types} (app : Application K) (props : K.Props) (inputs : List (Input K)) (limits : Limits) (before after : Option (List Edit))
+    (reports : List Report) where
   -- it finished: the sink took just the edits of its reports after what it had
   pub record Finished : Type 0 where
     pub wrote : List Edit
@@ -23,7 +24,8 @@ module _ {K : Types} (app : Application K) (props : K.Props) (inputs : List (Inp
     pub told : after ≡ grown before wrote
     pub ran_to : RanTo app props inputs limits (Some (map edit_of wrote)) reports fault
 
-  -- it finished with the headline: replay accepts the logs of its reports, the edits that the sink took after what it had never fault and give
+  -- it finished with the headline: replay accepts the logs of its reports, the edits that the sink took after what
+  -- it had never fault and give
   -- what shows after each report, and there every output is current, and fallbacks show just while they are held
   pub record Headlined : Type 0 where
     pub wrote : List Edit

@@ -23,7 +23,8 @@ use Rattle.rt_vdom.specs.declared.ended.Ended.{Ended}
 use Rattle.rt_vdom.specs.declared.machine.Machine.{Machine}
 
 module _ (K : tree.Types) where
-  -- a report on its way: the session's props and inputs, the machine at which the report began, the entry that opened it, the inputs that are left and the number of those taken
+  -- a report on its way: the session's props and inputs, the machine at which the report began, the entry that
+  -- opened it, the inputs that are left and the number of those taken
   pub record Going : Type 0 where
     pub props : K.Props
     pub inputs : List (replay.Input K)
@@ -34,7 +35,8 @@ module _ (K : tree.Types) where
 
 module _ {P C Q V H T E L : Type 0} (app : Application (types C Q V H T E L)) (limits : causes.Limits) where
   -- between two reports: nothing is at work or owed, and the state is as the test for that left it
-  pub record Between (left : List (replay.Input (types C Q V H T E L))) (taken : ℕ) (last : replay.Machine (types C Q V H T E L)) (d : Machine P C Q V H T E L) : Type 0 where
+  pub record Between (left : List (replay.Input (types C Q V H T E L))) (taken : ℕ) (last : replay.Machine (types C Q V H T E L))
+      (d : Machine P C Q V H T E L) : Type 0 where
     pub kept : Unkept (types C Q V H T E L)
     pub quiet : replay.waiting last ≡ []
     pub none : next last.state ≡ None
@@ -43,7 +45,8 @@ module _ {P C Q V H T E L : Type 0} (app : Application (types C Q V H T E L)) (l
     pub course : d.course ≡ []
     pub same : machine_of kept left taken d ≡ record last { state = at_rest last.state }
 
-module _ {P C Q V H T E L : Type 0} (app : Application (types C Q V H T E L)) (limits : causes.Limits) (r : Going (types C Q V H T E L)) where
+module _ {P C Q V H T E L : Type 0} (app : Application (types C Q V H T E L)) (limits : causes.Limits) (r : Going (types C Q V H T E L))
+    where
   -- where nothing is at work, or in the midst of the unit that this entry began
   abbrev pub StandsFor : Option replay.Entry → List doc.Edit → Machine P C Q V H T E L → Type 0
   StandsFor None edits d =
@@ -78,7 +81,8 @@ module _ {P C Q V H T E L : Type 0} (app : Application (types C Q V H T E L)) (l
     pub same : machine_of kept r.left r.taken d ≡ record last { state = at_rest last.state }
 
   -- a fault came: the report so far, with what the sink took of it
-  pub record CameTo (edits : List doc.Edit) (before after : Option (List Edit)) (fault : model.Fault) (d : Machine P C Q V H T E L) : Type 0 where
+  pub record CameTo (edits : List doc.Edit) (before after : Option (List Edit)) (fault : model.Fault) (d : Machine P C Q V H T E L) :
+      Type 0 where
     pub wrote : List Edit
     pub told : after ≡ grown before wrote
     pub refused : Refused app limits r.props r.inputs r.from (r.opening ∷ noted d) (edits ++ map edit_of wrote) fault
@@ -106,7 +110,8 @@ module _ {P C Q V H T E L : Type 0} (app : Application (types C Q V H T E L)) (l
   StandsBefore item first edits d =
       (g : Unkept (types C Q V H T E L))
       × (w : model.State (types C Q V H T E L))
-      × Works app limits r.props r.inputs r.from (r.opening ∷ noted d) edits w first (record (machine_of g r.left r.taken d) { work = item ∷ open_work d })
+      × Works app limits r.props r.inputs r.from (r.opening ∷ noted d) edits w first
+          (record (machine_of g r.left r.taken d) { work = item ∷ open_work d })
       × RemembersFor (Some first) d w.scopes
 
   -- a turn, by what is answered
@@ -142,9 +147,11 @@ module _ {P C Q V H T E L : Type 0} (app : Application (types C Q V H T E L)) (l
   ReportsAs before after d (Ok report) = Reported report before after d
   ReportsAs before after d (Err ended) = Comes [] before after ended d
 
-module _ {P C Q V H T E L : Type 0} (app : Application (types C Q V H T E L)) (limits : causes.Limits) (props : Q) (inputs : List (replay.Input (types C Q V H T E L))) where
+module _ {P C Q V H T E L : Type 0} (app : Application (types C Q V H T E L)) (limits : causes.Limits) (props : Q)
+    (inputs : List (replay.Input (types C Q V H T E L))) where
   -- a report may follow: this machine was the last one
-  pub record Follows (left : List (replay.Input (types C Q V H T E L))) (taken : ℕ) (last : replay.Machine (types C Q V H T E L)) (d : Machine P C Q V H T E L) : Type 0 where
+  pub record Follows (left : List (replay.Input (types C Q V H T E L))) (taken : ℕ) (last : replay.Machine (types C Q V H T E L))
+      (d : Machine P C Q V H T E L) : Type 0 where
     pub rest : AtRest last
     pub built : last.built ≡ true
     pub reached : Reached app limits props inputs last

@@ -46,12 +46,14 @@ module _ {P C Q V H T E L : Type 0} (app : Application (types C Q V H T E L)) wh
     pub are : AreEdits first d wrote
 
   -- the edits up to a refused item were taken
-  pub record WroteUntil (item : model.Item (types C Q V H T E L)) (d : Machine P C Q V H T E L) (before after : Option (List Edit)) : Type 0 where
+  pub record WroteUntil (item : model.Item (types C Q V H T E L)) (d : Machine P C Q V H T E L) (before after : Option (List Edit)) :
+      Type 0 where
     pub wrote : List Edit
     pub told : after ≡ grown before wrote
     pub are : AreEditsUntil item d wrote
 
   -- a run ends for its cause after they were taken, or for want of memory, or at the sink
-  abbrev pub Cuts : model.Item (types C Q V H T E L) → Machine P C Q V H T E L → Option (List Edit) → Option (List Edit) → Ended → Ended → Type 0
+  abbrev pub Cuts : model.Item (types C Q V H T E L) → Machine P C Q V H T E L → Option (List Edit) → Option (List Edit) → Ended → Ended
+      → Type 0
   Cuts item d before after ended result =
       (fault : model.Fault) → fault_in result ≡ Some fault → (fault_in ended ≡ Some fault) × WroteUntil item d before after

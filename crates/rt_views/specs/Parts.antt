@@ -22,7 +22,9 @@ use_of call = record { component = call.0; props = call.1 }
 abbrev pub component_use : Names → List (List ℕ) → Data → Option ComponentUse
 component_use names variables d =
     if is_object_of (codes "use" ∷ codes "props" ∷ []) d
-    then option_and_then (λ name. option_map use_of (option_and_then (call_in names variables names.components name) (list_or_empty (codes "props") d))) (text_at (codes "use") d)
+    then option_and_then (λ name.
+        option_map use_of (option_and_then (call_in names variables names.components name) (list_or_empty (codes "props") d)))
+        (text_at (codes "use") d)
     else None
 
 -- a component where one may stand

@@ -82,21 +82,26 @@ module _ {P C Q V H T E L : Type 0} where
 
   -- the answer is the test of the definitions, whatever the application
   abbrev pub IsSame : Bool → VComponent P C Q V H T E L → VComponent P C Q V H T E L → Type 0
-  IsSame answer old new = (app : Application (types C Q V H T E L)) → Tests C app.same_component → answer ≡ is_same_component app (component_of old) (component_of new)
+  IsSame answer old new = (app : Application (types C Q V H T E L)) → Tests C app.same_component
+      → answer ≡ is_same_component app (component_of old) (component_of new)
 
   -- the answer is that test for a component of the application, whatever its props
   abbrev pub IsOwn : Bool → C → VComponent P C Q V H T E L → Type 0
   IsOwn answer own new =
-      (app : Application (types C Q V H T E L)) → Tests C app.same_component → (props : Q) → answer ≡ is_same_component app (Own own props) (component_of new)
+      (app : Application (types C Q V H T E L)) → Tests C app.same_component → (props : Q)
+          → answer ≡ is_same_component app (Own own props) (component_of new)
 
   -- a component stood at the place and takes the new one's props, whatever the application
   abbrev pub WasThere : Bool → List (Spot P C Q V H T E L) → Place → VComponent P C Q V H T E L → Type 0
-  WasThere answer old p new = (app : Application (types C Q V H T E L)) → Tests C app.same_component → answer ≡ is_fed app (component_among old p) (Some (component_of new))
+  WasThere answer old p new = (app : Application (types C Q V H T E L)) → Tests C app.same_component
+      → answer ≡ is_fed app (component_among old p) (Some (component_of new))
 
   -- a component of the old tree is at the place in the new one too, whatever the application
   abbrev pub StaysThere : Bool → List (Spot P C Q V H T E L) → Place → VComponent P C Q V H T E L → Type 0
-  StaysThere answer new p old = (app : Application (types C Q V H T E L)) → Tests C app.same_component → answer ≡ is_fed app (Some (component_of old)) (component_among new p)
+  StaysThere answer new p old = (app : Application (types C Q V H T E L)) → Tests C app.same_component
+      → answer ≡ is_fed app (Some (component_of old)) (component_among new p)
 
   -- the place keeps its child, whatever the application
   abbrev pub IsFed : Bool → List (Spot P C Q V H T E L) → List (Spot P C Q V H T E L) → Place → Type 0
-  IsFed answer old new p = (app : Application (types C Q V H T E L)) → Tests C app.same_component → answer ≡ is_fed app (component_among old p) (component_among new p)
+  IsFed answer old new p = (app : Application (types C Q V H T E L)) → Tests C app.same_component
+      → answer ≡ is_fed app (component_among old p) (component_among new p)

@@ -13,7 +13,8 @@ AttributesCommute =
 -- two listeners that differ in name
 abbrev pub ListenersCommute : Type 0
 ListenersCommute =
-    (all : List Text) (a b : Text) → same_numbers a b ≡ false → with_listener (with_listener all a) b ≡ with_listener (with_listener all b) a
+    (all : List Text) (a b : Text) → same_numbers a b ≡ false
+        → with_listener (with_listener all a) b ≡ with_listener (with_listener all b) a
 
 -- none of these attributes has the name and namespace of another one
 abbrev pub NoneNamed : List DocAttribute → DocAttribute → Type 0
@@ -22,7 +23,8 @@ NoneNamed (b ∷ rest) a = (same_key b a.name a.namespace ≡ false) × NoneName
 
 -- an attribute that was set goes, where there was none of its name and namespace
 abbrev pub AttributeGoes : Type 0
-AttributeGoes = (all : List DocAttribute) (a : DocAttribute) → NoneNamed all a → without_attribute (with_attribute all a) a.name a.namespace ≡ all
+AttributeGoes = (all : List DocAttribute) (a : DocAttribute) → NoneNamed all a
+    → without_attribute (with_attribute all a) a.name a.namespace ≡ all
 
 -- of two attributes of one name and namespace the last one stays
 abbrev pub AttributeDiffers : Type 0

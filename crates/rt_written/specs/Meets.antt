@@ -24,7 +24,8 @@ pub record HasNode (row : Forest) : Type 0 where
   pub is : row ≡ Node id content children rest
 
 -- where templates match, the edits of attributes and listeners make the new ones of the old ones, whatever the slots show
-abbrev pub AttributesBring : {K : Types} → List (Place × Kind × ℕ) → Place → Template → List (List (Attribute K)) → List (List (Attribute K)) → Type 0
+abbrev pub AttributesBring : {K : Types} → List (Place × Kind × ℕ) → Place → Template → List (List (Attribute K))
+    → List (List (Attribute K)) → Type 0
 AttributesBring numbers above whole new old =
     (slot : ℕ → Place → Forest)
     → Brings
@@ -34,7 +35,8 @@ AttributesBring numbers above whole new old =
     (λ i. count_of i (nodes_view numbers whole above new slot [] 0 whole.roots))
 
 -- the nodes of a matched template keep their numbers from one list to the other, and its slots meet
-abbrev pub NodesMeet : List (Place × Kind × ℕ) → List (Place × Kind × ℕ) → Template → Place → (ℕ → Place → Type 0) → List ℕ → ℕ → TemplateNodes → Type 0
+abbrev pub NodesMeet : List (Place × Kind × ℕ) → List (Place × Kind × ℕ) → Template → Place → (ℕ → Place → Type 0) → List ℕ → ℕ
+    → TemplateNodes → Type 0
 NodesMeet old new whole above slot up i no_nodes = Unit {0}
 NodesMeet old new whole above slot up i (element_node tag namespace attributes children rest) =
     (number_at new (place_in whole above up i) an_element ≡ number_at old (place_in whole above up i) an_element)
@@ -46,18 +48,22 @@ NodesMeet old new whole above slot up i (text_node text rest) =
     (number_at new (place_in whole above up i) a_static_text ≡ number_at old (place_in whole above up i) a_static_text)
     ×
     NodesMeet old new whole above slot up (i + 1) rest
-NodesMeet old new whole above slot up i (slot_node k rest) = slot k (place_in whole above up i) × NodesMeet old new whole above slot up (i + 1) rest
+NodesMeet old new whole above slot up i (slot_node k rest) = slot k (place_in whole above up i)
+    × NodesMeet old new whole above slot up (i + 1) rest
 
 -- what they claim of a number: each node's own once, and what slot gives for the slots
 abbrev pub nodes_claims : ℕ → List (Place × Kind × ℕ) → Template → Place → (ℕ → Place → ℕ) → List ℕ → ℕ → TemplateNodes → ℕ
 nodes_claims n numbers whole above slot up i no_nodes = 0
 nodes_claims n numbers whole above slot up i (element_node tag namespace attributes children rest) =
-    (counted (nat_eq (number_at numbers (place_in whole above up i) an_element) n) + nodes_claims n numbers whole above slot (up ++ i ∷ []) 0 children)
+    (counted (nat_eq (number_at numbers (place_in whole above up i) an_element) n) + nodes_claims n numbers whole above slot (up
+        ++ i ∷ []) 0 children)
     +
     nodes_claims n numbers whole above slot up (i + 1) rest
 nodes_claims n numbers whole above slot up i (text_node text rest) =
-    counted (nat_eq (number_at numbers (place_in whole above up i) a_static_text) n) + nodes_claims n numbers whole above slot up (i + 1) rest
-nodes_claims n numbers whole above slot up i (slot_node k rest) = slot k (place_in whole above up i) + nodes_claims n numbers whole above slot up (i + 1) rest
+    counted (nat_eq (number_at numbers (place_in whole above up i) a_static_text) n) + nodes_claims n numbers whole above slot up (i + 1)
+        rest
+nodes_claims n numbers whole above slot up i (slot_node k rest) =
+    slot k (place_in whole above up i) + nodes_claims n numbers whole above slot up (i + 1) rest
 
 -- what a child scope writes makes its new nodes of its old ones, and claims none but these
 pub record ChildBrings {K : Types} (b : Both K) (claims : ℕ → ℕ → ℕ) (t : ℕ) : Type 0 where
@@ -92,14 +98,17 @@ module _ {K : Types} (app : Application K) (b : Both K) (child : ℕ → Type 0)
     -- one node keeps its number, a fed child is the same scope, items meet in pairs; what gives way has a node
     pub SlotMeets : Place → Slot K → Slot K → Type 0
     SlotMeets place (text_slot t) (text_slot u) = number_at b.new.numbers place a_text ≡ number_at b.old.numbers place a_text
-    SlotMeets place placeholder_slot placeholder_slot = number_at b.new.numbers place a_placeholder ≡ number_at b.old.numbers place a_placeholder
+    SlotMeets place placeholder_slot placeholder_slot =
+        number_at b.new.numbers place a_placeholder ≡ number_at b.old.numbers place a_placeholder
     SlotMeets place (component_slot c) (component_slot d) =
-        (is_same_component app d c ≡ true → (child_at b.new.children place ≡ child_at b.old.children place) × ChildMeets (child_at b.old.children place))
+        (is_same_component app d c ≡ true → (child_at b.new.children place ≡ child_at b.old.children place)
+            × ChildMeets (child_at b.old.children place))
         ×
         (is_same_component app d c ≡ false → HasNode (slot_view b.old b.old_child (component_slot d) place))
     SlotMeets place (fragment_slot no_trees) (fragment_slot no_trees) =
         number_at b.new.numbers place an_empty_fragment ≡ number_at b.old.numbers place an_empty_fragment
-    SlotMeets place (fragment_slot (more_trees y ys)) (fragment_slot (more_trees x xs)) = ItemsMeet place 0 (more_trees y ys) (more_trees x xs)
+    SlotMeets place (fragment_slot (more_trees y ys)) (fragment_slot (more_trees x xs)) =
+        ItemsMeet place 0 (more_trees y ys) (more_trees x xs)
     SlotMeets place new old = HasNode (slot_view b.old b.old_child old place)
 
     -- pair by pair, each new item with a node, as long as both fragments have items
@@ -130,7 +139,8 @@ module _ {K : Types} (app : Application K) (b : Both K) (claims : ℕ → ℕ �
     tree_claims n above (block template given slots) old =
         if same_template template (template_of old)
         then nodes_claims n b.old.numbers template above (λ k place. slots_claims n slots (slots_of old) k place) [] 0 template.roots
-        else count_of n (tree_view b.old b.old_child above old) + count_of n (tree_view b.new b.new_child above (block template given slots))
+        else count_of n (tree_view b.old b.old_child above old) + count_of n
+            (tree_view b.new b.new_child above (block template given slots))
 
     -- those of the slot with a number
     pub slots_claims : ℕ → Slots K → Slots K → ℕ → Place → ℕ
@@ -144,18 +154,23 @@ module _ {K : Types} (app : Application K) (b : Both K) (claims : ℕ → ℕ �
     slot_claims n place (text_slot t) (text_slot u) = counted (nat_eq (number_at b.old.numbers place a_text) n)
     slot_claims n place placeholder_slot placeholder_slot = counted (nat_eq (number_at b.old.numbers place a_placeholder) n)
     slot_claims n place (component_slot c) (component_slot d) =
-        if is_same_component app d c then child_claims n (child_at b.old.children place) else way_claims n place (component_slot c) (component_slot d)
-    slot_claims n place (fragment_slot no_trees) (fragment_slot no_trees) = counted (nat_eq (number_at b.old.numbers place an_empty_fragment) n)
-    slot_claims n place (fragment_slot (more_trees y ys)) (fragment_slot (more_trees x xs)) = items_claims n place 0 (more_trees y ys) (more_trees x xs)
+        if is_same_component app d c then child_claims n (child_at b.old.children place)
+            else way_claims n place (component_slot c) (component_slot d)
+    slot_claims n place (fragment_slot no_trees) (fragment_slot no_trees) =
+        counted (nat_eq (number_at b.old.numbers place an_empty_fragment) n)
+    slot_claims n place (fragment_slot (more_trees y ys)) (fragment_slot (more_trees x xs)) =
+        items_claims n place 0 (more_trees y ys) (more_trees x xs)
     slot_claims n place new old = way_claims n place new old
 
     -- those of a fragment's items from a position on
     pub items_claims : ℕ → Place → ℕ → Trees K → Trees K → ℕ
     items_claims n place i no_trees old = count_of n (items_view b.old b.old_child i place old)
     items_claims n place i (more_trees y ys) no_trees = count_of n (items_view b.new b.new_child i place (more_trees y ys))
-    items_claims n place i (more_trees y ys) (more_trees x xs) = tree_claims n (place ++ item i ∷ []) y x + items_claims n place (i + 1) ys xs
+    items_claims n place i (more_trees y ys) (more_trees x xs) =
+        tree_claims n (place ++ item i ∷ []) y x + items_claims n place (i + 1) ys xs
 
--- what is written between two outputs of one side that meet, where no place is refused, makes what the new one shows of what the old one shows
+-- what is written between two outputs of one side that meet, where no place is refused, makes what the new one shows
+-- of what the old one shows
 abbrev pub OutputsBring : {K : Types} → Application K → Type 0
 OutputsBring {K = K} app =
     (b : Both K) (claims : ℕ → ℕ → ℕ) (above : Place) (new old : Tree K)

@@ -9,7 +9,8 @@ use Rattle.rt_written.specs.Settings.{altered}
 use Rattle.rt_written.specs.Meets.{AttributesBring}
 
 -- in one pass the edits of each element alter it from what the first attributes give to what the second ones give
-abbrev pub ElementsAlter : {K : Types} → List (Place × Kind × ℕ) → Template → Place → List (List (Attribute K)) → List (List (Attribute K)) → (ℕ → ℕ → List Edit) → List ℕ → ℕ → TemplateNodes → Type 0
+abbrev pub ElementsAlter : {K : Types} → List (Place × Kind × ℕ) → Template → Place → List (List (Attribute K)) → List (List (Attribute K))
+    → (ℕ → ℕ → List Edit) → List ℕ → ℕ → TemplateNodes → Type 0
 ElementsAlter numbers whole above first second of up i no_nodes = Unit {0}
 ElementsAlter numbers whole above first second of up i (element_node tag namespace attributes children rest) =
     (altered
@@ -22,8 +23,10 @@ ElementsAlter numbers whole above first second of up i (element_node tag namespa
     ElementsAlter numbers whole above first second of (up ++ i ∷ []) 0 children
     ×
     ElementsAlter numbers whole above first second of up (i + 1) rest
-ElementsAlter numbers whole above first second of up i (text_node text rest) = ElementsAlter numbers whole above first second of up (i + 1) rest
-ElementsAlter numbers whole above first second of up i (slot_node k rest) = ElementsAlter numbers whole above first second of up (i + 1) rest
+ElementsAlter numbers whole above first second of up i (text_node text rest) =
+    ElementsAlter numbers whole above first second of up (i + 1) rest
+ElementsAlter numbers whole above first second of up i (slot_node k rest) =
+    ElementsAlter numbers whole above first second of up (i + 1) rest
 
 -- from old attributes to some in between, where what is no longer there has gone, and from these to the new ones
 abbrev pub PassesBring : Types → Type 0

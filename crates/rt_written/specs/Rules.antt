@@ -12,7 +12,8 @@ NothingBrings = (row : Forest) → Brings [] row row (λ i. count_of i row)
 
 -- a text that is set
 abbrev pub TextBrings : Type 0
-TextBrings = (n : ℕ) (new old : Text) → Brings (SetNodeText n new ∷ []) (leaf n (DocText old)) (leaf n (DocText new)) (λ i. counted (nat_eq n i))
+TextBrings = (n : ℕ) (new old : Text)
+    → Brings (SetNodeText n new ∷ []) (leaf n (DocText old)) (leaf n (DocText new)) (λ i. counted (nat_eq n i))
 
 -- edits of one element's attributes and listeners, whatever its children are
 abbrev pub ElementBrings : Type 0

@@ -13,7 +13,8 @@ IsUnfolded w = (s : ℕ) → nodes_of w s ≡ scope_view (λ t. nodes_of w t) (a
 -- the scopes are a tree by their heights: 0 without a parent, the live parent's plus one else, and so for each live child
 pub record IsTree {K : Types} (w : State K) : Type 0 where
   pub top : (s : ℕ) (x : Scope K) → at w.scopes s ≡ Some x → x.parent ≡ None → x.height ≡ 0
-  pub parent : (s p : ℕ) (x : Scope K) → at w.scopes s ≡ Some x → x.parent ≡ Some p → (y : Scope K) × (at w.scopes p ≡ Some y) × (x.height ≡ y.height + 1)
+  pub parent : (s p : ℕ) (x : Scope K) → at w.scopes s ≡ Some x → x.parent ≡ Some p → (y : Scope K) × (at w.scopes p ≡ Some y)
+      × (x.height ≡ y.height + 1)
   pub child :
       (s t : ℕ) (x y : Scope K) (a : SideName) (p : Place)
       → at w.scopes s ≡ Some x

@@ -34,7 +34,8 @@ the_weighed weighed = weighed
 abbrev field : Former {0}
 field = via (pair (const (Ptr × Global)) this) Inside
     (λ Item inside. ((inside.inner.ptr, inside.inner.alloc), inside.inner.value))
-    (λ Item parts. record { inner = record { ptr = parts.0.0; alloc = parts.0.1; value = parts.1 } }) (λ Item inside. refl) (λ Item parts. refl)
+    (λ Item parts. record { inner = record { ptr = parts.0.0; alloc = parts.0.1; value = parts.1 } }) (λ Item inside. refl) (λ Item parts.
+        refl)
 
 -- The same box about another value.
 abbrev about : {Item Other : Type 0} → Box Item Global → Other → Box Other Global
@@ -50,18 +51,24 @@ module _ (From To : RattleType) (change : From.Denot → To.Denot) where
   unfolding part_of
   box_places alike = record {
     mir_same = λ i. (box_of (one_value From (alike.mir_same i) (λ _. ftrue) (λ _ _. nothing) gnil)).mir;
-    own_same = λ boxed i. (box_of (one_value From (alike.mir_same i) (alike.own_same boxed.value i) (alike.shr_same boxed.value i) gnil)).own_val (about boxed tt);
-    shr_same = λ boxed i. (box_of (one_value From (alike.mir_same i) (alike.own_same boxed.value i) (alike.shr_same boxed.value i) gnil)).shr_at (about boxed tt);
+    own_same = λ boxed i.
+        (box_of (one_value From (alike.mir_same i) (alike.own_same boxed.value i) (alike.shr_same boxed.value i) gnil)).own_val
+        (about boxed tt);
+    shr_same = λ boxed i.
+        (box_of (one_value From (alike.mir_same i) (alike.own_same boxed.value i) (alike.shr_same boxed.value i) gnil)).shr_at
+        (about boxed tt);
   }
 
   -- So does `Boxed`.
   pub the_places : Alike From To change → Alike (Outer.the_row From) (Outer.the_row To) ((the_former this).map From.Denot To.Denot change)
   the_places alike = view_places field this view (λ X Y k inside. refl) (λ X inside. refl) From.Denot To.Denot change
       (Outer.the_row From).coded (Outer.the_row To).coded (invariant From.Denot) (invariant To.Denot)
-      (λ inside p q. refl) (λ inside p q. refl) (λ inside held. tt) (λ inside held. tt) (over (Inner.the_row From)) (over (Inner.the_row To))
+      (λ inside p q. refl) (λ inside p q. refl) (λ inside held. tt) (λ inside held. tt) (over (Inner.the_row From))
+          (over (Inner.the_row To))
       (struct_places (Inner.the_type From) (Inner.the_type To) ((λ boxed. about boxed (change boxed.value)), tt) _ (λ values. refl) refl
       (laid _ _ _ (box_places alike), tt))
 
   -- A box is coded as its value is.
-  pub the_codes_placed : Recodes From To change → Recodes (Outer.the_row From) (Outer.the_row To) ((the_former this).map From.Denot To.Denot change)
+  pub the_codes_placed : Recodes From To change
+      → Recodes (Outer.the_row From) (Outer.the_row To) ((the_former this).map From.Denot To.Denot change)
   the_codes_placed recodes value = recodes value

@@ -41,17 +41,20 @@ the_items_listed Item items = list-listed Item items
 
 -- The one field: a vector in std's allocator.
 abbrev field : Former {0}
-field = via (vector.the_former this Global) Inside (λ Item inside. inside.items) (λ Item vec. record { items = vec }) (λ Item inside. refl) (λ Item vec. refl)
+field = via (vector.the_former this Global) Inside (λ Item inside. inside.items) (λ Item vec. record { items = vec }) (λ Item inside. refl)
+    (λ Item vec. refl)
 
 module _ (From To : RattleType) (change : From.Denot → To.Denot) where
   -- A list lies in memory as its items do.
   pub the_places : Alike From To change → Alike (Outer.the_row From) (Outer.the_row To) ((the_former this).map From.Denot To.Denot change)
   the_places alike = view_places field (list this) view (λ X Y k inside. refl) (λ X inside. refl) From.Denot To.Denot change
       (Outer.the_row From).coded (Outer.the_row To).coded (invariant From.Denot) (invariant To.Denot)
-      (λ inside p q. refl) (λ inside p q. refl) (λ inside held. tt) (λ inside held. tt) (over (Inner.the_row From)) (over (Inner.the_row To))
+      (λ inside p q. refl) (λ inside p q. refl) (λ inside held. tt) (λ inside held. tt) (over (Inner.the_row From))
+          (over (Inner.the_row To))
       (struct_places (Inner.the_type From) (Inner.the_type To) (vector.mapped change, tt) _ (λ values. refl) refl
       (laid _ _ _ (vector.the_places allocator.the_row ghosts From To change alike), tt))
 
   -- A list is coded as its items are.
-  pub the_codes_placed : Recodes From To change → Recodes (Outer.the_row From) (Outer.the_row To) ((the_former this).map From.Denot To.Denot change)
+  pub the_codes_placed : Recodes From To change
+      → Recodes (Outer.the_row From) (Outer.the_row To) ((the_former this).map From.Denot To.Denot change)
   the_codes_placed recodes items = sym (code_map From.coded.code To.coded.code change (λ item. sym (recodes item)) items)
