@@ -1,7 +1,7 @@
 -- What a patch gathers as the numbers and child scopes of the new block, deed by deed.
 use Rattle.std.proofs.Common.{Bool, true, false, List, [], ◌∷◌, ◌++◌, ◌≡◌, map, refl, sym, ap, ◌∙◌, append_assoc, append-nil}
 use Rattle.rt_values.specs.declared.names.ScopeId.{ScopeId}
-use Rattle.rt_parts.specs.declared.element.ElementId.{ElementId}
+use Rattle.rt_values.specs.declared.element.ElementId.{ElementId}
 use Rattle.rt_edits.specs.declared.doc_node.DocNode.{DocNode}
 use Rattle.rt_shapes.specs.declared.instruction.Instruction.{Instruction}
 use Rattle.rt_shapes.specs.declared.instruction.Instruction.TheVariants as i

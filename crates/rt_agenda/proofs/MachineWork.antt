@@ -1,7 +1,7 @@
 -- The work that the steps of a patch do, deed by deed.
 use Rattle.std.proofs.Common.{ℕ, Bool, true, false, List, [], ◌∷◌, ◌++◌, ◌≡◌, length, map, refl, sym, ap, ◌∙◌, append-nil, arith}
 use Rattle.rt_values.specs.declared.names.ScopeId.{ScopeId}
-use Rattle.rt_parts.specs.declared.element.ElementId.{ElementId}
+use Rattle.rt_values.specs.declared.element.ElementId.{ElementId}
 use Rattle.rt_edits.specs.declared.doc_node.DocNode.{DocNode}
 use Rattle.rt_shapes.specs.declared.instruction.Instruction.{Instruction}
 use Rattle.rt_shapes.specs.declared.instruction.Instruction.TheVariants as i

@@ -1,7 +1,7 @@
 -- What the plan of two trees gathers as the numbers and child scopes of the new block.
 use Rattle.std.proofs.Common.{[], ◌++◌, ◌∙◌, ap, sym}
 use Rattle.rt_values.specs.declared.names.ScopeId.{ScopeId}
-use Rattle.rt_parts.specs.declared.element.ElementId.{ElementId}
+use Rattle.rt_values.specs.declared.element.ElementId.{ElementId}
 use Rattle.rt_nodes.specs.declared.vnode.VNode.{VNode}
 use Rattle.rt_plan.specs.Pairing.{pair_tree}
 use Rattle.rt_patch.specs.Gathered.{no_number, no_scope, nothing_kept}

@@ -1,7 +1,7 @@
 -- What the plan of two trees serves, what it leaves, and the work of its steps.
 use Rattle.std.proofs.Common.{[], ◌++◌, ◌≡◌, ◌∙◌, true, Bool, List, ℕ, ap, map}
 use Rattle.rt_values.specs.declared.names.ScopeId.{ScopeId}
-use Rattle.rt_parts.specs.declared.element.ElementId.{ElementId}
+use Rattle.rt_values.specs.declared.element.ElementId.{ElementId}
 use Rattle.rt_nodes.specs.NodeTest.{fits}
 use Rattle.rt_nodes.specs.declared.vnode.VNode.{VNode}
 use Rattle.rt_shapes.specs.declared.place.Step.{Step}

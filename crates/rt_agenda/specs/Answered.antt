@@ -1,7 +1,7 @@
 -- How a plan is answered: which numbers are drawn on its way, and which child scopes are made.
 use Rattle.std.specs.Prelude.{true, false, List, [], ◌∷◌, ◌++◌}
 use Rattle.rt_values.specs.declared.names.ScopeId.{ScopeId}
-use Rattle.rt_parts.specs.declared.element.ElementId.{ElementId}
+use Rattle.rt_values.specs.declared.element.ElementId.{ElementId}
 use Rattle.rt_shapes.specs.declared.instruction.Instruction.{Instruction}
 use Rattle.rt_shapes.specs.declared.instruction.Instruction.TheVariants as i
 use Rattle.rt_patch.specs.Steps.{Answer, numbered, answered}

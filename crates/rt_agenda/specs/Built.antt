@@ -1,7 +1,7 @@
 -- A build is the agenda of a side that has shown nothing yet.
 use Rattle.std.specs.Prelude.{◌≡◌, ℕ, Bool, List, []}
 use Rattle.rt_values.specs.declared.names.ScopeId.{ScopeId}
-use Rattle.rt_parts.specs.declared.element.ElementId.{ElementId}
+use Rattle.rt_values.specs.declared.element.ElementId.{ElementId}
 use Rattle.rt_nodes.specs.declared.vnode.VNode.{VNode}
 use Rattle.rt_shapes.specs.declared.place.Step.{Step}
 use Rattle.rt_plan.specs.Making.{make_tree}
@@ -25,21 +25,21 @@ module _ {P C Q V H T E L : Type 0} where
     -- the steps do the work of the agenda
     pub work : work_in_all (steps (make_tree shown tree below) ids scopes nothing_kept answers).steps
         ≡ work_of (serves app scope side [] (spots [] (tree_of tree))) []
-            (element_numbers (numbers_drawn (wanted_in (make_tree shown tree below)) answers))
+        (element_numbers (numbers_drawn (wanted_in (make_tree shown tree below)) answers))
     -- its numbers stand for those that were drawn
     pub numbers : NumbersStand (element_numbers (steps (make_tree shown tree below) ids scopes nothing_kept answers).numbers)
         (spots [] (tree_of tree))
         (drawn_at (serves app scope side [] (spots [] (tree_of tree)))
-            (element_numbers (numbers_drawn (wanted_in (make_tree shown tree below)) answers)))
+        (element_numbers (numbers_drawn (wanted_in (make_tree shown tree below)) answers)))
     -- its child scopes stand for those that were made
     pub children : ChildrenStand (scope_numbers (steps (make_tree shown tree below) ids scopes nothing_kept answers).children)
         (spots [] (tree_of tree))
         (made_at (serves app scope side [] (spots [] (tree_of tree)))
-            (scope_numbers (scopes_made (wanted_in (make_tree shown tree below)) answers)))
+        (scope_numbers (scopes_made (wanted_in (make_tree shown tree below)) answers)))
 
   -- that is so of every tree that is built and of all answers to its plan
   abbrev pub BuildIsTheAgenda : Application (types C Q V H T E L) → (tree : VNode P C Q V H T E L) → Type 0
   BuildIsTheAgenda app tree =
       (shown : Bool) (below : List Step) (scope : ℕ) (side : SideName) (ids : List ElementId) (scopes : List ScopeId)
-          (answers : List Answer)
+      (answers : List Answer)
       → AreAnswered (wanted_in (make_tree shown tree below)) answers → IsBuilt app tree shown below scope side ids scopes answers

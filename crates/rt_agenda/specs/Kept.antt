@@ -1,7 +1,7 @@
 -- The numbers and child scopes of a new block are those that the definitions keep at its places, and the new ones.
 use Rattle.std.specs.Prelude.{◌≡◌, ℕ, Bool, true, List, [], ◌∷◌, ◌++◌, map}
 use Rattle.rt_values.specs.declared.names.ScopeId.{ScopeId}
-use Rattle.rt_parts.specs.declared.element.ElementId.{ElementId}
+use Rattle.rt_values.specs.declared.element.ElementId.{ElementId}
 use Rattle.rt_nodes.specs.declared.vnode.VNode.{VNode}
 use Rattle.rt_nodes.specs.NodeTest.{fits}
 use Rattle.rt_shapes.specs.declared.place.Step.{Step}
@@ -74,24 +74,24 @@ module _ {P C Q V H T E L : Type 0} where
   abbrev pub NumbersKept : Application (types C Q V H T E L) → (old new : VNode P C Q V H T E L) → Type 0
   NumbersKept app old new =
       fits old ≡ true → fits new ≡ true → Tests C app.same_component
-          → (equality : Equality C) (shown : Bool) (below : List Step) (scope : ℕ) (side : SideName)
+      → (equality : Equality C) (shown : Bool) (below : List Step) (scope : ℕ) (side : SideName)
       → (ids : List ElementId) (scopes : List ScopeId) (answers : List Answer)
       → AreAnswered (wanted_in (pair_tree equality shown old new below)) answers
       → element_numbers (steps (pair_tree equality shown old new below) ids scopes nothing_kept answers).numbers
       ≡ numbers_for (spots [] (tree_of new))
       (kept_numbers (spots [] (tree_of new)) (numbers_at (spots [] (tree_of old)) (element_numbers ids))
       ++ drawn_at (serves app scope side (spots [] (tree_of old)) (spots [] (tree_of new)))
-          (element_numbers (numbers_drawn (wanted_in (pair_tree equality shown old new below)) answers)))
+      (element_numbers (numbers_drawn (wanted_in (pair_tree equality shown old new below)) answers)))
 
   -- and at each place of its components the child scope that they keep there, or the one that was made for it
   abbrev pub ChildrenKept : Application (types C Q V H T E L) → (old new : VNode P C Q V H T E L) → Type 0
   ChildrenKept app old new =
       fits old ≡ true → fits new ≡ true → Tests C app.same_component
-          → (equality : Equality C) (shown : Bool) (below : List Step) (scope : ℕ) (side : SideName)
+      → (equality : Equality C) (shown : Bool) (below : List Step) (scope : ℕ) (side : SideName)
       → (ids : List ElementId) (scopes : List ScopeId) (answers : List Answer)
       → AreAnswered (wanted_in (pair_tree equality shown old new below)) answers
       → scope_numbers (steps (pair_tree equality shown old new below) ids scopes nothing_kept answers).children
       ≡ children_for (spots [] (tree_of new))
       (kept_children app (spots [] (tree_of old)) (spots [] (tree_of new)) (children_at (spots [] (tree_of old)) (scope_numbers scopes))
       ++ made_at (serves app scope side (spots [] (tree_of old)) (spots [] (tree_of new)))
-          (scope_numbers (scopes_made (wanted_in (pair_tree equality shown old new below)) answers)))
+      (scope_numbers (scopes_made (wanted_in (pair_tree equality shown old new below)) answers)))

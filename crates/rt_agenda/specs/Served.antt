@@ -64,15 +64,15 @@ module _ {P C Q V H T E L : Type 0} where
   abbrev pub ServedInOrder : Application (types C Q V H T E L) → (old new : VNode P C Q V H T E L) → Type 0
   ServedInOrder app old new =
       fits old ≡ true → fits new ≡ true → Tests C app.same_component
-          → (equality : Equality C) (shown : Bool) (steps : List Step) (scope : ℕ) (side : SideName)
+      → (equality : Equality C) (shown : Bool) (steps : List Step) (scope : ℕ) (side : SideName)
       → kept_by is_served (deeds (pair_tree equality shown old new steps))
-          ≡ all_asked (serves app scope side (spots [] (tree_of old)) (spots [] (tree_of new)))
+      ≡ all_asked (serves app scope side (spots [] (tree_of old)) (spots [] (tree_of new)))
 
   -- the child scopes that a patch leaves are those that the agenda drops, in order
   abbrev pub LeftInOrder : Application (types C Q V H T E L) → (old new : VNode P C Q V H T E L) → Type 0
   LeftInOrder app old new =
       fits old ≡ true → fits new ≡ true → Tests C app.same_component
-          → (equality : Equality C) (shown : Bool) (steps : List Step) (scope : ℕ) (side : SideName) (scopes : List ℕ)
+      → (equality : Equality C) (shown : Bool) (steps : List Step) (scope : ℕ) (side : SideName) (scopes : List ℕ)
       → map (λ child. Drop child scope side) (left_scopes (deeds (pair_tree equality shown old new steps)) scopes)
       ≡ drops_of app scope side (spots [] (tree_of new)) (children_at (spots [] (tree_of old)) scopes) (spots [] (tree_of old))
 

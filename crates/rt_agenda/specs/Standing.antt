@@ -1,7 +1,7 @@
 -- A block's numbers and child scopes go on standing for those that the definitions have at its places.
 use Rattle.std.specs.Prelude.{◌≡◌, ℕ, Bool, true, List, [], ◌∷◌, ◌++◌, map, Option, Some, All}
 use Rattle.rt_values.specs.declared.names.ScopeId.{ScopeId}
-use Rattle.rt_parts.specs.declared.element.ElementId.{ElementId}
+use Rattle.rt_values.specs.declared.element.ElementId.{ElementId}
 use Rattle.rt_nodes.specs.declared.vnode.VNode.{VNode}
 use Rattle.rt_nodes.specs.NodeTest.{fits}
 use Rattle.rt_shapes.specs.declared.place.Step.{Step}
@@ -43,41 +43,41 @@ module _ {P C Q V H T E L : Type 0} where
   abbrev pub NumbersGoOn : Application (types C Q V H T E L) → (old new : VNode P C Q V H T E L) → Type 0
   NumbersGoOn app old new =
       fits old ≡ true → fits new ≡ true → Tests C app.same_component
-          → (equality : Equality C) (shown : Bool) (below : List Step) (scope : ℕ) (side : SideName)
+      → (equality : Equality C) (shown : Bool) (below : List Step) (scope : ℕ) (side : SideName)
       → (ids : List ElementId) (scopes : List ScopeId) (answers : List Answer) (entries : List (Place × Kind × ℕ))
       → NumbersStand (element_numbers ids) (spots [] (tree_of old)) entries
       → AreAnswered (wanted_in (pair_tree equality shown old new below)) answers
       → NumbersStand (element_numbers (steps (pair_tree equality shown old new below) ids scopes nothing_kept answers).numbers)
-          (spots [] (tree_of new))
+      (spots [] (tree_of new))
       (kept_numbers (spots [] (tree_of new)) entries
       ++ drawn_at (serves app scope side (spots [] (tree_of old)) (spots [] (tree_of new)))
-          (element_numbers (numbers_drawn (wanted_in (pair_tree equality shown old new below)) answers)))
+      (element_numbers (numbers_drawn (wanted_in (pair_tree equality shown old new below)) answers)))
 
   -- where the old block's child scopes stand for those of a side, the new block's stand for those that it has after the agenda's makes
   abbrev pub ChildrenGoOn : Application (types C Q V H T E L) → (old new : VNode P C Q V H T E L) → Type 0
   ChildrenGoOn app old new =
       fits old ≡ true → fits new ≡ true → Tests C app.same_component
-          → (equality : Equality C) (shown : Bool) (below : List Step) (scope : ℕ) (side : SideName)
+      → (equality : Equality C) (shown : Bool) (below : List Step) (scope : ℕ) (side : SideName)
       → (ids : List ElementId) (scopes : List ScopeId) (answers : List Answer) (entries : List (Place × ℕ))
       → ChildrenStand (scope_numbers scopes) (spots [] (tree_of old)) entries
       → AreAnswered (wanted_in (pair_tree equality shown old new below)) answers
       → ChildrenStand (scope_numbers (steps (pair_tree equality shown old new below) ids scopes nothing_kept answers).children)
-          (spots [] (tree_of new))
+      (spots [] (tree_of new))
       (kept_children app (spots [] (tree_of old)) (spots [] (tree_of new)) entries
       ++ made_at (serves app scope side (spots [] (tree_of old)) (spots [] (tree_of new)))
-          (scope_numbers (scopes_made (wanted_in (pair_tree equality shown old new below)) answers)))
+      (scope_numbers (scopes_made (wanted_in (pair_tree equality shown old new below)) answers)))
 
   -- and the steps do the work of the agenda with the child scopes that the side has
   abbrev pub WorkGoesOn : Application (types C Q V H T E L) → (old new : VNode P C Q V H T E L) → Type 0
   WorkGoesOn app old new =
       fits old ≡ true → fits new ≡ true → Tests C app.same_component
-          → (equality : Equality C) (shown : Bool) (below : List Step) (scope : ℕ) (side : SideName)
+      → (equality : Equality C) (shown : Bool) (below : List Step) (scope : ℕ) (side : SideName)
       → (ids : List ElementId) (scopes : List ScopeId) (answers : List Answer) (entries : List (Place × ℕ))
       → ChildrenStand (scope_numbers scopes) (spots [] (tree_of old)) entries
       → AreAnswered (wanted_in (pair_tree equality shown old new below)) answers
       → work_in_all (steps (pair_tree equality shown old new below) ids scopes nothing_kept answers).steps
       ≡ work_of
       (serves app scope side (spots [] (tree_of old)) (spots [] (tree_of new))
-          ++ drops_of app scope side (spots [] (tree_of new)) entries (spots [] (tree_of old)))
+      ++ drops_of app scope side (spots [] (tree_of new)) entries (spots [] (tree_of old)))
       entries
       (element_numbers (numbers_drawn (wanted_in (pair_tree equality shown old new below)) answers))

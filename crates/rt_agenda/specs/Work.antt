@@ -1,7 +1,7 @@
 -- The steps of a patch do the work of the agenda, in order.
 use Rattle.std.specs.Prelude.{◌≡◌, ℕ, Bool, true, List, [], ◌∷◌, ◌++◌, length}
 use Rattle.rt_values.specs.declared.names.ScopeId.{ScopeId}
-use Rattle.rt_parts.specs.declared.element.ElementId.{ElementId}
+use Rattle.rt_values.specs.declared.element.ElementId.{ElementId}
 use Rattle.rt_nodes.specs.declared.vnode.VNode.{VNode}
 use Rattle.rt_nodes.specs.NodeTest.{fits}
 use Rattle.rt_shapes.specs.declared.place.Step.{Step}
@@ -69,13 +69,13 @@ module _ {P C Q V H T E L : Type 0} where
   abbrev pub StepsAreTheAgenda : Application (types C Q V H T E L) → (old new : VNode P C Q V H T E L) → Type 0
   StepsAreTheAgenda app old new =
       fits old ≡ true → fits new ≡ true → Tests C app.same_component
-          → (equality : Equality C) (shown : Bool) (below : List Step) (scope : ℕ) (side : SideName)
+      → (equality : Equality C) (shown : Bool) (below : List Step) (scope : ℕ) (side : SideName)
       → (ids : List ElementId) (scopes : List ScopeId) (answers : List Answer) → HasItsScopes old scopes
       → AreAnswered (wanted_in (pair_tree equality shown old new below)) answers
       → work_in_all (steps (pair_tree equality shown old new below) ids scopes nothing_kept answers).steps
       ≡ work_of
       (serves app scope side (spots [] (tree_of old)) (spots [] (tree_of new))
-          ++ drops_of app scope side (spots [] (tree_of new)) (children_at (spots [] (tree_of old)) (scope_numbers scopes))
-          (spots [] (tree_of old)))
+      ++ drops_of app scope side (spots [] (tree_of new)) (children_at (spots [] (tree_of old)) (scope_numbers scopes))
+      (spots [] (tree_of old)))
       (children_at (spots [] (tree_of old)) (scope_numbers scopes))
       (element_numbers (numbers_drawn (wanted_in (pair_tree equality shown old new below)) answers))

@@ -6,8 +6,8 @@ ghost use Rattle.rt_attributes.specs.Given.{all_come, all_left, come_of, edits_o
 
 use crate::order::{is_same_namespace, is_same_text};
 use rt_edits::Edit;
-use rt_parts::{Attribute, AttributeValue, ElementId, Parts};
-use rt_values::{List, OutOfMemory, Part, Text, both};
+use rt_parts::{Attribute, AttributeValue, Parts};
+use rt_values::{ElementId, List, OutOfMemory, Part, Text, both};
 use std::alloc::Global;
 
 /// What a slot no longer gives, in the old order.

@@ -47,12 +47,23 @@ module _ {P Component Props Value Handler TaskState Effect Payload : Type 0} whe
   -- a call that was just begun, as a body or not
   abbrev pub begun : Bool → CallWorld P Component Props Value Handler TaskState Effect Payload
       → Call P Component Props Value Handler TaskState Effect Payload
-  begun in_body w = record { world = w; in_body = in_body; index = 0; into = []; reads = []; aside = []; commands = []; next = w.next;
-      fault = None }
+  begun in_body w = record {
+    world = w;
+    in_body = in_body;
+    index = 0;
+    into = [];
+    reads = [];
+    aside = [];
+    commands = [];
+    next = w.next;
+    fault = None;
+  }
 
   -- a call that ends with an answer
   abbrev pub ended : {A : Type 0} → Call P Component Props Value Handler TaskState Effect Payload → A
       → Left P Component Props Value Handler TaskState Effect Payload A
   ended c a =
-      record { world = c.world;
-          meaning = record { answer = a; reads = c.reads; aside = c.aside; commands = c.commands; next = c.next; fault = c.fault } }
+      record {
+        world = c.world;
+        meaning = record { answer = a; reads = c.reads; aside = c.aside; commands = c.commands; next = c.next; fault = c.fault };
+      }

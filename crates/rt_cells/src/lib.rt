@@ -2,10 +2,10 @@
 //! values that all crates above are made of.
 #![tactic(auto)]
 
-pub use rt_tracked::{
-    Cells, CellsFault, ReactiveContext, Reader, Serials, Source, Subscribers, Target,
+pub use rt_tracked::{Cells, CellsFault, ReactiveContext, Reader, Source, Subscribers, Target};
+pub use rt_values::{
+    Boxed, List, OutOfMemory, Part, ScopeId, Serials, Task, Text, copy_slice, same_slice,
 };
-pub use rt_values::{Boxed, List, OutOfMemory, Part, ScopeId, Task, Text, copy_slice, same_slice};
 
 #[cfg(test)]
 mod tests;

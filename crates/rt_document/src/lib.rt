@@ -6,7 +6,7 @@ pub use rt_edits::{
     DocAttr, DocFault, DocKind, DocNode, Document, Edit, FailingMutations, Mutations,
     NoOpMutations, SinkError, WriteMutations,
 };
-pub use rt_parts::ElementId;
+pub use rt_values::ElementId;
 
 #[cfg(test)]
 mod tests;

@@ -6,7 +6,7 @@ use Rattle.std.proofs.lemmas.List.Folds.{list_any-append}
 use Rattle.std.proofs.lemmas.List.{take-append-drop, set_split}
 use Rattle.rt_edits.specs.Nodes.{numbers, numbers_below, has, changed, changed_below}
 use Rattle.rt_edits.specs.Changing.{with_first}
-use Rattle.rt_parts.specs.declared.element.ElementId.{ElementId}
+use Rattle.rt_values.specs.declared.element.ElementId.{ElementId}
 use Rattle.rt_edits.specs.declared.doc_node.DocKind.{DocKind}
 use Rattle.rt_edits.specs.declared.doc_node.DocNode.{DocNode}
 

@@ -17,7 +17,7 @@ pub data DiffersAt (number : ℕ) : List DocNode → List DocNode → Type 0 whe
   -- the node stands below an element, of which all but the children stays
   Below : (before behind children old new : List DocNode) (node made : DocNode) (parts : Parts) →
       made.id ≡ node.id → parts_of node.kind ≡ Some parts → parts_of made.kind ≡ Some (record parts { children = children })
-          → DiffersAt number parts.children children →
+      → DiffersAt number parts.children children →
       old ≡ before ++ node ∷ behind → new ≡ before ++ made ∷ behind → DiffersAt number old new
 
 -- an edit changes nothing outside the node that it names; one of the root container only adds nodes at its end

@@ -1,8 +1,7 @@
 //! The nodes of a document.
 ghost use Rattle.std.specs.Prelude.{◌≡◌, ◌↔◌, IsTrue, IfOk};
 
-use rt_parts::ElementId;
-use rt_values::{List, OutOfMemory, Part, Text};
+use rt_values::{ElementId, List, OutOfMemory, Part, Text};
 use std::alloc::Global;
 
 /// An attribute with its value.

@@ -4,8 +4,7 @@ ghost use Rattle.rt_edits.specs.Sinks.{Takes};
 
 use crate::doc_node::{DocNode, copy_nodes};
 use crate::sink::{SinkError, WriteMutations};
-use rt_parts::ElementId;
-use rt_values::{List, OutOfMemory, Part, Text};
+use rt_values::{ElementId, List, OutOfMemory, Part, Text};
 use std::alloc::Global;
 
 /// One edit of a document. `id` names the node that it changes or stands beside.

@@ -6,8 +6,7 @@ ghost use Rattle.rt_edits.specs.declared.edit.Edit.TheVariants as edits;
 use crate::doc_node::DocNode;
 use crate::edit::Edit;
 use crate::sink::{SinkError, WriteMutations};
-use rt_parts::ElementId;
-use rt_values::{List, OutOfMemory, Text};
+use rt_values::{ElementId, List, OutOfMemory, Text};
 use std::alloc::Global;
 
 /// Keeps the edits that it takes, and fails at the calls of given numbers, counted from 1.

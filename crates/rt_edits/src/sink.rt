@@ -6,8 +6,7 @@ ghost use Rattle.rt_edits.specs.declared.edit.Edit.{Edit};
 ghost use Rattle.rt_edits.specs.declared.edit.Edit.TheVariants as edits;
 
 use crate::doc_node::DocNode;
-use rt_parts::ElementId;
-use rt_values::{List, OutOfMemory, Text};
+use rt_values::{ElementId, List, OutOfMemory, Text};
 use std::alloc::Global;
 
 /// Why a sink refuses an edit.

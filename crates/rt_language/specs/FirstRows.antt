@@ -72,7 +72,7 @@ titled =
     (element_with
     (codes "p")
     (StaticAttribute (codes "id") (codes "k") ∷ SlotAttribute (codes "title") (If (Equal (Read 0) (words [])) (Parse (words [])) (Read 0))
-        ∷ [])
+    ∷ [])
     NoViews
     NoViews)
     ∷ [])

@@ -9,7 +9,7 @@ use Rattle.rt_language.specs.Shorthand.{number, words, these, slot, text_slot, e
 abbrev pub two_texts : List Expression → View
 two_texts parts =
     element_with (codes "p") (SlotAttribute (codes "a") (Cat (these parts)) ∷ SlotAttribute (codes "b") (Cat (these [])) ∷ []) NoViews
-        NoViews
+    NoViews
 
 -- a paragraph with an attribute and a listener
 abbrev pub text_and_listener : View
@@ -172,7 +172,7 @@ boxed =
     (of_components
     (component [] (use_alone 1 [])
     ∷ component [] (slot (FragmentOf
-        (slot (ErrorBoundaryOf (element_with (codes "b") (on (codes "onclick") 0 [] ∷ []) NoViews NoViews) None))))
+    (slot (ErrorBoundaryOf (element_with (codes "b") (on (codes "onclick") 0 [] ∷ []) NoViews NoViews) None))))
     ∷ [])
     (event (codes "click") 1 ∷ []))
     ([] ∷ [])

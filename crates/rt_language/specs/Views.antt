@@ -98,7 +98,7 @@ given_by by held (ListenerAttribute name action arguments ∷ rest) =
     go_on
     (evaluate_all by held arguments)
     (λ vs. current_scope (λ s.
-        go_on (given_by by held rest) (λ slots. done (with_attribute (attribute_of name (listener s (doing action vs))) slots))))
+    go_on (given_by by held rest) (λ slots. done (with_attribute (attribute_of name (listener s (doing action vs))) slots))))
 
 -- a component and its props, where one is named
 abbrev pub use_or_none : Caller → List Value → Option ComponentUse → Program SourceTypes (Option (ℕ × List Value))
@@ -117,7 +117,7 @@ tree_with (TextView text rest) filling =
     block (template_with (template_nodes 0 0 (TextView text rest))) filling.attributes (slots_from filling.slots)
 tree_with (ElementView tag namespace attributes kids rest) filling =
     block (template_with (template_nodes 0 0 (ElementView tag namespace attributes kids rest))) filling.attributes
-        (slots_from filling.slots)
+    (slots_from filling.slots)
 tree_with (SlotView slot rest) filling =
     block (template_with (template_nodes 0 0 (SlotView slot rest))) filling.attributes (slots_from filling.slots)
 
@@ -151,10 +151,10 @@ unfoldable mutual
       go_on
       (given_by by held attributes)
       (λ own. go_on (fill by held kids) (λ below.
-          go_on (fill by held rest) (λ after. done (filled_on (record { attributes = own; slots = [] }) (filled_on below after)))))
+      go_on (fill by held rest) (λ after. done (filled_on (record { attributes = own; slots = [] }) (filled_on below after)))))
   fill by held (SlotView slot rest) =
       go_on (fill_slot by held slot) (λ v.
-          go_on (fill by held rest) (λ after. done (filled_on (record { attributes = []; slots = v ∷ [] }) after)))
+      go_on (fill by held rest) (λ after. done (filled_on (record { attributes = []; slots = v ∷ [] }) after)))
 
   -- what stands in one slot
   pub fill_slot : Caller → List Value → ViewSlot → Program SourceTypes (Slot SourceTypes)
@@ -164,13 +164,15 @@ unfoldable mutual
       go_on
       (evaluate by held count)
       (λ v. go_on (items_from (λ i. tree_of item (fill by (held ++ NumberValue (pos i) ∷ []) item)) 0 (item_count v)) (λ items.
-          done (fragment_slot items)))
+      done (fragment_slot items)))
   fill_slot by held (PickOf test chosen other) =
       go_on
       (evaluate by held test)
-      (λ v. elim (is_true v)
-          [ true ↦ picked (is_empty chosen) (tree_of chosen (fill by held chosen)) | false ↦ picked (is_empty other)
-          (tree_of other (fill by held other)) ])
+      (λ v. elim (is_true v) [
+        | true ↦ picked (is_empty chosen) (tree_of chosen (fill by held chosen))
+        | false ↦ picked (is_empty other)
+            (tree_of other (fill by held other))
+      ])
   fill_slot by held (FragmentOf children) =
       go_on (tree_of children (fill by held children)) (λ t. done (component_slot (Fragment (rendered t))))
   fill_slot by held (ErrorBoundaryOf kids handler) =

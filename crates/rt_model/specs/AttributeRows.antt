@@ -54,11 +54,11 @@ AttributesMove =
     )
     (
     (AppendChildren 0 (Node 1
-        (DocElement (codes "p") None (in_document (codes "a") (codes "1") ∷ in_document (codes "b") (codes "2")
-        ∷ in_document (codes "c") (codes "3") ∷ []) []) Empty Empty) ∷ [])
+    (DocElement (codes "p") None (in_document (codes "a") (codes "1") ∷ in_document (codes "b") (codes "2")
+    ∷ in_document (codes "c") (codes "3") ∷ []) []) Empty Empty) ∷ [])
     ∷
     (SetAttribute 1 (codes "a") None None ∷ SetAttribute 1 (codes "b") None None ∷ CreateEventListener 1 (codes "onclick")
-        ∷ SetAttribute 1 (codes "c") None (Some (codes "4")) ∷ SetAttribute 1 (codes "a") None (Some (codes "1")) ∷ [])
+    ∷ SetAttribute 1 (codes "c") None (Some (codes "4")) ∷ SetAttribute 1 (codes "a") None (Some (codes "1")) ∷ [])
     ∷
     []
     )

@@ -133,7 +133,7 @@ module _ {K : Types} (app : Application K) where
   abbrev pub current_as : State K → Scope K → Option (LastCall K) → VComponent K → Bool
   current_as w x last (SuspenseBoundary children fallback) =
       keeps_tree x.children_side.output (children_of x.component)
-          && shown_side_is_current w x last (is_side x.shows FallbackSide) (is_held x)
+      && shown_side_is_current w x last (is_side x.shows FallbackSide) (is_held x)
   current_as w x last (Own component props) = tested_again w x (λ y l m. body_is_current y l m) last
   current_as w x last (Root component props) = tested_again w x (λ y l m. body_is_current y l m) last
   current_as w x last (Fragment children) = tested_again w x (λ y l m. body_is_current y l m) last

@@ -167,12 +167,12 @@ apply (AppendChildren id nodes) d =
     id
     (content_of id d)
     (λ c. on_element c (λ tag ns attributes ls.
-        if_fresh d nodes (changed id (λ i content children rest. Node i content (join_rows children nodes) rest) d)))
+    if_fresh d nodes (changed id (λ i content children rest. Node i content (join_rows children nodes) rest) d)))
 apply (ReplaceNodeWith id nodes) d =
     on_found id (content_of id d) (λ c. if_fresh d nodes (changed id (λ i content children rest. join_rows nodes rest) d))
 apply (InsertNodesAfter id nodes) d =
     on_found id (content_of id d) (λ c.
-        if_fresh d nodes (changed id (λ i content children rest. Node i content children (join_rows nodes rest)) d))
+    if_fresh d nodes (changed id (λ i content children rest. Node i content children (join_rows nodes rest)) d))
 apply (RemoveNode id) d = on_found id (content_of id d) (λ c. Ok (changed id (λ i content children rest. rest) d))
 apply (SetNodeText id text) d = on_found id (content_of id d) (λ c. on_text c (Ok (changed id (with_content (DocText text)) d)))
 apply (SetAttribute id name namespace value) d =
@@ -180,19 +180,19 @@ apply (SetAttribute id name namespace value) d =
     id
     (content_of id d)
     (λ c. on_element c (λ tag ns attributes ls.
-        Ok (changed id (with_content (DocElement tag ns (set_attribute attributes name namespace value) ls)) d)))
+    Ok (changed id (with_content (DocElement tag ns (set_attribute attributes name namespace value) ls)) d)))
 apply (CreateEventListener id name) d =
     on_found
     id
     (content_of id d)
     (λ c. on_element c (λ tag ns attributes ls. if has_text ls name then Err WrongKind
-        else Ok (changed id (with_content (DocElement tag ns attributes (with_listener ls name))) d)))
+    else Ok (changed id (with_content (DocElement tag ns attributes (with_listener ls name))) d)))
 apply (RemoveEventListener id name) d =
     on_found
     id
     (content_of id d)
     (λ c. on_element c (λ tag ns attributes ls. if has_text ls name
-        then Ok (changed id (with_content (DocElement tag ns attributes (without_listener ls name))) d) else Err WrongKind))
+    then Ok (changed id (with_content (DocElement tag ns attributes (without_listener ls name))) d) else Err WrongKind))
 
 -- the next edit, unless one has faulted
 abbrev pub and_then : Result Forest DocFault → (Forest → Result Forest DocFault) → Result Forest DocFault

@@ -82,4 +82,4 @@ pub record Lasts {K : Types} (app : Application K) (props : K.Props) (inputs : L
 abbrev pub LawfulLogsLast : {K : Types} → Application K → Type 0
 LawfulLogsLast {K = K} app =
     IsLawful K app → (props : K.Props) (inputs : List (Input K)) (log : List Entry) (m : Machine K)
-        → replay_on app (Some (start app props inputs)) log ≡ Some m → Lasts app props inputs log m
+    → replay_on app (Some (start app props inputs)) log ≡ Some m → Lasts app props inputs log m

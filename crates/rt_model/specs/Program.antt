@@ -228,8 +228,11 @@ module _ {K : Types} where
   -- a task is spawned
   abbrev pub drew_task : Call K → K.TaskState → Bool → Bool → Call K
   drew_task c a forever isomorphic =
-      record c { next = record (c.next) { tasks = c.next.tasks + 1 }; commands = c.commands
-          ++ Spawn c.next.tasks a forever isomorphic ∷ [] }
+      record c {
+        next = record (c.next) { tasks = c.next.tasks + 1 };
+        commands = c.commands
+            ++ Spawn c.next.tasks a forever isomorphic ∷ [];
+      }
 
   -- an error's serial number is drawn
   abbrev pub drew_error : Call K → Call K
@@ -254,7 +257,7 @@ module _ {K : Types} where
   exec w (has_context k f) c = exec w (f (look_here w k c).value) (look_here w k c).call
   exec w (new_context t f) c =
       if at_end c.next.contexts then exec w (f None) (faults c (CounterAtEnd Contexts))
-          else exec w (f (Some c.next.contexts)) (drew_context c t)
+      else exec w (f (Some c.next.contexts)) (drew_context c t)
   exec w (run_in n p) c = exec w p (record c { into = n ∷ c.into })
   exec w (reset_and_run_in n p) c = exec w p (record c { into = n ∷ c.into; commands = c.commands ++ Reset n ∷ [] })
   exec w (leave p) c = exec w p (record c { into = left_behind c.into })

@@ -82,7 +82,7 @@ third_render = after_render (between frozen_and_marked second_render) []
 abbrev pub SuspendedRenders : Type 0
 SuspendedRenders =
     rendered_as first_render (1 ∷ []) [] true && rendered_as second_render (4 ∷ []) [] false
-        && rendered_as third_render [] (5 ∷ []) false ≡ true
+    && rendered_as third_render [] (5 ∷ []) false ≡ true
 
 -- a task computes in a context of its own what it reads: the second cell only while the first one isn't 0
 abbrev pub then_second : ℕ → Program R (TaskStep R) → Program R (TaskStep R)

@@ -442,7 +442,7 @@ module _ {K : Types} (app : Application K) where
   abbrev pub dropped : Machine K → ℕ → ℕ → Item K → List (Item K) → Machine K
   dropped m t child this rest =
       (if nat_eq t child then ended_by m (Some this) rest (removed app m.state t)
-          else ended_by m (Some this) (this ∷ rest) (removed app m.state t))
+      else ended_by m (Some this) (this ∷ rest) (removed app m.state t))
 
   -- a scope is handed a component: it keeps its output where the component means the same, else it runs
   abbrev pub handed : State K → ℕ → VComponent K → Outcome K

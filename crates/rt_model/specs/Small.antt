@@ -134,7 +134,7 @@ app_of body =
 abbrev pub SmallAreLawful : Type 0
 SmallAreLawful =
     (body : Name → List Val → Body) (poll : Job → Program R (TaskStep R))
-        → IsLawful R (application_of (record (app_of body) { poll = poll }))
+    → IsLawful R (application_of (record (app_of body) { poll = poll }))
 
 -- a body that gives up where a call was refused
 abbrev pub gives_up : Body

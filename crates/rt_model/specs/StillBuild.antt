@@ -175,7 +175,7 @@ module _ {K : Types} (app : Application K) where
   abbrev pub OneFault : Type 0
   OneFault =
       (props : K.Props) (inputs : List (Input K)) (limits : Limits) (taken also : Option (List Edit)) (reports others : List Report)
-          (fault other : Fault)
+      (fault other : Fault)
       → CameTo app props inputs limits taken reports fault
       → CameTo app props inputs limits also others other
       → fault ≡ other

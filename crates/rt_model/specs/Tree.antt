@@ -57,7 +57,7 @@ same_nodes _ _ = false
 abbrev pub same_template : Template → Template → Bool
 same_template t u =
     same_nodes t.roots u.roots && same_list same_numbers t.node_paths u.node_paths
-        && same_list same_numbers t.attribute_paths u.attribute_paths
+    && same_list same_numbers t.attribute_paths u.attribute_paths
 
 -- an error that a body made; its serial number tells it from others
 pub record CapturedError : Type 0 where

@@ -120,11 +120,11 @@ module _ {P Component Props Value Handler TaskState Effect Payload : Type 0} whe
       → List (SlotPlace (VComponent P Component Props Value Handler TaskState Effect Payload))
   slot_places tree = para-VNode P Component Props Value Handler TaskState Effect Payload
       (Below (SlotPlace (VComponent P Component Props Value Handler TaskState Effect Payload)))
-          (Below (SlotPlace (VComponent P Component Props Value Handler TaskState Effect Payload)))
-          (Below (SlotPlace (VComponent P Component Props Value Handler TaskState Effect Payload)))
       (Below (SlotPlace (VComponent P Component Props Value Handler TaskState Effect Payload)))
-          (Below (SlotPlace (VComponent P Component Props Value Handler TaskState Effect Payload)))
-          (Below (SlotPlace (VComponent P Component Props Value Handler TaskState Effect Payload)))
+      (Below (SlotPlace (VComponent P Component Props Value Handler TaskState Effect Payload)))
+      (Below (SlotPlace (VComponent P Component Props Value Handler TaskState Effect Payload)))
+      (Below (SlotPlace (VComponent P Component Props Value Handler TaskState Effect Payload)))
+      (Below (SlotPlace (VComponent P Component Props Value Handler TaskState Effect Payload)))
       value_slots (λ component steps. []) (λ props steps. []) (λ props steps. []) (λ props steps. []) tree_slots tree []
 
   -- no place of a tree's nodes stands twice, and none of its component slots

@@ -1,16 +1,14 @@
 //! What trees and documents are made of: the types that an application brings along, templates,
-//! attributes, errors, events, and the numbers of nodes.
+//! attributes, errors and events.
 #![tactic(auto)]
 
 mod attribute;
-mod element;
 mod error;
 mod event;
 mod parts;
 mod template;
 
 pub use attribute::{Attribute, AttributeValue, ListenerCallback};
-pub use element::ElementId;
 pub use error::{CapturedError, RenderError, SuspendedFuture};
 pub use event::Event;
 pub use parts::Parts;

@@ -1,7 +1,7 @@
 -- The steps of a plan come in the order of the patch's parts.
 use Rattle.std.proofs.Common.{ℕ, ◌≤◌, List, [], ◌∷◌, map, true, false, arith}
 use Rattle.rt_values.specs.declared.names.ScopeId.{ScopeId}
-use Rattle.rt_parts.specs.declared.element.ElementId.{ElementId}
+use Rattle.rt_values.specs.declared.element.ElementId.{ElementId}
 use Rattle.rt_edits.specs.declared.doc_node.DocNode.{DocNode}
 use Rattle.rt_shapes.specs.declared.instruction.Instruction.{Instruction}
 use Rattle.rt_shapes.specs.declared.instruction.Instruction.TheVariants as i

@@ -2,7 +2,7 @@
 use Rattle.std.specs.Prelude.{ℕ, ◌-◌, Bool, true, false, nat_lt, if◌then◌else◌, List, [], ◌∷◌, ◌++◌, length, map}
 use Rattle.std.specs.List.{slice_index_or}
 use Rattle.rt_values.specs.declared.names.ScopeId.{ScopeId}
-use Rattle.rt_parts.specs.declared.element.ElementId.{ElementId}
+use Rattle.rt_values.specs.declared.element.ElementId.{ElementId}
 use Rattle.rt_edits.specs.declared.doc_node.DocNode.{DocNode}
 use Rattle.rt_shapes.specs.declared.instruction.Shape.{Shape}
 use Rattle.rt_patch.specs.Building.{Built, nothing_built, with_shape, with_nodes, taken}
@@ -34,7 +34,7 @@ last_or other (x ∷ xs) = last_or x xs
 abbrev pub number_back : List ElementId → ℕ → ElementId
 number_back numbers back =
     if nat_lt (length numbers) back then no_number
-        else (if nat_lt 0 back then slice_index_or numbers (length numbers - back) no_number else no_number)
+    else (if nat_lt 0 back then slice_index_or numbers (length numbers - back) no_number else no_number)
 
 -- the numbers of nodes
 abbrev pub numbers_of : List DocNode → List ElementId

@@ -1,7 +1,7 @@
 -- What a patch has left, for each list of answers.
 use Rattle.std.specs.Prelude.{◌≡◌, ℕ, ◌+◌, List, [], ◌∷◌, ◌++◌, length}
 use Rattle.rt_values.specs.declared.names.ScopeId.{ScopeId}
-use Rattle.rt_parts.specs.declared.element.ElementId.{ElementId}
+use Rattle.rt_values.specs.declared.element.ElementId.{ElementId}
 use Rattle.rt_shapes.specs.declared.instruction.Instruction.{Instruction}
 use Rattle.rt_patch.specs.declared.builder.Builder.{Builder}
 use Rattle.rt_patch.specs.declared.patch.Patch.{Patch}

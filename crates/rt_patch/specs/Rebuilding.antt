@@ -1,6 +1,6 @@
 -- What a block shows: all of its tree is built anew with the numbers and the child scopes' nodes that it has.
 use Rattle.std.specs.Prelude.{true, List, [], ◌∷◌}
-use Rattle.rt_parts.specs.declared.element.ElementId.{ElementId}
+use Rattle.rt_values.specs.declared.element.ElementId.{ElementId}
 use Rattle.rt_edits.specs.declared.doc_node.DocNode.{DocNode}
 use Rattle.rt_nodes.specs.declared.vnode.VNode.{VNode}
 use Rattle.rt_shapes.specs.declared.instruction.Instruction.{Instruction}

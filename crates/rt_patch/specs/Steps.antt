@@ -2,7 +2,7 @@
 use Rattle.std.specs.Prelude.{ℕ, Bool, true, false, if◌then◌else◌, List, [], ◌∷◌, ◌++◌, map, Option, Some, None}
 use Rattle.std.specs.List.{slice_index_or}
 use Rattle.rt_values.specs.declared.names.ScopeId.{ScopeId}
-use Rattle.rt_parts.specs.declared.element.ElementId.{ElementId}
+use Rattle.rt_values.specs.declared.element.ElementId.{ElementId}
 use Rattle.rt_edits.specs.declared.doc_node.DocNode.{DocNode}
 use Rattle.rt_edits.specs.declared.edit.Edit.{Edit}
 use Rattle.rt_edits.specs.declared.edit.Edit.TheVariants as edit
@@ -101,14 +101,14 @@ module _ {P Component Props Value Handler TaskState Effect Payload : Type 0} whe
       (s.Nodes (first_or no_scope scopes))
       (given
       (λ scope nodes rest. steps is ids (after_first scopes)
-          (record (leaving (first_or no_scope scopes) kept) { roots = kept.roots ++ numbers_of nodes }) rest)
+      (record (leaving (first_or no_scope scopes) kept) { roots = kept.roots ++ numbers_of nodes }) rest)
       answers)
   steps (i.Leave false ∷ is) ids scopes kept answers =
       steps is ids (after_first scopes) (leaving (first_or no_scope scopes) kept) answers
   steps (i.Draw places path shape ∷ is) ids scopes kept answers =
       drawn (λ number rest.
-          told (s.Drawn (record { 0 = number }) places path) (steps is ids scopes (drawing (record { 0 = number }) shape kept) rest))
-          answers
+      told (s.Drawn (record { 0 = number }) places path) (steps is ids scopes (drawing (record { 0 = number }) shape kept) rest))
+      answers
   steps (i.Close ∷ is) ids scopes kept answers = steps is ids scopes (record kept { built = closed kept.built }) answers
   steps (i.Make component ∷ is) ids scopes kept answers =
       told (s.Make component) (given (λ scope nodes rest. steps is ids scopes (making scope nodes kept) rest) answers)

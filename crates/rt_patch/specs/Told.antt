@@ -1,5 +1,5 @@
 -- What may be said of one step.
-use Rattle.rt_parts.specs.declared.element.ElementId.{ElementId}
+use Rattle.rt_values.specs.declared.element.ElementId.{ElementId}
 use Rattle.rt_patch.specs.declared.step.PatchStep.{PatchStep}
 use Rattle.rt_patch.specs.declared.step.PatchStep.TheVariants as s
 

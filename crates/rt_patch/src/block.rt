@@ -6,9 +6,9 @@ use crate::builder::Builder;
 use crate::rebuild::Rebuild;
 use rt_edits::DocNode;
 use rt_nodes::VNode;
-use rt_parts::{ElementId, Parts};
+use rt_parts::Parts;
 use rt_plan::plan_nodes;
-use rt_values::{List, OutOfMemory, ScopeId};
+use rt_values::{ElementId, List, OutOfMemory, ScopeId};
 use std::alloc::Global;
 use std::collections::VecDeque;
 

@@ -5,9 +5,8 @@ ghost use Rattle.rt_patch.specs.Building.{closed, nothing_built, taken, with_nod
 ghost use Rattle.rt_patch.specs.Left.{built_of};
 
 use rt_edits::{DocAttr, DocKind, DocNode};
-use rt_parts::ElementId;
 use rt_plan::Shape;
-use rt_values::{List, OutOfMemory, Text};
+use rt_values::{ElementId, List, OutOfMemory, Text};
 use std::alloc::Global;
 use std::mem;
 

@@ -4,7 +4,7 @@ ghost use Rattle.std.specs.Prelude.{List as Items};
 ghost use Rattle.rt_patch.specs.Order.{AreInOrder};
 ghost use Rattle.rt_patch.specs.Gathered.{Kept};
 ghost use Rattle.rt_patch.specs.Steps.{Answer, steps};
-ghost use Rattle.rt_parts.specs.declared.element.ElementId.{ElementId as Number};
+ghost use Rattle.rt_values.specs.declared.element.ElementId.{ElementId as Number};
 ghost use Rattle.rt_values.specs.declared.names.ScopeId.{ScopeId as Scope};
 
 use rt_parts::Parts;

@@ -9,9 +9,9 @@ use crate::patch::{Patch, Phase};
 use crate::step::PatchStep;
 use rt_edits::Edit;
 use rt_nodes::VComponent;
-use rt_parts::{ElementId, Parts};
+use rt_parts::Parts;
 use rt_plan::AttributeChange;
-use rt_values::{OutOfMemory, ScopeId, Text};
+use rt_values::{ElementId, OutOfMemory, ScopeId, Text};
 
 impl<P: Parts> Patch<P> {
     ghost use Rattle.rt_patch.specs.Left.{kept};

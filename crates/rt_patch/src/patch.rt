@@ -11,10 +11,9 @@ use crate::builder::Builder;
 use crate::step::{PatchStep, TreeFault};
 use rt_edits::{DocNode, Edit};
 use rt_nodes::VNode;
-use rt_parts::{ElementId, Parts};
+use rt_parts::Parts;
 use rt_plan::{Instruction, plan_build, plan_over};
-use rt_tracked::Serials;
-use rt_values::{List, OutOfMemory, ScopeId};
+use rt_values::{ElementId, List, OutOfMemory, ScopeId, Serials};
 use std::alloc::Global;
 use std::collections::VecDeque;
 

@@ -7,9 +7,9 @@ ghost use Rattle.rt_patch.specs.Rebuilding.{rebuilt_by, rebuilt_of};
 
 use crate::builder::Builder;
 use rt_edits::DocNode;
-use rt_parts::{ElementId, Parts};
+use rt_parts::Parts;
 use rt_plan::Instruction;
-use rt_values::{List, OutOfMemory};
+use rt_values::{ElementId, List, OutOfMemory};
 use std::alloc::Global;
 use std::collections::VecDeque;
 

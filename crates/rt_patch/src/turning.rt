@@ -11,10 +11,9 @@ use crate::patch::{Patch, Phase};
 use crate::step::{PatchStep, TreeFault};
 use rt_edits::Edit;
 use rt_nodes::VComponent;
-use rt_parts::{ElementId, Parts};
+use rt_parts::Parts;
 use rt_plan::{Instruction, Shape, Step};
-use rt_tracked::Serials;
-use rt_values::{List, ScopeId};
+use rt_values::{ElementId, List, ScopeId, Serials};
 use std::alloc::Global;
 
 impl<P: Parts> Patch<P> {

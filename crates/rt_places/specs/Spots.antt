@@ -41,7 +41,7 @@ module _ {P C Q V H T E L : Type 0} where
   unfoldable pub piece_spots : Place → VNode P C Q V H T E L → Piece → List (Spot (types C Q V H T E L))
   piece_spots above tree piece =
       met_spots (template_of tree.template) above (λ k place. model.slots_spots (slots_from (map slot_of tree.dynamic_nodes)) k place)
-          (piece_of piece)
+      (piece_of piece)
 
   -- the spots of several pieces
   abbrev pub pieces_spots : Place → VNode P C Q V H T E L → List Piece → List (Spot (types C Q V H T E L))

@@ -68,7 +68,7 @@ module _ {P Component Props Value Handler TaskState Effect Payload : Type 0} whe
       → Lost (Instruction P Component Props Value Handler TaskState Effect Payload)
   lose_tree = fold-VNode P Component Props Value Handler TaskState Effect Payload
       (Lost (Instruction P Component Props Value Handler TaskState Effect Payload)) (Unit {0}) (Unit {0}) (Unit {0}) (Unit {0})
-          (Lost (Instruction P Component Props Value Handler TaskState Effect Payload))
+      (Lost (Instruction P Component Props Value Handler TaskState Effect Payload))
       lose_value_step (λ component. tt) (λ props. tt) (λ props. tt) (λ props. tt) lose_tree_step
 
   -- what is planned where the value of a slot goes
@@ -76,5 +76,5 @@ module _ {P Component Props Value Handler TaskState Effect Payload : Type 0} whe
       → Lost (Instruction P Component Props Value Handler TaskState Effect Payload)
   lose_value = fold-DynamicNode P Component Props Value Handler TaskState Effect Payload
       (Lost (Instruction P Component Props Value Handler TaskState Effect Payload)) (Unit {0}) (Unit {0}) (Unit {0}) (Unit {0})
-          (Lost (Instruction P Component Props Value Handler TaskState Effect Payload))
+      (Lost (Instruction P Component Props Value Handler TaskState Effect Payload))
       lose_value_step (λ component. tt) (λ props. tt) (λ props. tt) (λ props. tt) lose_tree_step

@@ -81,14 +81,14 @@ module _ {P Component Props Value Handler TaskState Effect Payload : Type 0} whe
       → InTree (Instruction P Component Props Value Handler TaskState Effect Payload)
   make_tree_step shown tree steps =
       make_pieces (plans_of tree.dynamic_nodes) tree.template.node_paths steps
-          (pieces_among (map (node_pieces shown tree.dynamic_attrs) tree.template.roots) [] 0)
+      (pieces_among (map (node_pieces shown tree.dynamic_attrs) tree.template.roots) [] 0)
 
   -- what is planned where a tree is made below these steps
   unfoldable pub make_tree : Bool → VNode P Component Props Value Handler TaskState Effect Payload
       → InTree (Instruction P Component Props Value Handler TaskState Effect Payload)
   make_tree shown = para-VNode P Component Props Value Handler TaskState Effect Payload
       (InSlot (Instruction P Component Props Value Handler TaskState Effect Payload)) (Unit {0}) (Unit {0}) (Unit {0}) (Unit {0})
-          (InTree (Instruction P Component Props Value Handler TaskState Effect Payload))
+      (InTree (Instruction P Component Props Value Handler TaskState Effect Payload))
       (make_value_step shown) (λ component. tt) (λ props. tt) (λ props. tt) (λ props. tt) (make_tree_step shown)
 
   -- what is planned where the value of a slot is made
@@ -96,5 +96,5 @@ module _ {P Component Props Value Handler TaskState Effect Payload : Type 0} whe
       → InSlot (Instruction P Component Props Value Handler TaskState Effect Payload)
   make_value shown = para-DynamicNode P Component Props Value Handler TaskState Effect Payload
       (InSlot (Instruction P Component Props Value Handler TaskState Effect Payload)) (Unit {0}) (Unit {0}) (Unit {0}) (Unit {0})
-          (InTree (Instruction P Component Props Value Handler TaskState Effect Payload))
+      (InTree (Instruction P Component Props Value Handler TaskState Effect Payload))
       (make_value_step shown) (λ component. tt) (λ props. tt) (λ props. tt) (λ props. tt) (make_tree_step shown)

@@ -184,12 +184,12 @@ module _ {P Component Props Value Handler TaskState Effect Payload : Type 0} whe
     abbrev pub pair_component : {N E F S : Type 0} → VComponent P Component Props Value Handler TaskState Effect Payload
         → DynamicNode P Component Props Value Handler TaskState Effect Payload
         → DynamicNode-F P Component Props Value Handler TaskState Effect Payload N
-            (VComponent P Component Props Value Handler TaskState Effect Payload) E F S
-            (VNode P Component Props Value Handler TaskState Effect Payload)
-            → InSlot (Instruction P Component Props Value Handler TaskState Effect Payload)
+        (VComponent P Component Props Value Handler TaskState Effect Payload) E F S
+        (VNode P Component Props Value Handler TaskState Effect Payload)
+        → InSlot (Instruction P Component Props Value Handler TaskState Effect Payload)
     pair_component before new (DynamicNode-F.Component after) steps slot path =
         if are_alike equality before after then i.Feed after ∷ []
-            else replaced shown (i.Leave shown ∷ []) (make_value shown new steps slot path)
+        else replaced shown (i.Leave shown ∷ []) (make_value shown new steps slot path)
     pair_component before new _ steps slot path = replaced shown (i.Leave shown ∷ []) (make_value shown new steps slot path)
 
     -- an old fragment beside a new value
@@ -198,8 +198,8 @@ module _ {P Component Props Value Handler TaskState Effect Payload : Type 0} whe
         (Instruction P Component Props Value Handler TaskState Effect Payload))
         → DynamicNode P Component Props Value Handler TaskState Effect Payload
         → DynamicNode-F P Component Props Value Handler TaskState Effect Payload N C E F S
-            (VNode P Component Props Value Handler TaskState Effect Payload)
-            → InSlot (Instruction P Component Props Value Handler TaskState Effect Payload)
+        (VNode P Component Props Value Handler TaskState Effect Payload)
+        → InSlot (Instruction P Component Props Value Handler TaskState Effect Payload)
     pair_fragment olds new (DynamicNode-F.DynamicNode::Fragment items) steps slot path = pair_fragments olds items new steps slot path
     pair_fragment olds new _ steps slot path =
         replaced shown (lose_fragment (map lose_tree (values_of olds)) shown) (make_value shown new steps slot path)
@@ -238,12 +238,12 @@ module _ {P Component Props Value Handler TaskState Effect Payload : Type 0} whe
         if equality.templates old.template new.template
         then
         (attributes_paired shown old.dynamic_attrs new.dynamic_attrs
-            (ahead_of (map count_value (values_of old.dynamic_nodes)) 0 (tokens_in old.template.roots))
+        (ahead_of (map count_value (values_of old.dynamic_nodes)) 0 (tokens_in old.template.roots))
         ++
         pair_tokens (plans_of old.dynamic_nodes) new.dynamic_nodes new.template.node_paths steps (tokens_in old.template.roots))
         else
         replaced shown (lose_tokens (map lose_value (values_of old.dynamic_nodes)) shown (tokens_in old.template.roots))
-            (make_tree shown new steps)
+        (make_tree shown new steps)
 
     -- what is planned of an old tree beside a new one below these steps
     unfoldable pub pair_tree : VNode P Component Props Value Handler TaskState Effect Payload
@@ -251,9 +251,9 @@ module _ {P Component Props Value Handler TaskState Effect Payload : Type 0} whe
         → InTree (Instruction P Component Props Value Handler TaskState Effect Payload)
     pair_tree = para-VNode P Component Props Value Handler TaskState Effect Payload
         (DynamicNode P Component Props Value Handler TaskState Effect Payload
-            → InSlot (Instruction P Component Props Value Handler TaskState Effect Payload)) (Unit {0}) (Unit {0}) (Unit {0}) (Unit {0})
-            (VNode P Component Props Value Handler TaskState Effect Payload
-            → InTree (Instruction P Component Props Value Handler TaskState Effect Payload))
+        → InSlot (Instruction P Component Props Value Handler TaskState Effect Payload)) (Unit {0}) (Unit {0}) (Unit {0}) (Unit {0})
+        (VNode P Component Props Value Handler TaskState Effect Payload
+        → InTree (Instruction P Component Props Value Handler TaskState Effect Payload))
         pair_value_step (λ component. tt) (λ props. tt) (λ props. tt) (λ props. tt) pair_tree_step
 
     -- what is planned of the old value of a slot beside the new one
@@ -262,9 +262,9 @@ module _ {P Component Props Value Handler TaskState Effect Payload : Type 0} whe
         → InSlot (Instruction P Component Props Value Handler TaskState Effect Payload)
     pair_value = para-DynamicNode P Component Props Value Handler TaskState Effect Payload
         (DynamicNode P Component Props Value Handler TaskState Effect Payload
-            → InSlot (Instruction P Component Props Value Handler TaskState Effect Payload)) (Unit {0}) (Unit {0}) (Unit {0}) (Unit {0})
-            (VNode P Component Props Value Handler TaskState Effect Payload
-            → InTree (Instruction P Component Props Value Handler TaskState Effect Payload))
+        → InSlot (Instruction P Component Props Value Handler TaskState Effect Payload)) (Unit {0}) (Unit {0}) (Unit {0}) (Unit {0})
+        (VNode P Component Props Value Handler TaskState Effect Payload
+        → InTree (Instruction P Component Props Value Handler TaskState Effect Payload))
         pair_value_step (λ component. tt) (λ props. tt) (λ props. tt) (λ props. tt) pair_tree_step
 
     -- an old tree, with what is planned of it

@@ -3,10 +3,9 @@
 use rt_calls::Counter;
 use rt_edits::{DocAttr, DocKind, DocNode, Edit};
 use rt_inbox::{Msg, Post};
-use rt_parts::ElementId;
 use rt_print::{edit_line, fault_line, report_line, taken_line};
 use rt_reports::{Entry, Fault, Report};
-use rt_values::{List, OutOfMemory, ScopeId, Task, Text};
+use rt_values::{ElementId, List, OutOfMemory, ScopeId, Task, Text};
 use std::alloc::Global;
 use std::test::Fail;
 

@@ -1,8 +1,8 @@
 //! What reaches a session from outside.
 
 use rt_inbox::Msg;
-use rt_parts::{ElementId, Parts};
-use rt_values::{List, ScopeId, Task, Text};
+use rt_parts::Parts;
+use rt_values::{ElementId, List, ScopeId, Task, Text};
 
 /// One input of a session.
 #[derive(Drop)]

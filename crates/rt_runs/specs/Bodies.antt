@@ -45,12 +45,12 @@ module _ {P C Q V H T E L : Type 0} where
   abbrev pub Answers : (state.State (types C Q V H T E L)
       → (state.State (types C Q V H T E L) → tree.Element (types C Q V H T E L) → Outcome (types C Q V H T E L))
       → Outcome (types C Q V H T E L)) → State P C Q V H T E L → State P C Q V H T E L
-          → Result (Result (VNode P C Q V H T E L) RenderError) Stop → Type 0
+      → Result (Result (VNode P C Q V H T E L) RenderError) Stop → Type 0
   Answers call old new result =
       (g : Unkept (types C Q V H T E L))
       → (h : Unkept (types C Q V H T E L))
       × ((then_on : state.State (types C Q V H T E L) → tree.Element (types C Q V H T E L) → Outcome (types C Q V H T E L))
-          → Answered (call (state_of g old) then_on) then_on (state_of h new) (answer_in result))
+      → Answered (call (state_of g old) then_on) then_on (state_of h new) (answer_in result))
 
   -- what a call left means this, with what it read aside
   abbrev pub meaning_left : TurnParts P (Result (VNode P C Q V H T E L) RenderError) C Q V H T E L → List model.Source
@@ -88,8 +88,8 @@ module _ {P C Q V H T E L : Type 0} where
       (g : Unkept (types C Q V H T E L)) (own : Bool) (world : model.World (types C Q V H T E L)) (aside : List model.Source)
       → (h : Unkept (types C Q V H T E L))
       × ((then_on : state.State (types C Q V H T E L) → tree.Element (types C Q V H T E L) → Outcome (types C Q V H T E L))
-          → Answered (answered_with app (called_where own (state_of g old)) scope world then_on (meaning_left parts aside)) then_on
-          (state_of h new) result)
+      → Answered (answered_with app (called_where own (state_of g old)) scope world then_on (meaning_left parts aside)) then_on
+      (state_of h new) result)
 
   -- the error that an error boundary keeps, where it is live
   abbrev pub error_kept : Option (Scope P C Q V H T E L) → Option CapturedError

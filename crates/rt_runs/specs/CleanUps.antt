@@ -35,4 +35,4 @@ module _ {P C Q V H T E L : Type 0} where
       (g : Unkept (types C Q V H T E L))
       → (h : Unkept (types C Q V H T E L))
       × ((go : model.State (types C Q V H T E L) → List (Command (types C Q V H T E L)) → Outcome (types C Q V H T E L))
-          → CameWaiting (step go (state_of g old) (map command_of before)) go (state_of h new) (map command_of after) result)
+      → CameWaiting (step go (state_of g old) (map command_of before)) go (state_of h new) (map command_of after) result)

@@ -48,4 +48,4 @@ module _ {P C Q V H T E L : Type 0} where
       (g : Unkept (types C Q V H T E L))
       → (h : Unkept (types C Q V H T E L))
       × HearsAs app (state_of g old) scope (hearing app (state_of g old) scope handler (event_of before)) (state_of h new) (event_of after)
-          result
+      result

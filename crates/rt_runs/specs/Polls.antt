@@ -35,14 +35,14 @@ module _ {P C Q V H T E L : Type 0} (app : Application (types C Q V H T E L)) wh
       → StandsWith (state_of g old) scope task state x
       → (h : Unkept (types C Q V H T E L))
       × Came (polled_by app (called_once (state_of g old)) task x (app.poll state (world_of (state_of g old) scope (Some task) false)))
-          (state_of h new) no_work result
+      (state_of h new) no_work result
 
   -- a poll of a task of a scope left another state or the end of the task, and its commands are done
   abbrev pub IsLeft : State P C Q V H T E L → ℕ → ℕ → TaskStep (types C Q V H T E L) → List (Command (types C Q V H T E L))
       → State P C Q V H T E L → Type 0
   IsLeft old scope task step asked new =
       (g : Unkept (types C Q V H T E L)) (x : model.TaskRow (types C Q V H T E L))
-          (m : Meaning (types C Q V H T E L) (TaskStep (types C Q V H T E L)))
+      (m : Meaning (types C Q V H T E L) (TaskStep (types C Q V H T E L)))
       → at (state_of g old).tasks task ≡ Some x
       → x.scope ≡ scope
       → m.commands ≡ asked

@@ -53,8 +53,13 @@ module _ {C Q V H T E L : Type 0} where
 module _ {P C Q V H T E L : Type 0} where
   -- a task
   abbrev pub task_of : T → TaskRow P C Q V H T E L → state.TaskRow (types C Q V H T E L)
-  task_of polled x = record { scope = x.scope; parent = x.parent; state = or_else polled x.state; active = x.active;
-      kind = task_kind_of x.kind }
+  task_of polled x = record {
+    scope = x.scope;
+    parent = x.parent;
+    state = or_else polled x.state;
+    active = x.active;
+    kind = task_kind_of x.kind;
+  }
 
   -- the scopes
   abbrev pub scopes_of : List (ℕ × Scope P C Q V H T E L) → List (ℕ × state.Scope (types C Q V H T E L))

@@ -31,7 +31,7 @@ module _ {K : Types} {A : Type 0} where
   came w (has_context k f) c = came w (f (look_here w k c).value) (look_here w k c).call
   came w (new_context t f) c =
       if at_end c.next.contexts then came w (f None) (faults c (CounterAtEnd Contexts))
-          else came w (f (Some c.next.contexts)) (drew_context c t)
+      else came w (f (Some c.next.contexts)) (drew_context c t)
   came w (run_in n p) c = came w p (entered c n)
   came w (reset_and_run_in n p) c = came w p (says (entered c n) (Reset n))
   came w (leave p) c = came w p (left c)

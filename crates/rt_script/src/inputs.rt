@@ -8,11 +8,10 @@ ghost use Rattle.rt_script.specs.Posted.{posted_of};
 use crate::evaluation::said;
 use crate::script::Script;
 use rt_inbox::{Msg, Post};
-use rt_parts::ElementId;
 use rt_reports::Input;
 use rt_script_values::Value;
 use rt_syntax::{InputSource, Literal, PostSource};
-use rt_values::{List, OutOfMemory, Part, ScopeId, Task};
+use rt_values::{ElementId, List, OutOfMemory, Part, ScopeId, Task};
 use std::alloc::Global;
 
 /// The inputs of a source, in order. The messages of a drain have poster 0, and are numbered by

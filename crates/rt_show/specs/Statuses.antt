@@ -47,7 +47,7 @@ pub record Cut (words : List (List ℕ)) (left after old new : Option (List ℕ)
 -- what the program comes to, by its words, what is left of the input, what is written, and the counts of failures, before and after
 abbrev pub Comes :
     List (List ℕ) → (left after old new : Option (List ℕ)) → (source_before source_after out_before out_after : ℕ) → Result (Unit {0}) Stop
-        → Type 0
+    → Type 0
 Comes words left after old new source_before source_after out_before out_after (Ok u) = Done words left after old new
 Comes words left after old new source_before source_after out_before out_after (Err stops.Words) = (wish_of words ≡ None) × (new ≡ old)
 Comes words left after old new source_before source_after out_before out_after (Err stops.Form) = (wish_of words ≢ None)
@@ -75,7 +75,7 @@ pub record Shows
   -- it comes wherever a run is asked for and an input that tells its bytes describes no source, unless a read fails or memory is wanted
   pub refuses :
       (limits : Limits) → wish_of words ≡ Some (Run limits) → (bytes : List ℕ) → left ≡ Some bytes
-          → ((said : Source) → Describes bytes said → ⊥)
+      → ((said : Source) → Describes bytes said → ⊥)
       → (status ≡ 3) ⊎ ((status ≡ 5) ⊎ (status ≡ 7))
   -- 4: a run came to a fault, whose line was written after what went before it
   pub faulted : status ≡ 4 → Ended words left after old new

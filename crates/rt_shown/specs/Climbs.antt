@@ -89,7 +89,7 @@ module _ {P C Q V H T E L : Type 0} where
   node_climb look number n side tree above up i node =
       find_nodes (map number_of side.numbers) number (template_of tree.template) above (slots_of tree.dynamic_attrs)
       (λ k place. find_slots (side_of side) number (λ t. climb_within look number n t) (slots_from (map slot_of tree.dynamic_nodes)) k
-          place)
+      place)
       up i (node_before node no_nodes)
 
   -- the climb in a row of nodes
@@ -115,10 +115,10 @@ module _ {P C Q V H T E L : Type 0} where
   abbrev pub node_climb_in : Standing P C Q V H T E L → ℕ → List ℕ → ℕ → TemplateNode → Option (Climb (types C Q V H T E L))
   node_climb_in standing number up i node =
       node_climb (standing.shown.now).look.now number (standing.shown.now).depth (standing.shown.now).side.now standing.tree.now
-          (place_of standing.above.now) up i node
+      (place_of standing.above.now) up i node
 
   -- in a row of nodes of it
   abbrev pub row_climb_in : Standing P C Q V H T E L → ℕ → List ℕ → ℕ → List TemplateNode → Option (Climb (types C Q V H T E L))
   row_climb_in standing number up i nodes =
       row_climb (standing.shown.now).look.now number (standing.shown.now).depth (standing.shown.now).side.now standing.tree.now
-          (place_of standing.above.now) up i nodes
+      (place_of standing.above.now) up i nodes

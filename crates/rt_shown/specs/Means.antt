@@ -30,4 +30,4 @@ module _ {P C Q V H T E L : Type 0} where
   abbrev pub AreBuilt : List Edit → Look P C Q V H T E L → Type 0
   AreBuilt edits after =
       (app : Application (types C Q V H T E L)) (w v : state.State (types C Q V H T E L)) → ShowsScopes after v
-          → map edit_of edits ≡ caused.caused app w v Build
+      → map edit_of edits ≡ caused.caused app w v Build

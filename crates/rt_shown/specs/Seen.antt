@@ -84,10 +84,10 @@ module _ {P C Q V H T E L : Type 0} where
   abbrev pub node_in : Standing P C Q V H T E L → List ℕ → ℕ → TemplateNode → Forest
   node_in standing up i node =
       node_seen (standing.shown.now).look.now (standing.shown.now).depth (standing.shown.now).side.now standing.tree.now
-          (place_of standing.above.now) up i node
+      (place_of standing.above.now) up i node
 
   -- a row of nodes of it
   abbrev pub row_in : Standing P C Q V H T E L → List ℕ → ℕ → List TemplateNode → Forest
   row_in standing up i nodes =
       row_seen (standing.shown.now).look.now (standing.shown.now).depth (standing.shown.now).side.now standing.tree.now
-          (place_of standing.above.now) up i nodes
+      (place_of standing.above.now) up i nodes

@@ -85,7 +85,7 @@ module _ {P C Q V H T E L : Type 0} where
         → Option (Side P C Q V H T E L) → Option (Side P C Q V H T E L) → Written
     side_writes before after way under s name (Some old) (Some new) =
         caused.outputs_written app (sides_at before after way under old new (caused.stop_on (side_name_of name) (at way s)))
-            (output_of new.output) (output_of old.output)
+        (output_of new.output) (output_of old.output)
     side_writes before after way under s name _ _ = writes []
 
     -- the side that shows in both, or one side in place of the other
@@ -105,7 +105,7 @@ module _ {P C Q V H T E L : Type 0} where
         then_on
         (if look_is_shown before s && look_is_shown after s
         then shown_writes before after way (λ t. unit_within before after way n t) s (λ name. look_side before s name) (λ name.
-            look_side after s name) (look_shows before s) (look_shows after s)
+        look_side after s name) (look_shows before s) (look_shows after s)
         else writes [])
         (if is_some (at way s) then halts else writes [])
 
@@ -117,15 +117,15 @@ module _ {P C Q V H T E L : Type 0} where
     unfoldable pub scope_writes : CodeUnit P C Q V H T E L → ℕ → ℕ → Written
     scope_writes unit n s =
         shown_writes unit.before.now unit.after.now (way_of unit.way.now) (λ t.
-            unit_within unit.before.now unit.after.now (way_of unit.way.now) n t) s
+        unit_within unit.before.now unit.after.now (way_of unit.way.now) n t) s
         (λ name. look_side unit.before.now s name) (λ name. look_side unit.after.now s name) (look_shows unit.before.now s)
-            (look_shows unit.after.now s)
+        (look_shows unit.after.now s)
 
     -- what a side of a scope writes
     unfoldable pub name_writes : CodeUnit P C Q V H T E L → ℕ → ℕ → SideName → Written
     name_writes unit n s name =
         side_writes unit.before.now unit.after.now (way_of unit.way.now) (λ t.
-            unit_within unit.before.now unit.after.now (way_of unit.way.now) n t) s name
+        unit_within unit.before.now unit.after.now (way_of unit.way.now) n t) s name
         (look_side unit.before.now s name) (look_side unit.after.now s name)
 
     -- the two sides that are compared
@@ -170,7 +170,7 @@ module _ {P C Q V H T E L : Type 0} where
     met_writes b above new old (met_text path) = writes []
     met_writes b above new old (met_slot k path) =
         caused.slots_written app (both_of b) (slots_from (map slot_of new.dynamic_nodes)) (slots_from (map slot_of old.dynamic_nodes)) k
-            (at_path (template_of new.template) above path)
+        (at_path (template_of new.template) above path)
 
     -- what a piece of a tree's template writes
     unfoldable pub piece_writes : Sides P C Q V H T E L → Place → VNode P C Q V H T E L → VNode P C Q V H T E L → Piece → Written
@@ -186,14 +186,14 @@ module _ {P C Q V H T E L : Type 0} where
       → Type 0
   PiecesLeft written b above new old left pieces =
       (app : Application (types C Q V H T E L)) → Tests C app.same_component
-          → then_on written (pieces_writes app b above new old left) ≡ pieces_writes app b above new old pieces
+      → then_on written (pieces_writes app b above new old left) ≡ pieces_writes app b above new old pieces
 
   -- the items so far, with what those that are left write, whatever the application
   abbrev pub ItemsLeft : Written → Sides P C Q V H T E L → Place → ℕ → List (VNode P C Q V H T E L) → List (VNode P C Q V H T E L) → Type 0
   ItemsLeft written b place i new old =
       (app : Application (types C Q V H T E L)) → Tests C app.same_component
       → then_on written (items_writes app b place i (last_among b.new.now place 0 0 (take i new)) (drop i new) (drop i old))
-          ≡ items_writes app b place 0 0 new old
+      ≡ items_writes app b place 0 0 new old
 
   -- the edits are those of a scope on the way to a refusal
   abbrev pub AreOnWay : List Edit → Look P C Q V H T E L → Look P C Q V H T E L → caused.Way → ℕ → Type 0

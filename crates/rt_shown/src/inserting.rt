@@ -15,9 +15,9 @@ use crate::sides::Sides;
 use crate::way::is_around;
 use rt_edits::{DocNode, Edit};
 use rt_nodes::VNode;
-use rt_parts::{ElementId, Parts};
+use rt_parts::Parts;
 use rt_places::{Place, place_of_item};
-use rt_values::OutOfMemory;
+use rt_values::{ElementId, OutOfMemory};
 use std::alloc::Global;
 
 /// The items from a position on are new.

@@ -9,9 +9,9 @@ use crate::edited::{Edited, nothing, one_edit};
 use crate::sides::{Sides, slot_replaced};
 use rt_edits::Edit;
 use rt_nodes::{DynamicNode, VNode};
-use rt_parts::{ElementId, Parts};
+use rt_parts::Parts;
 use rt_places::{Kind, Place};
-use rt_values::{List, OutOfMemory, Part, Text};
+use rt_values::{ElementId, List, OutOfMemory, Part, Text};
 use rt_work::number_at;
 use std::alloc::Global;
 

@@ -15,8 +15,8 @@ use crate::showing::view;
 use crate::sides::Unit;
 use crate::way::{Stop, way_to};
 use rt_edits::Edit;
-use rt_parts::{ElementId, Parts};
-use rt_values::{List, OutOfMemory};
+use rt_parts::Parts;
+use rt_values::{ElementId, List, OutOfMemory};
 use rt_work::Item;
 use std::alloc::Global;
 

@@ -1,7 +1,7 @@
 -- An edit of a document is that edit of the document written flat.
 use Rattle.std.proofs.Common.{◌≡◌, ℕ, Bool, true, false, not, cond, ◌&&◌, ◌||◌, nat_eq, List, [], ◌∷◌, ◌++◌, Option, Some, None, Ok, is_some, refl, sym, ap, ◌∙◌, append_assoc, append-nil}
 use Rattle.std.proofs.lemmas.List.Folds.{list_any-append}
-use Rattle.rt_parts.specs.declared.element.ElementId.{ElementId}
+use Rattle.rt_values.specs.declared.element.ElementId.{ElementId}
 use Rattle.rt_edits.specs.Nodes.{Parts, parts_of, is_text, numbers, numbers_below, numbers_in, has, found, changed, changed_below, changed_in}
 use Rattle.rt_edits.specs.Document.{named, is_append, suits, parts_after, within, instead, unsuited, fault_of, after, unless}
 use Rattle.rt_edits.specs.declared.doc_node.DocNode.{DocNode}

@@ -1,7 +1,7 @@
 -- Nodes that give way to others, and nodes that go, by the edits of a cell.
 use Rattle.std.proofs.Common.{◌≡◌, ℕ, true, List, [], ◌∷◌, ◌++◌, map, refl, sym, ap, ◌∙◌, append_assoc}
 use Rattle.std.specs.List.{AllByRecursion}
-use Rattle.rt_parts.specs.declared.element.ElementId.{ElementId}
+use Rattle.rt_values.specs.declared.element.ElementId.{ElementId}
 use Rattle.rt_edits.specs.declared.doc_node.DocNode.{DocNode}
 use Rattle.rt_edits.specs.declared.edit.Edit.{Edit}
 use Rattle.rt_edits.specs.declared.edit.Edit.TheVariants as edits

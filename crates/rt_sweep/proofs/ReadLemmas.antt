@@ -1,6 +1,6 @@
 -- A document read back from its pieces.
 use Rattle.std.proofs.Common.{◌≡◌, ℕ, List, [], ◌∷◌, ◌++◌, Some, None, refl, sym, ap, ◌∙◌, append_assoc, append-nil}
-use Rattle.rt_parts.specs.declared.element.ElementId.{ElementId}
+use Rattle.rt_values.specs.declared.element.ElementId.{ElementId}
 use Rattle.rt_edits.specs.declared.doc_node.DocNode.{DocNode}
 use Rattle.rt_edits.specs.declared.doc_node.DocKind.{DocKind, Element', Text, Placeholder, Row_of-DocNode, end_of-DocNode, more_of-DocNode, items-the_row-DocNode}
 use Rattle.rt_edits.specs.declared.doc_node.DocKind.TheVariants as kinds

@@ -1,7 +1,7 @@
 -- The nodes of a block, written flat: of a tree with its numbers and with the nodes of its child scopes, each in the order of the tree.
 use Rattle.std.specs.Prelude.{ℕ, true, List, [], ◌∷◌, ◌++◌, map}
 use Rattle.std.specs.List.{slice_index_or}
-use Rattle.rt_parts.specs.declared.element.ElementId.{ElementId}
+use Rattle.rt_values.specs.declared.element.ElementId.{ElementId}
 use Rattle.rt_edits.specs.declared.doc_node.DocNode.{DocNode}
 use Rattle.rt_nodes.specs.declared.vnode.DynamicNode.{DynamicNode}
 use Rattle.rt_nodes.specs.declared.vnode.VNode.{VNode}

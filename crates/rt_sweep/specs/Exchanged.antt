@@ -1,7 +1,7 @@
 -- What a plan leads to by which nodes give way to others, or go: the edits of a cell.
 use Rattle.std.specs.Prelude.{◌≡◌, ℕ, true, List, [], ◌∷◌, ◌++◌, map}
 use Rattle.rt_values.specs.declared.names.ScopeId.{ScopeId}
-use Rattle.rt_parts.specs.declared.element.ElementId.{ElementId}
+use Rattle.rt_values.specs.declared.element.ElementId.{ElementId}
 use Rattle.rt_edits.specs.declared.doc_node.DocNode.{DocNode}
 use Rattle.rt_edits.specs.declared.edit.Edit.{Edit}
 use Rattle.rt_nodes.specs.declared.vnode.DynamicNode.{DynamicNode}
@@ -49,7 +49,7 @@ module _ {P Component Props Value Handler TaskState Effect Payload : Type 0} whe
         (first : List (PatchStep P Component Props Value Handler TaskState Effect Payload)) × (edits_among first ≡ edits_of_cell cell) × (
         steps (plan ++ is) numbers (scopes_of children) (clear_of kept) (answers ++ later) ≡
         first_steps first (steps is numbers_left (scopes_of children_left) (built_on (lost_on (clear_of kept) [] gone drops) given [])
-            later))
+        later))
 
   -- the plan of what goes and the plan of what is made in its place lead to the edits of a cell: what stood at it is
   -- the old part and what stands there then is the new one, where there is a first node that goes
@@ -78,6 +78,6 @@ module _ (P Component Props Value Handler TaskState Effect Payload : Type 0) whe
   ItemsGo = (items : List (VNode P Component Props Value Handler TaskState Effect Payload)) (numbers : List ElementId)
       (children : List Child) →
       (goes : List DocNode)
-          × LeadsTo (lose_all (map lose_tree items) true
-          ++ i.Erase ∷ []) (all_parts (map tree_part items)) (Shrunk goes) numbers children
-          (asked (lose_all (map lose_tree items) true) children) []
+      × LeadsTo (lose_all (map lose_tree items) true
+      ++ i.Erase ∷ []) (all_parts (map tree_part items)) (Shrunk goes) numbers children
+      (asked (lose_all (map lose_tree items) true) children) []

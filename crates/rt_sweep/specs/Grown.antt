@@ -1,7 +1,7 @@
 -- Items of a fragment that come behind the node that is last in front of them.
 use Rattle.std.specs.Prelude.{◌≡◌, ℕ, true, List, [], ◌∷◌, ◌++◌, map}
 use Rattle.rt_values.specs.declared.names.ScopeId.{ScopeId}
-use Rattle.rt_parts.specs.declared.element.ElementId.{ElementId}
+use Rattle.rt_values.specs.declared.element.ElementId.{ElementId}
 use Rattle.rt_edits.specs.declared.doc_node.DocNode.{DocNode}
 use Rattle.rt_edits.specs.declared.edit.Edit.TheVariants as edits
 use Rattle.rt_nodes.specs.declared.vnode.VNode.{VNode}
@@ -42,12 +42,12 @@ module _ (P Component Props Value Handler TaskState Effect Payload : Type 0) whe
       (answers : List Answer) → AreAnswersTo (items_made (map (make_tree true) items) places slot k) answers →
       (comes : List DocNode) ×
       (all_parts (map tree_part items) (record { numbers = drawn_in answers; nodes = nodes_in answers })
-          ≡ (flat comes, record { numbers = []; nodes = [] })) × (
+      ≡ (flat comes, record { numbers = []; nodes = [] })) × (
       (anchor : Anchor) (scope : ScopeId) (nodes : List DocNode)
-          (is : List (Instruction P Component Props Value Handler TaskState Effect Payload)) (ids : List ElementId) (scopes : List ScopeId)
-          (kept : Kept) (later : List Answer) →
+      (is : List (Instruction P Component Props Value Handler TaskState Effect Payload)) (ids : List ElementId) (scopes : List ScopeId)
+      (kept : Kept) (later : List Answer) →
       (first : List (PatchStep P Component Props Value Handler TaskState Effect Payload)) ×
       (edits_among first ≡ edits.InsertNodesAfter (behind_of kept anchor nodes) comes ∷ []) × (
       steps ((beginning true anchor ++ (items_made (map (make_tree true) items) places slot k ++ inserting true anchor))
-          ++ is) ids scopes (clear_of kept) ((answers ++ answers_behind anchor scope nodes) ++ later) ≡
+      ++ is) ids scopes (clear_of kept) ((answers ++ answers_behind anchor scope nodes) ++ later) ≡
       first_steps first (steps is ids scopes (built_on (kept_behind (clear_of kept) anchor nodes) answers []) later)))

@@ -1,6 +1,6 @@
 -- The last root of a block, which the plan of more items names.
 use Rattle.std.specs.Prelude.{◌≡◌, ℕ, List, [], ◌∷◌, ◌++◌, length}
-use Rattle.rt_parts.specs.declared.element.ElementId.{ElementId}
+use Rattle.rt_values.specs.declared.element.ElementId.{ElementId}
 use Rattle.rt_edits.specs.declared.doc_node.DocNode.{DocNode}
 use Rattle.rt_nodes.specs.declared.vnode.VNode.{VNode}
 use Rattle.rt_plan.specs.declared.anchor.Anchor.TheVariants.{Number}
@@ -20,4 +20,4 @@ module _ (P Component Props Value Handler TaskState Effect Payload : Type 0) whe
       (children : List Child) (back : ℕ) →
       length own ≡ count_tree tree → last_of_tree tree ≡ Number back →
       (start : List Piece) × (last : DocNode) × (block_pieces tree (own ++ more) (nodes_of children) ≡ start ++ flat (last ∷ []))
-          × (last.id ≡ number_back own back)
+      × (last.id ≡ number_back own back)

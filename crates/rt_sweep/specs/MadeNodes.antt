@@ -2,7 +2,7 @@
 use Rattle.std.specs.Prelude.{◌≡◌, true, List, [], ◌∷◌, ◌++◌}
 use Rattle.std.specs.List.{AllByRecursion}
 use Rattle.rt_values.specs.declared.names.ScopeId.{ScopeId}
-use Rattle.rt_parts.specs.declared.element.ElementId.{ElementId}
+use Rattle.rt_values.specs.declared.element.ElementId.{ElementId}
 use Rattle.rt_edits.specs.declared.doc_node.DocNode.{DocNode}
 use Rattle.rt_nodes.specs.declared.vnode.VNode.{VNode}
 use Rattle.rt_shapes.specs.declared.instruction.Instruction.{Instruction}
@@ -78,7 +78,7 @@ module _ {P Component Props Value Handler TaskState Effect Payload : Type 0} whe
   abbrev pub BuildsNodes : List (Instruction P Component Props Value Handler TaskState Effect Payload) → List Answer → List DocNode → Type 0
   BuildsNodes made answers nodes =
       (is : List (Instruction P Component Props Value Handler TaskState Effect Payload)) (ids : List ElementId) (scopes : List ScopeId)
-          (kept : Kept) (later : List Answer) →
+      (kept : Kept) (later : List Answer) →
       (first : List (PatchStep P Component Props Value Handler TaskState Effect Payload)) × AllByRecursion IsQuiet first × (
       steps (made ++ is) ids scopes kept (answers ++ later) ≡ first_steps first (steps is ids scopes (built_on kept answers nodes) later))
 
@@ -89,4 +89,4 @@ module _ (P Component Props Value Handler TaskState Effect Payload : Type 0) whe
   MakingBuilds = (tree : VNode P Component Props Value Handler TaskState Effect Payload) (places : List Step) (answers : List Answer)
       → AreAnswersTo (make_tree true tree places) answers →
       (nodes : List DocNode) × (flat nodes ≡ block_pieces tree (drawn_in answers) (nodes_in answers))
-          × BuildsNodes (make_tree true tree places) answers nodes
+      × BuildsNodes (make_tree true tree places) answers nodes

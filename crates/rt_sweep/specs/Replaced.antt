@@ -1,6 +1,6 @@
 -- A block in the place of one of another template: what its patch makes of the document.
 use Rattle.std.specs.Prelude.{◌≡◌, ℕ, ◌≤◌, true, false, List, [], ◌∷◌, ◌++◌, map, Ok}
-use Rattle.rt_parts.specs.declared.element.ElementId.{ElementId}
+use Rattle.rt_values.specs.declared.element.ElementId.{ElementId}
 use Rattle.rt_edits.specs.Nodes.{times}
 use Rattle.rt_edits.specs.declared.doc_node.DocNode.{DocNode}
 use Rattle.rt_nodes.specs.declared.vnode.VNode.{VNode}
@@ -42,5 +42,5 @@ module _ (P Component Props Value Handler TaskState Effect Payload : Type 0) whe
       (made : List DocNode) ×
       (flat made ≡ front ++ (block_pieces new (drawn_in answers) (nodes_in answers) ++ back)) × (
       run_document (edits_among
-          (steps (pair_tree equality true old new []) numbers (scopes_of children) nothing_kept (asked (lose_tree old true) children
-          ++ answers)).steps) document ≡ Ok made)
+      (steps (pair_tree equality true old new []) numbers (scopes_of children) nothing_kept (asked (lose_tree old true) children
+      ++ answers)).steps) document ≡ Ok made)

@@ -110,7 +110,7 @@ abbrev pub MayAdjust : ℕ → Head → List Edit → Type 0
 MayAdjust number head [] = Unit {0}
 MayAdjust number head (change ∷ changes) =
     Adjusts change × (named change ≡ number) × (suits_piece change (opened number head) ≡ true)
-        × MayAdjust number (head_after change head) changes
+    × MayAdjust number (head_after change head) changes
 
 -- pieces that end with all pieces of a node, whose number is not the root container's and stands nowhere before
 pub record EndsWith (front : List Piece) (last : DocNode) : Type 0 where

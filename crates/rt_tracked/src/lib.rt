@@ -1,5 +1,4 @@
-//! Tracked cells: who reads which, in both directions, and the reactive contexts among the readers;
-//! serial numbers.
+//! Tracked cells: who reads which, in both directions, and the reactive contexts among the readers.
 #![tactic(auto)]
 
 mod cells;
@@ -9,13 +8,11 @@ mod links;
 mod numbered;
 mod places;
 mod reads;
-mod serials;
 mod sources;
 mod subscribers;
 
 pub use cells::Cells;
 pub use contexts::ReactiveContext;
 pub use faults::CellsFault;
-pub use serials::Serials;
 pub use sources::{Reader, Source, Target};
 pub use subscribers::Subscribers;

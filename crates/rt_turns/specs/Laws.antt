@@ -22,7 +22,7 @@ module _ {K : Types} (app : Application K) where
   abbrev pub SofarMore : Type 0
   SofarMore =
       (limits : Limits) (props : K.Props) (inputs : List (Input K)) (reports : List Report) (edits more : List Edit) (from m : Machine K)
-          (report : Report)
+      (report : Report)
       → Sofar app limits props inputs reports edits from
       → Rests app limits props inputs from report.log more m
       → is_settled m ≡ true
@@ -41,7 +41,7 @@ module _ {K : Types} (app : Application K) where
   abbrev pub SofarRanTo : Type 0
   SofarRanTo =
       (limits : Limits) (props : K.Props) (inputs : List (Input K)) (reports : List Report) (edits more : List Edit) (from : Machine K)
-          (log : List Entry) (fault : Fault)
+      (log : List Entry) (fault : Fault)
       → Sofar app limits props inputs reports edits from
       → Refused app limits props inputs from log more fault
       → OneEachThen inputs (logs_of reports) log

@@ -93,7 +93,7 @@ module _ {P C Q V H T E L : Type 0} where
   -- the machine that a session stands for, with these inputs left and so many taken
   abbrev pub machine_of :
       Unkept (types C Q V H T E L) → List (replay.Input (types C Q V H T E L)) → ℕ → Machine P C Q V H T E L
-          → replay.Machine (types C Q V H T E L)
+      → replay.Machine (types C Q V H T E L)
   machine_of g left taken d =
       record {
         state = state_of g (d.runtime).state;
@@ -162,10 +162,10 @@ module _ {P C Q V H T E L : Type 0} where
     -- a listener's call
     abbrev pub Calls :
         Machine P C Q V H T E L → Listener P C Q V H T E L → Event L → Bool → List (Listener P C Q V H T E L) → Machine P C Q V H T E L
-            → Result (Unit {0}) Stop → Type 0
+        → Result (Unit {0}) Stop → Type 0
     Calls old first event bubbles others new result =
         (g : Unkept (types C Q V H T E L)) (left : List (replay.Input (types C Q V H T E L))) (taken : ℕ)
-            (all : List (heard.Listener (types C Q V H T E L)))
+        (all : List (heard.Listener (types C Q V H T E L)))
         → CallsAs
         app
         (record (machine_of g left taken old) { listeners = all; event = Some (event_of event); bubbles = bubbles })
@@ -218,7 +218,7 @@ module _ {P C Q V H T E L : Type 0} where
     -- a unit begins, where units are left
     abbrev pub BeginsAs :
         causes.Limits → Outcome (types C Q V H T E L) → List replay.Entry → Machine P C Q V H T E L → Machine P C Q V H T E L
-            → Result (Unit {0}) Ended → Type 0
+        → Result (Unit {0}) Ended → Type 0
     BeginsAs limits o es old new (Ok u) = (nat_eq old.units limits.units ≡ false) × Did o es old new
     BeginsAs limits o es old new (Err ends.Sink) = ⊥
     BeginsAs limits o es old new (Err (ends.OutOfTurns units)) =
@@ -231,12 +231,12 @@ module _ {P C Q V H T E L : Type 0} where
     abbrev pub Begins : causes.Limits → next.Work → Machine P C Q V H T E L → Machine P C Q V H T E L → Result (Unit {0}) Ended → Type 0
     Begins limits work old new result =
         (g : Unkept (types C Q V H T E L))
-            → BeginsAs limits (unit_of app (state_of g (old.runtime).state) work) (entry_for work ∷ []) old new result
+        → BeginsAs limits (unit_of app (state_of g (old.runtime).state) work) (entry_for work ∷ []) old new result
 
     -- an item is served, unless it makes a scope that is too deep
     abbrev pub ServesAs :
         Option model.Fault → Outcome (types C Q V H T E L) → List replay.Entry → Machine P C Q V H T E L → Machine P C Q V H T E L
-            → Result (Unit {0}) Ended → Type 0
+        → Result (Unit {0}) Ended → Type 0
     ServesAs deep o es old new (Ok u) = (deep ≡ None) × Did o es old new
     ServesAs deep o es old new (Err ends.Sink) = ⊥
     ServesAs deep o es old new (Err (ends.OutOfTurns units)) = ⊥

@@ -46,106 +46,106 @@ module _ {P C Q V H T E L : Type 0} (app : Application (types C Q V H T E L)) (l
     pub same : machine_of kept left taken d ≡ record last { state = at_rest last.state }
 
 module _ {P C Q V H T E L : Type 0} (app : Application (types C Q V H T E L)) (limits : causes.Limits) (r : Going (types C Q V H T E L))
-    where
-  -- where nothing is at work, or in the midst of the unit that this entry began
-  abbrev pub StandsFor : Option replay.Entry → List doc.Edit → Machine P C Q V H T E L → Type 0
-  StandsFor None edits d =
-      (g : Unkept (types C Q V H T E L))
-      × Rests app limits r.props r.inputs r.from (r.opening ∷ noted d) edits (machine_of g r.left r.taken d)
-  StandsFor (Some first) edits d =
-      (g : Unkept (types C Q V H T E L))
-      × (w : model.State (types C Q V H T E L))
-      × Works app limits r.props r.inputs r.from (r.opening ∷ noted d) edits w first (machine_of g r.left r.taken d)
-      × RemembersFor (Some first) d w.scopes
+  where
+    -- where nothing is at work, or in the midst of the unit that this entry began
+    abbrev pub StandsFor : Option replay.Entry → List doc.Edit → Machine P C Q V H T E L → Type 0
+    StandsFor None edits d =
+        (g : Unkept (types C Q V H T E L))
+        × Rests app limits r.props r.inputs r.from (r.opening ∷ noted d) edits (machine_of g r.left r.taken d)
+    StandsFor (Some first) edits d =
+        (g : Unkept (types C Q V H T E L))
+        × (w : model.State (types C Q V H T E L))
+        × Works app limits r.props r.inputs r.from (r.opening ∷ noted d) edits w first (machine_of g r.left r.taken d)
+        × RemembersFor (Some first) d w.scopes
 
-  -- where no listener waits, either
-  abbrev pub StandsQuiet : List doc.Edit → Machine P C Q V H T E L → Type 0
-  StandsQuiet edits d =
-      (g : Unkept (types C Q V H T E L))
-      × Rests app limits r.props r.inputs r.from (r.opening ∷ noted d) edits (machine_of g r.left r.taken d)
-      × (replay.waiting (machine_of g r.left r.taken d) ≡ [])
+    -- where no listener waits, either
+    abbrev pub StandsQuiet : List doc.Edit → Machine P C Q V H T E L → Type 0
+    StandsQuiet edits d =
+        (g : Unkept (types C Q V H T E L))
+        × Rests app limits r.props r.inputs r.from (r.opening ∷ noted d) edits (machine_of g r.left r.taken d)
+        × (replay.waiting (machine_of g r.left r.taken d) ≡ [])
 
-  -- with these edits so far
-  abbrev pub StandsAt : List doc.Edit → Machine P C Q V H T E L → Type 0
-  StandsAt edits d = StandsFor (first_in d) edits d
+    -- with these edits so far
+    abbrev pub StandsAt : List doc.Edit → Machine P C Q V H T E L → Type 0
+    StandsAt edits d = StandsFor (first_in d) edits d
 
-  -- nothing is left to do: the report's last machine, at which nothing is owed, with the state as the test for that left it
-  pub record Settled (edits : List doc.Edit) (d : Machine P C Q V H T E L) : Type 0 where
-    pub kept : Unkept (types C Q V H T E L)
-    pub last : replay.Machine (types C Q V H T E L)
-    pub rests : Rests app limits r.props r.inputs r.from (r.opening ∷ noted d) edits last
-    pub quiet : replay.waiting last ≡ []
-    pub none : next last.state ≡ None
-    pub idle : d.work ≡ []
-    pub over : d.first ≡ None
-    pub same : machine_of kept r.left r.taken d ≡ record last { state = at_rest last.state }
+    -- nothing is left to do: the report's last machine, at which nothing is owed, with the state as the test for that left it
+    pub record Settled (edits : List doc.Edit) (d : Machine P C Q V H T E L) : Type 0 where
+      pub kept : Unkept (types C Q V H T E L)
+      pub last : replay.Machine (types C Q V H T E L)
+      pub rests : Rests app limits r.props r.inputs r.from (r.opening ∷ noted d) edits last
+      pub quiet : replay.waiting last ≡ []
+      pub none : next last.state ≡ None
+      pub idle : d.work ≡ []
+      pub over : d.first ≡ None
+      pub same : machine_of kept r.left r.taken d ≡ record last { state = at_rest last.state }
 
-  -- a fault came: the report so far, with what the sink took of it
-  pub record CameTo (edits : List doc.Edit) (before after : Option (List Edit)) (fault : model.Fault) (d : Machine P C Q V H T E L) :
-      Type 0 where
-    pub wrote : List Edit
-    pub told : after ≡ grown before wrote
-    pub refused : Refused app limits r.props r.inputs r.from (r.opening ∷ noted d) (edits ++ map edit_of wrote) fault
+    -- a fault came: the report so far, with what the sink took of it
+    pub record CameTo (edits : List doc.Edit) (before after : Option (List Edit)) (fault : model.Fault) (d : Machine P C Q V H T E L) :
+        Type 0 where
+      pub wrote : List Edit
+      pub told : after ≡ grown before wrote
+      pub refused : Refused app limits r.props r.inputs r.from (r.opening ∷ noted d) (edits ++ map edit_of wrote) fault
 
-  -- the fault for which it ends, if it is one of the definitions'
-  abbrev pub Comes : List doc.Edit → Option (List Edit) → Option (List Edit) → Ended → Machine P C Q V H T E L → Type 0
-  Comes edits before after ended d = (fault : model.Fault) → fault_in ended ≡ Some fault → CameTo edits before after fault d
+    -- the fault for which it ends, if it is one of the definitions'
+    abbrev pub Comes : List doc.Edit → Option (List Edit) → Option (List Edit) → Ended → Machine P C Q V H T E L → Type 0
+    Comes edits before after ended d = (fault : model.Fault) → fault_in ended ≡ Some fault → CameTo edits before after fault d
 
-  -- edits were written, and it stands with them
-  pub record GoesOn (edits : List doc.Edit) (before after : Option (List Edit)) (count : ℕ) (d : Machine P C Q V H T E L) : Type 0 where
-    pub wrote : List Edit
-    pub told : after ≡ grown before wrote
-    pub counted : length wrote ≡ count
-    pub stands : StandsAt (edits ++ map edit_of wrote) d
+    -- edits were written, and it stands with them
+    pub record GoesOn (edits : List doc.Edit) (before after : Option (List Edit)) (count : ℕ) (d : Machine P C Q V H T E L) : Type 0 where
+      pub wrote : List Edit
+      pub told : after ≡ grown before wrote
+      pub counted : length wrote ≡ count
+      pub stands : StandsAt (edits ++ map edit_of wrote) d
 
-  -- edits were written, and nothing is left to do
-  pub record Over (edits : List doc.Edit) (before after : Option (List Edit)) (count : ℕ) (d : Machine P C Q V H T E L) : Type 0 where
-    pub wrote : List Edit
-    pub told : after ≡ grown before wrote
-    pub counted : length wrote ≡ count
-    pub settled : Settled (edits ++ map edit_of wrote) d
+    -- edits were written, and nothing is left to do
+    pub record Over (edits : List doc.Edit) (before after : Option (List Edit)) (count : ℕ) (d : Machine P C Q V H T E L) : Type 0 where
+      pub wrote : List Edit
+      pub told : after ≡ grown before wrote
+      pub counted : length wrote ≡ count
+      pub settled : Settled (edits ++ map edit_of wrote) d
 
-  -- the same with an item of the open work taken off, which is still to be served
-  abbrev pub StandsBefore : model.Item (types C Q V H T E L) → replay.Entry → List doc.Edit → Machine P C Q V H T E L → Type 0
-  StandsBefore item first edits d =
-      (g : Unkept (types C Q V H T E L))
-      × (w : model.State (types C Q V H T E L))
-      × Works app limits r.props r.inputs r.from (r.opening ∷ noted d) edits w first
-          (record (machine_of g r.left r.taken d) { work = item ∷ open_work d })
-      × RemembersFor (Some first) d w.scopes
+    -- the same with an item of the open work taken off, which is still to be served
+    abbrev pub StandsBefore : model.Item (types C Q V H T E L) → replay.Entry → List doc.Edit → Machine P C Q V H T E L → Type 0
+    StandsBefore item first edits d =
+        (g : Unkept (types C Q V H T E L))
+        × (w : model.State (types C Q V H T E L))
+        × Works app limits r.props r.inputs r.from (r.opening ∷ noted d) edits w first
+        (record (machine_of g r.left r.taken d) { work = item ∷ open_work d })
+        × RemembersFor (Some first) d w.scopes
 
-  -- a turn, by what is answered
-  abbrev pub TurnsAs : List doc.Edit → Option (List Edit) → Option (List Edit) → Machine P C Q V H T E L → Result (Option ℕ) Ended → Type 0
-  TurnsAs edits before after d (Ok None) = (after ≡ before) × Settled edits d
-  TurnsAs edits before after d (Ok (Some count)) = GoesOn edits before after count d
-  TurnsAs edits before after d (Err ended) = Comes edits before after ended d
+    -- a turn, by what is answered
+    abbrev pub TurnsAs : List doc.Edit → Option (List Edit) → Option (List Edit) → Machine P C Q V H T E L → Result (Option ℕ) Ended → Type 0
+    TurnsAs edits before after d (Ok None) = (after ≡ before) × Settled edits d
+    TurnsAs edits before after d (Ok (Some count)) = GoesOn edits before after count d
+    TurnsAs edits before after d (Err ended) = Comes edits before after ended d
 
-  -- a turn where nothing is at work, which writes nothing
-  abbrev pub QuietAs : List doc.Edit → Machine P C Q V H T E L → Result (Option ℕ) Ended → Type 0
-  QuietAs edits d (Ok None) = Settled edits d
-  QuietAs edits d (Ok (Some count)) = StandsAt edits d
-  QuietAs edits d (Err ended) =
-      (fault : model.Fault) → fault_in ended ≡ Some fault → Refused app limits r.props r.inputs r.from (r.opening ∷ noted d) edits fault
+    -- a turn where nothing is at work, which writes nothing
+    abbrev pub QuietAs : List doc.Edit → Machine P C Q V H T E L → Result (Option ℕ) Ended → Type 0
+    QuietAs edits d (Ok None) = Settled edits d
+    QuietAs edits d (Ok (Some count)) = StandsAt edits d
+    QuietAs edits d (Err ended) =
+        (fault : model.Fault) → fault_in ended ≡ Some fault → Refused app limits r.props r.inputs r.from (r.opening ∷ noted d) edits fault
 
-  -- turns up to where nothing is left to do, or to a fault
-  abbrev pub SettlesAs : List doc.Edit → Option (List Edit) → Option (List Edit) → Machine P C Q V H T E L → Result ℕ Ended → Type 0
-  SettlesAs edits before after d (Ok count) = Over edits before after count d
-  SettlesAs edits before after d (Err ended) = Comes edits before after ended d
+    -- turns up to where nothing is left to do, or to a fault
+    abbrev pub SettlesAs : List doc.Edit → Option (List Edit) → Option (List Edit) → Machine P C Q V H T E L → Result ℕ Ended → Type 0
+    SettlesAs edits before after d (Ok count) = Over edits before after count d
+    SettlesAs edits before after d (Err ended) = Comes edits before after ended d
 
-  -- a report is finished: its log, its edits, and the last machine, at which nothing is owed
-  pub record Reported (report : Report) (before after : Option (List Edit)) (d : Machine P C Q V H T E L) : Type 0 where
-    pub wrote : List Edit
-    pub told : after ≡ grown before wrote
-    pub counted : length wrote ≡ report.edits
-    pub last : replay.Machine (types C Q V H T E L)
-    pub rests : Rests app limits r.props r.inputs r.from (map entry_of report.log) (map edit_of wrote) last
-    pub default_enabled : report.default_enabled ≡ last.default_enabled
-    pub between : Between app limits r.left r.taken last d
+    -- a report is finished: its log, its edits, and the last machine, at which nothing is owed
+    pub record Reported (report : Report) (before after : Option (List Edit)) (d : Machine P C Q V H T E L) : Type 0 where
+      pub wrote : List Edit
+      pub told : after ≡ grown before wrote
+      pub counted : length wrote ≡ report.edits
+      pub last : replay.Machine (types C Q V H T E L)
+      pub rests : Rests app limits r.props r.inputs r.from (map entry_of report.log) (map edit_of wrote) last
+      pub default_enabled : report.default_enabled ≡ last.default_enabled
+      pub between : Between app limits r.left r.taken last d
 
-  -- by what is answered
-  abbrev pub ReportsAs : Option (List Edit) → Option (List Edit) → Machine P C Q V H T E L → Result Report Ended → Type 0
-  ReportsAs before after d (Ok report) = Reported report before after d
-  ReportsAs before after d (Err ended) = Comes [] before after ended d
+    -- by what is answered
+    abbrev pub ReportsAs : Option (List Edit) → Option (List Edit) → Machine P C Q V H T E L → Result Report Ended → Type 0
+    ReportsAs before after d (Ok report) = Reported report before after d
+    ReportsAs before after d (Err ended) = Comes [] before after ended d
 
 module _ {P C Q V H T E L : Type 0} (app : Application (types C Q V H T E L)) (limits : causes.Limits) (props : Q)
     (inputs : List (replay.Input (types C Q V H T E L))) where

@@ -12,11 +12,11 @@ ghost use Rattle.rt_vdom.specs.Machines.{Calls, Hears};
 use crate::machine::{Hearing, Machine};
 use rt_calls::App;
 use rt_inbox::{Msg, Post};
-use rt_parts::{ElementId, Event, Parts};
+use rt_parts::{Event, Parts};
 use rt_reports::{Entry, Input};
 use rt_scopes::{Posted, State, Stop};
 use rt_shown::{Listener, Look, heard};
-use rt_values::{List, OutOfMemory, ScopeId, Text};
+use rt_values::{ElementId, List, OutOfMemory, ScopeId, Text};
 use std::alloc::Global;
 use std::mem;
 

@@ -44,4 +44,4 @@ listeners_at names variables d = members_or_none (listener_in names variables) (
 abbrev pub all_in : Names → List (List ℕ) → Data → Option (List ViewAttribute)
 all_in names variables d =
     option_and_then (λ attributes. option_map (λ listeners. attributes ++ listeners) (listeners_at names variables d))
-        (attributes_at names variables d)
+    (attributes_at names variables d)

@@ -23,8 +23,8 @@ abbrev pub component_use : Names → List (List ℕ) → Data → Option Compone
 component_use names variables d =
     if is_object_of (codes "use" ∷ codes "props" ∷ []) d
     then option_and_then (λ name.
-        option_map use_of (option_and_then (call_in names variables names.components name) (list_or_empty (codes "props") d)))
-        (text_at (codes "use") d)
+    option_map use_of (option_and_then (call_in names variables names.components name) (list_or_empty (codes "props") d)))
+    (text_at (codes "use") d)
     else None
 
 -- a component where one may stand

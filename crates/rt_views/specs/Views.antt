@@ -31,8 +31,8 @@ kids_of views variables d = option_and_then (views variables) (list_or_empty (co
 abbrev pub element_with : (List (List ℕ) → Items → Option (List ViewNode)) → Names → List (List ℕ) → Data → List ℕ → Option ViewNode
 element_with views names variables d tag =
     option_and_then (λ namespace.
-        option_and_then (λ attributes. option_map (λ kids. nodes.Element tag namespace attributes kids) (kids_of views variables d))
-        (all_in names variables d))
+    option_and_then (λ attributes. option_map (λ kids. nodes.Element tag namespace attributes kids) (kids_of views variables d))
+    (all_in names variables d))
     (namespace_in d)
 
 -- an object of `el`, a tag, and perhaps `ns`, `attrs`, `on` and `kids`
@@ -46,9 +46,9 @@ abbrev pub list_of : (List (List ℕ) → Items → Option (List ViewNode)) → 
 list_of views names variables d =
     if is_object_of (codes "list" ∷ codes "as" ∷ codes "item" ∷ []) d
     then option_and_then (λ count.
-        option_and_then (λ name.
-        option_map (λ item. slots.ListOf count item) (option_and_then (views (variables ++ name ∷ [])) (list_at (codes "item") d)))
-        (text_at (codes "as") d))
+    option_and_then (λ name.
+    option_map (λ item. slots.ListOf count item) (option_and_then (views (variables ++ name ∷ [])) (list_at (codes "item") d)))
+    (text_at (codes "as") d))
     (expression_at names variables (codes "list") d)
     else None
 
@@ -61,8 +61,8 @@ abbrev pub picked : (List (List ℕ) → Items → Option (List ViewNode)) → N
 picked views names variables d =
     if is_some (at 3 d) then None else
     option_and_then (λ test.
-        option_and_then (λ chosen. option_map (λ other. slots.PickOf test chosen other) (view_at views variables 2 d))
-        (view_at views variables 1 d))
+    option_and_then (λ chosen. option_map (λ other. slots.PickOf test chosen other) (view_at views variables 2 d))
+    (view_at views variables 1 d))
     (option_and_then (expression_in names variables) (at 0 d))
 
 -- an object of `pick` alone
@@ -74,7 +74,7 @@ pick_of views names variables d = if is_object_of (codes "pick" ∷ []) d
 abbrev pub fragment_of : (List (List ℕ) → Items → Option (List ViewNode)) → List (List ℕ) → Data → Option ViewSlot
 fragment_of views variables d =
     if is_object_of (codes "fragment" ∷ []) d
-        then option_map slots.FragmentOf (option_and_then (views variables) (list_at (codes "fragment") d)) else None
+    then option_map slots.FragmentOf (option_and_then (views variables) (list_at (codes "fragment") d)) else None
 
 -- a boundary of this word round kids: of errors, perhaps with a handler, or of suspense, perhaps with a fallback
 abbrev pub boundary_with : Names → List (List ℕ) → List ℕ → Data → List ViewNode → Option ViewSlot
@@ -88,8 +88,8 @@ boundary_with names variables word d kids =
 abbrev pub boundary_of : (List (List ℕ) → Items → Option (List ViewNode)) → Names → List (List ℕ) → Data → Option ViewSlot
 boundary_of views names variables d =
     option_and_then (λ word.
-        option_and_then (boundary_with names variables word d) (option_and_then (views variables) (list_at (codes "kids") d)))
-        (text_at (codes "boundary") d)
+    option_and_then (boundary_with names variables word d) (option_and_then (views variables) (list_at (codes "kids") d)))
+    (text_at (codes "boundary") d)
 
 -- the node of a form, with the view nodes in it read by a function
 abbrev pub formed : (List (List ℕ) → Items → Option (List ViewNode)) → Names → List (List ℕ) → Form → Data → Option ViewNode

@@ -70,7 +70,7 @@ module _ {P C Q V H T E L : Type 0} where
   abbrev pub KeepsRest : List (Place × ℕ) → List (Spot P C Q V H T E L) → List (Spot P C Q V H T E L) → List Child → List Child → Type 0
   KeepsRest kept old new rest children =
       (app : Application (types C Q V H T E L)) → Tests C app.same_component → kept
-          ++ children_kept app old new rest ≡ children_kept app old new children
+      ++ children_kept app old new rest ≡ children_kept app old new children
 
   -- the work of the new tree's spots, whatever the application
   abbrev pub Serves : List (Item P C Q V H T E L) → ℕ → SideName → List (Spot P C Q V H T E L) → List (Spot P C Q V H T E L) → Type 0
@@ -82,14 +82,14 @@ module _ {P C Q V H T E L : Type 0} where
       → Spot P C Q V H T E L → Type 0
   ServesOne before after s side old spot =
       (app : Application (types C Q V H T E L)) → Tests C app.same_component → work_of after ≡ work_of before
-          ++ spot_serves app s side old spot
+      ++ spot_serves app s side old spot
 
   -- the work so far, with that of the spots that are left, whatever the application
   abbrev pub ServesRest : List (Item P C Q V H T E L) → ℕ → SideName → List (Spot P C Q V H T E L) → List (Spot P C Q V H T E L)
       → List (Spot P C Q V H T E L) → Type 0
   ServesRest work s side old rest new =
       (app : Application (types C Q V H T E L)) → Tests C app.same_component → work_of work
-          ++ all_serves app s side old rest ≡ all_serves app s side old new
+      ++ all_serves app s side old rest ≡ all_serves app s side old new
 
   -- the drops of the old tree's spots, whatever the application
   abbrev pub Drops : List (Item P C Q V H T E L) → ℕ → SideName → List (Spot P C Q V H T E L) → List Child → List (Spot P C Q V H T E L)
@@ -102,11 +102,11 @@ module _ {P C Q V H T E L : Type 0} where
       → Spot P C Q V H T E L → Type 0
   DropsOne before after s side new children spot =
       (app : Application (types C Q V H T E L)) → Tests C app.same_component → work_of after ≡ work_of before
-          ++ spot_drops app s side new children spot
+      ++ spot_drops app s side new children spot
 
   -- the drops so far, with those of the spots that are left, whatever the application
   abbrev pub DropsRest : List (Item P C Q V H T E L) → ℕ → SideName → List (Spot P C Q V H T E L) → List Child → List (Spot P C Q V H T E L)
       → List (Spot P C Q V H T E L) → Type 0
   DropsRest work s side new children rest old =
       (app : Application (types C Q V H T E L)) → Tests C app.same_component → work_of work
-          ++ all_drops app s side new children rest ≡ all_drops app s side new children old
+      ++ all_drops app s side new children rest ≡ all_drops app s side new children old

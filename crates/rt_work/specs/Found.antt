@@ -89,7 +89,7 @@ module _ {P C Q V H T E L : Type 0} where
   abbrev pub IsOwn : Bool → C → VComponent P C Q V H T E L → Type 0
   IsOwn answer own new =
       (app : Application (types C Q V H T E L)) → Tests C app.same_component → (props : Q)
-          → answer ≡ is_same_component app (Own own props) (component_of new)
+      → answer ≡ is_same_component app (Own own props) (component_of new)
 
   -- a component stood at the place and takes the new one's props, whatever the application
   abbrev pub WasThere : Bool → List (Spot P C Q V H T E L) → Place → VComponent P C Q V H T E L → Type 0

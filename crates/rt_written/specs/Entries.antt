@@ -14,7 +14,7 @@ AttributesCommute =
 abbrev pub ListenersCommute : Type 0
 ListenersCommute =
     (all : List Text) (a b : Text) → same_numbers a b ≡ false
-        → with_listener (with_listener all a) b ≡ with_listener (with_listener all b) a
+    → with_listener (with_listener all a) b ≡ with_listener (with_listener all b) a
 
 -- none of these attributes has the name and namespace of another one
 abbrev pub NoneNamed : List DocAttribute → DocAttribute → Type 0

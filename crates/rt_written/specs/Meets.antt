@@ -56,12 +56,12 @@ abbrev pub nodes_claims : ℕ → List (Place × Kind × ℕ) → Template → P
 nodes_claims n numbers whole above slot up i no_nodes = 0
 nodes_claims n numbers whole above slot up i (element_node tag namespace attributes children rest) =
     (counted (nat_eq (number_at numbers (place_in whole above up i) an_element) n) + nodes_claims n numbers whole above slot (up
-        ++ i ∷ []) 0 children)
+    ++ i ∷ []) 0 children)
     +
     nodes_claims n numbers whole above slot up (i + 1) rest
 nodes_claims n numbers whole above slot up i (text_node text rest) =
     counted (nat_eq (number_at numbers (place_in whole above up i) a_static_text) n) + nodes_claims n numbers whole above slot up (i + 1)
-        rest
+    rest
 nodes_claims n numbers whole above slot up i (slot_node k rest) =
     slot k (place_in whole above up i) + nodes_claims n numbers whole above slot up (i + 1) rest
 
@@ -102,7 +102,7 @@ module _ {K : Types} (app : Application K) (b : Both K) (child : ℕ → Type 0)
         number_at b.new.numbers place a_placeholder ≡ number_at b.old.numbers place a_placeholder
     SlotMeets place (component_slot c) (component_slot d) =
         (is_same_component app d c ≡ true → (child_at b.new.children place ≡ child_at b.old.children place)
-            × ChildMeets (child_at b.old.children place))
+        × ChildMeets (child_at b.old.children place))
         ×
         (is_same_component app d c ≡ false → HasNode (slot_view b.old b.old_child (component_slot d) place))
     SlotMeets place (fragment_slot no_trees) (fragment_slot no_trees) =
@@ -140,7 +140,7 @@ module _ {K : Types} (app : Application K) (b : Both K) (claims : ℕ → ℕ �
         if same_template template (template_of old)
         then nodes_claims n b.old.numbers template above (λ k place. slots_claims n slots (slots_of old) k place) [] 0 template.roots
         else count_of n (tree_view b.old b.old_child above old) + count_of n
-            (tree_view b.new b.new_child above (block template given slots))
+        (tree_view b.new b.new_child above (block template given slots))
 
     -- those of the slot with a number
     pub slots_claims : ℕ → Slots K → Slots K → ℕ → Place → ℕ
@@ -155,7 +155,7 @@ module _ {K : Types} (app : Application K) (b : Both K) (claims : ℕ → ℕ �
     slot_claims n place placeholder_slot placeholder_slot = counted (nat_eq (number_at b.old.numbers place a_placeholder) n)
     slot_claims n place (component_slot c) (component_slot d) =
         if is_same_component app d c then child_claims n (child_at b.old.children place)
-            else way_claims n place (component_slot c) (component_slot d)
+        else way_claims n place (component_slot c) (component_slot d)
     slot_claims n place (fragment_slot no_trees) (fragment_slot no_trees) =
         counted (nat_eq (number_at b.old.numbers place an_empty_fragment) n)
     slot_claims n place (fragment_slot (more_trees y ys)) (fragment_slot (more_trees x xs)) =

@@ -3,7 +3,7 @@
 use super::serving::Stage;
 use super::trees::{Named, Shape};
 use crate::{Patch, TreeFault};
-use rt_tracked::Serials;
+use rt_values::Serials;
 use std::alloc::Global;
 use std::process::Abort;
 

@@ -3,7 +3,7 @@ use Rattle.std.proofs.Common.{◌≡◌, ◌≢◌, ℕ, ◌+◌, ◌<◌, List,
 use Rattle.std.proofs.lemmas.List.{take_more_set, get_or_default}
 use Rattle.rt_edits.specs.Nodes.{has, numbers, numbers_below}
 use Rattle.rt_edits.specs.Document.{instead}
-use Rattle.rt_parts.specs.declared.element.ElementId.{ElementId}
+use Rattle.rt_values.specs.declared.element.ElementId.{ElementId}
 use Rattle.rt_edits.specs.declared.doc_node.DocKind.{DocKind}
 use Rattle.rt_edits.specs.declared.doc_node.DocNode.{DocNode}
 use Rattle.rt_edits.proofs.Found.{hit, hit_below, missed, parts_at, set_at, set_same, first_at, fewer_below}

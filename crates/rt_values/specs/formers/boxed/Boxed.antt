@@ -35,7 +35,7 @@ abbrev field : Former {0}
 field = via (pair (const (Ptr × Global)) this) Inside
     (λ Item inside. ((inside.inner.ptr, inside.inner.alloc), inside.inner.value))
     (λ Item parts. record { inner = record { ptr = parts.0.0; alloc = parts.0.1; value = parts.1 } }) (λ Item inside. refl) (λ Item parts.
-        refl)
+    refl)
 
 -- The same box about another value.
 abbrev about : {Item Other : Type 0} → Box Item Global → Other → Box Other Global
@@ -64,7 +64,7 @@ module _ (From To : RattleType) (change : From.Denot → To.Denot) where
   the_places alike = view_places field this view (λ X Y k inside. refl) (λ X inside. refl) From.Denot To.Denot change
       (Outer.the_row From).coded (Outer.the_row To).coded (invariant From.Denot) (invariant To.Denot)
       (λ inside p q. refl) (λ inside p q. refl) (λ inside held. tt) (λ inside held. tt) (over (Inner.the_row From))
-          (over (Inner.the_row To))
+      (over (Inner.the_row To))
       (struct_places (Inner.the_type From) (Inner.the_type To) ((λ boxed. about boxed (change boxed.value)), tt) _ (λ values. refl) refl
       (laid _ _ _ (box_places alike), tt))
 

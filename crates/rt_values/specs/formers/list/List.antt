@@ -50,7 +50,7 @@ module _ (From To : RattleType) (change : From.Denot → To.Denot) where
   the_places alike = view_places field (list this) view (λ X Y k inside. refl) (λ X inside. refl) From.Denot To.Denot change
       (Outer.the_row From).coded (Outer.the_row To).coded (invariant From.Denot) (invariant To.Denot)
       (λ inside p q. refl) (λ inside p q. refl) (λ inside held. tt) (λ inside held. tt) (over (Inner.the_row From))
-          (over (Inner.the_row To))
+      (over (Inner.the_row To))
       (struct_places (Inner.the_type From) (Inner.the_type To) (vector.mapped change, tt) _ (λ values. refl) refl
       (laid _ _ _ (vector.the_places allocator.the_row ghosts From To change alike), tt))
 
