@@ -13,7 +13,7 @@ use Rattle.rt_model.specs.Fits.{slot_count}
 use Rattle.rt_model.specs.OneLog.{types}
 use Rattle.rt_model.specs.Tree as model
 use Rattle.rt_model.specs.Tree.{Tree, block, Slots, no_slots, more_slots, Slot, text_slot, placeholder_slot, component_slot, fragment_slot, Trees, no_trees, more_trees}
-use Rattle.rt_model.proofs.StillFits.{and-left, and-right}
+use Rattle.rt_model.proofs.Conjunctions.{and-left, and-right}
 use Rattle.rt_mirror.specs.Mirror.{template_of, attribute_of, slots_from, trees_from, tree_of}
 use Rattle.rt_mirror.specs.ByParts.{slot_of}
 use Rattle.rt_mirror.proofs.TreeOut.{tree-out}

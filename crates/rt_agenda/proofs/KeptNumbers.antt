@@ -8,7 +8,7 @@ use Rattle.rt_model.specs.Run.{kept_numbers, serves}
 use Rattle.rt_model.proofs.Maps.{by_test, pick_true, pick_false}
 use Rattle.rt_model.proofs.Among.{Among, place_same, kind_same}
 use Rattle.rt_model.proofs.SamePlaces.{same_place-true}
-use Rattle.rt_model.proofs.StillFits.{and-right}
+use Rattle.rt_model.proofs.Conjunctions.{and-right}
 use Rattle.rt_model.proofs.Places.{place_of, Distinct}
 use Rattle.rt_agenda.specs.Kept.{numbers_at, drawn_at, numbers_for}
 use Rattle.rt_agenda.proofs.Agreed.{IsAgreed, all-among}

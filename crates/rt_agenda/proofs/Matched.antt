@@ -4,7 +4,7 @@ use Rattle.rt_model.specs.Tree.{Types, TemplateNodes, no_nodes, element_node, te
 use Rattle.rt_model.specs.Fits.{slot_count}
 use Rattle.rt_model.proofs.Maps.{by_test, pick_true, pick_false}
 use Rattle.rt_model.proofs.Among.{Among, among_left, among_right, place_same}
-use Rattle.rt_model.proofs.StillFits.{and-left}
+use Rattle.rt_model.proofs.Conjunctions.{and-left}
 use Rattle.rt_model.proofs.Places.{place_of}
 use Rattle.rt_agenda.proofs.Events.{flat, Event, stays, goes, comes, fed, left, made, walk, old_in, new_in, gone, come, changed, pairing, both_slots, pair_slots, pair_items}
 use Rattle.rt_agenda.proofs.EventSpots.{IsFull, AreFull, HasFull, ItemsFull, both-old, both-new, pairing-old, pairing-new, items-old, items-new, template-true}

@@ -11,7 +11,7 @@ use Rattle.rt_model.proofs.Agendas.{found_node}
 use Rattle.rt_model.proofs.Among.{Among}
 use Rattle.rt_model.proofs.Maps.{by_test, pick_true, pick_false}
 use Rattle.rt_model.proofs.SamePlaces.{same_place-true, same_kind-true}
-use Rattle.rt_model.proofs.StillFits.{and-left, and-right}
+use Rattle.rt_model.proofs.Conjunctions.{and-left, and-right}
 use Rattle.rt_agenda.specs.Kept.{numbers_at, drawn_at, numbers_for}
 use Rattle.rt_agenda.proofs.Branches.{AllIn, among_either}
 use Rattle.rt_agenda.proofs.KeptNumbers.{Entries}

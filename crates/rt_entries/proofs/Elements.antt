@@ -9,7 +9,7 @@ use Rattle.rt_model.specs.Document.{Content, DocElement}
 use Rattle.rt_model.specs.View.{element_attributes, element_listeners}
 use Rattle.rt_model.specs.Caused.{element_pass, left, come}
 use Rattle.rt_model.proofs.SamePlaces.{template-true}
-use Rattle.rt_model.proofs.StillFits.{and-left, and-right}
+use Rattle.rt_model.proofs.Conjunctions.{and-left, and-right}
 use Rattle.rt_written.specs.Settings.{altered}
 use Rattle.rt_written.specs.Meets.{AttributesBring}
 use Rattle.rt_written.specs.Passes.{ElementsAlter}

@@ -8,7 +8,7 @@ use Rattle.rt_model.specs.Caused.{is_key, text_if, text_under, listens, listens_
 use Rattle.rt_model.proofs.Maps.{pick_true, pick_false, by_test}
 use Rattle.rt_model.proofs.SamePlaces.{numbers-true, option-true}
 use Rattle.rt_model.proofs.Among.{numbers_same}
-use Rattle.rt_model.proofs.StillFits.{and-left, and-right}
+use Rattle.rt_model.proofs.Conjunctions.{and-left, and-right}
 
 -- a test can't say both
 pub clash : {P : Type 0} {b : Bool} → b ≡ true → b ≡ false → P

@@ -15,7 +15,7 @@ use Rattle.rt_model.specs.Replay.{with_new_scope}
 use Rattle.rt_model.specs.Framed.{Frame, framed, TookOne}
 use Rattle.rt_model.proofs.Maps.{by_test, pick_true, pick_false}
 use Rattle.rt_model.proofs.Among.{Among}
-use Rattle.rt_model.proofs.StillFits.{and-left, and-right}
+use Rattle.rt_model.proofs.Conjunctions.{and-left, and-right}
 use Rattle.rt_model.proofs.SameTrees.{option_tests, element_tests}
 use Rattle.rt_model.proofs.SamePlaces.{same_place-true}
 use Rattle.rt_model.proofs.Places.{spots_distinct}

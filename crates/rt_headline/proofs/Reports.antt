@@ -15,8 +15,8 @@ use Rattle.rt_model.specs.View.{view}
 use Rattle.rt_model.specs.Causes.{Limits, accepts_within, refusal, replay_within}
 use Rattle.rt_model.specs.Told.{Told, Telling, telling, told_by, tell_log, tell_reports, is_settled}
 use Rattle.rt_model.specs.Headline.{logs_of, DocumentIs, last_machine}
-use Rattle.rt_model.proofs.StillFits.{and-left, and-right}
-use Rattle.rt_model.proofs.StillFaults.{open_gate}
+use Rattle.rt_model.proofs.Conjunctions.{and-left, and-right}
+use Rattle.rt_model.proofs.FaultsOnce.{open_gate}
 use Rattle.rt_model.proofs.ToldReplayed.{First, first-of, log-replays, within-replays}
 use Rattle.rt_moves.specs.Moves.{entries, moves_alone, IsSettled}
 use Rattle.rt_moves.specs.Reached.{Reached}

@@ -5,7 +5,7 @@ use Rattle.std.proofs.lemmas.Bool.{eqb-true}
 use Rattle.rt_model.specs.Laws.{Tests}
 use Rattle.rt_model.specs.Program.{body_means}
 use Rattle.rt_model.proofs.Maps.{eq_same}
-use Rattle.rt_model.proofs.StillFits.{and-left, and-right}
+use Rattle.rt_model.proofs.Conjunctions.{and-left, and-right}
 use Rattle.rt_model.proofs.SameTrees.{both, numbers, list_tests}
 use Rattle.rt_model.proofs.Lawful.{mean_alike, programs_are_lawful}
 use Rattle.rt_language.specs.Values.{Value, NoValue, NumberValue, TextValue, CellValue, TaskValue, same_number, same_value, same_values}

@@ -8,7 +8,7 @@ use Rattle.rt_model.specs.Told.{Told, Telling, tell_reports, tell_log, telling, 
 use Rattle.rt_model.specs.Causes.{Limits, refusal, replay_within, edits_at_refusal}
 use Rattle.rt_model.specs.Headline.{last_machine, one_each, one_each_then}
 use Rattle.rt_model.specs.Finished.{reports_of, is_finished, TestsDecide}
-use Rattle.rt_model.proofs.StillFits.{and-left, and-right}
+use Rattle.rt_model.proofs.Conjunctions.{and-left, and-right}
 use Rattle.rt_model.proofs.FinishedTold.{finished_is_headline, finished_comes_to}
 use Rattle.rt_language.specs.Syntax.{Source}
 use Rattle.rt_language.specs.Expressions.{SourceTypes}

@@ -9,7 +9,7 @@ use Rattle.rt_model.specs.Heard.{number_at}
 use Rattle.rt_model.proofs.Maps.{by_test, pick_true, pick_false}
 use Rattle.rt_model.proofs.Among.{Among, or_else_true, place_same, kind_same}
 use Rattle.rt_model.proofs.SamePlaces.{same_place-true, same_kind-true}
-use Rattle.rt_model.proofs.StillFits.{and-left, and-right}
+use Rattle.rt_model.proofs.Conjunctions.{and-left, and-right}
 
 abbrev Numbers : Type 0
 Numbers = List (Place × Kind × ℕ)

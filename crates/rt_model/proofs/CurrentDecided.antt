@@ -11,7 +11,7 @@ use Rattle.rt_model.specs.State.{FallbackSide, Scope, LastCall, State, is_side, 
 use Rattle.rt_model.specs.Boundary.{tree_or_placeholder, children_of}
 use Rattle.rt_model.specs.Current.{stayed, Repeats, KeepsAnswer, again, BodyIsCurrent, FallbackIsCurrent, ShownSideIsCurrent, BoundaryIsCurrent, CurrentAs, IsCurrent, repeats, keeps_tree, keeps_answer, body_is_current, fallback_is_current, tested_again, no_reads, shown_side_is_current, current_as, is_current, all_among}
 use Rattle.rt_model.specs.CurrentTest.{TestDecidesCurrent}
-use Rattle.rt_model.proofs.StillFits.{and-left, and-right}
+use Rattle.rt_model.proofs.Conjunctions.{and-left, and-right}
 use Rattle.rt_model.proofs.SameTrees.{both, option_tests, list_tests, source_tests, tree_tests, element_tests}
 
 -- a test that says what a statement says

@@ -15,7 +15,7 @@ use Rattle.rt_model.specs.Current.{AllCurrent, all_current}
 use Rattle.rt_model.specs.Causes.{replay_within}
 use Rattle.rt_model.specs.Headline.{logs_of, is_opening, OpensWith, InputsFrom, OneEach, CutFrom, OneEachThen, opens_with, inputs_from, one_each, cut_from, one_each_then, AllCount, DocumentIs, HeldIsShown, AllHeldShown, last_machine, Holds}
 use Rattle.rt_model.specs.Finished.{same_truth, reports_of, live_holders, held_is_shown, held_among, each_held, each_current, is_finished, TestsDecide, FinishedIsHeadline, FinishedComesTo}
-use Rattle.rt_model.proofs.StillFits.{and-left, and-right}
+use Rattle.rt_model.proofs.Conjunctions.{and-left, and-right}
 use Rattle.rt_model.proofs.OneLogOnly.{same_entry-true}
 use Rattle.rt_model.proofs.SameEdits.{forest-true}
 use Rattle.rt_model.proofs.CurrentDecided.{test_decides_current}

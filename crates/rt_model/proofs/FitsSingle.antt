@@ -8,9 +8,9 @@ use Rattle.rt_model.specs.World.{Application}
 use Rattle.rt_model.specs.Fits.{counts_from, slot_count, same_name, is_named, all_once, template_fits, given_names, element_names, all_plain, nodes_fit, fits_at, slots_fit, slot_fits, items_fit}
 use Rattle.rt_model.specs.Caused.{is_key}
 use Rattle.rt_model.specs.State.{State, side_of}
-use Rattle.rt_model.specs.Still.{is_keyed, once_each, Single, SingleSlots, SingleSlot, SingleTrees, SingleOutput, AllSingle, RestCausesNothing}
+use Rattle.rt_model.specs.Unchanged.{is_keyed, once_each, Single, SingleSlots, SingleSlot, SingleTrees, SingleOutput, AllSingle, RestCausesNothing}
 use Rattle.rt_model.proofs.Maps.{by_test}
-use Rattle.rt_model.proofs.StillFits.{and-left, and-right}
+use Rattle.rt_model.proofs.Conjunctions.{and-left, and-right}
 use Rattle.rt_model.proofs.SamePlaces.{paths-true}
 use Rattle.rt_model.proofs.WellNumbered.{FitsBelow, WellNumbered}
 use Rattle.rt_model.proofs.NumbersStand.{replay_well_numbered}

@@ -15,14 +15,8 @@ pub mod SamePlaces
 pub mod Places
 pub mod ViewCounts
 pub mod ViewOnce
-pub mod StillFits
-pub mod StillDraws
-pub mod StillViews
-pub mod StillRuns
-pub mod StillFaults
-pub mod StillRefused
-pub mod StillBuilt
-pub mod StillBuilds
+pub mod Conjunctions
+pub mod FaultsOnce
 pub mod Among
 pub mod SideFrames
 pub mod SideRuns

@@ -17,7 +17,7 @@ use Rattle.rt_model.specs.Replay.{Entry, Build, Taken, Heard, Rerun, Poll, Effec
 use Rattle.rt_model.specs.Lasting.{IsRooted}
 use Rattle.rt_model.proofs.Maps.{none_some, pick_true, pick_false, by_test}
 use Rattle.rt_model.proofs.OneLogOnly.{fork}
-use Rattle.rt_model.proofs.StillFits.{and-left, and-right}
+use Rattle.rt_model.proofs.Conjunctions.{and-left, and-right}
 use Rattle.rt_model.proofs.MachineFrames.{step_follows}
 use Rattle.rt_model.proofs.LastsAlways.{inj_entry, inj_machine, live_of, due_is, start_rooted, only_root}
 use Rattle.rt_model.proofs.Among.{Among, among_contained}

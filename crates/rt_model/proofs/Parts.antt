@@ -7,7 +7,7 @@ use Rattle.rt_model.specs.Fits.{nodes_fit, fits_at, slots_fit, slot_fits, items_
 use Rattle.rt_model.specs.State.{SideName, RowStep, Item, Draw, Row, Feed, Make, Drop}
 use Rattle.rt_model.specs.Run.{child_at, answer_fits, has_node, component_in, row_items, is_fed, serves, drop_at, drops_of}
 use Rattle.rt_model.specs.Boundary.{tree_or_placeholder, children_of, drop_items}
-use Rattle.rt_model.proofs.StillFits.{and-left, and-right}
+use Rattle.rt_model.proofs.Conjunctions.{and-left, and-right}
 use Rattle.rt_model.proofs.WellNumbered.{FitsBelow}
 
 module _ {K : Types} where

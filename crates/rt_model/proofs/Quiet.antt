@@ -10,7 +10,7 @@ use Rattle.rt_model.specs.State.{SideName, MainSide, ChildrenSide, FallbackSide,
 use Rattle.rt_model.specs.Run.{child_at}
 use Rattle.rt_model.specs.Document.{Edit, SetAttribute, RemoveEventListener, CreateEventListener}
 use Rattle.rt_model.specs.Caused.{Written, writes, halts, then_on, is_place, slot_pass, element_pass, attribute_pass, is_key, text_if, text_under, listens, listens_under, one_left, left, one_come, come, Both, child_written, tree_written, slots_written, slot_written, items_written, outputs_written, sides_written, scope_written, written_within}
-use Rattle.rt_model.specs.Still.{is_keyed, once_each, Single, SingleSlots, SingleSlot, SingleTrees, SingleOutput, AllSingle, SameCausesNothing}
+use Rattle.rt_model.specs.Unchanged.{is_keyed, once_each, Single, SingleSlots, SingleSlot, SingleTrees, SingleOutput, AllSingle, SameCausesNothing}
 use Rattle.rt_model.proofs.Maps.{pick_true, pick_false}
 
 both_true : {a b : Bool} → a ≡ true → b ≡ true → (a && b) ≡ true

@@ -10,7 +10,7 @@ use Rattle.rt_model.specs.Headline.{one_each}
 use Rattle.rt_model.specs.Finished.{is_finished}
 use Rattle.rt_model.specs.Small.{Val, Name, Job, R, Body, app_of, told_with}
 use Rattle.rt_model.specs.RowsHold.{RowHolds, RowsHold}
-use Rattle.rt_model.proofs.StillFits.{and-left, and-right}
+use Rattle.rt_model.proofs.Conjunctions.{and-left, and-right}
 use Rattle.rt_model.proofs.SameEdits.{edits-true}
 use Rattle.rt_model.proofs.FinishedTold.{finished_is_headline}
 use Rattle.rt_model.proofs.SmallLawful.{small_are_lawful}

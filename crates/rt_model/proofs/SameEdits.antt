@@ -5,7 +5,7 @@ use Rattle.std.proofs.lemmas.Bool.{eqb-true}
 use Rattle.rt_model.specs.Lists.{Text, same_numbers, same_option, same_list}
 use Rattle.rt_model.specs.Document.{DocAttribute, Content, DocElement, DocText, DocPlaceholder, Forest, Empty, Node, Edit, AppendChildren, ReplaceNodeWith, InsertNodesAfter, RemoveNode, SetNodeText, SetAttribute, CreateEventListener, RemoveEventListener, same_key, same_doc_attribute, same_content, same_forest, same_edit}
 use Rattle.rt_model.specs.Told.{same_edits}
-use Rattle.rt_model.proofs.StillFits.{and-left, and-right}
+use Rattle.rt_model.proofs.Conjunctions.{and-left, and-right}
 use Rattle.rt_model.proofs.SameTrees.{numbers, option-true, list-true}
 
 space-true : (a b : Option Text) → same_option same_numbers a b ≡ true → a ≡ b

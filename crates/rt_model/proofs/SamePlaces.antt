@@ -6,7 +6,7 @@ use Rattle.rt_model.specs.Lists.{same_numbers, same_option, same_list}
 use Rattle.rt_model.specs.Tree.{TemplateAttribute, fixed, from_slot, TemplateNodes, no_nodes, element_node, text_node, slot_node, Template, same_attribute, same_nodes, same_template, Step, inside, item, same_step, Place, same_place, Kind, an_element, a_static_text, a_text, a_placeholder, an_empty_fragment, same_kind}
 use Rattle.rt_model.specs.Heard.{number_at}
 use Rattle.rt_model.proofs.Maps.{pick_true, pick_false, by_test}
-use Rattle.rt_model.proofs.StillFits.{and-left, and-right}
+use Rattle.rt_model.proofs.Conjunctions.{and-left, and-right}
 
 pub numbers-true : (p q : List ℕ) → same_numbers p q ≡ true → p ≡ q
 numbers-true [] [] h = refl

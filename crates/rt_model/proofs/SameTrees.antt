@@ -8,7 +8,7 @@ use Rattle.rt_model.specs.World.{Source, Cell, Error, Context, same_source, Appl
 use Rattle.rt_model.specs.Laws.{Tests}
 use Rattle.rt_model.specs.Values.{same_error, same_attribute_value, same_given, same_call, same_tree, same_slots, same_slot, same_trees, same_by_value, same_element}
 use Rattle.rt_model.proofs.Maps.{eq_same}
-use Rattle.rt_model.proofs.StillFits.{and-left, and-right}
+use Rattle.rt_model.proofs.Conjunctions.{and-left, and-right}
 use Rattle.rt_model.proofs.Among.{numbers_same, template_same}
 use Rattle.rt_model.proofs.SamePlaces.{numbers-true, template-true}
 

@@ -5,7 +5,7 @@ use Rattle.rt_model.specs.Lists.{same_numbers}
 use Rattle.rt_model.specs.Program.{body_means}
 use Rattle.rt_model.specs.Small.{Val, Num, Str, same_val, Name, Main, Mid, Kid, Load, same_name, Doing, Nought, Rouse, Put, Add, More, Give, Forgive, same_doing, R, app_of, SmallAreLawful}
 use Rattle.rt_model.proofs.Maps.{eq_same}
-use Rattle.rt_model.proofs.StillFits.{and-left, and-right}
+use Rattle.rt_model.proofs.Conjunctions.{and-left, and-right}
 use Rattle.rt_model.proofs.SameTrees.{both, numbers, list_tests}
 use Rattle.rt_model.proofs.Lawful.{mean_alike, programs_are_lawful}
 

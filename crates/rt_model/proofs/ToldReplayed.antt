@@ -11,7 +11,7 @@ use Rattle.rt_model.specs.Told.{Told, Telling, opens, opened, telling, told_by, 
 use Rattle.rt_model.specs.Causes.{Limits, refusal, replay_within}
 use Rattle.rt_model.specs.Headline.{last_machine}
 use Rattle.rt_model.specs.Finished.{ToldIsReplayed}
-use Rattle.rt_model.proofs.StillFaults.{open_gate}
+use Rattle.rt_model.proofs.FaultsOnce.{open_gate}
 
 -- the same value
 some-is : {A : Type 0} (a b : A) → Some a ≡ Some b → a ≡ b

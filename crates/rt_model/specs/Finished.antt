@@ -1,15 +1,15 @@
 -- Finished reports as a test that computes, and what the test says: the headline, or the way to a fault.
-use Rattle.std.specs.Prelude.{ℕ, Bool, true, false, ◌&&◌, ◌||◌, not, List, [], ◌∷◌, ◌++◌, length, Some, ◌≡◌, is_some}
+use Rattle.std.specs.Prelude.{ℕ, Bool, true, false, ◌&&◌, ◌||◌, not, List, [], ◌∷◌, ◌++◌, length, Option, Some, ◌≡◌, is_some}
 use Rattle.rt_model.specs.Lists.{at, joined}
 use Rattle.rt_model.specs.Tree.{Types, is_suspense_boundary}
 use Rattle.rt_model.specs.World.{Application}
 use Rattle.rt_model.specs.Laws.{Tests}
 use Rattle.rt_model.specs.State.{FallbackSide, Fault, Scope, State, is_side, is_held}
-use Rattle.rt_model.specs.Document.{Empty}
+use Rattle.rt_model.specs.Document.{Edit, Empty}
 use Rattle.rt_model.specs.Replay.{Entry, Input, Machine, replay_on, start}
 use Rattle.rt_model.specs.Told.{Told, Telling, is_unit, is_body, count_entries, tell_reports, tell_log, telling, edits_of, all_shown}
 use Rattle.rt_model.specs.Current.{all_current}
-use Rattle.rt_model.specs.Causes.{Limits, refusal, replay_within, edits_at_refusal}
+use Rattle.rt_model.specs.Causes.{Limits, IsValid, refusal, replay_within, edits_at_refusal}
 use Rattle.rt_model.specs.Headline.{Report, last_machine, one_each, one_each_then, Headline, CameTo}
 
 -- equal truths
@@ -102,3 +102,20 @@ module _ {K : Types} (app : Application K) where
       → ((told : List (Told K)) → tell_reports app m logs ≡ Some told → replay_on app (Some m) (joined logs) ≡ Some (last_machine m told))
       ×
       ((v : Machine K) → replay_on app (Some m) (joined logs) ≡ Some v → (told : List (Told K)) × (tell_reports app m logs ≡ Some told))
+
+  -- a session that comes to a fault has no valid inputs
+  abbrev pub FaultIsInvalid : Type 0
+  FaultIsInvalid =
+      (props : K.Props) (inputs : List (Input K)) (limits : Limits) (taken : Option (List Edit)) (reports : List Report) (fault : Fault)
+      → CameTo app props inputs limits taken reports fault
+      → IsValid app props inputs limits
+      → ⊥
+
+  -- a session comes to one fault at most
+  abbrev pub OneFault : Type 0
+  OneFault =
+      (props : K.Props) (inputs : List (Input K)) (limits : Limits) (taken also : Option (List Edit)) (reports others : List Report)
+      (fault other : Fault)
+      → CameTo app props inputs limits taken reports fault
+      → CameTo app props inputs limits also others other
+      → fault ≡ other

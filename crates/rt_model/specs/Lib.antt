@@ -33,6 +33,5 @@ pub mod RenderRows
 pub mod RowsHold
 pub mod OneLog
 pub mod Lasting
-pub mod Still
+pub mod Unchanged
 pub mod Once
-pub mod StillBuild

@@ -5,10 +5,10 @@ ghost use Rattle.rt_model.specs.OneLog.{types, OneLog};
 ghost use Rattle.rt_model.specs.Laws.{ProgramsAreLawful};
 ghost use Rattle.rt_model.specs.Lasting.{LawfulLogsLast};
 ghost use Rattle.rt_model.specs.Framed.{RemovalTakesOne};
-ghost use Rattle.rt_model.specs.Still.{SameCausesNothing, RestCausesNothing};
+ghost use Rattle.rt_model.specs.Unchanged.{SameCausesNothing, RestCausesNothing};
 ghost use Rattle.rt_model.specs.Once.{ShownOnce};
 ghost use Rattle.rt_model.specs.CurrentTest.{TestDecidesCurrent};
-ghost use Rattle.rt_model.specs.Finished.{FinishedIsHeadline, FinishedComesTo, ToldIsReplayed};
+ghost use Rattle.rt_model.specs.Finished.{FaultIsInvalid, OneFault, FinishedIsHeadline, FinishedComesTo, ToldIsReplayed};
 
 /// For one list of inputs at most one log of each length is accepted.
 pub fn one_log<C, P, V, H, T, E, L>()
@@ -64,4 +64,14 @@ pub fn finished_is_headline<C, P, V, H, T, E, L>()
 /// Reports that pass the computing test, and a log from there on within the limits, come to the fault of the refusal.
 pub fn finished_comes_to<C, P, V, H, T, E, L>()
     ensures { (app : Application (types C P V H T E L)) → FinishedComesTo app }
+{}
+
+/// A session that comes to a fault has no valid inputs.
+pub fn fault_is_invalid<C, P, V, H, T, E, L>()
+    ensures { (app : Application (types C P V H T E L)) → FaultIsInvalid app }
+{}
+
+/// A session comes to one fault at most.
+pub fn one_fault<C, P, V, H, T, E, L>()
+    ensures { (app : Application (types C P V H T E L)) → OneFault app }
 {}

@@ -5,17 +5,12 @@
 
 mod general_laws;
 mod rows;
-mod still_build;
 
 pub use general_laws::{
-    finished_comes_to, finished_is_headline, lawful_logs_last, one_log, programs_are_lawful,
-    removal_takes_one, rest_causes_nothing, same_causes_nothing, shown_once, test_decides_current,
-    told_is_replayed,
+    fault_is_invalid, finished_comes_to, finished_is_headline, lawful_logs_last, one_fault,
+    one_log, programs_are_lawful, removal_takes_one, rest_causes_nothing, same_causes_nothing,
+    shown_once, test_decides_current, told_is_replayed,
 };
 pub use rows::{
     attributes_move, context_wakes_task, rows_hold, small_are_lawful, suspended_renders,
-};
-pub use still_build::{
-    builds_still, fault_is_invalid, one_fault, refused_call_ends, spent_numbers_end, still_test,
-    unfit_tree_ends,
 };

@@ -13,7 +13,7 @@ use Rattle.rt_model.specs.View.{child_view, nodes_view, tree_view, slots_view, s
 use Rattle.rt_model.specs.Caused.{Both}
 use Rattle.rt_model.proofs.Among.{Among, among_left, among_right, place_same}
 use Rattle.rt_model.proofs.SamePlaces.{template-true}
-use Rattle.rt_model.proofs.StillFits.{and-left}
+use Rattle.rt_model.proofs.Conjunctions.{and-left}
 use Rattle.rt_model.proofs.ViewCounts.{count_join}
 use Rattle.rt_written.specs.Settings.{counted}
 use Rattle.rt_written.specs.Meets.{nodes_claims, child_claims, way_claims, tree_claims, slots_claims, slot_claims, items_claims}

@@ -9,7 +9,7 @@ use Rattle.rt_model.specs.Values.{is_same_component}
 use Rattle.rt_model.specs.State.{SideName, MainSide, ChildrenSide, FallbackSide, same_side, Scope, State, side_of, is_side, is_live, height_of, shown_at, shown_from, is_shown}
 use Rattle.rt_model.specs.Run.{child_at, spots_of}
 use Rattle.rt_model.proofs.Among.{Among}
-use Rattle.rt_model.proofs.StillFits.{and-left, and-right}
+use Rattle.rt_model.proofs.Conjunctions.{and-left, and-right}
 use Rattle.rt_model.proofs.WellNumbered.{FitsBelow}
 use Rattle.rt_ready.proofs.Twigs.{height_found, live_found}
 use Rattle.rt_ready.proofs.Lists.{some_number}

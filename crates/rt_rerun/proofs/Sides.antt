@@ -11,7 +11,7 @@ use Rattle.rt_model.specs.Heard.{number_at}
 use Rattle.rt_model.proofs.Maps.{by_test, pick_true, pick_false}
 use Rattle.rt_model.proofs.Among.{Among, among_push}
 use Rattle.rt_model.proofs.SamePlaces.{same_place-true, same_kind-true}
-use Rattle.rt_model.proofs.StillFits.{and-left, and-right}
+use Rattle.rt_model.proofs.Conjunctions.{and-left, and-right}
 use Rattle.rt_model.proofs.Places.{Distinct, spots_distinct}
 use Rattle.rt_model.proofs.Agendas.{found_node}
 use Rattle.rt_ready.proofs.Lists.{component_is, kept_at, kept_fed}

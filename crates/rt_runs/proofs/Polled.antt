@@ -1,7 +1,7 @@
 -- A poll, by what its call means.
 use Rattle.std.proofs.Common.{◌≡◌, ℕ, true, false, List, [], ◌∷◌, map, Option, Some, None, refl, ap, sym, ◌∙◌}
 use Rattle.std.specs.Prelude.{is_some, option_map}
-use Rattle.rt_model.proofs.StillFits.{and-left, and-right}
+use Rattle.rt_model.proofs.Conjunctions.{and-left, and-right}
 use Rattle.rt_model.specs.Tree.{Types}
 use Rattle.rt_model.specs.OneLog.{types}
 use Rattle.rt_model.specs.Lists.{at, or_else}

@@ -30,7 +30,7 @@ use Rattle.rt_model.specs.Lists.{same_numbers, same_list}
 use Rattle.rt_model.specs.Tree as model
 use Rattle.rt_model.specs.Tree.{TemplateNodes, no_nodes, element_node, text_node, slot_node, node_slots, attribute_slots, attributes_in, paths_of, Tree, block, Slots, no_slots, more_slots, Slot, text_slot, placeholder_slot, component_slot, fragment_slot, Trees, no_trees, more_trees, VComponent, Own, Root, Fragment, ErrorBoundary, SuspenseBoundary, Element, rendered, failed, suspended}
 use Rattle.rt_model.specs.Fits.{counts_from, row_length, slot_count, given_names, is_plain, plain_listeners, all_plain, nodes_fit, element_names, all_once, template_fits, fits_at, slots_fit, slot_fits, items_fit, component_fits, element_fits, fits}
-use Rattle.rt_model.proofs.StillFits.{and-left, and-right}
+use Rattle.rt_model.proofs.Conjunctions.{and-left, and-right}
 use Rattle.rt_mirror.specs.Mirror.{attribute_of, value_of, slots_from, trees_from}
 use Rattle.rt_mirror.specs.Sealed.{nodes_of, template_of, tree_of, slot_of, component_of, element_of}
 use Rattle.rt_mirror.proofs.SealedTrees.{tree_out, slot_Text, slot_Placeholder, slot_Component, slot_Fragment}

@@ -10,7 +10,7 @@ use Rattle.rt_model.specs.Run.{child_at, spots_of}
 use Rattle.rt_model.specs.Document.{Forest, Empty, Node, join_rows}
 use Rattle.rt_model.specs.View.{child_view, nodes_view, tree_view, slots_view, slot_view, items_view, side_view, scope_view, nodes_of}
 use Rattle.rt_model.proofs.Among.{Among, among_left}
-use Rattle.rt_model.proofs.StillFits.{and-left}
+use Rattle.rt_model.proofs.Conjunctions.{and-left}
 use Rattle.rt_model.proofs.NumbersStand.{child_among}
 use Rattle.rt_model.proofs.WellNumbered.{FitsBelow}
 use Rattle.rt_ready.proofs.Twigs.{slots, side_found, found_live}

@@ -9,7 +9,7 @@ use Rattle.rt_written.specs.Entries.{NoneNamed}
 use Rattle.rt_model.proofs.Maps.{pick_true, pick_false, by_test}
 use Rattle.rt_model.proofs.SamePlaces.{numbers-true, option-true}
 use Rattle.rt_model.proofs.Among.{numbers_same}
-use Rattle.rt_model.proofs.StillFits.{and-left, and-right}
+use Rattle.rt_model.proofs.Conjunctions.{and-left, and-right}
 
 clash : {P : Type 0} {b : Bool} → b ≡ true → b ≡ false → P
 clash h k = cc

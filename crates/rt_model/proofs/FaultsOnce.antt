@@ -8,7 +8,7 @@ use Rattle.rt_model.specs.State.{Fault}
 use Rattle.rt_model.specs.Replay.{Entry, Machine, due, step, is_due, start}
 use Rattle.rt_model.specs.Causes.{Limits, refusal, replay_within}
 use Rattle.rt_model.specs.Headline.{logs_of}
-use Rattle.rt_model.specs.StillBuild.{FaultIsInvalid, OneFault}
+use Rattle.rt_model.specs.Finished.{FaultIsInvalid, OneFault}
 use Rattle.rt_model.proofs.OneLogOnly.{is_due-same}
 
 module _ {K : Types} (app : Application K) (limits : Limits) where
