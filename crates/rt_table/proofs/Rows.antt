@@ -64,26 +64,26 @@ module _ {A : Type 0} where
   put-absent [] n a absent = refl
   put-absent (row ∷ rows) n a absent = grind (arith, common_steps, put-absent rows n a)
 
-  -- the same for a table whose rows are seen as a slice: the row is written,
-  pub put-row : (rows seen table : List (ℕ × A)) (n i : ℕ) (a : A) → seen ≡ rows → rows ≡ table → i < length seen
-      → ((d : ℕ × A) → (get_or seen i d).0 ≡ n) → IsFirst seen n i → slice_set rows i (n, a) ≡ put table n a
-  put-row rows seen table n i a slice view within own so =
-      ap (λ xs. slice_set xs i (n, a)) (sym slice) ∙ sym (put-first seen n i (n, a) a within (own (n, a)) so) ∙ ap (λ xs. put xs n a) (slice ∙ view)
+  -- the same for the rows that a table stands for: the row is written,
+  pub put-row : (rows table : List (ℕ × A)) (n i : ℕ) (a : A) → rows ≡ table → i < length table
+      → ((d : ℕ × A) → (get_or table i d).0 ≡ n) → IsFirst table n i → slice_set rows i (n, a) ≡ put table n a
+  put-row rows table n i a view within own so =
+      ap (λ xs. slice_set xs i (n, a)) view ∙ sym (put-first table n i (n, a) a within (own (n, a)) so)
 
   -- or its value alone,
-  pub put-value : (rows seen table : List (ℕ × A)) (n i : ℕ) (row : ℕ × A) (a : A) → seen ≡ rows → rows ≡ table → i < length seen
-      → ((d : ℕ × A) → (get_or seen i d).0 ≡ n) → IsFirst seen n i → row ≡ get_or rows i row → slice_set rows i (row.0, a) ≡ put table n a
-  put-value rows seen table n i row a slice view within own so is =
-      ap (λ (m : ℕ). slice_set rows i (m, a)) (ap (λ (p : ℕ × A). p.0) is ∙ ap (λ xs. (get_or xs i row).0) (sym slice) ∙ own row)
-      ∙ put-row rows seen table n i a slice view within own so
+  pub put-value : (rows table : List (ℕ × A)) (n i : ℕ) (row : ℕ × A) (a : A) → rows ≡ table → i < length table
+      → ((d : ℕ × A) → (get_or table i d).0 ≡ n) → IsFirst table n i → row ≡ get_or rows i row → slice_set rows i (row.0, a) ≡ put table n a
+  put-value rows table n i row a view within own so is =
+      ap (λ (m : ℕ). slice_set rows i (m, a)) (ap (λ (p : ℕ × A). p.0) is ∙ ap (λ xs. (get_or xs i row).0) view ∙ own row)
+      ∙ put-row rows table n i a view within own so
 
   -- which was there before
-  pub value-was : (rows seen table : List (ℕ × A)) (n i : ℕ) (row : ℕ × A) (old : A) → seen ≡ rows → rows ≡ table → i < length seen
-      → ((d : ℕ × A) → (get_or seen i d).0 ≡ n) → IsFirst seen n i → row ≡ get_or rows i row → at table n ≡ Some old → old ≡ row.1
-  value-was rows seen table n i row old slice view within own so is stood =
-      let found : at seen n ≡ Some (get_or seen i row).1 = at-first seen n i row within (own row) so in
-      let same : get_or seen i row ≡ row = ap (λ xs. get_or xs i row) slice ∙ sym is in
-      let whole : Some old ≡ Some row.1 = sym stood ∙ ap (λ xs. at xs n) (sym (slice ∙ view)) ∙ found ∙ ap (λ (p : ℕ × A). Some p.1) same in
+  pub value-was : (rows table : List (ℕ × A)) (n i : ℕ) (row : ℕ × A) (old : A) → rows ≡ table → i < length table
+      → ((d : ℕ × A) → (get_or table i d).0 ≡ n) → IsFirst table n i → row ≡ get_or rows i row → at table n ≡ Some old → old ≡ row.1
+  value-was rows table n i row old view within own so is stood =
+      let found : at table n ≡ Some (get_or table i row).1 = at-first table n i row within (own row) so in
+      let same : get_or table i row ≡ row = ap (λ xs. get_or xs i row) (sym view) ∙ sym is in
+      let whole : Some old ≡ Some row.1 = sym stood ∙ found ∙ ap (λ (p : ℕ × A). Some p.1) same in
       cc
 
   -- no row has the number, so none is taken out
@@ -91,16 +91,15 @@ module _ {A : Type 0} where
   without-absent [] n absent = refl
   without-absent (row ∷ rows) n absent = grind (arith, common_steps, without-absent rows n)
 
-  pub without-less : (rows : List (ℕ × A)) (n i : ℕ) (d : ℕ × A) → i < length rows → (get_or rows i d).0 ≡ n → without (remove rows i) n ≡ without rows n
+  -- one row of the number is taken out, and the others follow
+  without-less : (rows : List (ℕ × A)) (n i : ℕ) (d : ℕ × A) → i < length rows → (get_or rows i d).0 ≡ n → without (remove rows i) n ≡ without rows n
   without-less [] n i d within own = absurd (omega arith)
   without-less (row ∷ rows) n zero d within own = grind (arith, common_steps)
   without-less (row ∷ rows) n (suc i) d within own = grind (arith, common_steps, without-less rows n i d)
 
-  -- one row of the number is taken out, and the others follow
-  pub without-one : (rows seen old : List (ℕ × A)) (n i : ℕ) → seen ≡ rows → i < length seen → ((d : ℕ × A) → (get_or seen i d).0 ≡ n)
-      → (d : ℕ × A) → without rows n ≡ without old n → without (remove rows i) n ≡ without old n
-  without-one rows seen old n i slice within own d so =
-      ap (λ xs. without (remove xs i) n) (sym slice) ∙ without-less seen n i d within (own d) ∙ ap (λ xs. without xs n) slice ∙ so
+  pub without-one : (rows : List (ℕ × A)) (n i : ℕ) → i < length rows → ((d : ℕ × A) → (get_or rows i d).0 ≡ n) → without (remove rows i) n ≡ without rows n
+  without-one [] n i within own = absurd (omega arith)
+  without-one (row ∷ rows) n i within own = without-less (row ∷ rows) n i row within (own row)
 
   -- the row at an index, whatever stands for one past the end
   pub row-at : (rows table : List (ℕ × A)) (i : ℕ) (row d : ℕ × A) → rows ≡ table → i < length table → row ≡ get_or rows i row → get_or table i d ≡ row

@@ -3,28 +3,33 @@ ghost use Rattle.std.specs.Prelude.{◌≡◌, ℕ, [], ◌∷◌, ◌++◌, ◌
 ghost use Rattle.std.specs.Option.{option_copied};
 ghost use Rattle.std.specs.Fn.{FnOnceReturnsAtMut};
 ghost use Rattle.rt_model.specs.Lists.{at, put, without};
-ghost use Rattle.rt_table.specs.Found.{IsFirst};
+ghost use Rattle.rt_table.specs.Found.{IsFirst, Ascends};
 
 use rt_values::OutOfMemory;
 use std::alloc::Global;
 use std::marker::Model;
 use std::mem;
 
-/// Values under numbers, in the order in which they came.
+/// Values under numbers, in the order in which they came. While the numbers rise, a look for one is a
+/// binary search.
 #[derive(Drop)]
 pub struct Table<T> {
     rows: Vec<(u64, T)>,
+    rising: bool,
 }
 
 impl<T> Model for Table<T> {
     ghost use Rattle.std.specs.Prelude.{List, ℕ};
     ghost use Rattle.std.specs.Coded.{coded_list, coded×, coded_ℕ};
+    ghost use Rattle.rt_table.specs.Found.{AscendsIf};
 
     ghost Value = { List (ℕ × T) };
 
     ghost coded = { coded_list (coded× coded_ℕ T.code) };
 
     ghost view = { λ table. table.rows.items };
+
+    ghost invariant = { λ table. AscendsIf table.rising table.rows.items };
 }
 
 impl<T> Table<T> {
@@ -34,6 +39,7 @@ impl<T> Table<T> {
     {
         Table {
             rows: Vec::new(alloc),
+            rising: true,
         }
     }
 
@@ -44,14 +50,29 @@ impl<T> Table<T> {
         self.rows.as_slice()
     }
 
-    /// The first value under a number. Walks the table.
+    /// The first value under a number. A binary search, or a walk where the numbers don't rise.
     pub fn get(&self, number: u64) -> Option<&T>
         ensures value { option_copied result ≡ at self.now number }
     {
-        let rows = self.rows.as_slice();
-        match first_of(rows, number) {
-            Some(index) => Some(&rows[index].1),
+        match self.index_of(number) {
+            Some(index) => Some(&self.rows[index].1),
             None => None,
+        }
+    }
+
+    // The index of the first row of a number.
+    fn index_of(&self, number: u64) -> Option<usize>
+        ensures within { IfSome result (λ index. index < length self.now) }
+        ensures first { IfSome result (λ index. IsFirst self.now number index) }
+        ensures own { IfSome result (λ index.
+            (row : ℕ × T) → (get_or self.now index row).0 ≡ number) }
+        ensures absent { IfNone result (at self.now number ≡ None) }
+    {
+        let rows = self.rows.as_slice();
+        if self.rising {
+            search(rows, number)
+        } else {
+            walk(rows, number)
         }
     }
 }
@@ -62,7 +83,12 @@ impl<T: Drop> Table<T> {
         ensures ok { OnOk result (self.new ≡ self.old ++ (number, value) ∷ []) }
         ensures err { OnErr result (self.new ≡ self.old) }
     {
+        let rising = match self.rows.last() {
+            Some(last) => self.rising && last.0 < number,
+            None => true,
+        };
         self.rows.push((number, value))?;
+        self.rising = rising;
         Ok(())
     }
 
@@ -71,7 +97,7 @@ impl<T: Drop> Table<T> {
         ensures ok { OnOk result (self.new ≡ put self.old number value) }
         ensures err { OnErr result (self.new ≡ self.old) }
     {
-        match first_of(self.rows.as_slice(), number) {
+        match self.index_of(number) {
             Some(index) => {
                 self.rows[index] = (number, value);
                 Ok(())
@@ -84,7 +110,9 @@ impl<T: Drop> Table<T> {
     pub fn remove(&mut self, number: u64)
         ensures others { self.new ≡ without self.old number }
     {
-        take_out(&mut self.rows, number);
+        while let Some(index) = self.index_of(number) {
+            self.remove_at(index);
+        }
     }
 
     /// Takes out every value under a number, and gives the first one.
@@ -92,9 +120,9 @@ impl<T: Drop> Table<T> {
         ensures first { result ≡ at self.old number }
         ensures others { self.new ≡ without self.old number }
     {
-        let index = first_of(self.rows.as_slice(), number)?;
+        let index = self.index_of(number)?;
         let (_number, value) = self.rows.remove(index);
-        take_out(&mut self.rows, number);
+        self.remove(number);
         Some(value)
     }
 
@@ -105,7 +133,7 @@ impl<T: Drop> Table<T> {
         ensures put { IfSome result (λ _. self.new ≡ put self.old number value) }
         ensures absent { IfNone result (self.new ≡ self.old) }
     {
-        match first_of(self.rows.as_slice(), number) {
+        match self.index_of(number) {
             Some(index) => {
                 let (_number, former) = mem::replace(&mut self.rows[index], (number, value));
                 Some(former)
@@ -134,7 +162,7 @@ impl<T: Drop> Table<T> {
             (new : T) × FnOnceReturnsAtMut F.FnOnce change old result new
             × (self.new ≡ put self.old number new) }
     {
-        match first_of(self.rows.as_slice(), number) {
+        match self.index_of(number) {
             Some(index) => change(&mut self.rows[index].1),
             None => Ok(()),
         }
@@ -156,8 +184,20 @@ impl<T: Drop> Table<T> {
     }
 }
 
-/// The index of the first row of a number.
-fn first_of<T>(rows: &[(u64, T)], number: u64) -> Option<usize>
+// The index of the row of a number, among numbers that rise.
+fn search<T>(rows: &[(u64, T)], number: u64) -> Option<usize>
+    requires ascending { Ascends rows.now }
+    ensures within { IfSome result (λ index. index < length rows.now) }
+    ensures first { IfSome result (λ index. IsFirst rows.now number index) }
+    ensures own { IfSome result (λ index.
+        (row : ℕ × T) → (get_or rows.now index row).0 ≡ number) }
+    ensures absent { IfNone result (at rows.now number ≡ None) }
+{
+    rows.binary_search_by_key(&number, |row| row.0).ok()
+}
+
+// The index of the first row of a number, whatever their order.
+fn walk<T>(rows: &[(u64, T)], number: u64) -> Option<usize>
     ensures within { IfSome result (λ index. index < length rows.now) }
     ensures first { IfSome result (λ index. IsFirst rows.now number index) }
     ensures own { IfSome result (λ index.
@@ -170,13 +210,4 @@ fn first_of<T>(rows: &[(u64, T)], number: u64) -> Option<usize>
         }
     }
     None
-}
-
-/// Takes out every row of a number.
-fn take_out<T: Drop>(rows: &mut Vec<(u64, T)>, number: u64)
-    ensures { rows.new.items ≡ without rows.old.items number }
-{
-    while let Some(index) = first_of(rows.as_slice(), number) {
-        rows.remove(index);
-    }
 }

@@ -1,5 +1,5 @@
 use Rattle.rt_table.specs.Found.{IsFirst}
-use Rattle.rt_table.proofs.table.first_of.Given as goal
+use Rattle.rt_table.proofs.table.walk.Given as goal
 
 abbrev pub invariant-loop-index : goal.invariant-loop-index
 invariant-loop-index g l = IsFirst l.rows l.number l.index

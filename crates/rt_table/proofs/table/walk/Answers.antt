@@ -1,5 +1,5 @@
 use Rattle.rt_table.proofs.Rows.{first-past}
-use Rattle.rt_table.proofs.table.first_of.Goals as goal
+use Rattle.rt_table.proofs.table.walk.Goals as goal
 
 pub loop-index-preserved : goal.loop-index-preserved
 loop-index-preserved g c =
