@@ -14,5 +14,5 @@ mod Removed
 mod Seen
 mod Moving
 mod Settled
-mod Reported
+pub mod Reported
 mod Due

@@ -23,9 +23,10 @@ use Rattle.rt_moves.specs.Reached.{Reached}
 use Rattle.rt_moves.proofs.Fuel.{fuel_suffices}
 use Rattle.rt_moves.proofs.Logs.{logs_are_moves}
 use Rattle.rt_written.specs.Trees.{IsUnfolded}
-use Rattle.rt_fresh.specs.Reported.{EachIsCurrent, RanIsCurrent, RanToIsCurrent}
-use Rattle.rt_standing.specs.Standing.{ReachedUnfold}
-use Rattle.rt_rerun.specs.Rerun.{RerunsBring}
+use Rattle.rt_fresh.specs.Reported.{EachIsCurrent}
+use Rattle.rt_fresh.proofs.Reported.{ran_is_current, ran_to_is_current}
+use Rattle.rt_standing.proofs.Settled.{reached_unfold}
+use Rattle.rt_rerun.proofs.Reruns.{reruns_bring}
 use Rattle.rt_headline.specs.Sessions.{RanShows, RanToShows, RanIsHeadline, RanToIsCameTo}
 use Rattle.rt_headline.proofs.Begins.{reached_on}
 use Rattle.rt_headline.proofs.Units.{Brings, Rest, Ends, rest_ends}
@@ -132,22 +133,22 @@ module _ {K : Types} (app : Application K) (lawful : IsLawful K app) (limits : L
       → DocumentIs (Ok Empty) told
   all_show logs more last told tells within settled = reports_show logs more (start app props inputs) last told from_start tells within settled
 
-module _ {K : Types} (app : Application K) (down : ReachedUnfold app) (bring : RerunsBring app) where
+module _ {K : Types} (app : Application K) where
   pub ran_shows : RanShows app
   ran_shows lawful props inputs limits taken reports ran =
-      all_show app lawful limits props inputs (down lawful limits props inputs) (bring lawful limits props inputs)
+      all_show app lawful limits props inputs (reached_unfold app lawful limits props inputs) (reruns_bring app lawful limits props inputs)
       (logs_of reports) [] (last_machine (start app props inputs) ran.told) ran.told ran.accepted
       (ap (λ (es : List Entry). replay_within app limits (Some (start app props inputs)) es) (append-nil (joined (logs_of reports))) ∙ ran.within)
       ran.settled
 
   pub ran_to_shows : RanToShows app
   ran_to_shows lawful props inputs limits taken reports fault ran =
-      all_show app lawful limits props inputs (down lawful limits props inputs) (bring lawful limits props inputs)
+      all_show app lawful limits props inputs (reached_unfold app lawful limits props inputs) (reruns_bring app lawful limits props inputs)
       (logs_of reports) ran.log ran.last.machine ran.told ran.accepted ran.within ran.settled
 
-pub ran_is_headline : {K : Types} (app : Application K) → RanShows app → RanIsCurrent app → RanIsHeadline app
-ran_is_headline app shows each_is lawful props inputs limits taken reports ran =
-    let each : EachIsCurrent app ran.told = each_is lawful props inputs limits taken reports ran in
+pub ran_is_headline : {K : Types} (app : Application K) → RanIsHeadline app
+ran_is_headline app lawful props inputs limits taken reports ran =
+    let each : EachIsCurrent app ran.told = ran_is_current app lawful props inputs limits taken reports ran in
     record {
       told = ran.told;
       holds =
@@ -155,7 +156,7 @@ ran_is_headline app shows each_is lawful props inputs limits taken reports ran =
             accepted = ran.accepted;
             counted = ran.counted;
             nothing_owed = ran.settled;
-            shown = shows lawful props inputs limits taken reports ran;
+            shown = ran_shows app lawful props inputs limits taken reports ran;
             current = each.current;
             held = each.held;
           };
@@ -163,9 +164,9 @@ ran_is_headline app shows each_is lawful props inputs limits taken reports ran =
       edits = ran.edits;
     }
 
-pub ran_to_is_came_to : {K : Types} (app : Application K) → RanToShows app → RanToIsCurrent app → RanToIsCameTo app
-ran_to_is_came_to app shows each_is lawful props inputs limits taken reports fault ran =
-    let each : EachIsCurrent app ran.told = each_is lawful props inputs limits taken reports fault ran in
+pub ran_to_is_came_to : {K : Types} (app : Application K) → RanToIsCameTo app
+ran_to_is_came_to app lawful props inputs limits taken reports fault ran =
+    let each : EachIsCurrent app ran.told = ran_to_is_current app lawful props inputs limits taken reports fault ran in
     record {
       told = ran.told;
       holds =
@@ -173,7 +174,7 @@ ran_to_is_came_to app shows each_is lawful props inputs limits taken reports fau
             accepted = ran.accepted;
             counted = ran.counted;
             nothing_owed = ran.settled;
-            shown = shows lawful props inputs limits taken reports fault ran;
+            shown = ran_to_shows app lawful props inputs limits taken reports fault ran;
             current = each.current;
             held = each.held;
           };

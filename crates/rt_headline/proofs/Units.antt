@@ -27,6 +27,7 @@ use Rattle.rt_moves.proofs.Joins.{entries-append, Inside-append, Leads-append, l
 use Rattle.rt_moves.proofs.Settling.{settled_stays}
 use Rattle.rt_moves.proofs.Tellings.{told_where, entry_told, unit_is_told}
 use Rattle.rt_written.specs.Trees.{IsUnfolded}
+use Rattle.rt_rerun.specs.Rerun.{Reruns}
 use Rattle.rt_written.proofs.Standing.{comes_in, one_list_on}
 use Rattle.rt_frame.proofs.Commanded.{Level, level_trans}
 use Rattle.rt_frame.proofs.Called.{mounted_level}
@@ -79,12 +80,8 @@ module _ {K : Types} (app : Application K) (limits : Limits) (props : K.Props) (
   -- the edits of a rerun, from its entry to its end, make what shows after it of what showed
   abbrev pub Brings : Type 0
   Brings =
-      (m begun served v : Machine K) (s : ℕ) (moves : List Move)
-      → Reached app limits props inputs m
-      → IsLogged app limits m (Rerun s) begun
-      → Leads app limits begun moves served
-      → Inside moves
-      → IsClosed served v
+      (m v : Machine K) (s : ℕ)
+      → Reruns app limits props inputs m s v
       → document_after (written app m.state v.state s) (view m.state) ≡ Ok (view v.state)
 
 module _ {K : Types} (app : Application K) (lawful : IsLawful K app) (limits : Limits) (props : K.Props) (inputs : List (Input K))
@@ -161,7 +158,9 @@ module _ {K : Types} (app : Application K) (lawful : IsLawful K app) (limits : L
           built_from_empty m0.state v.state good
           (from_start (start_or_built app lawful limits props inputs m0 r alive) (build_first app m0 alive none logged.due_is))
           (caused app m0.state v.state Build) refl
-      by_entry (Rerun s) h logged stays = brings m0 o.begun m v s o.done r logged o.leads o.inside closed
+      by_entry (Rerun s) h logged stays =
+          brings m0 v s
+          (record { begun = o.begun; served = m; moves = o.done; reached = r; logged = logged; leads = o.leads; inside = o.inside; closed = closed })
       by_entry (Poll t) h logged stays = rests stays.1
       by_entry (Effects s) h logged stays = rests stays.1
       by_entry (Taken k) h logged stays = cc

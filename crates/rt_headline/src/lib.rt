@@ -1,6 +1,6 @@
 //! What a session's reports and edits say, of every lawful application.
 //!
-//! The functions have no body but calls of lower laws: what each claims is its contract.
+//! The functions have empty bodies: what each claims of the definitions is its contract.
 #![tactic(auto)]
 
 mod sessions;

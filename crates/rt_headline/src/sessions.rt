@@ -5,10 +5,6 @@ ghost use Rattle.rt_headline.specs.Sessions.{RanIsHeadline, RanShows, RanToIsCam
 ghost use Rattle.rt_model.specs.OneLog.{types};
 ghost use Rattle.rt_model.specs.World.{Application};
 
-use rt_fresh::{ran_is_current, ran_to_is_current};
-use rt_rerun::reruns_bring;
-use rt_standing::reached_unfold;
-
 /// Inputs, listeners, polls and effects change nothing that shows.
 pub fn calm_entries_leave<C, P, V, H, T, E, L>()
     ensures { (app : Application (types C P V H T E L)) → CalmEntriesLeave app }
@@ -17,31 +13,19 @@ pub fn calm_entries_leave<C, P, V, H, T, E, L>()
 /// The edits of a session that finished never fault, and after each report give what shows.
 pub fn ran_shows<C, P, V, H, T, E, L>()
     ensures { (app : Application (types C P V H T E L)) → RanShows app }
-{
-    reached_unfold::<C, P, V, H, T, E, L>();
-    reruns_bring::<C, P, V, H, T, E, L>();
-}
+{}
 
 /// So do those of the finished reports of a session that came to a fault.
 pub fn ran_to_shows<C, P, V, H, T, E, L>()
     ensures { (app : Application (types C P V H T E L)) → RanToShows app }
-{
-    reached_unfold::<C, P, V, H, T, E, L>();
-    reruns_bring::<C, P, V, H, T, E, L>();
-}
+{}
 
 /// A session that finished keeps the headline.
 pub fn ran_is_headline<C, P, V, H, T, E, L>()
     ensures { (app : Application (types C P V H T E L)) → RanIsHeadline app }
-{
-    ran_shows::<C, P, V, H, T, E, L>();
-    ran_is_current::<C, P, V, H, T, E, L>();
-}
+{}
 
 /// A session that came to a fault keeps it of its finished reports, and came to that fault.
 pub fn ran_to_is_came_to<C, P, V, H, T, E, L>()
     ensures { (app : Application (types C P V H T E L)) → RanToIsCameTo app }
-{
-    ran_to_shows::<C, P, V, H, T, E, L>();
-    ran_to_is_current::<C, P, V, H, T, E, L>();
-}
+{}

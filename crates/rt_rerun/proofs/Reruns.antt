@@ -20,7 +20,8 @@ use Rattle.rt_moves.proofs.Joins.{Leads-append}
 use Rattle.rt_ready.proofs.Everywhere.{ReadyAt, move_ready, reached_ready}
 use Rattle.rt_frame.proofs.Called.{rest_level, mounted_level}
 use Rattle.rt_entries.specs.Fitting.{FittingBring}
-use Rattle.rt_rerun.specs.Rerun.{Outside, RerunsBring, RerunsClaimOnce, RerunsKeepNumbers, RerunsLeaveOthers, RerunsKeepSetting, RerunsHidden, RerunsMeet}
+use Rattle.rt_entries.proofs.Elements.{fitting_bring}
+use Rattle.rt_rerun.specs.Rerun.{Outside, Reruns, RerunsBring, RerunsClaimOnce, RerunsKeepNumbers, RerunsLeaveOthers, RerunsKeepSetting, RerunsHidden, RerunsMeet}
 use Rattle.rt_standing.proofs.Steps.{Ready, ready_of, rested_ready, served_keep}
 use Rattle.rt_standing.proofs.Clothed.{Clothed, clothed_lasts}
 use Rattle.rt_standing.proofs.Nodes.{Settled}
@@ -35,6 +36,10 @@ use Rattle.rt_rerun.proofs.Single.{single}
 use Rattle.rt_model.specs.View.{nodes_of, view}
 
 module _ {K : Types} where
+  -- what is written of attribute slots
+  fitting : FittingBring K
+  fitting numbers above new old level other same fits was = fitting_bring numbers above new old level other same fits was
+
   up_is : (w : State K) (s : ℕ) → up w s ≡ parent_of w.scopes s
   up_is w s = by_scope (at w.scopes s)
     where
@@ -99,9 +104,9 @@ module _ {K : Types} (app : Application K) where
     done_of m (Done v work) e = (v, work, refl)
     done_of m (Cut v f) e = cc
 
-    rerun_ended : (limits : Limits) (props : K.Props) (inputs : List (Input K)) (m begun served v : Machine K) (s : ℕ) (moves : List Move)
+    ended_by_moves : (limits : Limits) (props : K.Props) (inputs : List (Input K)) (m begun served v : Machine K) (s : ℕ) (moves : List Move)
         → Reached app limits props inputs m → IsLogged app limits m (Rerun s) begun → Leads app limits begun moves served → Inside moves → IsClosed served v → Ended lawful m.state v.state s
-    rerun_ended limits props inputs m begun served v s moves reached logged leads inside closed = record { before = before; after = after; since = final; live = was.3 }
+    ended_by_moves limits props inputs m begun served v s moves reached logged leads inside closed = record { before = before; after = after; since = final; live = was.3 }
       where
         was : (m.dead ≡ None) × (m.built ≡ true) × (m.work ≡ []) × (is_live m.state s ≡ true)
         was = rerun_due m s logged.due_is
@@ -174,50 +179,53 @@ module _ {K : Types} (app : Application K) where
             settled_of app lawful limits props inputs v reached_v (ap (λ (x : Machine K). x.dead) closed.gives ∙ closed.alive)
             (ap (λ (x : Machine K). x.built) closed.gives ∙ (kept.1).built) (ap (λ (x : Machine K). x.work) closed.gives ∙ closed.idle)
 
-  pub reruns_bring : FittingBring K → RerunsBring app
-  reruns_bring bring lawful limits props inputs m begun served v s moves reached logged leads inside closed =
-      let e : Ended lawful m.state v.state s = rerun_ended lawful limits props inputs m begun served v s moves reached logged leads inside closed in
+    rerun_ended : (limits : Limits) (props : K.Props) (inputs : List (Input K)) (m v : Machine K) (s : ℕ) → Reruns app limits props inputs m s v → Ended lawful m.state v.state s
+    rerun_ended limits props inputs m v s r = ended_by_moves limits props inputs m r.begun r.served v s r.moves r.reached r.logged r.leads r.inside r.closed
+
+  pub reruns_bring : RerunsBring app
+  reruns_bring lawful limits props inputs m v s r =
+      let e : Ended lawful m.state v.state s = rerun_ended lawful limits props inputs m v s r in
       let z = found_live (at m.state.scopes s) e.live in
       let x = found_live (at v.state.scopes s) e.since.top in
-      unit_brings app lawful m.state s bring v.state e.before e.after e.since e.live
+      unit_brings app lawful m.state s fitting v.state e.before e.after e.since e.live
       (λ seen sees n. single app lawful m.state v.state s e.before e.after e.since n (length m.state.scopes) s z.0 x.0 z.1 x.1)
 
   pub reruns_claim_once : RerunsClaimOnce app
-  reruns_claim_once lawful limits props inputs m begun served v s moves reached logged leads inside closed n =
-      let e : Ended lawful m.state v.state s = rerun_ended lawful limits props inputs m begun served v s moves reached logged leads inside closed in
+  reruns_claim_once lawful limits props inputs m v s r n =
+      let e : Ended lawful m.state v.state s = rerun_ended lawful limits props inputs m v s r in
       let z = found_live (at m.state.scopes s) e.live in
       let x = found_live (at v.state.scopes s) e.since.top in
       single app lawful m.state v.state s e.before e.after e.since n (length m.state.scopes) s z.0 x.0 z.1 x.1
 
   pub reruns_keep_numbers : RerunsKeepNumbers app
-  reruns_keep_numbers lawful limits props inputs m begun served v s moves reached logged leads inside closed t n x a p k found g low =
-      let e : Ended lawful m.state v.state s = rerun_ended lawful limits props inputs m begun served v s moves reached logged leads inside closed in
+  reruns_keep_numbers lawful limits props inputs m v s r t n x a p k found g low =
+      let e : Ended lawful m.state v.state s = rerun_ended lawful limits props inputs m v s r in
       let z = e.since.numbers t x a p k n found (among_contained (side_of x a).numbers (p, k, n) g) low in
       (z.0, z.1, contained (side_of (z.0) a).numbers (p, k, n) z.2)
 
   pub reruns_leave_others : RerunsLeaveOthers app
-  reruns_leave_others lawful limits props inputs m begun served v s moves reached logged leads inside closed t path =
-      let e : Ended lawful m.state v.state s = rerun_ended lawful limits props inputs m begun served v s moves reached logged leads inside closed in
+  reruns_leave_others lawful limits props inputs m v s r t path =
+      let e : Ended lawful m.state v.state s = rerun_ended lawful limits props inputs m v s r in
       (λ x found out. e.since.outer t path x found (out_of v.state s path t out), λ live out. e.since.lives t path live (out_of m.state s path t out))
 
   pub reruns_keep_setting : RerunsKeepSetting app
-  reruns_keep_setting lawful limits props inputs m begun served v s moves reached logged leads inside closed seen =
-      let e : Ended lawful m.state v.state s = rerun_ended lawful limits props inputs m begun served v s moves reached logged leads inside closed in
+  reruns_keep_setting lawful limits props inputs m v s r seen =
+      let e : Ended lawful m.state v.state s = rerun_ended lawful limits props inputs m v s r in
       let z = found_live (at m.state.scopes s) e.live in
       let x = found_live (at v.state.scopes s) e.since.top in
       let set : InSetting (view m.state) (view v.state) (nodes_of m.state s) (nodes_of v.state s) = root_set app lawful m.state v.state s e.before e.after e.since z.0 z.1 seen in
       (root_seen app lawful m.state v.state s e.before e.after e.since z.0 x.0 z.1 x.1 seen, (set.setting, set.one, set.two))
 
   pub reruns_hidden : RerunsHidden app
-  reruns_hidden lawful limits props inputs m begun served v s moves reached logged leads inside closed hidden =
-      let e : Ended lawful m.state v.state s = rerun_ended lawful limits props inputs m begun served v s moves reached logged leads inside closed in
+  reruns_hidden lawful limits props inputs m v s r hidden =
+      let e : Ended lawful m.state v.state s = rerun_ended lawful limits props inputs m v s r in
       let z = found_live (at m.state.scopes s) e.live in
       hidden_stays app lawful m.state v.state s e.before e.after e.since z.0 z.1 hidden
 
-  pub reruns_meet : FittingBring K → RerunsMeet app
-  reruns_meet bring lawful limits props inputs m begun served v s moves reached logged leads inside closed seen =
-      let e : Ended lawful m.state v.state s = rerun_ended lawful limits props inputs m begun served v s moves reached logged leads inside closed in
+  pub reruns_meet : RerunsMeet app
+  reruns_meet lawful limits props inputs m v s r seen =
+      let e : Ended lawful m.state v.state s = rerun_ended lawful limits props inputs m v s r in
       let z = found_live (at m.state.scopes s) e.live in
       let x = found_live (at v.state.scopes s) e.since.top in
-      meets_down app lawful bring m.state v.state s e.before e.after e.since (length m.state.scopes) s z.0 x.0 z.1 x.1 seen
+      meets_down app lawful fitting m.state v.state s e.before e.after e.since (length m.state.scopes) s z.0 x.0 z.1 x.1 seen
       (root_seen app lawful m.state v.state s e.before e.after e.since z.0 x.0 z.1 x.1 seen) (omega arith)

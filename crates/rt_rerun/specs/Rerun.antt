@@ -21,29 +21,33 @@ Outside w root [] t = (nat_eq t root ≡ false) × (parent_of w.scopes t ≡ Non
 Outside w root (p ∷ path) t = (nat_eq t root ≡ false) × (parent_of w.scopes t ≡ Some p) × Outside w root path p
 
 module _ {K : Types} (app : Application K) where
-  -- of a lawful application: from a machine that moves reach a scope is rerun, all work that this leads to is served,
-  -- and the unit ends; then its edits never fault, and make what shows of what showed
+  -- from a machine that moves reach a scope is rerun, all work that this leads to is served, and the unit ends
+  pub record Reruns (limits : Limits) (props : K.Props) (inputs : List (Input K)) (m : Machine K) (s : ℕ) (v : Machine K) : Type 0 where
+    -- the machine after the entry
+    pub begun : Machine K
+    -- the machine whose work is served
+    pub served : Machine K
+    pub moves : List Move
+    pub reached : Reached app limits props inputs m
+    pub logged : IsLogged app limits m (Rerun s) begun
+    pub leads : Leads app limits begun moves served
+    pub inside : Inside moves
+    pub closed : IsClosed served v
+
+  -- of a lawful application: the edits of a rerun never fault, and make what shows after it of what showed before it
   abbrev pub RerunsBring : Type 0
   RerunsBring =
       IsLawful K app
-      → (limits : Limits) (props : K.Props) (inputs : List (Input K)) (m begun served v : Machine K) (s : ℕ) (moves : List Move)
-      → Reached app limits props inputs m
-      → IsLogged app limits m (Rerun s) begun
-      → Leads app limits begun moves served
-      → Inside moves
-      → IsClosed served v
+      → (limits : Limits) (props : K.Props) (inputs : List (Input K)) (m v : Machine K) (s : ℕ)
+      → Reruns limits props inputs m s v
       → document_after (written app m.state v.state s) (view m.state) ≡ Ok (view v.state)
 
   -- its edits claim no number twice
   abbrev pub RerunsClaimOnce : Type 0
   RerunsClaimOnce =
       IsLawful K app
-      → (limits : Limits) (props : K.Props) (inputs : List (Input K)) (m begun served v : Machine K) (s : ℕ) (moves : List Move)
-      → Reached app limits props inputs m
-      → IsLogged app limits m (Rerun s) begun
-      → Leads app limits begun moves served
-      → Inside moves
-      → IsClosed served v
+      → (limits : Limits) (props : K.Props) (inputs : List (Input K)) (m v : Machine K) (s : ℕ)
+      → Reruns limits props inputs m s v
       → (n : ℕ)
       → scope_claims app m.state v.state (length m.state.scopes) s n ≤ 1
 
@@ -51,12 +55,8 @@ module _ {K : Types} (app : Application K) where
   abbrev pub RerunsKeepNumbers : Type 0
   RerunsKeepNumbers =
       IsLawful K app
-      → (limits : Limits) (props : K.Props) (inputs : List (Input K)) (m begun served v : Machine K) (s : ℕ) (moves : List Move)
-      → Reached app limits props inputs m
-      → IsLogged app limits m (Rerun s) begun
-      → Leads app limits begun moves served
-      → Inside moves
-      → IsClosed served v
+      → (limits : Limits) (props : K.Props) (inputs : List (Input K)) (m v : Machine K) (s : ℕ)
+      → Reruns limits props inputs m s v
       → (t n : ℕ) (x : Scope K) (a : SideName) (p : Place) (k : Kind)
       → at v.state.scopes t ≡ Some x
       → Contains (side_of x a).numbers (p, k, n)
@@ -67,12 +67,8 @@ module _ {K : Types} (app : Application K) where
   abbrev pub RerunsLeaveOthers : Type 0
   RerunsLeaveOthers =
       IsLawful K app
-      → (limits : Limits) (props : K.Props) (inputs : List (Input K)) (m begun served v : Machine K) (s : ℕ) (moves : List Move)
-      → Reached app limits props inputs m
-      → IsLogged app limits m (Rerun s) begun
-      → Leads app limits begun moves served
-      → Inside moves
-      → IsClosed served v
+      → (limits : Limits) (props : K.Props) (inputs : List (Input K)) (m v : Machine K) (s : ℕ)
+      → Reruns limits props inputs m s v
       → (t : ℕ) (path : List ℕ)
       → (
       (x : Scope K)
@@ -86,12 +82,8 @@ module _ {K : Types} (app : Application K) where
   abbrev pub RerunsKeepSetting : Type 0
   RerunsKeepSetting =
       IsLawful K app
-      → (limits : Limits) (props : K.Props) (inputs : List (Input K)) (m begun served v : Machine K) (s : ℕ) (moves : List Move)
-      → Reached app limits props inputs m
-      → IsLogged app limits m (Rerun s) begun
-      → Leads app limits begun moves served
-      → Inside moves
-      → IsClosed served v
+      → (limits : Limits) (props : K.Props) (inputs : List (Input K)) (m v : Machine K) (s : ℕ)
+      → Reruns limits props inputs m s v
       → is_shown m.state s ≡ true
       → (is_shown v.state s ≡ true)
       × ((place : Setting) × (view m.state ≡ placed place (nodes_of m.state s)) × (view v.state ≡ placed place (nodes_of v.state s)))
@@ -100,12 +92,8 @@ module _ {K : Types} (app : Application K) where
   abbrev pub RerunsHidden : Type 0
   RerunsHidden =
       IsLawful K app
-      → (limits : Limits) (props : K.Props) (inputs : List (Input K)) (m begun served v : Machine K) (s : ℕ) (moves : List Move)
-      → Reached app limits props inputs m
-      → IsLogged app limits m (Rerun s) begun
-      → Leads app limits begun moves served
-      → Inside moves
-      → IsClosed served v
+      → (limits : Limits) (props : K.Props) (inputs : List (Input K)) (m v : Machine K) (s : ℕ)
+      → Reruns limits props inputs m s v
       → is_shown m.state s ≡ false
       → view m.state ≡ view v.state
 
@@ -113,11 +101,7 @@ module _ {K : Types} (app : Application K) where
   abbrev pub RerunsMeet : Type 0
   RerunsMeet =
       IsLawful K app
-      → (limits : Limits) (props : K.Props) (inputs : List (Input K)) (m begun served v : Machine K) (s : ℕ) (moves : List Move)
-      → Reached app limits props inputs m
-      → IsLogged app limits m (Rerun s) begun
-      → Leads app limits begun moves served
-      → Inside moves
-      → IsClosed served v
+      → (limits : Limits) (props : K.Props) (inputs : List (Input K)) (m v : Machine K) (s : ℕ)
+      → Reruns limits props inputs m s v
       → is_shown m.state s ≡ true
       → MeetsDown app m.state v.state (length m.state.scopes) s

@@ -5,14 +5,10 @@ ghost use Rattle.rt_model.specs.World.{Application};
 ghost use Rattle.rt_rerun.specs.Rerun.{RerunsBring, RerunsClaimOnce, RerunsHidden, RerunsMeet};
 ghost use Rattle.rt_rerun.specs.Rerun.{RerunsKeepNumbers, RerunsKeepSetting, RerunsLeaveOthers};
 
-use rt_entries::fitting_bring;
-
 /// The edits of a rerun never fault, and make what shows after it of what showed before it.
 pub fn reruns_bring<C, P, V, H, T, E, L>()
     ensures { (app : Application (types C P V H T E L)) → RerunsBring app }
-{
-    fitting_bring::<C, P, V, H, T, E, L>();
-}
+{}
 
 /// They claim no number twice.
 pub fn reruns_claim_once<C, P, V, H, T, E, L>()
@@ -42,6 +38,4 @@ pub fn reruns_hidden<C, P, V, H, T, E, L>()
 /// From a shown scope down through all that is fed, the new outputs meet the old ones.
 pub fn reruns_meet<C, P, V, H, T, E, L>()
     ensures { (app : Application (types C P V H T E L)) → RerunsMeet app }
-{
-    fitting_bring::<C, P, V, H, T, E, L>();
-}
+{}

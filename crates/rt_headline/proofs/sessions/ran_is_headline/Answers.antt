@@ -2,4 +2,4 @@ use Rattle.rt_headline.proofs.Reports.{ran_is_headline}
 use Rattle.rt_headline.proofs.sessions.ran_is_headline.Goals as goal
 
 pub returns : goal.returns
-returns g c = λ app. ran_is_headline app (c.ran_shows.ensures app) (c.ran_is_current.ensures app)
+returns g c = λ app. ran_is_headline app
