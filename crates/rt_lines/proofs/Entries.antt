@@ -1,6 +1,6 @@
 -- The words of entries are told apart.
-use Rattle.std.proofs.Common.{arith, ◌≡◌, ◌∙◌, ℕ, ◌*◌, ◌+◌, List, [], ◌∷◌, ◌++◌, Option, Some, None, drop, map, refl, ap, sym, append_assoc}
-use Rattle.std.specs.Prelude.{decimal, codes}
+use Rattle.std.proofs.Common.{Bool, true, false, ◌==◌, ◌≡◌, ◌∙◌, ℕ, ◌*◌, ◌+◌, List, [], ◌∷◌, ◌++◌, Option, Some, None, drop, map, refl, ap, sym}
+use Rattle.std.specs.Prelude.{decimal}
 use Rattle.std.specs.List.{AllByRecursion}
 use Rattle.std.specs.Str.Parse.{AllDigits, digits_value}
 use Rattle.std.proofs.lemmas.Fmt.{decimal_is_IsNumeral}
@@ -8,7 +8,8 @@ use Rattle.rt_model.specs.Lists.{at}
 use Rattle.rt_model.specs.Replay.{Entry, Build, Taken, Heard, Rerun, Poll, Effects, Made, Fed, Kept, Removed}
 use Rattle.rt_language.specs.Lines.{entry_text, spaced}
 use Rattle.rt_lines.specs.Told.{IsSmallEntry}
-use Rattle.rt_lines.proofs.Parted.{Stops, parted}
+use Rattle.rt_lines.proofs.Names.{Ends, names_parted, digits_named}
+use Rattle.rt_lines.proofs.Rows.{rows_parted}
 
 -- a text by its first and third byte
 sort_in : List ℕ → ℕ
@@ -170,14 +171,15 @@ entry_found n (Kept s) = refl
 entry_found n (Removed s) = refl
 
 -- entries and what follows them are told apart
-pub entries_parted : (e f : Entry) (r s : List ℕ) → IsSmallEntry e → IsSmallEntry f → Stops r → Stops s → entry_text e ++ r ≡ entry_text
+pub entries_parted : (e f : Entry) (r s : List ℕ) → IsSmallEntry e → IsSmallEntry f → Ends r → Ends s → entry_text e ++ r ≡ entry_text
     f ++ s → (e ≡ f) × (r ≡ s)
 entries_parted e f r s small little stop other same =
     let sorts : sort_of e ≡ sort_of f = sym (sort_is e r) ∙ ap sort_in same ∙ sort_is f s in
     let lengths : word_length e ≡ word_length f = sym (length_found e) ∙ ap (λ n. length_at (at by_sort n)) sorts ∙ length_found f in
     let rests : digits_in e ++ r ≡ digits_in f ++ s = sym (rest_is e r) ∙ ap (λ n. drop n (entry_text e ++ r)) lengths ∙ ap (λ t. drop
     (word_length f) t) same ∙ rest_is f s in
-    let both = parted (digits_in e) (digits_in f) r s (digits_are e small) (digits_are f little) stop other rests in
+    let both = names_parted (digits_in e) (digits_in f) r s (digits_named (digits_in e) (digits_are e small)) (digits_named (digits_in
+    f) (digits_are f little)) stop other rests in
     let one : e ≡ f =
     sym (made_again e small)
     ∙ sym (entry_found (digits_value 10 (digits_in e)) e)
@@ -187,53 +189,24 @@ entries_parted e f r s small little stop other same =
     ∙ made_again f little in
     (one, both.1)
 
--- the entries at the end of a line
-unfoldable pub ending : List Entry → List ℕ
-ending log = spaced (map entry_text log) ++ codes "\n"
+-- an entry comes: there is a space
+goes_on : List ℕ → Bool
+goes_on [] = false
+goes_on (c ∷ cs) = c == 32
 
-no_more : ending [] ≡ 10 ∷ []
-unfolding ending
-no_more = refl
+entry_here : (e : Entry) (r : List ℕ) → IsSmallEntry e → Ends r → goes_on (32 ∷ (entry_text e ++ r)) ≡ true
+unfolding goes_on
+entry_here e r small stop = refl
 
--- the word of an entry, whatever it is
-word_of : Entry → List ℕ
-word_of e = entry_text e
+-- the words of entries at the end of a line
+unfoldable pub words_of : List Entry → List ℕ
+words_of log = spaced (map entry_text log)
 
-one_first : (e : Entry) (log : List Entry) → ending (e ∷ log) ≡ 32 ∷ (word_of e ++ ending log)
-unfolding ending word_of
-one_first e log = ap (λ t. 32 ∷ t) (append_assoc (entry_text e) (spaced (map entry_text log)) (codes "\n"))
-
-stops_behind : (log : List Entry) → Stops (ending log)
-unfolding ending
-stops_behind [] = omega arith
-stops_behind (e ∷ log) = omega arith
-
--- an entry and those behind it are told apart
-one_parted : (e f : Entry) (log other : List Entry) → IsSmallEntry e → IsSmallEntry f → word_of e ++ ending log ≡ word_of f ++ ending
-    other → (e ≡ f) × (ending log ≡ ending other)
-unfolding word_of
-one_parted e f log other small little same = entries_parted e f (ending log) (ending other) small little (stops_behind log)
-    (stops_behind other) same
-
-first_byte : List ℕ → ℕ
-first_byte [] = 0
-first_byte (c ∷ cs) = c
-
--- a space is no end of a line
-no_space : (rest : List ℕ) → 10 ∷ [] ≡ 32 ∷ rest → ⊥
-unfolding first_byte
-no_space rest same =
-    let both : 10 ≡ 32 = ap first_byte same in
-    absurd (omega (arith, both))
-
--- entries at the end of a line are told apart
-pub logs_told : (log other : List Entry) → AllByRecursion IsSmallEntry log → AllByRecursion IsSmallEntry other → ending log ≡ ending
-    other → log ≡ other
-logs_told [] [] small little same = refl
-logs_told [] (f ∷ other) small little same = absurd (no_space (word_of f ++ ending other) (sym no_more ∙ same ∙ one_first f other))
-logs_told (e ∷ log) [] small little same = absurd (no_space (word_of e ++ ending log) (sym no_more ∙ sym same ∙ one_first e log))
-logs_told (e ∷ log) (f ∷ other) small little same =
-    let both : (e ≡ f) × (ending log ≡ ending other) = one_parted e f log other small.0 little.0 (ap (λ t. drop 1 t) (sym (one_first e
-    log) ∙ same ∙ one_first f other)) in
-    let rest : log ≡ other = logs_told log other small.1 little.1 both.1 in
-    ap (λ x. x ∷ log) both.0 ∙ ap (λ xs. f ∷ xs) rest
+-- entries at the end of a line, and what follows it, are told apart
+pub logs_parted : (log other : List Entry) (r s : List ℕ) → AllByRecursion IsSmallEntry log → AllByRecursion IsSmallEntry other
+    → words_of log ++ (10 ∷ r) ≡ words_of other ++ (10 ∷ s) → (log ≡ other) × (r ≡ s)
+unfolding words_of goes_on
+logs_parted log other r s small little same =
+    let both = rows_parted entry_text IsSmallEntry goes_on entries_parted entry_here log other (10 ∷ r) (10 ∷ s) small little refl refl
+    refl refl same in
+    (both.0, ap (λ x. drop 1 x) both.1)
