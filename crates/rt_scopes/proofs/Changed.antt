@@ -30,11 +30,6 @@ pub on_both : {U X : Type 0} {A B C : Type 0} (r : Result U X) → OnOk r A → 
 on_both (Ok u) a b f = f a b
 on_both (Err e) a b f = tt
 
--- a fact for each thing, of every successful outcome
-pub on_all : {U X : Type 0} {Y : Type 0} (A : Y → Type 0) (r : Result U X) → ((y : Y) → OnOk r (A y)) → OnOk r ((y : Y) → A y)
-on_all A (Ok u) f = f
-on_all A (Err e) f = tt
-
 -- a list with the value under a number changed, where one was found
 abbrev pub changed_in : {B : Type 0} → List (ℕ × B) → ℕ → (B → B) → Option B → List (ℕ × B)
 changed_in es n h None = es
@@ -86,13 +81,13 @@ module _ {P C Q V H T E L U X : Type 0} where
       → (at d.tasks t ≡ None → new ≡ d.tasks)
       → ((x : TaskRow P C Q V H T E L) → at d.tasks t ≡ Some x → (y : TaskRow P C Q V H T E L) × R x y × (new ≡ put d.tasks t y))
       → ((x y : TaskRow P C Q V H T E L) → R x y → OnOk r (y ≡ k x))
-      → ((polled : T) (x : TaskRow P C Q V H T E L) → task_of polled (k x) ≡ h (task_of polled x))
+      → ((x : TaskRow P C Q V H T E L) → task_of (k x) ≡ h (task_of x))
       → OnOk r ((g : Unkept (types C Q V H T E L)) → state_of g (record d { tasks = new }) ≡ change_task (state_of g d) t h)
   task_changed r R d new t k h absent changed step law =
-      on_ok r (on_all (λ (polled : T). each (task_of polled) new ≡ changed_in (each (task_of polled) d.tasks) t h (at (each (task_of polled) d.tasks) t)) r (λ polled. table_changed r R (task_of polled) k h d.tasks new t absent changed step (law polled)))
+      on_ok r (table_changed r R task_of k h d.tasks new t absent changed step law)
       (λ is g.
       let w : model.State (types C Q V H T E L) = state_of g d in
-      ap (λ (es : List (ℕ × model.TaskRow (types C Q V H T E L))). let v : model.State (types C Q V H T E L) = record w { tasks = es } in v) (is g.polled)
+      ap (λ (es : List (ℕ × model.TaskRow (types C Q V H T E L))). let v : model.State (types C Q V H T E L) = record w { tasks = es } in v) is
       ∙ task_is w t h (at w.tasks t))
 
   -- a change of a scope

@@ -24,6 +24,11 @@ module _ (earlier : ℕ → ℕ → Bool) where
   least_of [] some = absurd (omega arith)
   least_of (x ∷ xs) some = refl
 
+-- what was taken by a test is what the test takes
+pub taken-as : {A : Type 0} (earlier : ℕ → ℕ → Bool) (a b : A) {r d : Bool} {m n x y : ℕ} → r ≡ d → r ≡ earlier m n → m ≡ x → n ≡ y → (if d then a else b) ≡ (if earlier x y then a else b)
+taken-as earlier a b {n = n} {x = x} test is first second =
+    ap (λ t. if t then a else b) (sym test ∙ is ∙ ap (λ k. earlier k n) first ∙ ap (λ k. earlier x k) second)
+
 pub some-there : (n : ℕ) → (n == 0) ≡ false → 0 < n
 some-there n more = grind (arith, common_steps)
 

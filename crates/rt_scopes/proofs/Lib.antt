@@ -26,4 +26,3 @@ pub mod Mounts
 pub mod Polls
 pub mod KindsInPlace
 pub mod Removed
-pub mod Masked

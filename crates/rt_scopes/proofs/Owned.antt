@@ -14,24 +14,24 @@ use Rattle.rt_scopes.specs.declared.state.TaskRow.{TaskRow}
 use Rattle.rt_scopes.proofs.Each.{drop-all}
 
 module _ {P C Q V H T E L : Type 0} where
-  pub owned_step : (polled : T) (es : List (ℕ × TaskRow P C Q V H T E L)) (i s : ℕ) (e : ℕ × TaskRow P C Q V H T E L) (before after : List ℕ)
+  pub owned_step : (es : List (ℕ × TaskRow P C Q V H T E L)) (i s : ℕ) (e : ℕ × TaskRow P C Q V H T E L) (before after : List ℕ)
       → i < length es → e ≡ get_or es i e → after ≡ before ++ (if nat_eq (e.1).scope s then e.0 ∷ [] else [])
-      → after ++ tasks_in s (each (task_of polled) (drop (i + 1) es)) ≡ before ++ tasks_in s (each (task_of polled) (drop i es))
-  owned_step polled es i s e before after within is made =
-      let rest = tasks_in s (each (task_of polled) (drop (i + 1) es)) in
+      → after ++ tasks_in s (each task_of (drop (i + 1) es)) ≡ before ++ tasks_in s (each task_of (drop i es))
+  owned_step es i s e before after within is made =
+      let rest = tasks_in s (each task_of (drop (i + 1) es)) in
       ap (λ ns. ns ++ rest) made
       ∙ append_assoc before (if nat_eq (e.1).scope s then e.0 ∷ [] else []) rest
       ∙ ap (λ ns. before ++ ns)
       (first (nat_eq (e.1).scope s) e.0 rest
       ∙ ap (λ (d : ℕ × TaskRow P C Q V H T E L). if nat_eq (d.1).scope s then d.0 ∷ rest else rest) is
-      ∙ ap (λ ys. tasks_in s (each (task_of polled) ys)) (sym (drop_more es i e within)))
+      ∙ ap (λ ys. tasks_in s (each task_of ys)) (sym (drop_more es i e within)))
     where
       first : (b : Bool) (n : ℕ) (ns : List ℕ) → ((if b then n ∷ [] else []) ++ ns) ≡ (if b then n ∷ ns else ns)
       first true n ns = refl
       first false n ns = refl
 
-  pub owned_end : (polled : T) (es : List (ℕ × TaskRow P C Q V H T E L)) (i s : ℕ) (a b : List ℕ) → length es ≤ i → a ++ tasks_in s (each (task_of polled) (drop i es)) ≡ b → a ≡ b
-  owned_end polled es i s a b end is = sym (append-nil a) ∙ ap (λ ys. a ++ tasks_in s (each (task_of polled) ys)) (sym (drop-all es i end)) ∙ is
+  pub owned_end : (es : List (ℕ × TaskRow P C Q V H T E L)) (i s : ℕ) (a b : List ℕ) → length es ≤ i → a ++ tasks_in s (each task_of (drop i es)) ≡ b → a ≡ b
+  owned_end es i s a b end is = sym (append-nil a) ∙ ap (λ ys. a ++ tasks_in s (each task_of ys)) (sym (drop-all es i end)) ∙ is
 
 module _ {K : Types} where
   -- the tasks end, the marks go, the effects go

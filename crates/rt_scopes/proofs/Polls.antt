@@ -1,11 +1,12 @@
 -- A task's state is taken out, to be polled.
 use Rattle.std.proofs.Common.{◌≡◌, ℕ, Bool, true, false, List, [], ◌∷◌, refl, ap, sym, ◌∙◌}
-use Rattle.std.specs.Prelude.{nat_eq, Option, Some, None, IfSome, IfNone, option_map, if◌then◌else◌}
+use Rattle.std.specs.declared.snapshot.Snapshot.{Snapshot}
+use Rattle.std.specs.Prelude.{nat_eq, Option, Some, None, IfSome, option_map, if◌then◌else◌}
 use Rattle.rt_model.specs.Lists.{at, put, or_else}
 use Rattle.rt_model.specs.OneLog.{types}
 use Rattle.rt_model.specs.State as model
 use Rattle.rt_calls.specs.Kept.{each}
-use Rattle.rt_scopes.specs.Mirror.{Unkept, polls, task_of, changed_task, change_task, state_of}
+use Rattle.rt_scopes.specs.Mirror.{Unkept, task_of, state_of}
 use Rattle.rt_scopes.specs.declared.state.TaskRow.{TaskRow}
 use Rattle.rt_scopes.specs.declared.state.State.{State}
 use Rattle.rt_scopes.proofs.Each.{found-each, put-each}
@@ -16,11 +17,6 @@ pub if_some : {A : Type 0} {F : A → Type 0} (o : Option A) → ((a : A) → o 
 if_some None f = tt
 if_some (Some a) f = f a refl
 
--- a fact where nothing is there
-pub if_none : {A : Type 0} {F : Type 0} (o : Option A) → (o ≡ None → F) → IfNone o F
-if_none None f = f refl
-if_none (Some a) f = tt
-
 some_own : {A : Type 0} (a b : A) → Some a ≡ Some b → a ≡ b
 some_own {A = A} a b is = ap (λ (o : Option A). elim o as (λ _. A) [ None ↦ a | Some x ↦ x ]) is
 
@@ -30,46 +26,28 @@ put_step e es n a true same rest is = λ i. (sym (same-number e.0 n same) i, som
 put_step e es n a false other rest is = ap (λ xs. e ∷ xs) (rest is)
 
 -- what stands under a number is put there again
-pub put_there : {A : Type 0} (es : List (ℕ × A)) (n : ℕ) (a : A) → at es n ≡ Some a → put es n a ≡ es
+put_there : {A : Type 0} (es : List (ℕ × A)) (n : ℕ) (a : A) → at es n ≡ Some a → put es n a ≡ es
 put_there [] n a there = absurd (cc there)
 put_there (e ∷ es) n a there = put_step e es n a (nat_eq e.0 n) refl (λ is. put_there es n a is) there
 
 module _ {P C Q V H T E L : Type 0} where
-  -- nothing is taken where no task is
-  pub nothing_left : (g : Unkept (types C Q V H T E L)) (d : State P C Q V H T E L) (t : ℕ) → None ≡ at d.tasks t
-      → state_of g d ≡ change_task (state_of g d) t (λ x. record x { state = g.polled })
-  nothing_left g d t gone =
-      ap (λ (o : Option (model.TaskRow (types C Q V H T E L))). changed_task (state_of g d) t (λ x. record x { state = g.polled }) o)
-      (sym (found-each (task_of g.polled) d.tasks t None gone))
-
-  -- a state that is taken out is what stands for it
-  pub state_left : (g : Unkept (types C Q V H T E L)) (d : State P C Q V H T E L) (t : ℕ) (row : TaskRow P C Q V H T E L) (tasks : List (ℕ × TaskRow P C Q V H T E L))
-      → Some row ≡ at d.tasks t → tasks ≡ put d.tasks t (record row { state = None })
-      → state_of g (record d { tasks = tasks }) ≡ change_task (state_of g d) t (λ x. record x { state = g.polled })
-  state_left g d t row tasks there put_is =
-      let w : model.State (types C Q V H T E L) = state_of g d in
-      let bare : TaskRow P C Q V H T E L = record row { state = None } in
-      ap (λ (es : List (ℕ × model.TaskRow (types C Q V H T E L))). let v : model.State (types C Q V H T E L) = record w { tasks = es } in v)
-      (ap (each (task_of g.polled)) put_is ∙ put-each (task_of g.polled) d.tasks t bare)
-      ∙ ap (λ (o : Option (model.TaskRow (types C Q V H T E L))). changed_task w t (λ x. record x { state = g.polled }) o)
-      (sym (found-each (task_of g.polled) d.tasks t (Some row) there))
-
-  -- where that is the task's state, nothing changes
-  pub taken_out : (g : Unkept (types C Q V H T E L)) (d : State P C Q V H T E L) (t : ℕ) (row former : TaskRow P C Q V H T E L) (tasks : List (ℕ × TaskRow P C Q V H T E L))
-      → Some row ≡ at d.tasks t → Some former ≡ at d.tasks t → tasks ≡ put d.tasks t (record row { state = None }) → or_else g.polled former.state ≡ g.polled
+  -- a state that is taken out stands for its task still
+  pub taken_out : (g : Unkept (types C Q V H T E L)) (d : State P C Q V H T E L) (t : ℕ) (row : TaskRow P C Q V H T E L) (a : T) (was : Snapshot T) (tasks : List (ℕ × TaskRow P C Q V H T E L))
+      → Some row ≡ at d.tasks t → row.state ≡ Some a → was.value ≡ a → tasks ≡ put d.tasks t (record row { state = None; was = was })
       → state_of g (record d { tasks = tasks }) ≡ state_of g d
-  taken_out g d t row former tasks stood there put_is own =
+  taken_out g d t row a was tasks there own stands put_is =
       let w : model.State (types C Q V H T E L) = state_of g d in
-      let own_row : model.TaskRow (types C Q V H T E L) = task_of g.polled former in
-      let found : at w.tasks t ≡ Some own_row = found-each (task_of g.polled) d.tasks t (Some former) there in
-      state_left g d t row tasks stood put_is
-      ∙ ap (λ (o : Option (model.TaskRow (types C Q V H T E L))). changed_task w t (λ x. record x { state = g.polled }) o) found
-      ∙ ap (λ (a : T). let u : model.State (types C Q V H T E L) = record w { tasks = put w.tasks t (record own_row { state = a }) } in u) (sym own)
-      ∙ ap (λ (es : List (ℕ × model.TaskRow (types C Q V H T E L))). let u : model.State (types C Q V H T E L) = record w { tasks = es } in u) (put_there w.tasks t own_row found)
+      let bare : TaskRow P C Q V H T E L = record row { state = None; was = was } in
+      let own_row : model.TaskRow (types C Q V H T E L) = task_of row in
+      let same : was.value ≡ own_row.state = stands ∙ sym (ap (λ (o : Option T). or_else (row.was).value o) own) in
+      ap (λ (es : List (ℕ × model.TaskRow (types C Q V H T E L))). let v : model.State (types C Q V H T E L) = record w { tasks = es } in v)
+      (ap (each task_of) put_is ∙ put-each task_of d.tasks t bare
+      ∙ ap (λ (b : T). put w.tasks t (record own_row { state = b })) same
+      ∙ put_there w.tasks t own_row (found-each task_of d.tasks t (Some row) there))
 
   -- it is the task's own
   pub taken_own : (g : Unkept (types C Q V H T E L)) (d : State P C Q V H T E L) (t : ℕ) (former : TaskRow P C Q V H T E L) (taken : T)
       → Some former ≡ at d.tasks t → former.state ≡ Some taken → option_map (λ (x : model.TaskRow (types C Q V H T E L)). x.state) (at (state_of g d).tasks t) ≡ Some taken
   taken_own g d t former taken there is =
-      ap (option_map (λ (x : model.TaskRow (types C Q V H T E L)). x.state)) (found-each (task_of g.polled) d.tasks t (Some former) there)
-      ∙ ap (λ (o : Option T). Some (or_else g.polled o)) is
+      ap (option_map (λ (x : model.TaskRow (types C Q V H T E L)). x.state)) (found-each task_of d.tasks t (Some former) there)
+      ∙ ap (λ (o : Option T). Some (or_else (former.was).value o)) is

@@ -73,7 +73,7 @@ module _ {P C Q V H T E L : Type 0} where
   ended d t tasks posted queued g live less marks fewer =
       let w : model.State (types C Q V H T E L) = state_of g d in
       (λ i. record w {
-        tasks = (ap (each (task_of g.polled)) less ∙ without-each (task_of g.polled) d.tasks t) i;
+        tasks = (ap (each task_of) less ∙ without-each task_of d.tasks t) i;
         posted = marks i;
         queued = fewer i;
         scopes = released-is (d.rows).table t i;

@@ -1,5 +1,6 @@
 -- Tasks that are spawned, paused or made active; a task that a body waits for.
 use Rattle.std.proofs.Common.{◌≡◌, ℕ, Bool, true, false, ◌&&◌, List, [], ◌∷◌, ◌++◌, refl, ap, sym, ◌∙◌}
+use Rattle.std.specs.declared.snapshot.Snapshot.{Snapshot}
 use Rattle.std.specs.Prelude.{not, Option, Some, None, is_some, if◌then◌else◌}
 use Rattle.rt_model.specs.Lists.{at, put}
 use Rattle.rt_model.specs.OneLog.{types}
@@ -21,16 +22,16 @@ module _ {K : Types} where
   with_tasks w ts = record w { tasks = ts }
 
 module _ {P C Q V H T E L : Type 0} where
-  pub spawned_in : (d : State P C Q V H T E L) (polled : Option ℕ) (s t : ℕ) (a : T) (isomorphic : Bool) (kind : TaskKind) (new : List (ℕ × TaskRow P C Q V H T E L))
+  pub spawned_in : (d : State P C Q V H T E L) (polled : Option ℕ) (s t : ℕ) (a : T) (isomorphic : Bool) (was : Snapshot T) (kind : TaskKind) (new : List (ℕ × TaskRow P C Q V H T E L))
       → ((g : Unkept (types C Q V H T E L)) → model.is_live (state_of g d) s ≡ true)
       → task_kind_of kind ≡ (if isomorphic then model.Isomorphic else model.ClientOnly)
-      → new ≡ d.tasks ++ (t, record { scope = s; parent = polled; state = Some a; active = true; kind = kind }) ∷ []
+      → new ≡ d.tasks ++ (t, record { scope = s; parent = polled; state = Some a; was = was; active = true; kind = kind }) ∷ []
       → (g : Unkept (types C Q V H T E L)) → post (state_of g (record d { tasks = new })) (model.Woken t) ≡ spawned (state_of g d) polled s t a isomorphic
-  spawned_in d polled s t a isomorphic kind new live kinds is g =
+  spawned_in d polled s t a isomorphic was kind new live kinds is g =
       let w : model.State (types C Q V H T E L) = state_of g d in
-      let row : TaskRow P C Q V H T E L = record { scope = s; parent = polled; state = Some a; active = true; kind = kind } in
-      ap (λ ts. post (with_tasks w (each (task_of g.polled) ts)) (model.Woken t)) is
-      ∙ ap (λ ts. post (with_tasks w ts) (model.Woken t)) (append-each (task_of g.polled) d.tasks ((t, row) ∷ []))
+      let row : TaskRow P C Q V H T E L = record { scope = s; parent = polled; state = Some a; was = was; active = true; kind = kind } in
+      ap (λ ts. post (with_tasks w (each task_of ts)) (model.Woken t)) is
+      ∙ ap (λ ts. post (with_tasks w ts) (model.Woken t)) (append-each task_of d.tasks ((t, row) ∷ []))
       ∙ ap (λ k. post (with_tasks w (w.tasks ++ (t, record { scope = s; parent = polled; state = a; active = true; kind = k }) ∷ [])) (model.Woken t)) kinds
       ∙ ap (λ b. if b then post (with_tasks w (w.tasks ++ (t, record { scope = s; parent = polled; state = a; active = true; kind = if isomorphic then model.Isomorphic else model.ClientOnly }) ∷ [])) (model.Woken t) else w) (sym (live g))
 

@@ -25,12 +25,12 @@ use Rattle.rt_scopes.proofs.Each.{append-each}
 
 module _ {P C Q V H T E L : Type 0} where
   -- the start: the root wrapper alone
-  pub starts : (root : C) (props : Q) (firsts : Firsts) (polled : T) (d : State P C Q V H T E L) (scopes : List (ℕ × Scope P C Q V H T E L)) (scope : Scope P C Q V H T E L)
+  pub starts : (root : C) (props : Q) (firsts : Firsts) (d : State P C Q V H T E L) (scopes : List (ℕ × Scope P C Q V H T E L)) (scope : Scope P C Q V H T E L)
       → IsEmpty firsts d
       → scopes ≡ (d.rows).table ++ (0, scope) ∷ []
       → scope_of scope ≡ new_scope (component_of {P = P} {C = C} {Q = Q} {V = V} {H = H} {T = T} {E = E} {L = L} (code.Root (record { component = root; props = props }))) None 0 MainSide
-      → state_of (at_first polled) (record d { rows = record { table = scopes }; next_scope = 1 }) ≡ first_state root props (firsts_of firsts)
-  starts root props firsts polled d scopes scope empty pushed made =
+      → state_of at_first (record d { rows = record { table = scopes }; next_scope = 1 }) ≡ first_state root props (firsts_of firsts)
+  starts root props firsts d scopes scope empty pushed made =
       let w : model.State (types C Q V H T E L) = first_state root props (firsts_of firsts) in
       let own : scope_of scope ≡ new_scope (tree.Root root props) None 0 MainSide =
       made ∙ ap (λ (c : tree.VComponent (types C Q V H T E L)). new_scope c None 0 MainSide) (component_Root (record { component = root; props = props })) in
@@ -40,7 +40,7 @@ module _ {P C Q V H T E L : Type 0} where
         scopes = one i;
         cells = ap (each cell_of) empty.cells i;
         contexts = ap (each context_of) empty.contexts i;
-        tasks = ap (each (task_of polled)) empty.tasks i;
+        tasks = ap (each task_of) empty.tasks i;
         posted = ap (map posted_of) empty.posted i;
         seen = empty.seen i;
         queued = empty.queued i;

@@ -13,21 +13,15 @@ use Rattle.rt_scopes.specs.declared.state.ContextRow.{ContextRow}
 use Rattle.rt_scopes.specs.declared.state.TaskRow.{TaskRow}
 use Rattle.rt_scopes.specs.declared.state.State.{State}
 
--- what the model's state has and code doesn't keep here: the last calls, the state of a task while it is polled, and
--- how often the application was called
+-- what the model's state has and code doesn't keep here: the last calls, and how often the application was called
 pub record Unkept (K : tree.Types) : Type 0 where
   pub last_calls : List (ℕ × state.LastCall K)
-  pub polled : K.TaskState
   pub calls : ℕ
 
 module _ {K : tree.Types} where
   -- the last call of a scope isn't kept any more
   abbrev pub forgets : Unkept K → ℕ → Unkept K
   forgets g s = record g { last_calls = without g.last_calls s }
-
-  -- this is the state of a task that is polled
-  abbrev pub polls : Unkept K → K.TaskState → Unkept K
-  polls g a = record g { polled = a }
 
   -- the last call of a scope is another one
   abbrev pub recalls : Unkept K → ℕ → state.LastCall K → Unkept K
@@ -38,8 +32,8 @@ module _ {K : tree.Types} where
   counts g = record g { calls = g.calls + 1 }
 
   -- nothing was called yet
-  abbrev pub at_first : K.TaskState → Unkept K
-  at_first a = record { last_calls = []; polled = a; calls = 0 }
+  abbrev pub at_first : Unkept K
+  at_first = record { last_calls = []; calls = 0 }
 
 module _ {C Q V H T E L : Type 0} where
   -- a cell
@@ -51,12 +45,12 @@ module _ {C Q V H T E L : Type 0} where
   context_of x = record { scope = x.scope; target = target_of x.target; sources = map source_of x.sources }
 
 module _ {P C Q V H T E L : Type 0} where
-  -- a task
-  abbrev pub task_of : T → TaskRow P C Q V H T E L → state.TaskRow (types C Q V H T E L)
-  task_of polled x = record {
+  -- a task; while it is polled, its state is the one that it is polled with
+  abbrev pub task_of : TaskRow P C Q V H T E L → state.TaskRow (types C Q V H T E L)
+  task_of x = record {
     scope = x.scope;
     parent = x.parent;
-    state = or_else polled x.state;
+    state = or_else (x.was).value x.state;
     active = x.active;
     kind = task_kind_of x.kind;
   }
@@ -73,7 +67,7 @@ module _ {P C Q V H T E L : Type 0} where
         last_calls = g.last_calls;
         cells = each cell_of (d.cells).cells;
         contexts = each context_of d.contexts;
-        tasks = each (task_of g.polled) d.tasks;
+        tasks = each task_of d.tasks;
         posted = map posted_of d.posted;
         seen = d.seen;
         queued = d.queued;
@@ -95,7 +89,7 @@ module _ (P C Q V H T E L : Type 0) where
   pub record TaskChange : Type 0 where
     pub code : TaskRow P C Q V H T E L → TaskRow P C Q V H T E L
     pub model : state.TaskRow (types C Q V H T E L) → state.TaskRow (types C Q V H T E L)
-    pub same : (polled : T) (x : TaskRow P C Q V H T E L) → task_of polled (code x) ≡ model (task_of polled x)
+    pub same : (x : TaskRow P C Q V H T E L) → task_of (code x) ≡ model (task_of x)
 
 module _ {K : tree.Types} where
   -- a task that was found is changed

@@ -23,6 +23,7 @@ use rt_table::Table;
 use rt_tracked::{Cells, Source, Target};
 use rt_values::{List, OutOfMemory, Task};
 use std::alloc::Global;
+use std::snapshot::Snapshot;
 
 /// A reactive context: what it marks, and what was read in it.
 #[derive(Drop)]
@@ -42,6 +43,8 @@ pub struct TaskRow<P: Parts> {
     pub parent: Option<u64>,
     /// None while it is polled.
     pub state: Option<P::TaskState>,
+    /// The state that stands for it while it is polled. Contracts alone read it.
+    pub(crate) was: Snapshot<P::TaskState>,
     /// A paused task isn't polled.
     pub active: bool,
     pub kind: TaskKind,
@@ -78,8 +81,8 @@ impl<P: Parts> State<P> {
         props: P::Props,
         firsts: Firsts,
     ) -> Result<State<P>, OutOfMemory>
-        ensures { IfOk result (λ state. (polled : P.TaskState) →
-            state_of (at_first polled) state ≡ first_state root props (firsts_of firsts)) }
+        ensures { IfOk result (λ state.
+            state_of at_first state ≡ first_state root props (firsts_of firsts)) }
     {
         let component = VComponent::Root(RootProps {
             component: root,

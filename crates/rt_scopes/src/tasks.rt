@@ -9,7 +9,7 @@ ghost use Rattle.rt_calls.specs.Kept.{scope_of};
 ghost use Rattle.rt_scopes.specs.Holders.{others, let_go};
 ghost use Rattle.rt_model.specs.Removal.{end_all, tasks_in};
 ghost use Rattle.rt_scopes.specs.Names.{posted_of, task_kind_of};
-ghost use Rattle.rt_scopes.specs.Mirror.{TaskChange, change_task, polls, scopes_of, state_of};
+ghost use Rattle.rt_scopes.specs.Mirror.{TaskChange, change_task, scopes_of, state_of};
 
 use crate::names::{Posted, TaskKind};
 use crate::numbers::{drop_number, drop_posted};
@@ -19,6 +19,7 @@ use rt_calls::Scope;
 use rt_parts::Parts;
 use rt_values::{List, OutOfMemory};
 use std::alloc::Global;
+use std::snapshot::Snapshot;
 
 impl<P: Parts> State<P> {
     /// A new task, active and woken, where its scope is live.
@@ -37,12 +38,14 @@ impl<P: Parts> State<P> {
             return Ok(());
         }
         let kind = first_kind(isomorphic);
+        let was = Snapshot::of(&state);
         self.tasks.push(
             task,
             TaskRow {
                 scope,
                 parent: polled,
                 state: Some(state),
+                was,
                 active: true,
                 kind,
             },
@@ -185,22 +188,22 @@ impl<P: Parts> State<P> {
 
     /// Takes a task's state out, to be polled. None where the task has ended, or is polled already.
     pub fn take_state(&mut self, task: u64) -> Option<P::TaskState>
-        // What stands for the state of a task that is polled stands for it now.
-        ensures left { (g : _) → state_of g self.new
-            ≡ change_task (state_of g self.old) task (λ x. record x { state = g.polled }) }
+        // The state that is taken out still stands for the task.
+        ensures left { (g : _) → state_of g self.new ≡ state_of g self.old }
         ensures own { IfSome result (λ taken. (g : _) →
             option_map (λ x. x.state) (at (state_of g self.old).tasks task) ≡ Some taken) }
-        ensures taken { IfSome result (λ taken. (g : _) →
-            state_of (polls g taken) self.new ≡ state_of (polls g taken) self.old) }
-        ensures none { IfNone result ((g : _) → state_of g self.new ≡ state_of g self.old) }
     {
         let Some(row) = self.tasks.get(task) else {
+            return None;
+        };
+        let Some(state) = &row.state else {
             return None;
         };
         let polled = TaskRow {
             scope: row.scope,
             parent: row.parent,
             state: None,
+            was: Snapshot::of(state),
             active: row.active,
             kind: row.kind,
         };
@@ -215,12 +218,17 @@ impl<P: Parts> State<P> {
         ensures { OnOk result ((g : _) → state_of g self.new
             ≡ change_task (state_of g self.old) task (λ x. record x { state = state })) }
     {
+        let was = Snapshot::of(&state);
         self.change_task(
             task,
             |row: &mut TaskRow<P>| -> Result<(), OutOfMemory>
-                ensures { OnOk result (row.new ≡ record row.old { state = Some state }) }
+                ensures { OnOk result (row.new ≡ record row.old {
+                  state = Some state;
+                  was = was;
+                }) }
             {
                 row.state = Some(state);
+                row.was = was;
                 Ok(())
             },
         )

@@ -19,3 +19,9 @@ returns-in-ReadInto g c = λ app decides. rw c.in-ReadInto.is (on_ok c.read_into
 pub returns-in-Provide : goal.returns-in-Provide
 returns-in-Provide g c = λ app decides. rw c.in-Provide.is
     (on_ok c.provide_context.result (c.provide_context.ensures app decides) (λ is kept. is kept ∙ ap (λ s. provide_context app (state_of kept c.args.self.now) s c.in-Provide.kind c.in-Provide.value) c.owner-in-Provide.ensures))
+
+pub returns-in-KeepHook : goal.returns-in-KeepHook
+returns-in-KeepHook g c = λ app decides. rw c.in-KeepHook.is c.keep_hook.ensures
+
+pub returns-in-QueueEffect : goal.returns-in-QueueEffect
+returns-in-QueueEffect g c = λ app decides. rw c.in-QueueEffect.is c.queue_effect.ensures

@@ -5,5 +5,5 @@ use Rattle.rt_scopes.proofs.state.State.keep_state.Goals as goal
 pub returns : goal.returns
 returns g c =
     c.change_task.ensures
-    (record { code = λ x. record x { state = Some c.args.state }; model = λ x. record x { state = c.args.state }; same = λ polled x. refl })
+    (record { code = λ x. record x { state = Some c.args.state; was = c.of-was.result }; model = λ x. record x { state = c.args.state }; same = λ x. refl })
     (λ x y ret. search rules)

@@ -4,5 +4,5 @@ use Rattle.rt_scopes.proofs.state.State.put_active.Goals as goal
 pub returns : goal.returns
 returns g c =
     c.change_task.ensures
-    (record { code = λ x. record x { active = c.args.active }; model = λ x. record x { active = c.args.active }; same = λ polled x. refl })
+    (record { code = λ x. record x { active = c.args.active }; model = λ x. record x { active = c.args.active }; same = λ x. refl })
     (λ x y ret. search rules)

@@ -6,5 +6,5 @@ use Rattle.rt_scopes.proofs.state.State.suspend.Goals as goal
 pub returns : goal.returns
 returns g c =
     c.change_task.ensures
-    (record { code = λ x. record x { kind = Suspended }; model = λ x. record x { kind = SuspendedTask }; same = λ polled x. refl })
+    (record { code = λ x. record x { kind = Suspended }; model = λ x. record x { kind = SuspendedTask }; same = λ x. refl })
     (λ x y ret. search rules)

@@ -6,4 +6,4 @@ pub returns : goal.returns
 returns g c = λ kept.
     let is = c.as_slice-entry-items.ensures.rows in
     let test = c.loop-entry-test.false in
-    owned_end kept.polled c.args.self.now.tasks c.loop-entry.entry-index c.args.scope c.loop-entry.tasks _ (rw (← is) test) (c.loop-entry.invariant kept.polled)
+    owned_end c.args.self.now.tasks c.loop-entry.entry-index c.args.scope c.loop-entry.tasks _ (rw (← is) test) c.loop-entry.invariant

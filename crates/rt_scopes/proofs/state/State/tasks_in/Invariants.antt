@@ -6,4 +6,4 @@ use Rattle.rt_scopes.proofs.state.State.tasks_in.Given as goal
 
 abbrev pub invariant-loop-entry : goal.invariant-loop-entry
 invariant-loop-entry g l =
-    (polled : _) → l.tasks ++ tasks_in l.scope (each (task_of polled) (drop l.entry-index l.self.tasks)) ≡ tasks_in l.scope (each (task_of polled) l.self.tasks)
+    l.tasks ++ tasks_in l.scope (each task_of (drop l.entry-index l.self.tasks)) ≡ tasks_in l.scope (each task_of l.self.tasks)
