@@ -1,3 +1,4 @@
 pub mod Components
 pub mod Founds
 pub mod Agendas
+pub mod Likes

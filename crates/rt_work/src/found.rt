@@ -5,9 +5,10 @@ ghost use Rattle.rt_places.specs.Places.{kind_of, place_of, spot_of};
 ghost use Rattle.rt_work.specs.Found.{IsFed, StaysThere, WasThere, child_in, component_among, component_found, component_here, has_node_in, is_node_at, number_in, output_spots};
 
 use crate::component::is_same_component;
+use crate::like::is_at;
 use rt_nodes::{VComponent, VNode};
 use rt_parts::Parts;
-use rt_places::{Child, Kind, Numbered, Spot, Step, is_same_kind, is_same_place, spots};
+use rt_places::{Child, Kind, Numbered, Spot, Step, is_same_kind, spots};
 use rt_values::{List, OutOfMemory};
 use std::alloc::Global;
 
@@ -17,7 +18,7 @@ pub fn number_at(numbers: &[Numbered], place: &[Step], kind: Kind) -> u64
     ensures { result ≡ number_in numbers.now (place_of place.now) (kind_of kind) }
 {
     for numbered in numbers {
-        if is_same_kind(numbered.kind, kind) && is_same_place(numbered.place.as_slice(), place) {
+        if is_same_kind(numbered.kind, kind) && is_at(numbered.place.as_slice(), place) {
             return numbered.number;
         }
     }
@@ -30,7 +31,7 @@ pub fn child_at(children: &[Child], place: &[Step]) -> Option<u64>
     ensures { result ≡ child_in children.now (place_of place.now) }
 {
     for child in children {
-        if is_same_place(child.place.as_slice(), place) {
+        if is_at(child.place.as_slice(), place) {
             return Some(child.scope);
         }
     }
@@ -72,7 +73,7 @@ fn is_node<P: Parts>(spot: &Spot<P>, place: &[Step], kind: Kind) -> bool
         Spot::Node {
             place: own,
             kind: own_kind,
-        } => is_same_kind(*own_kind, kind) && is_same_place(own.as_slice(), place),
+        } => is_same_kind(*own_kind, kind) && is_at(own.as_slice(), place),
         Spot::Component { .. } => false,
     }
 }
@@ -100,7 +101,7 @@ fn component_of<'a, P: Parts>(spot: &'a Spot<P>, place: &[Step]) -> Option<&'a V
             place: own,
             component,
         } => {
-            if is_same_place(own.as_slice(), place) {
+            if is_at(own.as_slice(), place) {
                 Some(component)
             } else {
                 None

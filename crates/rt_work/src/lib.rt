@@ -6,6 +6,7 @@ mod component;
 mod found;
 mod item;
 mod kept;
+mod like;
 
 pub use agenda::{drops_of, serves};
 pub use component::is_same_component;
