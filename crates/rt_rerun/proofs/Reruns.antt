@@ -93,11 +93,11 @@ module _ {K : Types} (app : Application K) where
       by_dead (Some f) is e = cc
 
   -- what is known of the states before and after a rerun
-  record Ended (lawful : IsLawful K app) (first v : State K) (root : ℕ) : Type 0 where
-    before : Settled first
-    after : Settled v
-    since : Since app lawful first root v []
-    live : is_live first root ≡ true
+  pub record Ended (lawful : IsLawful K app) (first v : State K) (root : ℕ) : Type 0 where
+    pub before : Settled first
+    pub after : Settled v
+    pub since : Since app lawful first root v []
+    pub live : is_live first root ≡ true
 
   module _ (lawful : IsLawful K app) where
     done_of : (m : Machine K) (o : Outcome K) → (ended_by m None [] o).dead ≡ None → (v : State K) × (work : List (Item K)) × (o ≡ Done v work)
@@ -179,7 +179,7 @@ module _ {K : Types} (app : Application K) where
             settled_of app lawful limits props inputs v reached_v (ap (λ (x : Machine K). x.dead) closed.gives ∙ closed.alive)
             (ap (λ (x : Machine K). x.built) closed.gives ∙ (kept.1).built) (ap (λ (x : Machine K). x.work) closed.gives ∙ closed.idle)
 
-    rerun_ended : (limits : Limits) (props : K.Props) (inputs : List (Input K)) (m v : Machine K) (s : ℕ) → Reruns app limits props inputs m s v → Ended lawful m.state v.state s
+    pub rerun_ended : (limits : Limits) (props : K.Props) (inputs : List (Input K)) (m v : Machine K) (s : ℕ) → Reruns app limits props inputs m s v → Ended lawful m.state v.state s
     rerun_ended limits props inputs m v s r = ended_by_moves limits props inputs m r.begun r.served v s r.moves r.reached r.logged r.leads r.inside r.closed
 
   pub reruns_bring : RerunsBring app
