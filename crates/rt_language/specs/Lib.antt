@@ -4,6 +4,7 @@ pub mod Sequence
 pub mod Expressions
 pub mod Statements
 pub mod Views
+pub mod Wide
 pub mod Meaning
 pub mod Lines
 pub mod Printed

@@ -1,7 +1,7 @@
 -- The template of a view, what it puts in the template's slots, and the tree of both.
-use Rattle.std.specs.Prelude.{ℕ, zero, suc, ◌+◌, Bool, true, false, List, [], ◌∷◌, ◌++◌, Option, Some, None, pos}
+use Rattle.std.specs.Prelude.{ℕ, zero, suc, ◌+◌, Bool, true, false, List, [], ◌∷◌, ◌++◌, map, Option, Some, None, pos, nat_le, if◌then◌else◌}
 use Rattle.rt_model.specs.Lists.{Text}
-use Rattle.rt_model.specs.Tree.{TemplateAttribute, fixed, from_slot, TemplateNodes, no_nodes, element_node, text_node, slot_node, template_with, AttributeValue, text_value, no_value, listener, Attribute, Tree, block, Slots, no_slots, more_slots, Slot, text_slot, placeholder_slot, component_slot, fragment_slot, Trees, no_trees, more_trees, Own, Fragment, ErrorBoundary, SuspenseBoundary, placeholder_tree, rendered}
+use Rattle.rt_model.specs.Tree.{TemplateAttribute, fixed, from_slot, TemplateNodes, no_nodes, element_node, text_node, slot_node, Template, node_slots, attribute_slots, paths_of, AttributeValue, text_value, no_value, listener, Attribute, Tree, block, Slots, no_slots, more_slots, Slot, text_slot, placeholder_slot, component_slot, fragment_slot, Trees, no_trees, more_trees, Own, Fragment, ErrorBoundary, SuspenseBoundary, placeholder_tree, rendered}
 use Rattle.rt_model.specs.Program.{Program, done, current_scope}
 use Rattle.rt_language.specs.Syntax.{ComponentUse, ViewAttribute, StaticAttribute, SlotAttribute, ListenerAttribute, View, NoViews, TextView, ElementView, SlotView, ViewSlot, TextOf, UseOf, ListOf, PickOf, FragmentOf, ErrorBoundaryOf, SuspenseBoundaryOf, Hole}
 use Rattle.rt_language.specs.Values.{Value, NoValue, NumberValue, TextValue, CellValue, TaskValue, is_true, text_of, item_count}
@@ -52,6 +52,23 @@ template_nodes n a (ElementView tag namespace attributes kids rest) =
     (template_nodes n (a + own_slots attributes) kids)
     (template_nodes (n + node_slots_of kids) (a + (own_slots attributes + attribute_slots_of kids)) rest)
 template_nodes n a (SlotView slot rest) = slot_node n (template_nodes (n + 1) a rest)
+
+-- a step of a path is a byte: past the 256th node of a row it is that of the 256th, and no tree with such a row passes the node test
+abbrev pub step_of : ℕ → ℕ
+step_of i = if nat_le i 255 then i else 255
+
+-- paths whose steps are bytes
+abbrev pub in_bytes : List (List ℕ) → List (List ℕ)
+in_bytes paths = map (map step_of) paths
+
+-- the template of these roots, with the paths that they have, in bytes
+abbrev pub template_in_bytes : TemplateNodes → Template
+template_in_bytes roots =
+    record {
+      roots = roots;
+      node_paths = in_bytes (paths_of (node_slots [] 0 roots));
+      attribute_paths = in_bytes (paths_of (attribute_slots [] 0 roots));
+    }
 
 -- what stands in the slots
 
@@ -114,12 +131,12 @@ slots_from (v ∷ vs) = more_slots v (slots_from vs)
 abbrev pub tree_with : View → Filling → Tree SourceTypes
 tree_with NoViews filling = placeholder_tree
 tree_with (TextView text rest) filling =
-    block (template_with (template_nodes 0 0 (TextView text rest))) filling.attributes (slots_from filling.slots)
+    block (template_in_bytes (template_nodes 0 0 (TextView text rest))) filling.attributes (slots_from filling.slots)
 tree_with (ElementView tag namespace attributes kids rest) filling =
-    block (template_with (template_nodes 0 0 (ElementView tag namespace attributes kids rest))) filling.attributes
+    block (template_in_bytes (template_nodes 0 0 (ElementView tag namespace attributes kids rest))) filling.attributes
     (slots_from filling.slots)
 tree_with (SlotView slot rest) filling =
-    block (template_with (template_nodes 0 0 (SlotView slot rest))) filling.attributes (slots_from filling.slots)
+    block (template_in_bytes (template_nodes 0 0 (SlotView slot rest))) filling.attributes (slots_from filling.slots)
 
 -- a program that comes to a tree
 abbrev pub tree_of : View → Program SourceTypes Filling → Program SourceTypes (Tree SourceTypes)

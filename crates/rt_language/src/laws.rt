@@ -2,6 +2,7 @@
 
 ghost use Rattle.rt_language.specs.Laws.{SourcesAreLawful};
 ghost use Rattle.rt_language.specs.PrintedSays.{RowsSay, FaultRowsSay};
+ghost use Rattle.rt_language.specs.Wide.{NarrowHaveTheirPaths, WideNeverFit};
 
 /// The application of every source obeys the laws.
 pub fn sources_are_lawful()
@@ -16,4 +17,14 @@ pub fn rows_say()
 /// A row that ends in a fault comes to it as the definitions say, of every source.
 pub fn fault_rows_say()
     ensures { FaultRowsSay }
+{}
+
+/// Where no row has more than 256 nodes, a view's template has just the paths of its slots.
+pub fn narrow_have_their_paths()
+    ensures { NarrowHaveTheirPaths }
+{}
+
+/// The tree of a view with a longer row passes no node test.
+pub fn wide_never_fit()
+    ensures { WideNeverFit }
 {}

@@ -55,7 +55,9 @@ pub use kind_rows::{
     absent_value_is_provided, actions_know_no_generation, first_uses, kept_values, kinds_of_hooks,
     single_cases,
 };
-pub use laws::{fault_rows_say, rows_say, sources_are_lawful};
+pub use laws::{
+    fault_rows_say, narrow_have_their_paths, rows_say, sources_are_lawful, wide_never_fit,
+};
 pub use state_rows::{
     all_goes_with_a_scope, cell_is_dropped, fallback_goes_first, order_of_equal_heights,
     task_pauses, task_without_steps, units_begin_anew,
