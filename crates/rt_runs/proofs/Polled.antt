@@ -1,10 +1,9 @@
 -- A poll, by what its call means.
 use Rattle.std.proofs.Common.{◌≡◌, ℕ, true, false, List, [], ◌∷◌, map, Option, Some, None, refl, ap, sym, ◌∙◌}
 use Rattle.std.specs.Prelude.{is_some, option_map}
-use Rattle.rt_model.proofs.Conjunctions.{and-left, and-right}
 use Rattle.rt_model.specs.Tree.{Types}
 use Rattle.rt_model.specs.OneLog.{types}
-use Rattle.rt_model.specs.Lists.{at, or_else}
+use Rattle.rt_model.specs.Lists.{at}
 use Rattle.rt_model.specs.World.{Application, CallFault, Command, Meaning, TaskStep, pending, ready}
 use Rattle.rt_model.specs.State as model
 use Rattle.rt_model.specs.State.{Outcome, Done, Cut, TaskRow, world_of}
@@ -16,7 +15,6 @@ use Rattle.rt_model.specs.Replay.{left_by_poll, polled, polled_at, polled_by}
 use Rattle.rt_calls.specs.Answers.{step_of}
 use Rattle.rt_calls.specs.Calls as calls
 use Rattle.rt_calls.specs.Calls.{command_of, firsts_of, meaning_of, refusal_of}
-use Rattle.rt_calls.specs.Kept.{each}
 use Rattle.rt_calls.specs.Turn as left
 use Rattle.rt_calls.specs.Turn.{Call, HadMemory, begun}
 use Rattle.rt_calls.specs.World.{CallWorld}
@@ -27,28 +25,10 @@ use Rattle.rt_calls.specs.declared.faults.CxFault.TheVariants as refusals
 use Rattle.rt_calls.specs.declared.world.Firsts.{Firsts}
 use Rattle.rt_scopes.specs.declared.names.Stop.{Stop}
 use Rattle.rt_scopes.specs.declared.state.State as code
-use Rattle.rt_scopes.specs.declared.state.TaskRow as code_row
-use Rattle.rt_scopes.specs.Mirror.{Unkept, change_task, changed_task, counts, polls, state_of, task_of}
+use Rattle.rt_scopes.specs.Mirror.{Unkept, change_task, changed_task, counts, state_of}
 use Rattle.rt_runs.specs.Outcomes.{CutBy, stop_of}
-use Rattle.rt_runs.specs.Polls.{StandsWith, all_kept}
+use Rattle.rt_runs.specs.Polls.{StandsWith}
 use Rattle.rt_runs.proofs.Onward.{refused}
-
-or_same : {T : Type 0} (a b : T) (o : Option T) → is_some o ≡ true → or_else a o ≡ or_else b o
-or_same a b None h = cc
-or_same a b (Some x) h = refl
-
-module _ {P C Q V H T E L : Type 0} where
-  -- where the state of each task is there, nothing else stands for one
-  kept_alike : (a b : T) (tasks : List (ℕ × code_row.TaskRow P C Q V H T E L)) → all_kept tasks ≡ true → each (task_of {C = C} {Q = Q} {V = V} {H = H} {T = T} {E = E} {L = L} a) tasks ≡ each (task_of b) tasks
-  kept_alike a b [] h = refl
-  kept_alike a b (e ∷ es) h =
-      let own = or_same a b (e.1).state (and-left (is_some (e.1).state) (all_kept es) h) in
-      let rest = kept_alike a b es (and-right (is_some (e.1).state) (all_kept es) h) in
-      λ i. (e.0, record (task_of a e.1) { state = own i }) ∷ rest i
-
-  -- the state of the model is the same whatever stands for the state of a task that is polled
-  pub polls_alike : (g : Unkept (types C Q V H T E L)) (a : T) (d : code.State P C Q V H T E L) → all_kept d.tasks ≡ true → state_of g d ≡ state_of (polls g a) d
-  polls_alike g a d h = ap (λ (ts : List (ℕ × TaskRow (types C Q V H T E L))). record (state_of g d) { tasks = ts }) (kept_alike g.polled a d.tasks h)
 
 module _ {K : Types} where
   -- a row that was found, by its state

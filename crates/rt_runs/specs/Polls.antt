@@ -1,5 +1,5 @@
 -- The poll of a task whose state was taken out.
-use Rattle.std.specs.Prelude.{◌≡◌, ◌&&◌, ℕ, Bool, true, false, List, [], ◌∷◌, Some, Result, is_some}
+use Rattle.std.specs.Prelude.{◌≡◌, ℕ, false, List, Some, Result}
 use Rattle.rt_model.specs.Tree.{Types}
 use Rattle.rt_model.specs.OneLog.{types}
 use Rattle.rt_model.specs.Lists.{at}
@@ -10,15 +10,8 @@ use Rattle.rt_model.specs.Run.{called_once}
 use Rattle.rt_model.specs.Replay.{left_by_poll, polled_by}
 use Rattle.rt_scopes.specs.declared.names.Stop.{Stop}
 use Rattle.rt_scopes.specs.declared.state.State.{State}
-use Rattle.rt_scopes.specs.declared.state.TaskRow.{TaskRow}
 use Rattle.rt_scopes.specs.Mirror.{Unkept, state_of}
 use Rattle.rt_runs.specs.Outcomes.{Came, no_work}
-
-module _ {P C Q V H T E L : Type 0} where
-  -- the state of each task is there
-  abbrev pub all_kept : List (ℕ × TaskRow P C Q V H T E L) → Bool
-  all_kept [] = true
-  all_kept (e ∷ es) = is_some (e.1).state && all_kept es
 
 module _ {K : Types} where
   -- a task of a scope stands with this state

@@ -4,25 +4,12 @@ ghost use Rattle.rt_model.specs.Replay.{polled};
 ghost use Rattle.rt_calls.specs.Answers.{step_of};
 ghost use Rattle.rt_calls.specs.Calls.{command_of};
 ghost use Rattle.rt_runs.specs.Outcomes.{Comes, no_work};
-ghost use Rattle.rt_runs.specs.Polls.{IsLeft, Polls, all_kept};
+ghost use Rattle.rt_runs.specs.Polls.{IsLeft, Polls};
 
 use crate::runtime::{Runtime, apart};
 use rt_calls::{App, Command, Cx, Plain, TaskStep};
-use rt_parts::Parts;
-use rt_scopes::{Stop, TaskRow};
+use rt_scopes::Stop;
 use rt_values::{List, OutOfMemory, ScopeId, Task};
-
-/// Whether the state of each task is there, so that none is polled.
-fn none_is_polled<P: Parts>(tasks: &[(u64, TaskRow<P>)]) -> bool
-    ensures { result ≡ all_kept tasks.now }
-{
-    for entry in tasks {
-        if entry.1.state.is_none() {
-            return false;
-        }
-    }
-    true
-}
 
 impl<A: App> Runtime<A> {
     /// Polls a task: its wakes are spent, and a task that has ended goes. A look follows.
@@ -35,11 +22,8 @@ impl<A: App> Runtime<A> {
         if !self.state.has_task(task) {
             return Ok(());
         }
-        // A task that is polled polls no other one.
-        if !none_is_polled(self.state.tasks.as_slice()) {
-            return Err(Stop::OutOfMemory);
-        }
         let scope = self.state.scope_of_task(task);
+        // A poll whose call was refused leaves no state to poll with.
         let Some(state) = self.state.take_state(task) else {
             return Err(Stop::OutOfMemory);
         };

@@ -80,8 +80,8 @@ impl<A: App> Runtime<A> {
         props: A::Props,
         firsts: Firsts,
     ) -> Result<Runtime<A>, OutOfMemory>
-        ensures first { IfOk result (λ runtime. (polled : A.TaskState) →
-            state_of (at_first polled) runtime.state
+        ensures first { IfOk result (λ runtime.
+            state_of at_first runtime.state
             ≡ first_state (A.meaning app).root props (firsts_of firsts)) }
         ensures app { IfOk result (λ runtime. runtime.app ≡ app) }
     {

@@ -1,5 +1,5 @@
 -- An effect, by what its call left.
-use Rattle.std.proofs.Common.{◌∙◌, sym}
+use Rattle.std.proofs.Common.{rules, ◌∙◌, sym}
 use Rattle.std.proofs.lemmas.Result.{err_from_is_err_and}
 use Rattle.rt_runs.proofs.Acted.{acted_ok, acted_no}
 use Rattle.rt_runs.proofs.runtime.Runtime.act.Goals as goal
@@ -27,3 +27,9 @@ returns-in_err-commands-clause-acted g c =
     (acted_no (g.A.App.meaning c.args.self.now.app) c.args.self.now.state c.after_call.new.self.state c.enter-cx.result _ c.in_ok-turn.turn.meaning c.args.scope
     c.args.effect.now c.args.rendering refusal.0 _ _ kept c.enter-cx.ensures.begun (c.world-world.ensures kept _) c.in_ok-turn.ensures.means
     (sym parts.fault ∙ sym left.fault ∙ refusal.1) c.in_err-commands.ensures.next (left.next ∙ parts.next) refusal.2)
+
+pub returns-in_err-turn-clause-acted : goal.returns-in_err-turn-clause-acted
+returns-in_err-turn-clause-acted g c = λ kept. (kept, search rules)
+
+pub returns-in_err-commands-2-clause-acted : goal.returns-in_err-commands-2-clause-acted
+returns-in_err-commands-2-clause-acted g c = λ kept. (kept, search rules)

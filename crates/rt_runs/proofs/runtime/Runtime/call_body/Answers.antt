@@ -1,5 +1,5 @@
 -- A body's call, and what it left.
-use Rattle.std.proofs.Common.{subst}
+use Rattle.std.proofs.Common.{rules, subst}
 use Rattle.rt_mirror.specs.Sealed.{component_of}
 use Rattle.rt_runs.specs.Bodies.{Settles, answer_in}
 use Rattle.rt_runs.proofs.Settled.{answers_by}
@@ -12,3 +12,6 @@ returns-clause-answered g c =
     (subst (λ (a : g.row.A.Denot). Settles (g.A.App.meaning a) c.args.self.now.state c.args.scope c.in_ok-parts.parts c.settle_call.new.self.state (answer_in c.settle_call.result)) c.in_ok-parts.ensures.app
     (subst (λ d. Settles (g.A.App.meaning c.body_of.new.self.app) d c.args.scope c.in_ok-parts.parts c.settle_call.new.self.state (answer_in c.settle_call.result)) c.in_ok-parts.ensures.state c.settle_call.ensures.settled))
     c.settle_call.ensures.memory
+
+pub returns-in_err-parts-clause-answered : goal.returns-in_err-parts-clause-answered
+returns-in_err-parts-clause-answered g c = λ kept. (kept, search rules)

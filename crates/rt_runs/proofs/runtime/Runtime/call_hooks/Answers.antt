@@ -1,5 +1,5 @@
 -- The hooks are their effects in turn.
-use Rattle.std.proofs.Common.{◌∙◌}
+use Rattle.std.proofs.Common.{rules, ◌∙◌}
 use Rattle.rt_scopes.specs.Mirror.{state_of}
 use Rattle.rt_runs.proofs.Acted.{hooks_in_turn}
 use Rattle.rt_runs.proofs.Onward.{came_as}
@@ -13,3 +13,6 @@ returns-clause-called g c =
     hooks_in_turn (g.A.App.meaning c.args.self.now.app) c.args.kind (state_of kept c.args.self.now.state) c.args.scope c.hooks_of.result.now
     c.as_slice.result.now (c.hooks_of.ensures kept) (c.as_slice.ensures.items ∙ c.in_ok-effects.ensures) in
     (came.0, came_as _ _ _ _ _ whole came.1)
+
+pub returns-in_err-effects-clause-called : goal.returns-in_err-effects-clause-called
+returns-in_err-effects-clause-called g c = λ kept. (kept, search rules)

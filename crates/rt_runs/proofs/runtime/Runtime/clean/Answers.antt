@@ -1,5 +1,5 @@
 -- One more clean-up, and then the scope goes.
-use Rattle.std.proofs.Common.{◌∙◌, ◌+◌, drop, map, refl, ap, sym}
+use Rattle.std.proofs.Common.{rules, ◌∙◌, ◌+◌, drop, map, refl, ap, sym}
 use Rattle.std.specs.Prelude.{None, []}
 use Rattle.std.proofs.lemmas.Result.{err_from_is_err_and}
 use Rattle.rt_model.specs.State.{Done}
@@ -61,3 +61,9 @@ returns-clause-cleaned g c =
           ∙ ap (λ w. Done (commands app w c.args.scope None (map command_of c.loop-effect.waiting)) []) (sym (c.in_ok-gone.ensures before.0))
           ∙ ap (λ w. Done w []) (sym (c.in_ok-commands.ensures app (g.met.A.App.lawful c.args.self.now.app).tests_values (forgets before.0 c.args.scope))),
     )
+
+pub returns-in_err-gone-clause-cleaned : goal.returns-in_err-gone-clause-cleaned
+returns-in_err-gone-clause-cleaned g c = λ kept. (kept, search rules)
+
+pub returns-in_err-commands-clause-cleaned : goal.returns-in_err-commands-clause-cleaned
+returns-in_err-commands-clause-cleaned g c = λ kept. (kept, search rules)

@@ -1,5 +1,5 @@
 -- A clean-up, by what its call left.
-use Rattle.std.proofs.Common.{◌∙◌, sym}
+use Rattle.std.proofs.Common.{rules, ◌∙◌, sym}
 use Rattle.std.proofs.lemmas.Result.{err_from_is_err_and}
 use Rattle.rt_runs.proofs.CleanedUp.{cleaned_no, cleaned_ok}
 use Rattle.rt_runs.proofs.runtime.Runtime.clean_up.Goals as goal
@@ -26,3 +26,9 @@ returns-in_err-commands-clause-called g c =
     (cleaned_no (g.A.App.meaning c.args.self.now.app) c.args.self.now.state c.after_call.new.self.state c.enter-cx.result _ c.in_ok-turn.turn.meaning c.args.scope
     c.args.effect.now c.args.waiting.now refusal.0 _ _ kept c.enter-cx.ensures.begun (c.world-world.ensures kept _) c.in_ok-turn.ensures.means
     (sym parts.fault ∙ sym left.fault ∙ refusal.1) c.in_err-commands.ensures.next (left.next ∙ parts.next) refusal.2)
+
+pub returns-in_err-turn-clause-called : goal.returns-in_err-turn-clause-called
+returns-in_err-turn-clause-called g c = λ kept. (kept, search rules)
+
+pub returns-in_err-append-clause-called : goal.returns-in_err-append-clause-called
+returns-in_err-append-clause-called g c = λ kept. (kept, search rules)

@@ -1,5 +1,5 @@
 -- The hooks are called, and then the steps are open.
-use Rattle.std.proofs.Common.{◌∙◌, map, ap, sym}
+use Rattle.std.proofs.Common.{rules, ◌∙◌, map, ap, sym}
 use Rattle.std.proofs.lemmas.Result.{err_from_is_err_and}
 use Rattle.rt_model.specs.State.{Done}
 use Rattle.rt_model.specs.Run.{row_items}
@@ -23,3 +23,6 @@ returns-clause-run g c =
       done_on _ (λ v. Done v (row_items c.args.boundary (map row_step_of c.args.steps.now))) (state_of done.0 c.call_hooks.new.self.state) done.1
           ∙ ap (λ work. Done (state_of done.0 c.call_hooks.new.self.state) work) (sym c.in_ok-row_items.ensures),
     )
+
+pub returns-in_err-row_items-clause-run : goal.returns-in_err-row_items-clause-run
+returns-in_err-row_items-clause-run g c = λ kept. (kept, search rules)

@@ -1,5 +1,5 @@
 -- Whether there was an output.
-use Rattle.std.proofs.Common.{◌∙◌, ap, sym}
+use Rattle.std.proofs.Common.{rules, ◌∙◌, ap, sym}
 use Rattle.std.specs.Prelude.{[], if◌then◌else◌}
 use Rattle.rt_model.specs.Tree.{placeholder_tree}
 use Rattle.rt_model.specs.State.{Done, MainSide}
@@ -30,3 +30,6 @@ returns-clause-output g c =
           ∙ ap (λ t. start_agenda (g.A.App.meaning c.args.self.now.app) w c.args.scope MainSide t) (sym (placeholder_is c.in_ok-tree.tree c.in_ok-tree.ensures.tree)))
           came.1,
     )
+
+pub returns-in_err-tree-clause-output : goal.returns-in_err-tree-clause-output
+returns-in_err-tree-clause-output g c = λ kept. (kept, search rules)

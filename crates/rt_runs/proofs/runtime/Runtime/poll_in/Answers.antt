@@ -1,5 +1,5 @@
 -- A poll, by what its call left.
-use Rattle.std.proofs.Common.{◌∙◌, sym, subst, map}
+use Rattle.std.proofs.Common.{rules, ◌∙◌, sym, subst, map}
 use Rattle.std.proofs.lemmas.Result.{err_from_is_err_and}
 use Rattle.rt_calls.specs.Answers.{step_of}
 use Rattle.rt_calls.specs.Calls.{command_of}
@@ -31,3 +31,12 @@ returns-in_err-commands-clause-polled g c =
     (polled_no (g.A.App.meaning c.args.self.now.app) c.args.self.now.state c.after_call.new.self.state c.enter-cx.result _ c.in_ok-turn.turn.meaning
     c.args.scope c.args.task c.args.state x refusal.0 _ _ kept c.enter-cx.ensures.begun (c.world-world.ensures kept _) c.in_ok-turn.ensures.means
     (sym parts.fault ∙ sym left.fault ∙ refusal.1) c.in_err-commands.ensures.next (left.next ∙ parts.next) refusal.2)
+
+pub returns-in_err-turn-clause-polled : goal.returns-in_err-turn-clause-polled
+returns-in_err-turn-clause-polled g c = λ kept x stands. (kept, search rules)
+
+pub returns-in_err-take_step-clause-polled : goal.returns-in_err-take_step-clause-polled
+returns-in_err-take_step-clause-polled g c = λ kept x stands. (kept, search rules)
+
+pub returns-in_err-look-clause-polled : goal.returns-in_err-look-clause-polled
+returns-in_err-look-clause-polled g c = λ kept x stands. (kept, search rules)

@@ -1,5 +1,5 @@
 -- A removal is its scope's clean-ups, once that is stopped.
-use Rattle.std.proofs.Common.{◌∙◌, ap}
+use Rattle.std.proofs.Common.{rules, ◌∙◌, ap}
 use Rattle.std.specs.Prelude.{[]}
 use Rattle.rt_model.specs.Removal.{clean_ups}
 use Rattle.rt_scopes.specs.Mirror.{state_of}
@@ -17,3 +17,9 @@ returns-clause-removed g c =
           (c.as_slice.ensures.items ∙ c.in_ok-effects.ensures ∙ ap (λ hs. clean_ups hs []) (c.hooks_of.ensures kept)))
           came.1,
     )
+
+pub returns-in_err-stopped-clause-removed : goal.returns-in_err-stopped-clause-removed
+returns-in_err-stopped-clause-removed g c = λ kept. (kept, search rules)
+
+pub returns-in_err-effects-clause-removed : goal.returns-in_err-effects-clause-removed
+returns-in_err-effects-clause-removed g c = λ kept. (kept, search rules)

@@ -1,5 +1,5 @@
 -- A run, by what was found of the scope.
-use Rattle.std.proofs.Common.{◌∙◌, map, ap, sym}
+use Rattle.std.proofs.Common.{rules, ◌∙◌, map, ap, sym}
 use Rattle.std.specs.Prelude.{Some, None, option_map}
 use Rattle.rt_model.specs.State.{Done}
 use Rattle.rt_model.specs.Run.{row_of}
@@ -33,3 +33,6 @@ returns-clause-run g c =
           (c.row_of-steps.ensures ∙ ap (λ held. row_of (option_map side_name_of c.in-Some.found.now.rest.shows) held) c.is_held.ensures))
           came.1,
     )
+
+pub returns-in_err-component-clause-run : goal.returns-in_err-component-clause-run
+returns-in_err-component-clause-run g c = λ kept. (kept, search rules)

@@ -1,5 +1,5 @@
 -- A boundary's run, by whether it calls the fallback.
-use Rattle.std.proofs.Common.{◌∙◌, map, ap, sym}
+use Rattle.std.proofs.Common.{rules, ◌∙◌, map, ap, sym}
 use Rattle.rt_model.specs.State.{Done}
 use Rattle.rt_work.specs.Items.{row_step_of}
 use Rattle.rt_scopes.specs.Mirror.{state_of}
@@ -24,3 +24,6 @@ returns-clause-run g c =
           (run_free (g.A.App.meaning c.args.self.now.app) (state_of kept c.args.self.now.state) c.args.boundary (map row_step_of c.args.steps.now) c.runs_fallback.result c.runs_fallback.ensures c.if-runs_fallback.false)
           came.1,
     )
+
+pub returns-in_err-row_items-clause-run : goal.returns-in_err-row_items-clause-run
+returns-in_err-row_items-clause-run g c = λ kept. (kept, search rules)

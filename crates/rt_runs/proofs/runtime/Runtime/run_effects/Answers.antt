@@ -1,5 +1,5 @@
 -- The effects that were queued in turn, and then a look.
-use Rattle.std.proofs.Common.{◌∙◌, ap, sym}
+use Rattle.std.proofs.Common.{rules, ◌∙◌, ap, sym}
 use Rattle.std.specs.Prelude.{[]}
 use Rattle.std.proofs.lemmas.Result.{err_from_is_err_and}
 use Rattle.rt_model.specs.Next.{look}
@@ -27,3 +27,9 @@ returns-clause-run g c =
     effects_in_turn (g.A.App.meaning c.args.self.now.app) (state_of kept c.args.self.now.state) (state_of kept c.take_effects.new.self) c.args.scope c.as_slice.result.now
     (c.in_ok-effects.ensures.taken kept) (c.as_slice.ensures.items ∙ c.in_ok-effects.ensures.effects kept) in
     (done.0, whole ∙ done_on _ (λ u. Done (look u) []) _ done.1 ∙ ap (λ u. Done u []) (sym (c.in_ok-look.ensures done.0)))
+
+pub returns-in_err-effects-clause-run : goal.returns-in_err-effects-clause-run
+returns-in_err-effects-clause-run g c = λ kept. (kept, search rules)
+
+pub returns-in_err-look-clause-run : goal.returns-in_err-look-clause-run
+returns-in_err-look-clause-run g c = λ kept. (kept, search rules)

@@ -1,5 +1,5 @@
 -- The error that was copied is thrown.
-use Rattle.std.proofs.Common.{◌∙◌, ap, sym}
+use Rattle.std.proofs.Common.{rules, ◌∙◌, ap, sym}
 use Rattle.std.specs.Prelude.{[]}
 use Rattle.rt_model.specs.State.{Done}
 use Rattle.rt_model.specs.Commands.{throw_error}
@@ -13,3 +13,9 @@ returns-clause-thrown g c =
       kept,
       ap (λ w. Done w []) (sym (c.in_ok-throw_error.ensures kept ∙ ap (λ e. throw_error (state_of kept c.args.self.now.state) c.args.scope (error_of e)) c.in_ok-error.ensures)),
     )
+
+pub returns-in_err-error-clause-thrown : goal.returns-in_err-error-clause-thrown
+returns-in_err-error-clause-thrown g c = λ kept. (kept, search rules)
+
+pub returns-in_err-throw_error-clause-thrown : goal.returns-in_err-throw_error-clause-thrown
+returns-in_err-throw_error-clause-thrown g c = λ kept. (kept, search rules)
