@@ -1,5 +1,5 @@
 -- The fallback's tree, or one placeholder.
-use Rattle.std.proofs.Common.{ap, sym}
+use Rattle.std.proofs.Common.{rules, ap, sym}
 use Rattle.rt_model.specs.State.{FallbackSide}
 use Rattle.rt_model.specs.Run.{start_agenda}
 use Rattle.rt_scopes.specs.Mirror.{state_of}
@@ -13,3 +13,6 @@ returns-clause-patched g c =
       came.0,
       came_as _ _ _ _ _ (ap (λ t. start_agenda (g.A.App.meaning c.args.runtime.now.app) (state_of kept c.args.runtime.now.state) c.args.boundary FallbackSide t) (sym c.in_ok-tree.ensures)) came.1,
     )
+
+pub returns-in_err-tree-clause-patched : goal.returns-in_err-tree-clause-patched
+returns-in_err-tree-clause-patched g c = λ kept. (kept, search rules)

@@ -1,5 +1,5 @@
 -- The scopes of the fallback are dropped, where the boundary is live.
-use Rattle.std.proofs.Common.{◌∙◌, ap, sym}
+use Rattle.std.proofs.Common.{rules, ◌∙◌, ap, sym}
 use Rattle.rt_model.specs.State.{Done, DropFallback, FallbackSide}
 use Rattle.rt_model.specs.Boundary.{drop_items}
 use Rattle.rt_work.specs.Items.{work_of}
@@ -25,3 +25,9 @@ returns-clause-done g c =
           ∙ ap (λ ts. Done (state_of kept c.drop_fallback.new.state) (drop_items c.args.boundary FallbackSide ts)) (sym (c.as_slice.ensures.items ∙ c.in_ok-children.ensures.scopes kept))
           ∙ ap (λ work. Done (state_of kept c.drop_fallback.new.state) work) (sym c.in_ok-items.ensures),
     )
+
+pub returns-in_err-children-clause-done : goal.returns-in_err-children-clause-done
+returns-in_err-children-clause-done g c = λ kept. (kept, search rules)
+
+pub returns-in_err-items-clause-done : goal.returns-in_err-items-clause-done
+returns-in_err-items-clause-done g c = λ kept. (kept, search rules)

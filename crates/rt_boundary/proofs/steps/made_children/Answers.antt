@@ -1,5 +1,5 @@
 -- What follows the children of the boundary that was found.
-use Rattle.std.proofs.Common.{◌∙◌, ap, sym}
+use Rattle.std.proofs.Common.{rules, ◌∙◌, ap, sym}
 use Rattle.std.specs.Prelude.{Some, None}
 use Rattle.rt_model.specs.State.{Done}
 use Rattle.rt_work.specs.Items.{work_of}
@@ -29,3 +29,6 @@ returns-clause-done g c =
           ∙ ap (λ held. Done (state_of kept c.args.runtime.now.state) (made_items c.args.boundary held)) (sym c.is_held-held.ensures)
           ∙ ap (λ work. Done (state_of kept c.args.runtime.now.state) work) (sym c.in_ok-made_items.ensures),
     )
+
+pub returns-in_err-made_items-clause-done : goal.returns-in_err-made_items-clause-done
+returns-in_err-made_items-clause-done g c = λ kept. (kept, search rules)

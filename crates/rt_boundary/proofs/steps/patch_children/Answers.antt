@@ -1,5 +1,5 @@
 -- The tree of the children that were found.
-use Rattle.std.proofs.Common.{◌∙◌, ap, sym}
+use Rattle.std.proofs.Common.{rules, ◌∙◌, ap, sym}
 use Rattle.std.specs.Prelude.{Some, None}
 use Rattle.rt_model.specs.State.{Done}
 use Rattle.rt_work.specs.Items.{work_of}
@@ -33,3 +33,6 @@ returns-clause-done g c =
           ∙ ap (λ t. start_agenda app w c.args.boundary ChildrenSide t) (sym c.in_ok-tree.ensures))
           came.1,
     )
+
+pub returns-in_err-tree-clause-done : goal.returns-in_err-tree-clause-done
+returns-in_err-tree-clause-done g c = λ kept. (kept, search rules)

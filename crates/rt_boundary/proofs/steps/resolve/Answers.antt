@@ -1,5 +1,5 @@
 -- The callbacks are called, where the boundary is live.
-use Rattle.std.proofs.Common.{◌∙◌, ap, sym}
+use Rattle.std.proofs.Common.{rules, ◌∙◌, ap, sym}
 use Rattle.std.proofs.lemmas.Result.{err_from_is_err_and}
 use Rattle.rt_model.specs.State.{Done, Resolve}
 use Rattle.rt_model.specs.Boundary.{called_back}
@@ -40,3 +40,6 @@ returns-clause-done g c =
     ∙ ap (λ w. called_back app w (callbacks_of (state_of kept c.args.runtime.now.state) c.args.boundary)) (sym (c.in_ok-callbacks.ensures.turned kept))
     ∙ ap (λ es. called_back app (state_of kept c.resolve.new.self) es) (sym (c.as_slice.ensures.items ∙ c.in_ok-callbacks.ensures.callbacks kept)) in
     (done.0, whole ∙ done.1 ∙ ap (λ work. Done (state_of done.0 c.call_back.new.self.state) (work_of work)) (sym c.new-2.ensures.empty))
+
+pub returns-in_err-callbacks-clause-done : goal.returns-in_err-callbacks-clause-done
+returns-in_err-callbacks-clause-done g c = λ kept. (kept, search rules)

@@ -1,5 +1,5 @@
 -- The fallback of the boundary that was found.
-use Rattle.std.proofs.Common.{◌∙◌, ap, sym}
+use Rattle.std.proofs.Common.{rules, ◌∙◌, ap, sym}
 use Rattle.std.specs.Prelude.{Some, None}
 use Rattle.rt_model.specs.State.{Done}
 use Rattle.rt_work.specs.Items.{work_of}
@@ -35,3 +35,6 @@ returns-clause-done g c =
           ∙ ap (λ k. call_body app w c.args.boundary (component_of k) (λ v answer. fallback_answered app v c.args.boundary (component_of k) answer)) (sym c.in_ok-component.ensures))
           came.1,
     )
+
+pub returns-in_err-component-clause-done : goal.returns-in_err-component-clause-done
+returns-in_err-component-clause-done g c = λ kept. (kept, search rules)

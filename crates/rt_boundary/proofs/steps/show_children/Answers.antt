@@ -1,5 +1,5 @@
 -- A side shows, where the boundary is live.
-use Rattle.std.proofs.Common.{◌∙◌, [], ap, sym}
+use Rattle.std.proofs.Common.{rules, ◌∙◌, [], ap, sym}
 use Rattle.rt_model.specs.State.{Done, ShowChildren}
 use Rattle.rt_work.specs.Items.{work_of}
 use Rattle.rt_scopes.specs.Mirror.{forgets, state_of}
@@ -22,3 +22,6 @@ returns-clause-done g c =
           ∙ ap (λ w. Done w []) (sym (c.in_ok-show_children.ensures kept))
           ∙ ap (λ work. Done (state_of (forgets kept c.args.boundary) c.show_children.new.self) (work_of work)) (sym c.new-2.ensures.empty),
     )
+
+pub returns-in_err-show_children-clause-done : goal.returns-in_err-show_children-clause-done
+returns-in_err-show_children-clause-done g c = λ kept. (kept, search rules)
