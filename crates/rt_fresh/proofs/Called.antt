@@ -14,7 +14,7 @@ use Rattle.rt_model.proofs.Maps.{eq_same, at_put_here, at_put_other, at_without_
 use Rattle.rt_model.proofs.RunFrames.{body_numbered}
 use Rattle.rt_ready.proofs.Lists.{IsServe, IsDrop, serves_are, drops_are}
 use Rattle.rt_fresh.specs.Heeds.{HasMark, leavings, Marked, SameOf}
-use Rattle.rt_fresh.proofs.Calm.{error_of, context_of, holders_of, there_of, held_stays, holders_stay, Unique, unique_put, listed_same, Calm, calm_then, calm_to, calm_refl, quiet_calm, quiet_rest, no_fall, put_by, change_quiet, CalmO, onward_calm, from_calm, calm_o_to, calm_o_if}
+use Rattle.rt_fresh.proofs.Calm.{error_of, context_of, holders_of, there_of, held_stays, holders_stay, Unique, unique_put, listed_same, Pending, pending_on, Calm, calm_then, calm_to, calm_refl, quiet_calm, quiet_rest, no_fall, put_by, change_quiet, CalmO, onward_calm, from_calm, calm_o_to, calm_o_if}
 use Rattle.rt_fresh.proofs.Commanded.{commands_calm}
 use Rattle.rt_fresh.proofs.Ran.{all_from, cells_rise, next_quiet, once_quiet, unmarked_calm, hooks_calm, after_hooks_calm, answered_calm, fallback_calm, called_back_calm}
 use Rattle.rt_fresh.proofs.Owed.{rows_of, rows_join, NoRows, Kept, kept_by, kept_then, now_of, Called, called_stays}
@@ -31,11 +31,16 @@ module _ {K : Types} where
     pub posted : v.posted ≡ w.posted
     pub seen : v.seen ≡ w.seen
     pub queued : v.queued ≡ w.queued
+    pub skipped : v.skipped ≡ w.skipped
     pub next : v.next ≡ w.next
 
   pub alone_marks : (s : ℕ) (w v : State K) (t : ℕ) → Alone s w v → Marked w t → Marked v t
   alone_marks s w v t f (inl m) = inl (subst (λ (ps : List Posted). HasMark ps t) (sym f.posted) m)
   alone_marks s w v t f (inr m) = inr (ap (λ (xs : List ℕ). has xs t) f.seen ∙ m)
+
+  pub alone_pending : (s : ℕ) (w v : State K) (t : ℕ) → Alone s w v → Pending w t → Pending v t
+  alone_pending s w v t f (inl m) = inl (alone_marks s w v t f m)
+  alone_pending s w v t f (inr q) = inr (ap (λ (xs : List ℕ). has xs t) f.skipped ∙ q)
 
   pub alone_calm : (n s : ℕ) (w v : State K) → Alone s w v → Calm (Some s) n w v
   alone_calm n s w v f =
@@ -50,7 +55,7 @@ module _ {K : Types} where
               told = λ t x i p e reads low. inl (f.alike i);
               held = λ t x y p e d. inl (held_stays w v t x y (f.holders t) e d);
             };
-        lists = listed_same (Some s) w v f.seen f.queued (λ u e. ap (λ (ts : List (ℕ × TaskRow K)). is_some (at ts u)) f.tasks ∙ e);
+        lists = listed_same (Some s) w v f.seen f.queued f.skipped (λ u e. ap (λ (ts : List (ℕ × TaskRow K)). is_some (at ts u)) f.tasks ∙ e);
         orderly = λ h. record { holders = holders_stay w v f.holders (λ u e. ap (λ (ts : List (ℕ × TaskRow K)). is_some (at ts u)) f.tasks ∙ e) h.holders; unique = f.unique h.unique };
         rises = up;
       }
@@ -68,6 +73,7 @@ module _ {K : Types} where
         posted = refl;
         seen = refl;
         queued = refl;
+        skipped = refl;
         next = refl;
       }
     where
@@ -77,7 +83,7 @@ module _ {K : Types} where
       alike (Context k t) = sym (put_by (λ o. context_of k o) w.scopes s x y live (ap (λ (es : List (ℕ × K.Value)). at es k) contexts) t)
 
   own_refl : (s : ℕ) (w : State K) → Alone s w w
-  own_refl s w = record { others = λ t p. refl; calls = λ t p. refl; alike = alike; holders = λ t. refl; tasks = refl; unique = λ h. h; posted = refl; seen = refl; queued = refl; next = refl }
+  own_refl s w = record { others = λ t p. refl; calls = λ t p. refl; alike = alike; holders = λ t. refl; tasks = refl; unique = λ h. h; posted = refl; seen = refl; queued = refl; skipped = refl; next = refl }
     where
       alike : (i : Source) → SameOf w w i
       alike (Cell m) = refl
@@ -95,7 +101,7 @@ module _ {K : Types} where
 
   call_own : (w : State K) (s : ℕ) (last : LastCall K) → Alone s w (with_last_call w s last)
   call_own w s last =
-      record { others = λ t p. refl; calls = λ t p. at_put_other w.last_calls s last t p; alike = alike; holders = λ t. refl; tasks = refl; unique = λ h. h; posted = refl; seen = refl; queued = refl; next = refl }
+      record { others = λ t p. refl; calls = λ t p. at_put_other w.last_calls s last t p; alike = alike; holders = λ t. refl; tasks = refl; unique = λ h. h; posted = refl; seen = refl; queued = refl; skipped = refl; next = refl }
     where
       alike : (i : Source) → SameOf w (with_last_call w s last) i
       alike (Cell m) = refl
@@ -104,7 +110,7 @@ module _ {K : Types} where
 
   no_call_own : (w : State K) (s : ℕ) → Alone s w (record w { last_calls = without w.last_calls s })
   no_call_own w s =
-      record { others = λ t p. refl; calls = λ t p. at_without_other w.last_calls s t p; alike = alike; holders = λ t. refl; tasks = refl; unique = λ h. h; posted = refl; seen = refl; queued = refl; next = refl }
+      record { others = λ t p. refl; calls = λ t p. at_without_other w.last_calls s t p; alike = alike; holders = λ t. refl; tasks = refl; unique = λ h. h; posted = refl; seen = refl; queued = refl; skipped = refl; next = refl }
     where
       alike : (i : Source) → SameOf w (record w { last_calls = without w.last_calls s }) i
       alike (Cell m) = refl
@@ -228,7 +234,7 @@ module _ {K : Types} (app : Application K) where
     pub low : last.given.given.next.cells ≤ n
     pub risen : n ≤ z.next.cells
     pub called : Called app z scope last ⊎ Marked z s
-    pub marks : Marked w s → Marked z s
+    pub marks : Pending w s → Pending z s
     pub held : (is_held scope ≡ is_held x) ⊎ Marked z s
 
   -- calm changes keep that
@@ -247,7 +253,7 @@ module _ {K : Types} (app : Application K) where
         low = c.low;
         risen = up;
         called = elim c.called [ inl d ↦ called_stays app None n z v s c.scope y.0 last f refl c.found y.2 c.low d | inr m ↦ inr (f.heeds.marks s c.scope refl c.found m) ];
-        marks = λ m. f.heeds.marks s c.scope refl c.found (c.marks m);
+        marks = λ m. pending_on None n z v s c.scope f refl c.found (c.marks m);
         held = held_again y.0 (f.heeds.held s c.scope y.0 refl c.found y.1) c.held;
       }
     where
@@ -356,7 +362,7 @@ module _ {K : Types} (app : Application K) (lawful : IsLawful K app) where
   row_calm n w b x ShowFallback low =
       let v : State K = record w { resolved = drop_number w.resolved b } in
       let u : State K = change v b (λ y. record y { shows = Some FallbackSide }) in
-      calm_then (Some b) n w v u (quiet_calm (Some b) n w v (quiet_rest w v refl refl refl refl refl refl refl (no_fall w)))
+      calm_then (Some b) n w v u (quiet_calm (Some b) n w v (quiet_rest w v refl refl refl refl refl refl refl refl (no_fall w)))
       (alone_calm n b v u (change_alone v b (λ y. record y { shows = Some FallbackSide }) (λ y. refl) (λ y. refl) (λ y. refl)))
   row_calm n w b x ShowChildren low =
       let v : State K = record w { last_calls = without w.last_calls b } in
@@ -372,7 +378,7 @@ module _ {K : Types} (app : Application K) (lawful : IsLawful K app) where
           let v : State K = record w { resolved = w.resolved ++ b ∷ [] } in
           let u : State K = change v b (λ y. record y { callbacks = [] }) in
           let f : Calm None n w u =
-          calm_then None n w v u (quiet_calm None n w v (quiet_rest w v refl refl refl refl refl refl refl (no_fall w)))
+          calm_then None n w v u (quiet_calm None n w v (quiet_rest w v refl refl refl refl refl refl refl refl (no_fall w)))
           (quiet_calm None n v u (change_quiet v b (λ y. record y { callbacks = [] }) (λ y. refl))) in
           let rises = f.rises in
           let more : n ≤ u.next.cells = omega (arith, low, rises) in
@@ -488,7 +494,7 @@ module _ {K : Types} (app : Application K) (lawful : IsLawful K app) where
     fault_then w x m None live kind go is = fits_then w x m (answer_fits m.answer) live kind go is
 
     where_then : (w : State K) (x : Scope K) (m : Meaning K (Element K)) (own : Bool) → at w.scopes s ≡ Some x → x.component ≡ c
-        → ((u : State K) → at u.scopes s ≡ Some x → (Marked w s → Marked u s) → (last : LastCall K) (z : State K) → CallAt app u.next.cells u s x last z → Then P (then_on z last.answer))
+        → ((u : State K) → at u.scopes s ≡ Some x → (Pending w s → Pending u s) → (last : LastCall K) (z : State K) → CallAt app u.next.cells u s x last z → Then P (then_on z last.answer))
         → m ≡ body_of app c (world_of w s None true)
         → Then P (answered_with app (called_where own w) s (world_of w s None true) then_on m)
     where_then w x m true live kind go is = fault_then (called_once w) x m m.fault live kind (λ last z d. go (called_once w) live (λ h. h) last z d) is
@@ -496,6 +502,6 @@ module _ {K : Types} (app : Application K) (lawful : IsLawful K app) where
 
     -- what follows a call is told how the call left its scope
     pub call_then : (w : State K) (x : Scope K) → at w.scopes s ≡ Some x → x.component ≡ c
-        → ((u : State K) → at u.scopes s ≡ Some x → (Marked w s → Marked u s) → (last : LastCall K) (z : State K) → CallAt app u.next.cells u s x last z → Then P (then_on z last.answer))
+        → ((u : State K) → at u.scopes s ≡ Some x → (Pending w s → Pending u s) → (last : LastCall K) (z : State K) → CallAt app u.next.cells u s x last z → Then P (then_on z last.answer))
         → Then P (call_body app w s c then_on)
     call_then w x live kind go = where_then w x (body_of app c (world_of w s None true)) (is_own c (world_of w s None true)) live kind go refl

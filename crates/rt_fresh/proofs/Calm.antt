@@ -144,12 +144,17 @@ module _ {K : Types} where
     pub queued :
         (t : ℕ) → has v.queued t ≡ true
         → ((has w.queued t ≡ true) × (is_some (at w.tasks t) ≡ true → is_some (at v.tasks t) ≡ true)) ⊎ (is_some (at v.tasks t) ≡ true)
+    -- who was passed over is so still, and no other scope is
+    pub passes : (s : ℕ) → is_past past s ≡ false → has w.skipped s ≡ true → has v.skipped s ≡ true
+    pub passed : (s : ℕ) → has v.skipped s ≡ true → has w.skipped s ≡ true
 
-  pub listed_same : (past : Option ℕ) (w v : State K) → v.seen ≡ w.seen → v.queued ≡ w.queued → ((t : ℕ) → is_some (at w.tasks t) ≡ true → is_some (at v.tasks t) ≡ true) → Listed past w v
-  listed_same past w v seen queued tasks =
+  pub listed_same : (past : Option ℕ) (w v : State K) → v.seen ≡ w.seen → v.queued ≡ w.queued → v.skipped ≡ w.skipped → ((t : ℕ) → is_some (at w.tasks t) ≡ true → is_some (at v.tasks t) ≡ true) → Listed past w v
+  listed_same past w v seen queued skipped tasks =
       record {
         seen = λ s p h. inl (sym (ap (λ (xs : List ℕ). has xs s) seen) ∙ h);
         queued = λ t h. inl (sym (ap (λ (xs : List ℕ). has xs t) queued) ∙ h, tasks t);
+        passes = λ s p h. ap (λ (xs : List ℕ). has xs s) skipped ∙ h;
+        passed = λ s h. sym (ap (λ (xs : List ℕ). has xs s) skipped) ∙ h;
       }
 
   pub listed_then : (past : Option ℕ) (u v w : State K) → ((s : ℕ) → is_past past s ≡ false → is_live v s ≡ true → is_live w s ≡ true) → Listed past u v → Listed past v w → Listed past u w
@@ -162,10 +167,12 @@ module _ {K : Types} where
               | inl a ↦ elim (f.queued t a.0) [ inl b ↦ inl (b.0, λ i. a.1 (b.1 i)) | inr b ↦ inr (a.1 b) ]
               | inr b ↦ inr b
             ];
+        passes = λ s p h. g.passes s p (f.passes s p h);
+        passed = λ s h. f.passed s (g.passed s h);
       }
 
   pub listed_to : (past : Option ℕ) (w v : State K) → Listed None w v → Listed past w v
-  listed_to past w v f = record { seen = λ s p h. f.seen s refl h; queued = f.queued }
+  listed_to past w v f = record { seen = λ s p h. f.seen s refl h; queued = f.queued; passes = λ s p h. f.passes s refl h; passed = f.passed }
 
   live_left : (o : Option (Scope K)) → is_some o ≡ is_some (leavings o)
   live_left None = refl
@@ -179,6 +186,14 @@ module _ {K : Types} where
     pub lists : Listed past w v
     pub orderly : Orderly w → Orderly v
     pub rises : w.next.cells ≤ v.next.cells
+
+  -- a scope is marked, or was passed over by a render
+  abbrev pub Pending : State K → ℕ → Type 0
+  Pending w s = Marked w s ⊎ (has w.skipped s ≡ true)
+
+  pub pending_on : (past : Option ℕ) (n : ℕ) (w v : State K) (t : ℕ) (x : Scope K) → Calm past n w v → is_past past t ≡ false → at w.scopes t ≡ Some x → Pending w t → Pending v t
+  pending_on past n w v t x f p e (inl m) = inl (f.heeds.marks t x p e m)
+  pending_on past n w v t x f p e (inr q) = inr (f.lists.passes t p q)
 
   pub same_then : (u v w : State K) (i : Source) → SameOf u v i → SameOf v w i → SameOf u w i
   same_then u v w (Cell m) f g = f ∙ g
@@ -275,15 +290,15 @@ module _ {K : Types} where
       }
 
   -- the scopes, cells, calls and tasks stand, and so do marks
-  pub quiet_rest : (w v : State K) → v.scopes ≡ w.scopes → v.cells ≡ w.cells → v.last_calls ≡ w.last_calls → v.tasks ≡ w.tasks → v.posted ≡ w.posted → v.seen ≡ w.seen → v.queued ≡ w.queued → w.next.cells ≤ v.next.cells → Quiet w v
-  quiet_rest w v a b c d e f q g =
+  pub quiet_rest : (w v : State K) → v.scopes ≡ w.scopes → v.cells ≡ w.cells → v.last_calls ≡ w.last_calls → v.tasks ≡ w.tasks → v.posted ≡ w.posted → v.seen ≡ w.seen → v.queued ≡ w.queued → v.skipped ≡ w.skipped → w.next.cells ≤ v.next.cells → Quiet w v
+  quiet_rest w v a b c d e f q k g =
       record {
         stand = λ t. ap (λ (es : List (ℕ × Scope K)). standing (at es t)) a;
         cells = b;
         calls = c;
         tasks = λ t h. ap (λ (ts : List (ℕ × TaskRow K)). is_some (at ts t)) d ∙ h;
         unique = λ h. subst (λ (es : List (ℕ × Scope K)). Unique es) (sym a) h;
-        lists = listed_same None w v f q (λ t h. ap (λ (ts : List (ℕ × TaskRow K)). is_some (at ts t)) d ∙ h);
+        lists = listed_same None w v f q k (λ t h. ap (λ (ts : List (ℕ × TaskRow K)). is_some (at ts t)) d ∙ h);
         marks =
             λ t x live h.
             elim h [
@@ -297,7 +312,7 @@ module _ {K : Types} where
   no_fall w = omega arith
 
   pub quiet_refl : (w : State K) → Quiet w w
-  quiet_refl w = quiet_rest w w refl refl refl refl refl refl refl (no_fall w)
+  quiet_refl w = quiet_rest w w refl refl refl refl refl refl refl refl (no_fall w)
 
   pub quiet_if : (w x y : State K) (b : Bool) → Quiet w x → Quiet w y → Quiet w (if b then x else y)
   quiet_if w x y true f g = f
@@ -359,7 +374,7 @@ module _ {K : Types} where
         calls = refl;
         tasks = λ t h. h;
         unique = λ h. h;
-        lists = listed_same None w (record w { posted = w.posted ++ ps }) refl refl (λ t h. h);
+        lists = listed_same None w (record w { posted = w.posted ++ ps }) refl refl refl (λ t h. h);
         marks = λ t x e h. elim h [ inl m ↦ inl (mark_first w.posted ps t m) | inr m ↦ inr m ];
         rises = no_fall w;
       }
@@ -413,6 +428,7 @@ module _ {K : Types} where
     pub posted : v.posted ≡ w.posted
     pub seen : v.seen ≡ w.seen
     pub queued : v.queued ≡ w.queued
+    pub skipped : v.skipped ≡ w.skipped
     pub next : v.next ≡ w.next
 
   pub turned_calm : (n : ℕ) (i : Source) (w v : State K) → Turned n i w v → Calm None n w (tell v i)
@@ -428,7 +444,7 @@ module _ {K : Types} where
             };
         lists =
             listed_then None w v u (λ s p live. live_by (at u.scopes s) (at v.scopes s) (leavings_by (at u.scopes s) (at v.scopes s) (q.stand s)) live)
-            (listed_same None w v f.seen f.queued (λ t e. ap (λ (ts : List (ℕ × TaskRow K)). is_some (at ts t)) f.tasks ∙ e)) q.lists;
+            (listed_same None w v f.seen f.queued f.skipped (λ t e. ap (λ (ts : List (ℕ × TaskRow K)). is_some (at ts t)) f.tasks ∙ e)) q.lists;
         orderly =
             λ h.
             record {
@@ -482,7 +498,7 @@ module _ {K : Types} where
   put_quiet : (w : State K) (s : ℕ) (f : Scope K → Scope K) (o : Option (Scope K)) → at w.scopes s ≡ o → ((x : Scope K) → standing (Some (f x)) ≡ standing (Some x)) → Quiet w (changed_scope w s f o)
   put_quiet w s f None e same = quiet_refl w
   put_quiet w s f (Some x) e same =
-      record { stand = put_by (λ o. standing o) w.scopes s x (f x) e (same x); cells = refl; calls = refl; tasks = λ t h. h; lists = listed_same None w (changed_scope w s f (Some x)) refl refl (λ t h. h); unique = λ h. unique_put w.scopes s x (f x) e h; marks = λ t y d h. h; rises = no_fall w }
+      record { stand = put_by (λ o. standing o) w.scopes s x (f x) e (same x); cells = refl; calls = refl; tasks = λ t h. h; lists = listed_same None w (changed_scope w s f (Some x)) refl refl refl (λ t h. h); unique = λ h. unique_put w.scopes s x (f x) e h; marks = λ t y d h. h; rises = no_fall w }
 
   pub change_quiet : (w : State K) (s : ℕ) (f : Scope K → Scope K) → ((x : Scope K) → standing (Some (f x)) ≡ standing (Some x)) → Quiet w (change w s f)
   change_quiet w s f same = put_quiet w s f (at w.scopes s) refl same

@@ -36,7 +36,7 @@ module _ {K : Types} where
 
   cells_turned : (n i : ℕ) (w : State K) (es : List (ℕ × CellRow K)) → ((m : ℕ) → nat_eq m i ≡ false → at es m ≡ at w.cells m) → Turned n (Cell i) w (record w { cells = es })
   cells_turned n i w es h =
-      record { stays = λ t. refl; holders = λ t. refl; others = others; calls = refl; tasks = refl; unique = λ h. h; posted = refl; seen = refl; queued = refl; next = refl }
+      record { stays = λ t. refl; holders = λ t. refl; others = others; calls = refl; tasks = refl; unique = λ h. h; posted = refl; seen = refl; queued = refl; skipped = refl; next = refl }
     where
       others : (j : Source) → Low n j → same_source j (Cell i) ≡ false → SameOf w (record w { cells = es }) j
       others (Cell m) low q = ap (λ (o : Option (CellRow K)). cell_in o) (sym (h m q))
@@ -68,7 +68,7 @@ module _ {K : Types} where
               told = λ t x j p e reads low. inl (others j low);
               held = λ t x y p e d. inl (held_by x y (ap (λ (o : Option (Scope K)). holders_of o) (sym d ∙ e)));
             };
-        lists = listed_same None w (record w { cells = w.cells ++ (i, row) ∷ [] }) refl refl (λ t h. h);
+        lists = listed_same None w (record w { cells = w.cells ++ (i, row) ∷ [] }) refl refl refl (λ t h. h);
         orderly = λ h. record { holders = h.holders; unique = h.unique };
         rises = no_fall w;
       }
@@ -92,6 +92,7 @@ module _ {K : Types} where
         posted = refl;
         seen = refl;
         queued = refl;
+        skipped = refl;
         next = refl;
       }
     where
@@ -122,7 +123,7 @@ module _ {K : Types} where
   throw_calm n w s e = thrown_calm n w e (error_context w s)
 
   unturned : (n : ℕ) (i : Source) (w : State K) → Turned n i w w
-  unturned n i w = record { stays = λ t. refl; holders = λ t. refl; others = λ j low q. alike j; calls = refl; tasks = refl; unique = λ h. h; posted = refl; seen = refl; queued = refl; next = refl }
+  unturned n i w = record { stays = λ t. refl; holders = λ t. refl; others = λ j low q. alike j; calls = refl; tasks = refl; unique = λ h. h; posted = refl; seen = refl; queued = refl; skipped = refl; next = refl }
     where
       alike : (j : Source) → SameOf w w j
       alike (Cell m) = refl
@@ -253,7 +254,7 @@ module _ {K : Types} where
                   told = λ s x i p e reads low. inl (others i);
                   held = λ s x y p e d. left s x y e d;
                 };
-            lists = record { seen = λ s p h. inl h; queued = λ u h. let g = number_left w.queued t u h in inl (g.0, λ i. ap (λ (o : Option (TaskRow K)). is_some o) (at_without_other w.tasks t u g.1) ∙ i) };
+            lists = record { seen = λ s p h. inl h; queued = λ u h. let g = number_left w.queued t u h in inl (g.0, λ i. ap (λ (o : Option (TaskRow K)). is_some o) (at_without_other w.tasks t u g.1) ∙ i); passes = λ s p h. h; passed = λ s h. h };
             orderly = λ h. record { holders = left_holders h.holders; unique = left_unique w.scopes h.unique };
             rises = no_fall w;
           }
@@ -267,7 +268,7 @@ module _ {K : Types} where
 
   pub task_quiet : (w : State K) (t : ℕ) (x : TaskRow K) → Quiet w (record w { tasks = put w.tasks t x })
   task_quiet w t x =
-      record { stand = λ s. refl; cells = refl; calls = refl; tasks = λ u h. task_there w.tasks t x u h; lists = listed_same None w (record w { tasks = put w.tasks t x }) refl refl (λ u h. task_there w.tasks t x u h); unique = λ h. h; marks = λ s y e h. h; rises = no_fall w }
+      record { stand = λ s. refl; cells = refl; calls = refl; tasks = λ u h. task_there w.tasks t x u h; lists = listed_same None w (record w { tasks = put w.tasks t x }) refl refl refl (λ u h. task_there w.tasks t x u h); unique = λ h. h; marks = λ s y e h. h; rises = no_fall w }
 
   activated_quiet : (w : State K) (t : ℕ) (active : Bool) (o : Option (TaskRow K)) → Quiet w (activated w t active o)
   activated_quiet w t active None = quiet_refl w
@@ -292,14 +293,14 @@ module _ {K : Types} where
       let row : TaskRow K = record { scope = scope; parent = polled; state = a; active = true; kind = if isomorphic then Isomorphic else ClientOnly } in
       let v : State K = record w { tasks = w.tasks ++ (t, row) ∷ [] } in
       let more : Quiet w v =
-      record { stand = λ s. refl; cells = refl; calls = refl; tasks = λ u h. task_joins w.tasks t row u h; lists = listed_same None w v refl refl (λ u h. task_joins w.tasks t row u h); unique = λ h. h; marks = λ s y e h. h; rises = no_fall w } in
+      record { stand = λ s. refl; cells = refl; calls = refl; tasks = λ u h. task_joins w.tasks t row u h; lists = listed_same None w v refl refl refl (λ u h. task_joins w.tasks t row u h); unique = λ h. h; marks = λ s y e h. h; rises = no_fall w } in
       quiet_if w (post v (Woken t)) w (is_live w scope) (quiet_then w v (post v (Woken t)) more (post_quiet v (Woken t))) (quiet_refl w)
 
   -- what else a command changes
 
   context_quiet : (w : State K) (c : ℕ) (f : ContextRow K → ContextRow K) (o : Option (ContextRow K)) → Quiet w (elim o as (λ z. State K) [ None ↦ w | Some x ↦ record w { contexts = put w.contexts c (f x) } ])
   context_quiet w c f None = quiet_refl w
-  context_quiet w c f (Some x) = quiet_rest w (record w { contexts = put w.contexts c (f x) }) refl refl refl refl refl refl refl (no_fall w)
+  context_quiet w c f (Some x) = quiet_rest w (record w { contexts = put w.contexts c (f x) }) refl refl refl refl refl refl refl refl (no_fall w)
 
   registered_quiet : (w : State K) (s : ℕ) (e : K.Effect) (o : Option ℕ) → Quiet w (registered w s e o)
   registered_quiet w s e None = quiet_refl w
@@ -341,6 +342,7 @@ module _ {K : Types} where
           posted = refl;
           seen = refl;
           queued = refl;
+          skipped = refl;
           next = refl;
         }
       where
@@ -372,7 +374,7 @@ module _ {K : Types} where
                 told = λ t z i p e reads low. inl (others i);
                 held = λ t a b p e d. inl (held_by a b (ap (λ (o : Option (Scope K)). holders_of o) (sym d) ∙ holders t ∙ ap (λ (o : Option (Scope K)). holders_of o) e));
               };
-          lists = listed_same None w (record w { scopes = put w.scopes s (provides k v x) }) refl refl (λ t h. h);
+          lists = listed_same None w (record w { scopes = put w.scopes s (provides k v x) }) refl refl refl (λ t h. h);
           orderly =
               λ h.
               record {
@@ -424,7 +426,7 @@ module _ {K : Types} where
     command_calm n w s polled (DropCell m) from = dropped_calm n w m
     command_calm n w s polled (NewContext m t) from =
         let v : State K = record w { contexts = w.contexts ++ (m, record { scope = s; target = t; sources = [] }) ∷ [] } in
-        calm_if None n w v w (is_live w s) (quietly n w v (quiet_rest w v refl refl refl refl refl refl refl (no_fall w))) (calm_refl None n w)
+        calm_if None n w v w (is_live w s) (quietly n w v (quiet_rest w v refl refl refl refl refl refl refl refl (no_fall w))) (calm_refl None n w)
     command_calm n w s polled (Reset m) from = quietly n w _ (context_quiet w m (λ x. record x { sources = [] }) (at w.contexts m))
     command_calm n w s polled (ReadInto m i) from = quietly n w _ (context_quiet w m (λ x. record x { sources = one_more_source x.sources i }) (at w.contexts m))
     command_calm n w s polled (Spawn t a forever isomorphic) from =

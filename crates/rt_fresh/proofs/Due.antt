@@ -165,15 +165,15 @@ module _ {K : Types} where
 
 module _ {K : Types} (app : Application K) (lawful : IsLawful K app) where
   -- what is owed, where what is seen is live and what is queued is there
-  module _ (m : Machine K) (h : Scheduled app lawful m.state) where
+  module _ (m : Machine K) (h : Scheduled app lawful ⊥ m.state) where
     abbrev w : State K
     w = m.state
 
     abbrev r : State K
     r = at_rest m.state
 
-    rested : Scheduled app lawful r
-    rested = calm_scheduled app lawful w.next.cells w r (quiet_calm None w.next.cells w r (rest_quiet w)) h
+    rested : Scheduled app lawful ⊥ r
+    rested = calm_scheduled app lawful ⊥ w.next.cells w r (quiet_calm None w.next.cells w r (rest_quiet w)) h
 
     live_before : (s : ℕ) → is_live r s ≡ true → is_live w s ≡ true
     live_before s live = live_by (at w.scopes s) (at r.scopes s) (sym (leavings_by (at r.scopes s) (at w.scopes s) ((rest_quiet w).stand s))) live
@@ -215,7 +215,7 @@ module _ {K : Types} (app : Application K) (lawful : IsLawful K app) (limits : L
 
   work_or_rest : (work : List (Item K)) (e : Entry) → m.dead ≡ None → m.built ≡ true → m.work ≡ work → due_any app m ≡ Some e → due_item app m work ≡ Some e → names_live m.state e ≡ true
   work_or_rest [] e alive built none is here =
-      let h : Holding app lawful m.state m.work = reached_holds app lawful limits props inputs m reached built alive in
+      let h : Holding app lawful ⊥ m.state m.work = reached_holds app lawful ⊥ limits props inputs m reached built alive in
       heard_named app lawful m h.scheduled (waiting m) e refl here
   work_or_rest (item ∷ rest) e alive built first is here = open_named item rest (is_silent item) e alive first refl is here
 

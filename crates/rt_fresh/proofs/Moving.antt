@@ -42,7 +42,7 @@ use Rattle.rt_ready.proofs.Opens.{Opens, calm_twigs, run_opens, row_opens}
 use Rattle.rt_ready.proofs.Weaves.{knows_of, idle_same, put_side, numbered_twigs, props_twigs}
 use Rattle.rt_ready.proofs.Everywhere.{WovenOn, steps_idle, feeds_idle, fed_kid, batch_quiet, heard_stays, ReadyAt, work_state, move_ready, start_ready}
 use Rattle.rt_fresh.specs.Heeds.{is_past, leavings, Marked, SameOf}
-use Rattle.rt_fresh.proofs.Calm.{live_by, standing, error_of, context_of, holders_of, Unique, unique_put, Orderly, Calm, Quiet, quiet_then, quiet_calm, change_quiet, CalmO}
+use Rattle.rt_fresh.proofs.Calm.{live_by, standing, error_of, context_of, holders_of, Unique, unique_put, Orderly, Pending, Calm, Quiet, quiet_then, quiet_calm, change_quiet, CalmO}
 use Rattle.rt_fresh.proofs.Ran.{next_quiet, rest_quiet, mounted_quiet, take_calm, polled_calm, effects_calm, heard_calm}
 use Rattle.rt_fresh.proofs.Owed.{Stage, still_at, rows_of, Alike, Called, called_again, BodyCurrent, StageHolds, OwesAs, ScopeOwes, Owes}
 use Rattle.rt_fresh.proofs.Called.{Alone, alone_calm, change_alone, Then, then_if, run_calm, step_calm}
@@ -175,14 +175,17 @@ module _ {K : Types} where
           posted = refl;
           seen = refl;
           queued = refl;
+          skipped = refl;
           next = refl;
         }
 
-module _ {K : Types} (app : Application K) (lawful : IsLawful K app) where
+-- Q is known wherever a scope was passed over by a render
+module _ {K : Types} (app : Application K) (lawful : IsLawful K app) (Q : Type 0) where
   -- what is seen is live, and what is queued hasn't ended
   pub record Scheduled (w : State K) : Type 0 where
     pub seen : (s : ℕ) → has w.seen s ≡ true → is_live w s ≡ true
     pub queued : (t : ℕ) → has w.queued t ≡ true → is_some (at w.tasks t) ≡ true
+    pub passed : (s : ℕ) → has w.skipped s ≡ true → Q
 
   still_queued : (past : Option ℕ) (n : ℕ) (w v : State K) → Calm past n w v → Scheduled w → (t : ℕ) → has v.queued t ≡ true → is_some (at v.tasks t) ≡ true
   still_queued past n w v f h t q = elim (f.lists.queued t q) [ inl a ↦ a.1 (h.queued t a.0) | inr b ↦ b ]
@@ -191,7 +194,7 @@ module _ {K : Types} (app : Application K) (lawful : IsLawful K app) where
   still_seen past n w v f h s p q = elim (f.lists.seen s p q) [ inl a ↦ live_by (at v.scopes s) (at w.scopes s) (f.heeds.stays s p) (h.seen s a) | inr b ↦ b ]
 
   pub calm_scheduled : (n : ℕ) (w v : State K) → Calm None n w v → Scheduled w → Scheduled v
-  calm_scheduled n w v f h = record { seen = λ s q. still_seen None n w v f h s refl q; queued = λ t q. still_queued None n w v f h t q }
+  calm_scheduled n w v f h = record { seen = λ s q. still_seen None n w v f h s refl q; queued = λ t q. still_queued None n w v f h t q; passed = λ s q. h.passed s (f.lists.passed s q) }
 
   -- where one scope is passed over, it is live if it is seen
   but_scheduled : (n s : ℕ) (w v : State K) → Calm (Some s) n w v → (has v.seen s ≡ true → is_live v s ≡ true) → Scheduled w → Scheduled v
@@ -207,6 +210,7 @@ module _ {K : Types} (app : Application K) (lawful : IsLawful K app) where
             )
             (λ p. still_seen (Some s) n w v f h t p q);
         queued = λ t q. still_queued (Some s) n w v f h t q;
+        passed = λ t q. h.passed t (f.lists.passed t q);
       }
 
   -- what holds of a state and its open work
@@ -469,14 +473,14 @@ module _ {K : Types} (app : Application K) (lawful : IsLawful K app) where
       call_there : at given.last_calls t ≡ at w.last_calls t
       call_there = ap (λ (z : State K). at z.last_calls t) given_is
 
-      marks_on : Marked w t → Marked given t
-      marks_on m = subst (λ (z : State K). Marked z t) (sym given_is) m
+      marks_on : Pending w t → Pending given t
+      marks_on m = subst (λ (z : State K). Pending z t) (sym given_is) m
 
-      body_on : BodyCurrent app w t y ⊎ Marked w t → BodyCurrent app given t y2 ⊎ Marked given t
+      body_on : BodyCurrent app w t y ⊎ Pending w t → BodyCurrent app given t y2 ⊎ Pending given t
       body_on (inl d) = inl (d.0, call_there ∙ d.1, called_on d.0 d.2, d.3)
       body_on (inr m) = inr (marks_on m)
 
-      stage_on : (g : Stage) → StageHolds app w t y g ⊎ Marked w t → StageHolds app given t y2 g ⊎ Marked given t
+      stage_on : (g : Stage) → StageHolds app w t y g ⊎ Pending w t → StageHolds app given t y2 g ⊎ Pending given t
       stage_on g (inr m) = inr (marks_on m)
       stage_on g (inl d) =
           inl
@@ -737,7 +741,7 @@ module _ {K : Types} (app : Application K) (lawful : IsLawful K app) where
         }
 
     first_scheduled : Scheduled first
-    first_scheduled = record { seen = λ s h. let absurdity : false ≡ true = h in cc; queued = λ t h. let absurdity : false ≡ true = h in cc }
+    first_scheduled = record { seen = λ s h. let absurdity : false ≡ true = h in cc; queued = λ t h. let absurdity : false ≡ true = h in cc; passed = λ s h. let absurdity : false ≡ true = h in cc }
 
     first_run : HoldingO [] (run app first 0)
     first_run =

@@ -14,7 +14,7 @@ use Rattle.rt_model.proofs.Maps.{by_test, pick_true, pick_false, eq_same}
 use Rattle.rt_fresh.specs.Heeds.{is_past, Leavings, leavings, Marked, SameOf, Heeds}
 use Rattle.rt_fresh.specs.Fresh.{CallStands, Fresh}
 use Rattle.rt_fresh.proofs.Marks.{all_named, named_of, each_or}
-use Rattle.rt_fresh.proofs.Calm.{Calm, reads_by}
+use Rattle.rt_fresh.proofs.Calm.{Pending, pending_on, Calm, reads_by}
 
 -- how far the run of a suspense boundary is: the side that shows, and the steps that are left
 pub data Stage : Type 0 where
@@ -320,18 +320,18 @@ module _ {K : Types} (app : Application K) where
     pub held : (h : Bool) → held_at g ≡ Some h → is_held x ≡ h
     pub called : called_at g ≡ true → FallbackCurrent w b x
 
-  -- a boundary's run is at a stage, and what is to hold there holds, or the boundary is marked
+  -- a boundary's run is at a stage, and what is to hold there holds, or a run is pending
   pub record AtStage (w : State K) (rows : List RowStep) (b : ℕ) (x : Scope K) : Type 0 where
     pub stage : Stage
     pub shows : x.shows ≡ shows_at stage
     pub steps : rows ≡ steps_at stage
     pub unread : unread_at stage ≡ true → x.reads ≡ []
-    pub owed : StageHolds w b x stage ⊎ Marked w b
+    pub owed : StageHolds w b x stage ⊎ Pending w b
 
-  -- no step is left of another scope's run, and its output is current or it is marked
+  -- no step is left of another scope's run, and its output is current or a run is pending
   pub record AtBody (w : State K) (rows : List RowStep) (s : ℕ) (x : Scope K) : Type 0 where
     pub steps : rows ≡ []
-    pub owed : BodyCurrent w s x ⊎ Marked w s
+    pub owed : BodyCurrent w s x ⊎ Pending w s
 
   abbrev pub OwesAs : Bool → State K → List RowStep → ℕ → Scope K → Type 0
   OwesAs true w rows s x = AtStage w rows s x
@@ -352,12 +352,12 @@ module _ {K : Types} (app : Application K) where
 
   module _ (past : Option ℕ) (w v : State K) (f : Calm past w.next.cells w v) (s : ℕ) (x y : Scope K) (p : is_past past s ≡ false)
       (live : at w.scopes s ≡ Some x) (there : at v.scopes s ≡ Some y) (same : leavings (Some y) ≡ leavings (Some x)) where
-    body_stays : BodyCurrent w s x ⊎ Marked w s → BodyCurrent v s y ⊎ Marked v s
-    body_stays (inr m) = inr (f.heeds.marks s x p live m)
+    body_stays : BodyCurrent w s x ⊎ Pending w s → BodyCurrent v s y ⊎ Pending v s
+    body_stays (inr m) = inr (pending_on past w.next.cells w v s x f p live m)
     body_stays (inl h) =
         elim (called_stays past w.next.cells w v s x y h.0 f p live same (h.2).low h.2) [
           | inl c ↦ inl (h.0, f.heeds.calls s p ∙ h.1, c, keeps_by h.0 (h.0).answer x.main_side.output y.main_side.output (main_by x y same) h.3)
-          | inr m ↦ inr m
+          | inr m ↦ inr (inl m)
         ]
 
     fallback_stays : FallbackCurrent w s x → FallbackCurrent v s y ⊎ Marked v s
@@ -372,17 +372,17 @@ module _ {K : Types} (app : Application K) where
 
     held_with : (g : Stage) → (is_held y ≡ is_held x) ⊎ Marked v s → (patched_at g ≡ true → y.children_side.output ≡ Some (children_of y.component)) → ((h : Bool) → held_at g ≡ Some h → is_held x ≡ h)
         → ((called_at g ≡ true → FallbackCurrent v s y) ⊎ Marked v s)
-        → StageHolds v s y g ⊎ Marked v s
-    held_with g (inr m) patched held called = inr m
-    held_with g (inl e) patched held (inr m) = inr m
+        → StageHolds v s y g ⊎ Pending v s
+    held_with g (inr m) patched held called = inr (inl m)
+    held_with g (inl e) patched held (inr m) = inr (inl m)
     held_with g (inl e) patched held (inl called) = inl (record { patched = patched; held = λ h q. e ∙ held h q; called = called })
 
     called_with : (b : Bool) → (b ≡ true → FallbackCurrent w s x) → (b ≡ true → FallbackCurrent v s y) ⊎ Marked v s
     called_with true h = elim (fallback_stays (h refl)) [ inl c ↦ inl (λ q. c) | inr m ↦ inr m ]
     called_with false h = inl (λ q. let absurdity : false ≡ true = q in cc)
 
-    pub stage_stays : (g : Stage) → StageHolds w s x g ⊎ Marked w s → StageHolds v s y g ⊎ Marked v s
-    stage_stays g (inr m) = inr (f.heeds.marks s x p live m)
+    pub stage_stays : (g : Stage) → StageHolds w s x g ⊎ Pending w s → StageHolds v s y g ⊎ Pending v s
+    stage_stays g (inr m) = inr (pending_on past w.next.cells w v s x f p live m)
     stage_stays g (inl h) = held_with g (f.heeds.held s x y p live there) (λ q. patched_stays (h.patched q)) h.held (called_with (called_at g) h.called)
 
     owes_as : (b : Bool) (rows : List RowStep) → OwesAs b w rows s x → OwesAs b v rows s y

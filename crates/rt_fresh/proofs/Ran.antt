@@ -43,10 +43,10 @@ module _ {K : Types} where
   cells_rise f g cs h = (numbered_rises f cs g h).cells
 
   pub next_quiet : (w : State K) (next : Firsts) → w.next.cells ≤ next.cells → Quiet w (with_next w next)
-  next_quiet w next up = quiet_rest w (with_next w next) refl refl refl refl refl refl refl up
+  next_quiet w next up = quiet_rest w (with_next w next) refl refl refl refl refl refl refl refl up
 
   pub once_quiet : (w : State K) → Quiet w (called_once w)
-  once_quiet w = quiet_rest w (called_once w) refl refl refl refl refl refl refl (no_fall w)
+  once_quiet w = quiet_rest w (called_once w) refl refl refl refl refl refl refl refl (no_fall w)
 
   -- the marks of one scope go
   pub unmarked_calm : (n : ℕ) (w : State K) (s : ℕ) → Calm (Some s) n w (unmarked w s)
@@ -60,7 +60,7 @@ module _ {K : Types} where
               told = λ t x i p e reads low. inl (alike i);
               held = λ t x y p e d. inl (held_by x y (ap (λ (o : Option (Scope K)). holders_of o) (sym d ∙ e)));
             };
-        lists = record { seen = λ t p h. inl (number_left w.seen s t h).0; queued = λ t h. inl (h, λ i. i) };
+        lists = record { seen = λ t p h. inl (number_left w.seen s t h).0; queued = λ t h. inl (h, λ i. i); passes = λ t p h. number_stays w.skipped s t p h; passed = λ t h. (number_left w.skipped s t h).0 };
         orderly = λ h. record { holders = h.holders; unique = h.unique };
         rises = no_fall w;
       }
@@ -127,7 +127,7 @@ module _ {K : Types} where
           lists =
               listed_then None w with_joined posted_joined
               (λ s p live. live_by (at posted_joined.scopes s) (at with_joined.scopes s) (leavings_by (at posted_joined.scopes s) (at with_joined.scopes s) (posted.stand s)) live)
-              (listed_same None w with_joined refl refl (λ t h. h)) posted.lists;
+              (listed_same None w with_joined refl refl refl (λ t h. h)) posted.lists;
           orderly =
               λ h.
               record {
@@ -187,6 +187,8 @@ module _ {K : Types} where
             record {
               seen = λ t p h. elim (join_left w.seen s t h) [ inl g ↦ inl g | inr same ↦ inr (subst (λ (k : ℕ). is_live w k ≡ true) same live) ];
               queued = λ t h. inl (h, λ i. i);
+              passes = λ t p h. h;
+              passed = λ t h. h;
             };
         marks = λ t x e h. elim h [ inl m ↦ inl m | inr m ↦ inr (join_keeps w.seen s t m) ];
         rises = no_fall w;
@@ -204,6 +206,8 @@ module _ {K : Types} where
             record {
               seen = λ s p h. inl h;
               queued = λ u h. elim (join_left w.queued t u h) [ inl g ↦ inl (g, λ i. i) | inr same ↦ inr (subst (λ (k : ℕ). is_some (at w.tasks k) ≡ true) same there) ];
+              passes = λ s p h. h;
+              passed = λ s h. h;
             };
         marks = λ s x e h. h;
         rises = no_fall w;
@@ -256,7 +260,7 @@ module _ {K : Types} where
         calls = f.calls;
         tasks = f.tasks;
         unique = f.unique;
-        lists = record { seen = f.lists.seen; queued = f.lists.queued };
+        lists = record { seen = f.lists.seen; queued = f.lists.queued; passes = f.lists.passes; passed = f.lists.passed };
         marks = λ t x e h. elim h [ inl m ↦ look_sees w.posted u t x e m | inr m ↦ f.marks t x e (inr m) ];
         rises = f.rises;
       }
@@ -269,7 +273,7 @@ module _ {K : Types} where
         calls = refl;
         tasks = λ u h. h;
         unique = λ h. h;
-        lists = record { seen = λ s p h. inl h; queued = λ u h. inl ((number_left w.queued t u h).0, λ i. i) };
+        lists = record { seen = λ s p h. inl h; queued = λ u h. inl ((number_left w.queued t u h).0, λ i. i); passes = λ s p h. h; passed = λ s h. h };
         marks = λ s x e h. h;
         rises = no_fall w;
       }
@@ -317,7 +321,7 @@ module _ {K : Types} where
   mounted_unique w (e ∷ es) h = (mounted_none w es e.0 h.0, mounted_unique w es h.1)
 
   pub mounted_quiet : (w : State K) → Quiet w (mounted_state w)
-  mounted_quiet w = record { stand = mounted_by w w.scopes; cells = refl; calls = refl; tasks = λ t h. h; unique = λ h. mounted_unique w w.scopes h; lists = listed_same None w (mounted_state w) refl refl (λ t h. h); marks = λ t x e h. h; rises = no_fall w }
+  mounted_quiet w = record { stand = mounted_by w w.scopes; cells = refl; calls = refl; tasks = λ t h. h; unique = λ h. mounted_unique w w.scopes h; lists = listed_same None w (mounted_state w) refl refl refl (λ t h. h); marks = λ t x e h. h; rises = no_fall w }
 
   -- inputs
 
@@ -450,7 +454,7 @@ module _ {K : Types} (app : Application K) (lawful : IsLawful K app) where
         calls = refl;
         tasks = λ s h. h;
         unique = λ h. h;
-        lists = record { seen = λ s p h. inl h; queued = λ u h. inl ((number_left w.queued t u h).0, λ i. i) };
+        lists = record { seen = λ s p h. inl h; queued = λ u h. inl ((number_left w.queued t u h).0, λ i. i); passes = λ s p h. h; passed = λ s h. h };
         marks = λ s x e h. elim h [ inl m ↦ inl (mark_stays w.posted (Woken t) s refl m) | inr m ↦ inr m ];
         rises = no_fall w;
       }

@@ -72,11 +72,11 @@ module _ {K : Types} (app : Application K) where
 
 module _ {K : Types} (app : Application K) (lawful : IsLawful K app) where
   -- after the entries of a log it holds
-  moved_holds : (limits : Limits) (props : K.Props) (inputs : List (Input K)) (v : Machine K) (log : List Entry) (moves : List Move) → Leads app limits (start app props inputs) moves v → entries moves ≡ log → IsFilled log → HoldingOn app lawful v
+  moved_holds : (limits : Limits) (props : K.Props) (inputs : List (Input K)) (v : Machine K) (log : List Entry) (moves : List Move) → Leads app limits (start app props inputs) moves v → entries moves ≡ log → IsFilled log → HoldingOn app lawful ⊥ v
   moved_holds limits props inputs v log [] leads e filled = not_filled log e filled
-  moved_holds limits props inputs v log (move ∷ moves) leads e filled = begun_holds app lawful props limits inputs v move moves leads
+  moved_holds limits props inputs v log (move ∷ moves) leads e filled = begun_holds app lawful ⊥ props limits inputs v move moves leads
 
-  accepted_holds : (limits : Limits) (props : K.Props) (inputs : List (Input K)) (v : Machine K) (log : List Entry) → replay_within app limits (Some (start app props inputs)) log ≡ Some v → IsFilled log → HoldingOn app lawful v
+  accepted_holds : (limits : Limits) (props : K.Props) (inputs : List (Input K)) (v : Machine K) (log : List Entry) → replay_within app limits (Some (start app props inputs)) log ≡ Some v → IsFilled log → HoldingOn app lawful ⊥ v
   accepted_holds limits props inputs v log accepted filled =
       let found = logs_are_moves app limits (start app props inputs) v log refl accepted in
       moved_holds limits props inputs v log found.0 found.1 found.2 filled
@@ -87,9 +87,9 @@ module _ {K : Types} (app : Application K) (lawful : IsLawful K app) where
       → tell_reports app m logs ≡ Some told
       → replay_within app limits (Some m) (joined logs ++ more) ≡ Some last
       → AllByRecursion (λ (log : List Entry). IsFilled log) logs
-      → AllByRecursion (λ (r : Told K). HoldingOn app lawful r.machine) told
+      → AllByRecursion (λ (r : Told K). HoldingOn app lawful ⊥ r.machine) told
   told_hold limits props inputs [] before more m last told first tells within filled =
-      subst (λ (rs : List (Told K)). AllByRecursion (λ (r : Told K). HoldingOn app lawful r.machine) rs) (none_told told tells) tt
+      subst (λ (rs : List (Told K)). AllByRecursion (λ (r : Told K). HoldingOn app lawful ⊥ r.machine) rs) (none_told told tells) tt
   told_hold limits props inputs (log ∷ logs) before more m last told first tells within filled =
       let f : First app m log logs told = first-of app m log logs told tells in
       let v : Machine K = (f.0).machine in
@@ -98,22 +98,22 @@ module _ {K : Types} (app : Application K) (lawful : IsLawful K app) where
       let same : parts.0 ≡ v = one_machine parts.0 v (sym (within-replays app limits log m parts.0 parts.1) ∙ log-replays app log (telling m) f.0 f.2) in
       let so_far : replay_within app limits (Some (start app props inputs)) (before ++ log) ≡ Some v =
       (logs_join app limits before log).0 (start app props inputs) m first ∙ parts.1 ∙ ap (λ (u : Machine K). Some u) same in
-      let here : HoldingOn app lawful v = accepted_holds limits props inputs v (before ++ log) so_far (filled_after before log filled.0) in
+      let here : HoldingOn app lawful ⊥ v = accepted_holds limits props inputs v (before ++ log) so_far (filled_after before log filled.0) in
       let rest : replay_within app limits (Some v) (joined logs ++ more) ≡ Some last = ap (λ (u : Machine K). replay_within app limits (Some u) (joined logs ++ more)) (sym same) ∙ parts.2 in
-      subst (λ (rs : List (Told K)). AllByRecursion (λ (r : Told K). HoldingOn app lawful r.machine) rs) f.4
+      subst (λ (rs : List (Told K)). AllByRecursion (λ (r : Told K). HoldingOn app lawful ⊥ r.machine) rs) f.4
       (here, told_hold limits props inputs logs (before ++ log) more v last f.1 so_far f.3 rest filled.1)
 
-  each_current : (told : List (Told K)) → AllByRecursion (λ (r : Told K). HoldingOn app lawful r.machine) told → AllByRecursion (λ (r : Told K). is_settled r.machine ≡ true) told
+  each_current : (told : List (Told K)) → AllByRecursion (λ (r : Told K). HoldingOn app lawful ⊥ r.machine) told → AllByRecursion (λ (r : Told K). is_settled r.machine ≡ true) told
       → AllByRecursion (λ (r : Told K). AllCurrent app r.machine.state) told
   each_current [] h settled = tt
   each_current (r ∷ rs) h settled = (holding_current app lawful r.machine settled.0 (h.0 (settled_dead app lawful r.machine settled.0)), each_current rs h.1 settled.1)
 
-  each_shown : (told : List (Told K)) → AllByRecursion (λ (r : Told K). HoldingOn app lawful r.machine) told → AllByRecursion (λ (r : Told K). is_settled r.machine ≡ true) told
+  each_shown : (told : List (Told K)) → AllByRecursion (λ (r : Told K). HoldingOn app lawful ⊥ r.machine) told → AllByRecursion (λ (r : Told K). is_settled r.machine ≡ true) told
       → AllByRecursion (λ (r : Told K). AllHeldShown r.machine.state) told
   each_shown [] h settled = tt
   each_shown (r ∷ rs) h settled = (holding_shown app lawful r.machine settled.0 (h.0 (settled_dead app lawful r.machine settled.0)), each_shown rs h.1 settled.1)
 
-  each_is : (told : List (Told K)) → AllByRecursion (λ (r : Told K). HoldingOn app lawful r.machine) told → AllByRecursion (λ (r : Told K). is_settled r.machine ≡ true) told → EachIsCurrent app told
+  each_is : (told : List (Told K)) → AllByRecursion (λ (r : Told K). HoldingOn app lawful ⊥ r.machine) told → AllByRecursion (λ (r : Told K). is_settled r.machine ≡ true) told → EachIsCurrent app told
   each_is told h settled = record { current = each_current told h settled; held = each_shown told h settled }
 
 pub ran_is_current : {K : Types} (app : Application K) → RanIsCurrent app

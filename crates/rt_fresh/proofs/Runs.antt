@@ -13,7 +13,7 @@ use Rattle.rt_model.specs.Run.{call_body, has_output, row_of, runs_fallback, row
 use Rattle.rt_model.specs.Current.{stayed, KeepsAnswer}
 use Rattle.rt_model.proofs.Maps.{by_test, pick_true, pick_false}
 use Rattle.rt_fresh.specs.Heeds.{leavings, Marked, SameOf}
-use Rattle.rt_fresh.proofs.Calm.{there_of, reads_by, Calm, calm_then, CalmO}
+use Rattle.rt_fresh.proofs.Calm.{there_of, reads_by, Pending, Calm, calm_then, CalmO}
 use Rattle.rt_fresh.proofs.Ran.{hooks_calm, after_hooks_calm, answered_calm}
 use Rattle.rt_fresh.proofs.Owed.{Stage, Making, Asking, FirstCalls, FirstTurns, OpensFirst, Waits, CallsAgain, PatchesHidden, Frees, TurnsBack, Rests, Patches, Covers, Hides, Clears, Resolves, shows_at, steps_at, unread_at, rows_of, rows_join, rows_here, rows_there, NoRows, after_none, Kept, kept_by, still_at, alike_by, Called, called_again, BodyCurrent, AtStage, AtBody, OwesAs, ScopeOwes, Owes, owes_stays}
 use Rattle.rt_fresh.proofs.Called.{Alone, Then, then_if, then_onward, new_side, with_tree, agenda_is, tree_own, tree_there, agenda_rows, CallAt, call_stays, run_calm, call_then}
@@ -39,9 +39,9 @@ module _ {K : Types} (app : Application K) where
       called_again app w v x y last c (alike_by app c.caller x.component y.component c.alike kind) reads low
       (λ i q. still_at w v last i (c.fresh i (ap (λ (xs : List Source). names_source xs i) (sym reads) ∙ q)) (alike i))
 
-  -- a body has run: its answer is the output, or the scope is marked
+  -- a body has run: its answer is the output, or the scope is pending
   abbrev pub BodyRan : ℕ → VComponent K → State K → List (Item K) → Type 0
-  BodyRan s c v work = (y : Scope K) × (at v.scopes s ≡ Some y) × (y.component ≡ c) × (BodyCurrent app v s y ⊎ Marked v s) × NoRows work
+  BodyRan s c v work = (y : Scope K) × (at v.scopes s ≡ Some y) × (y.component ≡ c) × (BodyCurrent app v s y ⊎ Pending v s) × NoRows work
 
   module _ (n : ℕ) (w : State K) (s : ℕ) (x : Scope K) (last : LastCall K) (v : State K) (d : CallAt app n w s x last v) where
     -- the answer's tree is the new output
@@ -56,7 +56,7 @@ module _ {K : Types} (app : Application K) where
           d.same.component,
           elim d.called [
             | inl c ↦ inl (last, d.call, called_put v u d.scope y last c refl refl refl own.alike, keeps)
-            | inr m ↦ inr m
+            | inr m ↦ inr (inl m)
           ],
           agenda_rows app v s MainSide tree d.scope d.found,
         )
@@ -80,7 +80,7 @@ module _ {K : Types} (app : Application K) where
           d.scope,
           d.found,
           d.same.component,
-          elim d.called [ inl c ↦ inl (last, d.call, c, keeps (d.scope).main_side.output same) | inr m ↦ inr m ],
+          elim d.called [ inl c ↦ inl (last, d.call, c, keeps (d.scope).main_side.output same) | inr m ↦ inr (inl m) ],
           λ b. refl,
         )
         )
@@ -143,7 +143,7 @@ module _ {K : Types} (app : Application K) where
         shows = shows ∙ fallback;
         steps = ap (λ (o : Option SideName). row_of o true) fallback;
         unread = λ q. let absurdity : false ≡ true = q in cc;
-        owed = elim held [ inl same ↦ inl (record { patched = λ q. let absurdity : false ≡ true = q in cc; held = λ i q. same ∙ e ∙ some_bool true i q; called = λ q. let absurdity : false ≡ true = q in cc }) | inr m ↦ inr m ];
+        owed = elim held [ inl same ↦ inl (record { patched = λ q. let absurdity : false ≡ true = q in cc; held = λ i q. same ∙ e ∙ some_bool true i q; called = λ q. let absurdity : false ≡ true = q in cc }) | inr m ↦ inr (inl m) ];
       }
   first_stage v s x y shows reads held (inr (inl fallback)) false e =
       record {
@@ -151,7 +151,7 @@ module _ {K : Types} (app : Application K) where
         shows = shows ∙ fallback;
         steps = ap (λ (o : Option SideName). row_of o false) fallback;
         unread = λ q. let absurdity : false ≡ true = q in cc;
-        owed = elim held [ inl same ↦ inl (record { patched = λ q. let absurdity : false ≡ true = q in cc; held = λ i q. same ∙ e ∙ some_bool false i q; called = λ q. let absurdity : false ≡ true = q in cc }) | inr m ↦ inr m ];
+        owed = elim held [ inl same ↦ inl (record { patched = λ q. let absurdity : false ≡ true = q in cc; held = λ i q. same ∙ e ∙ some_bool false i q; called = λ q. let absurdity : false ≡ true = q in cc }) | inr m ↦ inr (inl m) ];
       }
   first_stage v s x y shows reads held (inr (inr children)) true e =
       record {
@@ -159,7 +159,7 @@ module _ {K : Types} (app : Application K) where
         shows = shows ∙ children.0;
         steps = ap (λ (o : Option SideName). row_of o true) children.0;
         unread = λ q. let absurdity : false ≡ true = q in cc;
-        owed = elim held [ inl same ↦ inl (record { patched = λ q. let absurdity : false ≡ true = q in cc; held = λ i q. same ∙ e ∙ some_bool true i q; called = λ q. let absurdity : false ≡ true = q in cc }) | inr m ↦ inr m ];
+        owed = elim held [ inl same ↦ inl (record { patched = λ q. let absurdity : false ≡ true = q in cc; held = λ i q. same ∙ e ∙ some_bool true i q; called = λ q. let absurdity : false ≡ true = q in cc }) | inr m ↦ inr (inl m) ];
       }
   first_stage v s x y shows reads held (inr (inr children)) false e =
       record {
@@ -167,7 +167,7 @@ module _ {K : Types} (app : Application K) where
         shows = shows ∙ children.0;
         steps = ap (λ (o : Option SideName). row_of o false) children.0;
         unread = λ q. reads ∙ children.1;
-        owed = elim held [ inl same ↦ inl (record { patched = λ q. let absurdity : false ≡ true = q in cc; held = λ i q. same ∙ e ∙ some_bool false i q; called = λ q. let absurdity : false ≡ true = q in cc }) | inr m ↦ inr m ];
+        owed = elim held [ inl same ↦ inl (record { patched = λ q. let absurdity : false ≡ true = q in cc; held = λ i q. same ∙ e ∙ some_bool false i q; called = λ q. let absurdity : false ≡ true = q in cc }) | inr m ↦ inr (inl m) ];
       }
 
 module _ {K : Types} (app : Application K) (lawful : IsLawful K app) where

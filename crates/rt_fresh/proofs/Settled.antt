@@ -21,7 +21,7 @@ use Rattle.rt_model.proofs.Conjunctions.{and-left, and-right}
 use Rattle.rt_fresh.specs.Heeds.{HasMark, Marked}
 use Rattle.rt_fresh.specs.Settled.{OthersAreCurrentOrOwed, AllAreCurrentOrOwed, SettledAreCurrent, SettledShowHeld}
 use Rattle.rt_fresh.proofs.Marks.{or_left, or_right, clash}
-use Rattle.rt_fresh.proofs.Calm.{there_of, leavings_by, holders_of, Unique, Quiet}
+use Rattle.rt_fresh.proofs.Calm.{Pending, there_of, leavings_by, holders_of, Unique, Quiet}
 use Rattle.rt_fresh.proofs.Again.{means_again}
 use Rattle.rt_fresh.proofs.Ran.{look_quiet, drops_quiet}
 use Rattle.rt_fresh.proofs.Owed.{Stage, Making, Asking, FirstCalls, FirstTurns, OpensFirst, Waits, CallsAgain, PatchesHidden, Frees, TurnsBack, Rests, Patches, Covers, Hides, Clears, Resolves, shows_at, steps_at, unread_at, rows_of, Called, BodyCurrent, FallbackCurrent, StageHolds, OwesAs, Owes}
@@ -198,8 +198,8 @@ module _ {K : Types} (app : Application K) (lawful : IsLawful K app) where
   stage_current w s x Clears steps shows unread d = cc
   stage_current w s x Resolves steps shows unread d = cc
 
-  -- a scope without a step left is current, or marked
-  current_as : (w : State K) (rows : List RowStep) (s : ℕ) (x : Scope K) (c : VComponent K) → rows ≡ [] → OwesAs app (is_suspense_boundary c) w rows s x → CurrentAs app w x (at w.last_calls s) c ⊎ Marked w s
+  -- a scope without a step left is current, or a run of it is pending
+  current_as : (w : State K) (rows : List RowStep) (s : ℕ) (x : Scope K) (c : VComponent K) → rows ≡ [] → OwesAs app (is_suspense_boundary c) w rows s x → CurrentAs app w x (at w.last_calls s) c ⊎ Pending w s
   current_as w rows s x (SuspenseBoundary children fallback) none h =
       elim h.owed [ inl d ↦ inl (stage_current w s x h.stage (sym none ∙ h.steps) h.shows h.unread d) | inr m ↦ inr m ]
   current_as w rows s x (Own component props) none h = elim h.owed [ inl d ↦ inl (body_current w s x d) | inr m ↦ inr m ]
@@ -209,7 +209,7 @@ module _ {K : Types} (app : Application K) (lawful : IsLawful K app) where
 
   current_or_owed : (w : State K) (work : List (Item K)) → Owes app w work → (s : ℕ) (x : Scope K) → at w.scopes s ≡ Some x → rows_of s work ≡ [] → CurrentOrOwed app w s x
   current_or_owed w work h s x live none =
-      elim (current_as w (rows_of s work) s x x.component none (h s x live)) [ inl c ↦ inl c | inr m ↦ inr (inl (marked_is w s m)) ]
+      elim (current_as w (rows_of s work) s x x.component none (h s x live)) [ inl c ↦ inl c | inr m ↦ inr (elim m [ inl k ↦ inl (marked_is w s k) | inr q ↦ inr q ]) ]
 
   held_shown : (w : State K) (x : Scope K) (last : Option (LastCall K)) (c : VComponent K) → CurrentAs app w x last c → is_suspense_boundary c ≡ true → is_side x.shows FallbackSide ≡ is_held x
   held_shown w x last (SuspenseBoundary children fallback) h true_is = h.1
@@ -237,45 +237,45 @@ module _ {K : Types} (app : Application K) (lawful : IsLawful K app) where
   settled_next m h = none_of (next m.state) (and-right (is_quiet m) (not (owes m.state)) h)
 
   -- a settled state: each scope is current
-  settled_each : (m : Machine K) → is_settled m ≡ true → Holding app lawful m.state m.work → (s : ℕ) (x : Scope K) → at m.state.scopes s ≡ Some x → IsCurrent app m.state s x
+  settled_each : (m : Machine K) → is_settled m ≡ true → Holding app lawful ⊥ m.state m.work → (s : ℕ) (x : Scope K) → at m.state.scopes s ≡ Some x → IsCurrent app m.state s x
   settled_each m settled h s x live =
       let w : State K = m.state in
       elim (current_as w (rows_of s m.work) s x x.component (ap (λ (work : List (Item K)). rows_of s work) (settled_idle m settled)) (h.owes s x live)) [
         | inl c ↦ c
-        | inr k ↦ absurd (nothing_owed w s x (settled_next m settled) live k)
+        | inr k ↦ elim k [ inl mark ↦ absurd (nothing_owed w s x (settled_next m settled) live mark) | inr q ↦ absurd (h.scheduled.passed s q) ]
       ]
 
-  held_each : (m : Machine K) → is_settled m ≡ true → Holding app lawful m.state m.work → (s : ℕ) (x : Scope K) → at m.state.scopes s ≡ Some x → HeldIsShown m.state x
+  held_each : (m : Machine K) → is_settled m ≡ true → Holding app lawful ⊥ m.state m.work → (s : ℕ) (x : Scope K) → at m.state.scopes s ≡ Some x → HeldIsShown m.state x
   held_each m settled h s x live = (
     λ true_is. held_shown m.state x (at m.state.last_calls s) x.component (settled_each m settled h s x live) true_is,
     subst (λ (o : Option (Scope K)). AllByRecursion (λ (d : ℕ × ℕ). is_some (at m.state.tasks d.0) ≡ true) (holders_of o)) live (h.orderly.holders s),
   )
 
   -- so all are
-  pub holding_current : (m : Machine K) → is_settled m ≡ true → Holding app lawful m.state m.work → AllCurrent app m.state
+  pub holding_current : (m : Machine K) → is_settled m ≡ true → Holding app lawful ⊥ m.state m.work → AllCurrent app m.state
   holding_current m settled h =
       each_entry (λ (e : ℕ × Scope K). IsCurrent app m.state e.0 e.1) m.state.scopes h.orderly.unique (λ s x live. settled_each m settled h s x live)
 
-  pub holding_shown : (m : Machine K) → is_settled m ≡ true → Holding app lawful m.state m.work → AllHeldShown m.state
+  pub holding_shown : (m : Machine K) → is_settled m ≡ true → Holding app lawful ⊥ m.state m.work → AllHeldShown m.state
   holding_shown m settled h =
       each_entry (λ (e : ℕ × Scope K). HeldIsShown m.state e.1) m.state.scopes h.orderly.unique (λ s x live. held_each m settled h s x live)
 
 pub settled_are_current : {K : Types} (app : Application K) → SettledAreCurrent app
 settled_are_current app lawful limits props inputs m reached built settled =
-    holding_current app lawful m settled (reached_holds app lawful limits props inputs m reached built (settled_dead app lawful m settled))
+    holding_current app lawful m settled (reached_holds app lawful ⊥ limits props inputs m reached built (settled_dead app lawful m settled))
 
 pub settled_show_held : {K : Types} (app : Application K) → SettledShowHeld app
 settled_show_held app lawful limits props inputs m reached built settled =
-    holding_shown app lawful m settled (reached_holds app lawful limits props inputs m reached built (settled_dead app lawful m settled))
+    holding_shown app lawful m settled (reached_holds app lawful ⊥ limits props inputs m reached built (settled_dead app lawful m settled))
 
 pub others_are_current_or_owed : {K : Types} (app : Application K) → OthersAreCurrentOrOwed app
 others_are_current_or_owed {K = K} app lawful limits props inputs m reached built alive =
-    let h : Holding app lawful m.state m.work = reached_holds app lawful limits props inputs m reached built alive in
+    let h : Holding app lawful ⊥ m.state m.work = reached_holds app lawful ⊥ limits props inputs m reached built alive in
     each_entry (λ (e : ℕ × Scope K). is_open m.state e.0 m.work ≡ false → CurrentOrOwed app m.state e.0 e.1) m.state.scopes h.orderly.unique
     (λ s x live closed. current_or_owed app lawful m.state m.work h.owes s x live (closed_rows m.state s m.work closed))
 
 pub all_are_current_or_owed : {K : Types} (app : Application K) → AllAreCurrentOrOwed app
 all_are_current_or_owed {K = K} app lawful limits props inputs m reached built alive idle =
-    let h : Holding app lawful m.state m.work = reached_holds app lawful limits props inputs m reached built alive in
+    let h : Holding app lawful ⊥ m.state m.work = reached_holds app lawful ⊥ limits props inputs m reached built alive in
     each_entry (λ (e : ℕ × Scope K). CurrentOrOwed app m.state e.0 e.1) m.state.scopes h.orderly.unique
     (λ s x live. current_or_owed app lawful m.state m.work h.owes s x live (ap (λ (work : List (Item K)). rows_of s work) idle))

@@ -12,7 +12,7 @@ use Rattle.rt_model.specs.Boundary.{tree_or_placeholder, children_of, counts_ren
 use Rattle.rt_model.proofs.Maps.{eq_same, at_put_here}
 use Rattle.rt_model.proofs.NumbersRun.{Idle, called_back_idle}
 use Rattle.rt_fresh.specs.Heeds.{Marked, SameOf}
-use Rattle.rt_fresh.proofs.Calm.{there_of, reads_by, Calm, calm_then, quiet_calm, quiet_rest, no_fall, change_quiet, CalmO}
+use Rattle.rt_fresh.proofs.Calm.{there_of, reads_by, Pending, Calm, calm_then, quiet_calm, quiet_rest, no_fall, change_quiet, CalmO}
 use Rattle.rt_fresh.proofs.Ran.{fallback_calm, called_back_calm}
 use Rattle.rt_fresh.proofs.Owed.{Stage, Asking, FirstCalls, OpensFirst, shows_at, patched_at, held_at, called_at, unread_at, rows_of, rows_join, rows_first, rows_other, rows_here, rows_there, NoRows, after_none, Kept, kept_by, Called, FallbackCurrent, StageHolds, AtStage, OwesAs, Owes, stage_stays}
 use Rattle.rt_fresh.proofs.Called.{Alone, put_alone, Then, then_onward, dropped_rows, new_side, with_tree, agenda_of, agenda_is, tree_own, tree_there, agenda_rows, CallAt, call_stays, step_calm, call_then}
@@ -26,10 +26,10 @@ module _ {K : Types} (app : Application K) where
       (y : Scope K) × (at v.scopes b ≡ Some y) × (y.component ≡ c) × AtStage app v (rows_of b (work ++ rest)) b y × ((t : ℕ) → nat_eq b t ≡ false → rows_of t work ≡ [])
 
   -- what holds of a boundary holds of another record of it, but for what a step changes
-  stage_put : (w v : State K) (b : ℕ) (x y : Scope K) (g h : Stage) → (Marked w b → Marked v b) → (patched_at h ≡ true → StageHolds app w b x g → y.children_side.output ≡ Some (children_of y.component))
+  stage_put : (w v : State K) (b : ℕ) (x y : Scope K) (g h : Stage) → (Pending w b → Pending v b) → (patched_at h ≡ true → StageHolds app w b x g → y.children_side.output ≡ Some (children_of y.component))
       → is_held y ≡ is_held x → held_at h ≡ held_at g → (called_at h ≡ true → StageHolds app w b x g → FallbackCurrent app v b y)
-      → StageHolds app w b x g ⊎ Marked w b
-      → StageHolds app v b y h ⊎ Marked v b
+      → StageHolds app w b x g ⊎ Pending w b
+      → StageHolds app v b y h ⊎ Pending v b
   stage_put w v b x y g h marks patched held same called (inl d) =
       inl (record { patched = λ q. patched q d; held = λ i q. held ∙ d.held i (sym same ∙ q); called = λ q. called q d })
   stage_put w v b x y g h marks patched held same called (inr m) = inr (marks m)
@@ -40,7 +40,7 @@ module _ {K : Types} (app : Application K) where
   fallback_put w v b x y calls kind reads output level alike h = (h.0, calls ∙ h.1, called_put app w v x y h.0 h.2 kind reads level alike, output ∙ h.3)
 
   module _ (w : State K) (rest : List (Item K)) (b : ℕ) (x : Scope K) (live : at w.scopes b ≡ Some x) where
-    patch_step : (g : Stage) → x.shows ≡ shows_at g → (unread_at g ≡ true → x.reads ≡ []) → StageHolds app w b x g ⊎ Marked w b → Patching g (rows_of b rest)
+    patch_step : (g : Stage) → x.shows ≡ shows_at g → (unread_at g ≡ true → x.reads ≡ []) → StageHolds app w b x g ⊎ Pending w b → Patching g (rows_of b rest)
         → Then (StepRan rest b x.component) (row_step app w b x PatchChildren)
     patch_step g shows unread owed p =
         let tree : Tree K = children_of x.component in
@@ -65,9 +65,9 @@ module _ {K : Types} (app : Application K) where
           λ t q. none t,
         )
 
-    ask_step : (g : Stage) → x.shows ≡ shows_at g → StageHolds app w b x g ⊎ Marked w b → (g ≡ Asking) × ([] ≡ rows_of b rest) → Then (StepRan rest b x.component) (row_step app w b x MadeChildren)
+    ask_step : (g : Stage) → x.shows ≡ shows_at g → StageHolds app w b x g ⊎ Pending w b → (g ≡ Asking) × ([] ≡ rows_of b rest) → Then (StepRan rest b x.component) (row_step app w b x MadeChildren)
     ask_step g shows owed p =
-        ask (is_held x) refl (subst (λ (i : Stage). x.shows ≡ shows_at i) p.0 shows) (subst (λ (i : Stage). StageHolds app w b x i ⊎ Marked w b) p.0 owed)
+        ask (is_held x) refl (subst (λ (i : Stage). x.shows ≡ shows_at i) p.0 shows) (subst (λ (i : Stage). StageHolds app w b x i ⊎ Pending w b) p.0 owed)
       where
         turned : (steps : List RowStep) → rows_of {K = K} b (row_items b steps ++ rest) ≡ steps
         turned steps =
@@ -76,7 +76,7 @@ module _ {K : Types} (app : Application K) where
             ∙ ap (λ (xs : List RowStep). xs ++ []) (rows_here K b steps)
             ∙ append-nil steps
 
-        held_there : (h : Bool) (i : Stage) → is_held x ≡ h → held_at i ≡ Some h → (patched_at i ≡ true) → called_at i ≡ false → StageHolds app w b x Asking ⊎ Marked w b → StageHolds app w b x i ⊎ Marked w b
+        held_there : (h : Bool) (i : Stage) → is_held x ≡ h → held_at i ≡ Some h → (patched_at i ≡ true) → called_at i ≡ false → StageHolds app w b x Asking ⊎ Pending w b → StageHolds app w b x i ⊎ Pending w b
         held_there h i is at_i patched called (inl d) =
             inl
             (record {
@@ -86,7 +86,7 @@ module _ {K : Types} (app : Application K) where
             })
         held_there h i is at_i patched called (inr m) = inr m
 
-        ask : (h : Bool) → is_held x ≡ h → x.shows ≡ None → StageHolds app w b x Asking ⊎ Marked w b
+        ask : (h : Bool) → is_held x ≡ h → x.shows ≡ None → StageHolds app w b x Asking ⊎ Pending w b
             → StepRan rest b x.component w (row_items b (if h then RunFallback ∷ ShowFallback ∷ [] else ShowChildren ∷ Resolve ∷ []))
         ask true is none owed = (
           x,
@@ -118,7 +118,7 @@ module _ {K : Types} (app : Application K) where
     changed_is : (u : State K) (f : Scope K → Scope K) → at u.scopes b ≡ Some x → change u b f ≡ record u { scopes = put u.scopes b (f x) }
     changed_is u f e = ap (λ (o : Option (Scope K)). changed_scope u b f o) e
 
-    hide_step : (g : Stage) → StageHolds app w b x g ⊎ Marked w b → Hiding g (rows_of b rest) → Then (StepRan rest b x.component) (row_step app w b x ShowFallback)
+    hide_step : (g : Stage) → StageHolds app w b x g ⊎ Pending w b → Hiding g (rows_of b rest) → Then (StepRan rest b x.component) (row_step app w b x ShowFallback)
     hide_step g owed p =
         let u : State K = record w { resolved = drop_number w.resolved b } in
         let y : Scope K = record x { shows = Some FallbackSide } in
@@ -147,7 +147,7 @@ module _ {K : Types} (app : Application K) where
         source_through (Error t) h = h
         source_through (Context k t) h = h
 
-    show_step : (g : Stage) → StageHolds app w b x g ⊎ Marked w b → Showing g (rows_of b rest) → Then (StepRan rest b x.component) (row_step app w b x ShowChildren)
+    show_step : (g : Stage) → StageHolds app w b x g ⊎ Pending w b → Showing g (rows_of b rest) → Then (StepRan rest b x.component) (row_step app w b x ShowChildren)
     show_step g owed p =
         let u : State K = record w { last_calls = without w.last_calls b } in
         let y : Scope K = record x { shows = Some ChildrenSide; reads = [] } in
@@ -169,7 +169,7 @@ module _ {K : Types} (app : Application K) where
           λ t q. refl,
         )
 
-    clear_step : (g : Stage) → x.shows ≡ shows_at g → (unread_at g ≡ true → x.reads ≡ []) → StageHolds app w b x g ⊎ Marked w b → Clearing g (rows_of b rest)
+    clear_step : (g : Stage) → x.shows ≡ shows_at g → (unread_at g ≡ true → x.reads ≡ []) → StageHolds app w b x g ⊎ Pending w b → Clearing g (rows_of b rest)
         → Then (StepRan rest b x.component) (row_step app w b x DropFallback)
     clear_step g shows unread owed p =
         let y : Scope K = record x { fallback_side = empty_side } in
@@ -194,8 +194,8 @@ module _ {K : Types} (app : Application K) where
 
 module _ {K : Types} (app : Application K) (lawful : IsLawful K app) where
   -- the fallback was called, and the call stands at v
-  called_stage : (n : ℕ) (w u : State K) (rest : List (Item K)) (b : ℕ) (x : Scope K) (last : LastCall K) (v : State K) (d : CallAt app n u b x last v) (g : Stage) → x.shows ≡ shows_at g → (Marked w b → Marked u b)
-      → StageHolds app w b x g ⊎ Marked w b → Calling g (rows_of b rest)
+  called_stage : (n : ℕ) (w u : State K) (rest : List (Item K)) (b : ℕ) (x : Scope K) (last : LastCall K) (v : State K) (d : CallAt app n u b x last v) (g : Stage) → x.shows ≡ shows_at g → (Pending w b → Pending u b)
+      → StageHolds app w b x g ⊎ Pending w b → Calling g (rows_of b rest)
       → Then (StepRan app rest b x.component) (start_agenda app v b FallbackSide (tree_or_placeholder last.answer))
   called_stage n w u rest b x last v d g shows marks owed p =
       let tree : Tree K = tree_or_placeholder last.answer in
@@ -216,13 +216,13 @@ module _ {K : Types} (app : Application K) (lawful : IsLawful K app) where
         λ t q. none t,
       )
     where
-      both : StageHolds app w b x g ⊎ Marked w b → Called app v d.scope last ⊎ Marked v b → (is_held d.scope ≡ is_held x) ⊎ Marked v b
+      both : StageHolds app w b x g ⊎ Pending w b → Called app v d.scope last ⊎ Marked v b → (is_held d.scope ≡ is_held x) ⊎ Marked v b
           → StageHolds app (with_tree app v b FallbackSide (tree_or_placeholder last.answer) d.scope d.found) b
           (with_side d.scope FallbackSide (new_side app v b FallbackSide (tree_or_placeholder last.answer) d.scope d.found)) p.0
-          ⊎ Marked v b
+          ⊎ Pending v b
       both (inr m) c h = inr (d.marks (marks m))
-      both (inl s) (inr m) h = inr m
-      both (inl s) (inl c) (inr m) = inr m
+      both (inl s) (inr m) h = inr (inl m)
+      both (inl s) (inl c) (inr m) = inr (inl m)
       both (inl s) (inl c) (inl h) =
           let tree : Tree K = tree_or_placeholder last.answer in
           let z : State K = with_tree app v b FallbackSide tree d.scope d.found in
@@ -235,7 +235,7 @@ module _ {K : Types} (app : Application K) (lawful : IsLawful K app) where
             called = λ q. (last, d.call, called_put app v z d.scope y last c refl refl refl own.alike, refl);
           })
 
-  call_step : (w : State K) (rest : List (Item K)) (b : ℕ) (x : Scope K) → at w.scopes b ≡ Some x → (g : Stage) → x.shows ≡ shows_at g → StageHolds app w b x g ⊎ Marked w b → Calling g (rows_of b rest)
+  call_step : (w : State K) (rest : List (Item K)) (b : ℕ) (x : Scope K) → at w.scopes b ≡ Some x → (g : Stage) → x.shows ≡ shows_at g → StageHolds app w b x g ⊎ Pending w b → Calling g (rows_of b rest)
       → Then (StepRan app rest b x.component) (row_step app w b x RunFallback)
   call_step w rest b x live g shows owed p =
       call_then app lawful (StepRan app rest b x.component) b x.component (λ v a. fallback_answered app v b x.component a) w x live refl
@@ -248,12 +248,12 @@ module _ {K : Types} (app : Application K) (lawful : IsLawful K app) where
       (λ v calm. called_stage u.next.cells w u rest b x last v (call_stays app u.next.cells u b x last z v calm d) g shows marks owed p)
       )
 
-  quiet_stage : (w : State K) (b : ℕ) (x : Scope K) (g h : Stage) → held_at h ≡ held_at g → patched_at h ≡ patched_at g → called_at h ≡ called_at g → StageHolds app w b x g ⊎ Marked w b → StageHolds app w b x h ⊎ Marked w b
+  quiet_stage : (w : State K) (b : ℕ) (x : Scope K) (g h : Stage) → held_at h ≡ held_at g → patched_at h ≡ patched_at g → called_at h ≡ called_at g → StageHolds app w b x g ⊎ Pending w b → StageHolds app w b x h ⊎ Pending w b
   quiet_stage w b x g h held patched called (inl d) =
       inl (record { patched = λ q. d.patched (sym patched ∙ q); held = λ i q. d.held i (sym held ∙ q); called = λ q. d.called (sym called ∙ q) })
   quiet_stage w b x g h held patched called (inr m) = inr m
 
-  resolve_step : (w : State K) (rest : List (Item K)) (b : ℕ) (x : Scope K) → at w.scopes b ≡ Some x → (g : Stage) → x.shows ≡ shows_at g → (unread_at g ≡ true → x.reads ≡ []) → StageHolds app w b x g ⊎ Marked w b
+  resolve_step : (w : State K) (rest : List (Item K)) (b : ℕ) (x : Scope K) → at w.scopes b ≡ Some x → (g : Stage) → x.shows ≡ shows_at g → (unread_at g ≡ true → x.reads ≡ []) → StageHolds app w b x g ⊎ Pending w b
       → Resolving g (rows_of b rest)
       → Then (StepRan app rest b x.component) (row_step app w b x Resolve)
   resolve_step w rest b x live g shows unread owed p =
@@ -267,7 +267,7 @@ module _ {K : Types} (app : Application K) (lawful : IsLawful K app) where
 
       f : Calm None w.next.cells w u
       f =
-          calm_then None w.next.cells w v u (quiet_calm None w.next.cells w v (quiet_rest w v refl refl refl refl refl refl refl (no_fall w)))
+          calm_then None w.next.cells w v u (quiet_calm None w.next.cells w v (quiet_rest w v refl refl refl refl refl refl refl refl (no_fall w)))
           (quiet_calm None w.next.cells v u (change_quiet v b (λ y. record y { callbacks = [] }) (λ y. refl)))
 
       more : w.next.cells ≤ u.next.cells
