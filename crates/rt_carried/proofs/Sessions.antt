@@ -37,7 +37,7 @@ use Rattle.rt_headline.proofs.Begins.{idle_settled, work_open, matches_serves, b
 use Rattle.rt_carried.specs.Carried.{UnitsCarryAnew}
 use Rattle.rt_carried.proofs.Carries.{carries, carried_both, appended_carries}
 use Rattle.rt_carried.proofs.Shown.{not_among, all_listed, shown_stands, in_range, carried_comes, may_come, comes_low}
-use Rattle.rt_carried.proofs.Limited.{alive_at, some_limits}
+use Rattle.rt_fresh.proofs.Limited.{alive_at, some_limits}
 use Rattle.rt_carried.proofs.Rests.{Begins, begins, Finishes, rests, no_moves}
 
 serves_opens_none : (e : Entry) → serves_item e ≡ true → opens e ≡ false

@@ -16,3 +16,6 @@ mod Moving
 mod Settled
 pub mod Reported
 mod Due
+pub mod Limited
+mod Passed
+mod Rendered

@@ -223,10 +223,10 @@ module _ {K : Types} (app : Application K) (lawful : IsLawful K app) (Q : Type 0
   abbrev pub HoldingOn : Machine K → Type 0
   HoldingOn m = m.dead ≡ None → Holding m.state m.work
 
-  abbrev HoldingO : List (Item K) → Outcome K → Type 0
+  abbrev pub HoldingO : List (Item K) → Outcome K → Type 0
   HoldingO rest o = Then (λ v work. Holding v (work ++ rest)) o
 
-  ended : (m : Machine K) (item : Option (Item K)) (rest : List (Item K)) (o : Outcome K) → HoldingO rest o → HoldingOn (ended_by m item rest o)
+  pub ended : (m : Machine K) (item : Option (Item K)) (rest : List (Item K)) (o : Outcome K) → HoldingO rest o → HoldingOn (ended_by m item rest o)
   ended m item rest (Done v work) h = λ alive. h
   ended m item rest (Cut v fault) h = λ alive. let absurdity : Some fault ≡ None = alive in cc
 
@@ -234,7 +234,7 @@ module _ {K : Types} (app : Application K) (lawful : IsLawful K app) (Q : Type 0
   level w = omega arith
 
   -- a calm change that leaves the tree
-  calm_holding : (w v : State K) (work : List (Item K)) → Calm None w.next.cells w v → SameTwigs w v → Holding w work → Holding v work
+  pub calm_holding : (w v : State K) (work : List (Item K)) → Calm None w.next.cells w v → SameTwigs w v → Holding w work → Holding v work
   calm_holding w v work calm same h =
       record {
         owes = stay_all app lawful w v work work calm (λ t. refl) h.owes;
@@ -294,7 +294,7 @@ module _ {K : Types} (app : Application K) (lawful : IsLawful K app) (Q : Type 0
   starts_here w rows s x none h true_is = starts_of app w s x rows none (subst (λ (b : Bool). OwesAs app b w rows s x) true_is h)
 
   -- a run where no work is open, of a scope that may be gone
-  run_alone : (w : State K) (s : ℕ) → Holding w [] → HoldingO [] (run app w s)
+  pub run_alone : (w : State K) (s : ℕ) → Holding w [] → HoldingO [] (run app w s)
   run_alone w s h =
       by_scope (at w.scopes s)
       (
@@ -581,12 +581,12 @@ module _ {K : Types} (app : Application K) (lawful : IsLawful K app) (Q : Type 0
 
   -- where no work is open
 
-  calm_o_holding : (w : State K) (o : Outcome K) → CalmO None w.next.cells w o → StayO w o → LaterO w o → IdleO o → Holding w [] → HoldingO [] o
+  pub calm_o_holding : (w : State K) (o : Outcome K) → CalmO None w.next.cells w o → StayO w o → LaterO w o → IdleO o → Holding w [] → HoldingO [] o
   calm_o_holding w (Cut v fault) f stay later idle h = tt
   calm_o_holding w (Done v work) f stay later idle h =
       subst (λ (xs : List (Item K)). Holding v (xs ++ [])) (sym idle) (calm_holding w v [] f (calm_twigs w v stay later) h)
 
-  rest_holding : (w : State K) → Holding w [] → Holding (at_rest w) []
+  pub rest_holding : (w : State K) → Holding w [] → Holding (at_rest w) []
   rest_holding w h = calm_holding w (at_rest w) [] (quiet_calm None w.next.cells w (at_rest w) (rest_quiet w)) (calm_twigs w (at_rest w) (rest_stay w) (rest_later w)) h
 
   calm_on : (m u : Machine K) → u.work ≡ [] → Stay m.state u.state → Later m.state u.state → Calm None m.state.next.cells m.state u.state → Holding m.state [] → HoldingOn u
@@ -681,7 +681,7 @@ module _ {K : Types} (app : Application K) (lawful : IsLawful K app) (Q : Type 0
       (logged_holds m m.work e refl alive (work_state app lawful m m.work refl alive (ready.idle alive)) move.settled move.due_is ready.sound.rooted (ready.sound.stands alive) (ready.woven alive) h
       (subst (λ (x : Machine K). WovenOn x) move.gives after.woven))
 
-  moves_hold : (limits : Limits) (m v : Machine K) (moves : List Move) → Leads app limits m moves v → ReadyAt app lawful m → HoldingOn m → HoldingOn v
+  pub moves_hold : (limits : Limits) (m v : Machine K) (moves : List Move) → Leads app limits m moves v → ReadyAt app lawful m → HoldingOn m → HoldingOn v
   moves_hold limits m v [] leads ready h = subst (λ (x : Machine K). HoldingOn x) (sym leads) h
   moves_hold limits m v (move ∷ moves) leads ready h =
       let u : Machine K = leads.0 in

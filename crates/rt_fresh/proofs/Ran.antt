@@ -265,7 +265,7 @@ module _ {K : Types} where
         rises = f.rises;
       }
 
-  unqueue : (w : State K) (t : ℕ) → Quiet w (record w { queued = drop_number w.queued t })
+  pub unqueue : (w : State K) (t : ℕ) → Quiet w (record w { queued = drop_number w.queued t })
   unqueue w t =
       record {
         stand = λ s. refl;

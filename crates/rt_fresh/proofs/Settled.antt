@@ -122,7 +122,7 @@ module _ {K : Types} where
       by_look v s first.0 (found v) refl none first.1 first.2
 
   -- what is found of each number is found of each entry
-  each_entry : (Q : ℕ × Scope K → Type 0) (es : List (ℕ × Scope K)) → Unique es → ((s : ℕ) (x : Scope K) → at es s ≡ Some x → Q (s, x)) → AllByRecursion (λ (e : ℕ × Scope K). Q e) es
+  pub each_entry : (Q : ℕ × Scope K → Type 0) (es : List (ℕ × Scope K)) → Unique es → ((s : ℕ) (x : Scope K) → at es s ≡ Some x → Q (s, x)) → AllByRecursion (λ (e : ℕ × Scope K). Q e) es
   each_entry Q [] unique h = tt
   each_entry Q (e ∷ es) unique h = (
     h e.0 e.1 (at_here e.0 e.1 es e.0 (eq_same e.0)),
@@ -136,7 +136,7 @@ module _ {K : Types} where
   )
 
   -- what isn't on the open work has no step left
-  closed_rows : (w : State K) (s : ℕ) (work : List (Item K)) → is_open w s work ≡ false → rows_of s work ≡ []
+  pub closed_rows : (w : State K) (s : ℕ) (work : List (Item K)) → is_open w s work ≡ false → rows_of s work ≡ []
   closed_rows w s [] h = refl
   closed_rows w s (Draw t a p k ∷ work) h = closed_rows w s work h
   closed_rows w s (Make t a p c ∷ work) h = closed_rows w s work h
@@ -207,7 +207,7 @@ module _ {K : Types} (app : Application K) (lawful : IsLawful K app) where
   current_as w rows s x (Fragment children) none h = elim h.owed [ inl d ↦ inl (body_current w s x d) | inr m ↦ inr m ]
   current_as w rows s x (ErrorBoundary children handler) none h = elim h.owed [ inl d ↦ inl (body_current w s x d) | inr m ↦ inr m ]
 
-  current_or_owed : (w : State K) (work : List (Item K)) → Owes app w work → (s : ℕ) (x : Scope K) → at w.scopes s ≡ Some x → rows_of s work ≡ [] → CurrentOrOwed app w s x
+  pub current_or_owed : (w : State K) (work : List (Item K)) → Owes app w work → (s : ℕ) (x : Scope K) → at w.scopes s ≡ Some x → rows_of s work ≡ [] → CurrentOrOwed app w s x
   current_or_owed w work h s x live none =
       elim (current_as w (rows_of s work) s x x.component none (h s x live)) [ inl c ↦ inl c | inr m ↦ inr (elim m [ inl k ↦ inl (marked_is w s k) | inr q ↦ inr q ]) ]
 

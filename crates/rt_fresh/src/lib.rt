@@ -4,10 +4,12 @@
 #![tactic(auto)]
 
 mod heeding;
+mod rendering;
 mod reporting;
 mod settling;
 
 pub use heeding::{commands_heed, fresh_repeats, removal_heeds};
+pub use rendering::{all_rendered_are_current_or_owed, rendered_are_current_or_owed};
 pub use reporting::{ran_is_current, ran_to_is_current};
 pub use settling::{
     all_are_current_or_owed, due_is_any, others_are_current_or_owed, settled_are_current,

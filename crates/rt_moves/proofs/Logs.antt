@@ -17,13 +17,13 @@ use Rattle.rt_moves.proofs.Joins.{entries-append, Leads-append}
 
 module _ {K : Types} (app : Application K) (limits : Limits) where
   -- moves that leave no entry lead from one machine to another
-  record Silently (m v : Machine K) : Type 0 where
-    moves : List Move
-    leads : Leads app limits m moves v
-    none : entries moves ≡ []
+  pub record Silently (m v : Machine K) : Type 0 where
+    pub moves : List Move
+    pub leads : Leads app limits m moves v
+    pub none : entries moves ≡ []
 
   -- a machine settles by such moves
-  abbrev Settles : Machine K → Type 0
+  abbrev pub Settles : Machine K → Type 0
   Settles m = Silently m (settled app m)
 
   already : (m : Machine K) → IsSettled m → Settles m
@@ -106,7 +106,7 @@ module _ {K : Types} (app : Application K) (limits : Limits) where
   settles_by (suc n) m few = work_settles m.work m (λ u less. settles_by n u (omega (arith, few, less))) refl
 
   -- each machine settles by silent moves
-  settles : (m : Machine K) → Settles m
+  pub settles : (m : Machine K) → Settles m
   settles m = settles_by (rows_left m.work) m (omega arith)
 
   -- the moves of a log

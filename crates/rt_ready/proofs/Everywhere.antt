@@ -65,7 +65,7 @@ module _ {K : Types} where
   ended_on m item rest (Done v work) h = λ alive. h
   ended_on m item rest (Cut v fault) h = λ alive. let absurdity : Some fault ≡ None = alive in cc
 
-  calm_whole : (w : State K) (rest : List (Item K)) (o : Outcome K) → StayO w o → LaterO w o → IdleO o → Whole w rest → WholeO rest o
+  pub calm_whole : (w : State K) (rest : List (Item K)) (o : Outcome K) → StayO w o → LaterO w o → IdleO o → Whole w rest → WholeO rest o
   calm_whole w rest (Done v work) stay later idle h =
       subst (λ (xs : List (Item K)). Whole v (xs ++ rest)) (sym idle) (whole_same w v (calm_twigs w v stay later) rest h)
   calm_whole w rest (Cut v fault) stay later idle h = tt
@@ -209,14 +209,14 @@ module _ {K : Types} (app : Application K) (lawful : IsLawful K app) where
   batch_quiet w s (e ∷ es) = onward_quiet (acted app w s e false) (λ v. batch app v s es) (λ v. batch_quiet v s es)
 
   -- the build or a unit has begun, and what its first call leads to is open
-  begun_on : (m : Machine K) (o : Outcome K) → WholeO [] o → WovenOn (ended_by m None [] o)
+  pub begun_on : (m : Machine K) (o : Outcome K) → WholeO [] o → WovenOn (ended_by m None [] o)
   begun_on m o h = ended_on m None [] o (whole_outcome [] o h)
 
   -- the state as the test for what is next left it
-  rested_whole : (w : State K) → Whole w [] → Whole (at_rest w) []
+  pub rested_whole : (w : State K) → Whole w [] → Whole (at_rest w) []
   rested_whole w h = whole_same w (at_rest w) (calm_twigs w (at_rest w) (rest_stay w) (rest_later w)) [] h
 
-  rested_knows : (w : State K) → Knows w → Knows (at_rest w)
+  pub rested_knows : (w : State K) → Knows w → Knows (at_rest w)
   rested_knows w k = knows_same w (at_rest w) (calm_twigs w (at_rest w) (rest_stay w) (rest_later w)) k
 
   -- a machine whose tree is the same and that has no open work

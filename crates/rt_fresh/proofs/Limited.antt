@@ -45,7 +45,7 @@ module _ {K : Types} (app : Application K) where
   abbrev AtLeast : Limits → ℕ → ℕ → Type 0
   AtLeast limits units height = (units ≤ limits.units) × (height ≤ limits.height)
 
-  abbrev height_needed : Option ℕ → ℕ
+  abbrev pub height_needed : Option ℕ → ℕ
   height_needed None = 0
   height_needed (Some height) = height
 
@@ -67,11 +67,17 @@ module _ {K : Types} (app : Application K) where
       by_all false false c e = refl
       by_all a true c e = cc
 
-  no_refusal : (limits : Limits) (m : Machine K) → m.dead ≡ None → height_needed (next_height m) ≤ limits.height → m.units < limits.units → refusal limits m ≡ None
+  pub no_refusal : (limits : Limits) (m : Machine K) → m.dead ≡ None → height_needed (next_height m) ≤ limits.height → m.units < limits.units → refusal limits m ≡ None
   no_refusal limits m alive high many =
       ap (λ (o : Option Fault). first_of o (first_of (depth_refused limits (next_height m)) (turns_refused limits m))) alive
       ∙ ap (λ (o : Option Fault). first_of None (first_of o (turns_refused limits m))) (no_depth limits (next_height m) high)
       ∙ ap (λ (o : Option Fault). first_of None (first_of None o)) (no_turns limits m many)
+
+  -- some limits refuse nothing here
+  pub limits_here : (m : Machine K) → m.dead ≡ None → (limits : Limits) × (refusal limits m ≡ None)
+  limits_here m alive =
+      let limits : Limits = record { units = m.units + 1; height = height_needed (next_height m); drain = 0 } in
+      (limits, no_refusal limits m alive (omega arith) (omega arith))
 
   -- some limits, and all above them, accept a log
   pub record Limited (m : Machine K) (log : List Entry) (v : Machine K) : Type 0 where
