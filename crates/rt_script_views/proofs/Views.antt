@@ -4,7 +4,7 @@ use Rattle.std.specs.Bool.{◌==◌}
 use Rattle.std.specs.Prelude.{true, false, Option, Some, None, option_map, is_none}
 use Rattle.rt_parts.specs.declared.template.Template.{Template}
 use Rattle.rt_model.specs.Program.{done, current_scope}
-use Rattle.rt_model.specs.Tree.{Slot, block, listener, template_with}
+use Rattle.rt_model.specs.Tree.{Slot, block, listener}
 use Rattle.rt_mirror.specs.Sealed.{template_of}
 use Rattle.rt_language.specs.Expressions.{SourceTypes, evaluate, evaluate_all}
 use Rattle.rt_language.specs.Sequence.{go_on}
@@ -12,7 +12,7 @@ use Rattle.rt_language.specs.Statements.{doing}
 use Rattle.rt_language.specs.Syntax as language
 use Rattle.rt_language.specs.Syntax.{View, NoViews, TextView, ElementView, SlotView}
 use Rattle.rt_language.specs.Views as views
-use Rattle.rt_language.specs.Views.{Filling, fill, fill_slot, given_by, attribute_value, attribute_of, template_nodes, slots_from}
+use Rattle.rt_language.specs.Views.{Filling, fill, fill_slot, given_by, attribute_value, attribute_of, template_nodes, template_in_bytes, slots_from}
 use Rattle.rt_syntax.specs.Mirror as source
 use Rattle.rt_syntax.specs.Mirror.{node_before, view_of, expression_of, arguments_of}
 use Rattle.rt_syntax.specs.declared.expression.Expression.{Expression}
@@ -23,7 +23,6 @@ use Rattle.rt_syntax.specs.declared.view.ViewNode.{ViewNode}
 use Rattle.rt_syntax.specs.declared.view.ViewNode.TheVariants as nodes
 use Rattle.rt_syntax.specs.declared.view.ViewSlot.{ViewSlot}
 use Rattle.rt_syntax.specs.declared.view.ViewSlot.TheVariants as slots
-use Rattle.rt_script_views.specs.Narrow.{row_length, IsNarrow, NarrowBelow, NarrowSlot}
 use Rattle.rt_script_views.specs.Plans.{Held, Planned, planned, fill_of, slot_program, fill_step, slot_step, plan_step, tree_with, one_attribute, one_slot}
 use Rattle.rt_script_views.specs.Meant.{slot_of, then_filled, filled_by, view_filled, attributes_filled, slot_filled, view_meant}
 use Rattle.rt_script_views.specs.declared.plan.Plan.{Plan}
@@ -134,15 +133,12 @@ filled-Text node text all rest is =
 pub filled-Element : (node : ViewNode) (tag : List ℕ) (namespace : Option (List ℕ)) (given : List ViewAttribute) (kids : List ViewNode) (before between after : List Fill) (rest : View)
     → node ≡ nodes.Element tag namespace given kids
     → filled_by between ≡ then_filled (filled_by before) (attributes_filled (map source.attribute_of given))
-    → (NarrowBelow (view_of kids) → filled_by after ≡ then_filled (filled_by between) (view_filled (view_of kids)))
-    → NarrowBelow (node_before node rest)
+    → filled_by after ≡ then_filled (filled_by between) (view_filled (view_of kids))
     → then_filled (filled_by after) (view_filled rest) ≡ then_filled (filled_by before) (view_filled (node_before node rest))
-unfolding NarrowBelow
-filled-Element node tag namespace given kids before between after rest is own below narrow =
+filled-Element node tag namespace given kids before between after rest is own below =
     let shape : node_before node rest ≡ ElementView tag namespace (map source.attribute_of given) (view_of kids) rest =
     ap (λ n. node_before n rest) is ∙ node-Element tag namespace given kids rest in
-    let low : NarrowBelow (ElementView tag namespace (map source.attribute_of given) (view_of kids) rest) = subst NarrowBelow shape narrow in
-    ap (λ h. then_filled h (view_filled rest)) (below low.0.1) ∙
+    ap (λ h. then_filled h (view_filled rest)) below ∙
     then-assoc (filled_by between) (view_filled (view_of kids)) (view_filled rest) ∙
     ap (λ h. then_filled h (then_filled (view_filled (view_of kids)) (view_filled rest))) own ∙
     then-assoc (filled_by before) (attributes_filled (map source.attribute_of given)) (then_filled (view_filled (view_of kids)) (view_filled rest)) ∙
@@ -151,48 +147,17 @@ filled-Element node tag namespace given kids before between after rest is own be
 
 pub filled-Slot : (node : ViewNode) (slot : ViewSlot) (plan : SlotPlan) (before after : List Fill) (rest : View)
     → node ≡ nodes.Slot slot
-    → (NarrowSlot (slot_of slot) → slot_program plan ≡ slot_filled (slot_of slot))
+    → slot_program plan ≡ slot_filled (slot_of slot)
     → after ≡ before ++ fills.Node plan ∷ []
-    → NarrowBelow (node_before node rest)
     → then_filled (filled_by after) (view_filled rest) ≡ then_filled (filled_by before) (view_filled (node_before node rest))
-unfolding NarrowBelow
-filled-Slot node slot plan before after rest is means more narrow =
+filled-Slot node slot plan before after rest is means more =
     let shape : node_before node rest ≡ SlotView (slot_of slot) rest = ap (λ n. node_before n rest) is ∙ node-Slot slot rest in
-    let low : NarrowBelow (SlotView (slot_of slot) rest) = subst NarrowBelow shape narrow in
     more-then before after (fills.Node plan) (view_filled rest) more ∙
     ap (λ h. then_filled (filled_by before) (then_filled h (view_filled rest))) (fill-is-Node plan) ∙
-    ap (λ h. then_filled (filled_by before) h) (slot_before (slot_of slot) rest (slot_program plan) (means low.0)) ∙
+    ap (λ h. then_filled (filled_by before) h) (slot_before (slot_of slot) rest (slot_program plan) means) ∙
     ap (λ v. then_filled (filled_by before) (view_filled v)) (sym shape)
 
--- nodes alone and with those that come after them
-
-pub narrow-split : (node : ViewNode) (rest : View) → NarrowBelow (node_before node rest) → NarrowBelow (node_before node NoViews) × NarrowBelow rest
-unfolding NarrowBelow
-narrow-split node rest =
-    of-each-kind (λ n. NarrowBelow (node_before n rest) → NarrowBelow (node_before n NoViews) × NarrowBelow rest)
-    (λ text h. (subst NarrowBelow (sym (node-Text text NoViews)) tt, subst NarrowBelow (node-Text text rest) h))
-    (λ tag namespace given kids h.
-    let low : NarrowBelow (ElementView tag namespace (map source.attribute_of given) (view_of kids) rest) = subst NarrowBelow (node-Element tag namespace given kids rest) h in
-    (subst NarrowBelow (sym (node-Element tag namespace given kids NoViews)) (low.0, tt), low.1))
-    (λ slot h.
-    let low : NarrowBelow (SlotView (slot_of slot) rest) = subst NarrowBelow (node-Slot slot rest) h in
-    (subst NarrowBelow (sym (node-Slot slot NoViews)) (low.0, tt), low.1))
-    node
-
-pub longer-row : (node : ViewNode) (rest : View) → row_length (node_before node rest) ≡ row_length rest + 1
-longer-row node rest =
-    of-each-kind (λ n. row_length (node_before n rest) ≡ row_length rest + 1)
-    (λ text. ap row_length (node-Text text rest))
-    (λ tag namespace given kids. ap row_length (node-Element tag namespace given kids rest))
-    (λ slot. ap row_length (node-Slot slot rest))
-    node
-
-pub row-is : (ns : List ViewNode) → row_length (view_of ns) ≡ length ns
-row-is [] = refl
-row-is (n ∷ ns) =
-    let one = longer-row n (view_of ns) in
-    let rest = row-is ns in
-    omega (arith, one, rest)
+-- whether there is a node
 
 some_node : (node : ViewNode) (rest : View) → views.is_empty (node_before node rest) ≡ false
 some_node node rest =
@@ -203,7 +168,7 @@ some_node node rest =
     node
 
 shows : (view : View) (f : Filling) → views.is_empty view ≡ false
-    → views.tree_with view f ≡ block (template_with (template_nodes 0 0 view)) f.attributes (slots_from f.slots)
+    → views.tree_with view f ≡ block (template_in_bytes (template_nodes 0 0 view)) f.attributes (slots_from f.slots)
 shows NoViews f h = cc
 shows (TextView text rest) f h = refl
 shows (ElementView tag namespace given kids rest) f h = refl
@@ -224,7 +189,7 @@ empty-some (n ∷ ns) some = sym (some_node n (view_of ns))
 pub tree-none : (ns : List ViewNode) (f : Filling) → ns ≡ [] → tree_with None f ≡ views.tree_with (view_of ns) f
 tree-none ns f is = ap (λ xs. views.tree_with (view_of xs) f) (sym is)
 
-pub tree-some : (ns : List ViewNode) (t : Template) (f : Filling) → (ns ≡ [] → ⊥) → template_of t ≡ template_with (template_nodes 0 0 (view_of ns)) → tree_with (Some t) f ≡ views.tree_with (view_of ns) f
+pub tree-some : (ns : List ViewNode) (t : Template) (f : Filling) → (ns ≡ [] → ⊥) → template_of t ≡ template_in_bytes (template_nodes 0 0 (view_of ns)) → tree_with (Some t) f ≡ views.tree_with (view_of ns) f
 tree-some [] t f some is = absurd (some refl)
 tree-some (n ∷ ns) t f some is =
     ap (λ u. block u f.attributes (slots_from f.slots)) is ∙ sym (shows (view_of (n ∷ ns)) f (some_node n (view_of ns)))
@@ -250,9 +215,6 @@ plan-means template all view none empty trees no_fill fills =
 
 -- slots
 
-narrow_in : (slot : ViewSlot) (is : language.ViewSlot) → slot_of slot ≡ is → NarrowSlot (slot_of slot) → NarrowSlot is
-narrow_in slot is same h = subst NarrowSlot same h
-
 pub means-TextOf : (slot : ViewSlot) (e : Expression) → slot ≡ slots.TextOf e → slot_program (plans.TextOf e) ≡ slot_filled (slot_of slot)
 unfolding slot_filled fill_slot
 means-TextOf slot e is = slot-is-TextOf e ∙ ap slot_filled (sym (ap slot_of is ∙ slot-TextOf e))
@@ -262,54 +224,53 @@ unfolding slot_filled fill_slot
 means-UseOf slot u is = slot-is-UseOf u ∙ ap slot_filled (sym (ap slot_of is ∙ slot-UseOf u))
 
 pub means-ListOf : (slot : ViewSlot) (count : Expression) (item : List ViewNode) (plan : Plan) → slot ≡ slots.ListOf count item
-    → (IsNarrow (view_of item) → planned plan ≡ view_meant (view_of item)) → NarrowSlot (slot_of slot)
+    → planned plan ≡ view_meant (view_of item)
     → slot_program (plans.ListOf count plan) ≡ slot_filled (slot_of slot)
-unfolding slot_filled fill_slot view_meant NarrowSlot
-means-ListOf slot count item plan is means narrow =
+unfolding slot_filled fill_slot view_meant
+means-ListOf slot count item plan is means =
     let shape : slot_of slot ≡ language.ListOf (expression_of count) (view_of item) = ap slot_of is ∙ slot-ListOf count item in
     slot-is-ListOf count plan ∙
-    ap (λ (p : Planned). slot_step (SlotPlan-F.ListOf count p)) (means (narrow_in slot (language.ListOf (expression_of count) (view_of item)) shape narrow)) ∙
+    ap (λ (p : Planned). slot_step (SlotPlan-F.ListOf count p)) means ∙
     ap slot_filled (sym shape)
 
 pub means-PickOf : (slot : ViewSlot) (test : Expression) (chosen other : List ViewNode) (first second : Plan) → slot ≡ slots.PickOf test chosen other
-    → (IsNarrow (view_of chosen) → planned first ≡ view_meant (view_of chosen)) → (IsNarrow (view_of other) → planned second ≡ view_meant (view_of other)) → NarrowSlot (slot_of slot)
+    → planned first ≡ view_meant (view_of chosen) → planned second ≡ view_meant (view_of other)
     → slot_program (plans.PickOf test first second) ≡ slot_filled (slot_of slot)
-unfolding slot_filled fill_slot view_meant NarrowSlot
-means-PickOf slot test chosen other first second is means also narrow =
+unfolding slot_filled fill_slot view_meant
+means-PickOf slot test chosen other first second is means also =
     let shape : slot_of slot ≡ language.PickOf (expression_of test) (view_of chosen) (view_of other) = ap slot_of is ∙ slot-PickOf test chosen other in
-    let low = narrow_in slot (language.PickOf (expression_of test) (view_of chosen) (view_of other)) shape narrow in
     slot-is-PickOf test first second ∙
-    (λ i. slot_step (SlotPlan-F.PickOf test (means low.0 i) (also low.1 i))) ∙
+    (λ i. slot_step (SlotPlan-F.PickOf test (means i) (also i))) ∙
     ap slot_filled (sym shape)
 
 pub means-FragmentOf : (slot : ViewSlot) (children : List ViewNode) (plan : Plan) → slot ≡ slots.FragmentOf children
-    → (IsNarrow (view_of children) → planned plan ≡ view_meant (view_of children)) → NarrowSlot (slot_of slot)
+    → planned plan ≡ view_meant (view_of children)
     → slot_program (plans.FragmentOf plan) ≡ slot_filled (slot_of slot)
-unfolding slot_filled fill_slot view_meant NarrowSlot
-means-FragmentOf slot children plan is means narrow =
+unfolding slot_filled fill_slot view_meant
+means-FragmentOf slot children plan is means =
     let shape : slot_of slot ≡ language.FragmentOf (view_of children) = ap slot_of is ∙ slot-FragmentOf children in
     slot-is-FragmentOf plan ∙
-    ap (λ (p : Planned). slot_step (SlotPlan-F.FragmentOf p)) (means (narrow_in slot (language.FragmentOf (view_of children)) shape narrow)) ∙
+    ap (λ (p : Planned). slot_step (SlotPlan-F.FragmentOf p)) means ∙
     ap slot_filled (sym shape)
 
 pub means-ErrorBoundaryOf : (slot : ViewSlot) (kids : List ViewNode) (handler : Option ComponentUse) (plan : Plan) → slot ≡ slots.ErrorBoundaryOf kids handler
-    → (IsNarrow (view_of kids) → planned plan ≡ view_meant (view_of kids)) → NarrowSlot (slot_of slot)
+    → planned plan ≡ view_meant (view_of kids)
     → slot_program (plans.ErrorBoundaryOf plan handler) ≡ slot_filled (slot_of slot)
-unfolding slot_filled fill_slot view_meant NarrowSlot
-means-ErrorBoundaryOf slot kids handler plan is means narrow =
+unfolding slot_filled fill_slot view_meant
+means-ErrorBoundaryOf slot kids handler plan is means =
     let shape : slot_of slot ≡ language.ErrorBoundaryOf (view_of kids) (option_map source.use_of handler) = ap slot_of is ∙ slot-ErrorBoundaryOf kids handler in
     slot-is-ErrorBoundaryOf plan handler ∙
-    ap (λ (p : Planned). slot_step (SlotPlan-F.ErrorBoundaryOf p handler)) (means (narrow_in slot (language.ErrorBoundaryOf (view_of kids) (option_map source.use_of handler)) shape narrow)) ∙
+    ap (λ (p : Planned). slot_step (SlotPlan-F.ErrorBoundaryOf p handler)) means ∙
     ap slot_filled (sym shape)
 
 pub means-SuspenseBoundaryOf : (slot : ViewSlot) (kids : List ViewNode) (fallback : Option ComponentUse) (plan : Plan) → slot ≡ slots.SuspenseBoundaryOf kids fallback
-    → (IsNarrow (view_of kids) → planned plan ≡ view_meant (view_of kids)) → NarrowSlot (slot_of slot)
+    → planned plan ≡ view_meant (view_of kids)
     → slot_program (plans.SuspenseBoundaryOf plan fallback) ≡ slot_filled (slot_of slot)
-unfolding slot_filled fill_slot view_meant NarrowSlot
-means-SuspenseBoundaryOf slot kids fallback plan is means narrow =
+unfolding slot_filled fill_slot view_meant
+means-SuspenseBoundaryOf slot kids fallback plan is means =
     let shape : slot_of slot ≡ language.SuspenseBoundaryOf (view_of kids) (option_map source.use_of fallback) = ap slot_of is ∙ slot-SuspenseBoundaryOf kids fallback in
     slot-is-SuspenseBoundaryOf plan fallback ∙
-    ap (λ (p : Planned). slot_step (SlotPlan-F.SuspenseBoundaryOf p fallback)) (means (narrow_in slot (language.SuspenseBoundaryOf (view_of kids) (option_map source.use_of fallback)) shape narrow)) ∙
+    ap (λ (p : Planned). slot_step (SlotPlan-F.SuspenseBoundaryOf p fallback)) means ∙
     ap slot_filled (sym shape)
 
 pub means-Hole : (slot : ViewSlot) → slot ≡ slots.Hole → slot_program plans.Hole ≡ slot_filled (slot_of slot)

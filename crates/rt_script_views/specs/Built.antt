@@ -1,9 +1,26 @@
 -- Templates that are built node by node, with their paths.
 use Rattle.std.specs.Prelude.{◌≡◌, ◌++◌, ◌∷◌, [], ◌+◌, ℕ, List, length}
-use Rattle.rt_model.specs.Tree.{TemplateAttribute, TemplateNodes, paths_of, node_slots, attribute_slots, slots_among}
+use Rattle.rt_model.specs.Tree.{TemplateAttribute, TemplateNodes, no_nodes, element_node, text_node, slot_node, paths_of, slots_among}
 use Rattle.rt_language.specs.Syntax.{View, ViewAttribute}
-use Rattle.rt_language.specs.Views.{template_nodes, template_attributes}
+use Rattle.rt_language.specs.Views.{step_of, template_nodes, template_attributes}
 use Rattle.rt_script_views.specs.declared.templates.Paths.{Paths}
+
+-- the paths of the node slots in a row below a path, whose first node has this place
+abbrev pub paths_below : List ℕ → ℕ → TemplateNodes → List (List ℕ)
+paths_below up i no_nodes = []
+paths_below up i (element_node tag namespace attributes children rest) =
+    paths_below (up ++ step_of i ∷ []) 0 children ++ paths_below up (i + 1) rest
+paths_below up i (text_node text rest) = paths_below up (i + 1) rest
+paths_below up i (slot_node k rest) = (up ++ step_of i ∷ []) ∷ paths_below up (i + 1) rest
+
+-- the paths of the attribute slots there
+abbrev pub attribute_paths_below : List ℕ → ℕ → TemplateNodes → List (List ℕ)
+attribute_paths_below up i no_nodes = []
+attribute_paths_below up i (element_node tag namespace attributes children rest) =
+    paths_of (slots_among attributes (up ++ step_of i ∷ []))
+    ++ (attribute_paths_below (up ++ step_of i ∷ []) 0 children ++ attribute_paths_below up (i + 1) rest)
+attribute_paths_below up i (text_node text rest) = attribute_paths_below up (i + 1) rest
+attribute_paths_below up i (slot_node k rest) = attribute_paths_below up (i + 1) rest
 
 -- the nodes that a view gives, numbered after those so far
 abbrev pub numbered : Paths → View → TemplateNodes
@@ -31,15 +48,15 @@ pub record AttributesBuilt (before after : Paths) (attributes : List ViewAttribu
 -- one node is built, before those that come after it
 pub record NodeBuilt (before after : Paths) (node : View → View) (made : TemplateNodes → TemplateNodes) : Type 0 where
   pub nodes : (rest : View) → numbered before (node rest) ≡ made (numbered after rest)
-  pub node_paths : (up : List ℕ) (i : ℕ) → before.path ≡ up ++ i ∷ [] → (rest : TemplateNodes)
-      → before.node_paths ++ paths_of (node_slots up i (made rest)) ≡ after.node_paths ++ paths_of (node_slots up (i + 1) rest)
-  pub attribute_paths : (up : List ℕ) (i : ℕ) → before.path ≡ up ++ i ∷ [] → (rest : TemplateNodes)
-      → before.attr_paths ++ paths_of (attribute_slots up i (made rest)) ≡ after.attr_paths ++ paths_of (attribute_slots up (i + 1) rest)
+  pub node_paths : (up : List ℕ) (i : ℕ) → before.path ≡ up ++ step_of i ∷ [] → (rest : TemplateNodes)
+      → before.node_paths ++ paths_below up i (made rest) ≡ after.node_paths ++ paths_below up (i + 1) rest
+  pub attribute_paths : (up : List ℕ) (i : ℕ) → before.path ≡ up ++ step_of i ∷ [] → (rest : TemplateNodes)
+      → before.attr_paths ++ attribute_paths_below up i (made rest) ≡ after.attr_paths ++ attribute_paths_below up (i + 1) rest
   pub path : after.path ≡ before.path
 
 -- a row of nodes is built below the present path
 pub record RowBuilt (before after : Paths) (view : View) (made : TemplateNodes) : Type 0 where
   pub nodes : numbered before view ≡ made
-  pub node_paths : after.node_paths ≡ before.node_paths ++ paths_of (node_slots before.path 0 made)
-  pub attribute_paths : after.attr_paths ≡ before.attr_paths ++ paths_of (attribute_slots before.path 0 made)
+  pub node_paths : after.node_paths ≡ before.node_paths ++ paths_below before.path 0 made
+  pub attribute_paths : after.attr_paths ≡ before.attr_paths ++ attribute_paths_below before.path 0 made
   pub path : after.path ≡ before.path

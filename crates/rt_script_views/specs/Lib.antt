@@ -1,4 +1,3 @@
-pub mod Narrow
 pub mod Plans
 pub mod Built
 pub mod Meant

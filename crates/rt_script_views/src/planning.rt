@@ -5,7 +5,6 @@ ghost use Rattle.rt_language.specs.Syntax as language;
 ghost use Rattle.rt_language.specs.Views as views;
 ghost use Rattle.rt_syntax.specs.Mirror as source;
 ghost use Rattle.rt_script_views.specs.Plans.{planned, slot_program, tree_with};
-ghost use Rattle.rt_script_views.specs.Narrow.{IsNarrow, NarrowBelow, NarrowSlot, AllNarrow};
 ghost use Rattle.rt_script_views.specs.Meant.{slot_of, view_meant, view_filled, attributes_filled, slot_filled, filled_by, then_filled, plan_meant, component_meant};
 
 use crate::plan::{ComponentPlan, Fill, Plan, SlotPlan};
@@ -20,7 +19,7 @@ pub fn component_plans(
     alloc: Global,
     components: List<ComponentSource>,
 ) -> Result<List<ComponentPlan>, OutOfMemory>
-    ensures plans { IfOk result (λ plans. AllNarrow (map source.component_of components) →
+    ensures plans { IfOk result (λ plans.
         map plan_meant plans ≡ map component_meant (map source.component_of components)) }
 {
     let mut plans = List::new(alloc);
@@ -33,7 +32,7 @@ pub fn component_plans(
 
 /// One component made ready.
 fn component_plan(alloc: Global, component: ComponentSource) -> Result<ComponentPlan, OutOfMemory>
-    ensures plan { IfOk result (λ plan. IsNarrow (source.view_of component.view) →
+    ensures plan { IfOk result (λ plan.
         plan_meant plan ≡ component_meant (source.component_of component)) }
 {
     let ComponentSource { statements, view } = component;
@@ -45,8 +44,7 @@ fn component_plan(alloc: Global, component: ComponentSource) -> Result<Component
 /// memory for more than the greatest number of them.
 #[cycle(planning)]
 fn plan_of(alloc: Global, levels: u64, nodes: List<ViewNode>) -> Result<Plan, OutOfMemory>
-    ensures plan { IfOk result (λ plan. IsNarrow (source.view_of nodes) →
-        planned plan ≡ view_meant (source.view_of nodes)) }
+    ensures plan { IfOk result (λ plan. planned plan ≡ view_meant (source.view_of nodes)) }
 {
     let template = template_for(alloc, nodes.as_slice())?;
     let mut fills = List::new(alloc);
@@ -57,8 +55,8 @@ fn plan_of(alloc: Global, levels: u64, nodes: List<ViewNode>) -> Result<Plan, Ou
 /// The template of a list of view nodes, none where there is no node.
 fn template_for(alloc: Global, nodes: &[ViewNode]) -> Result<Option<Template>, OutOfMemory>
     ensures empty { IfOk result (λ template. is_none template ≡ views.is_empty (source.view_of nodes.now)) }
-    ensures tree { IfOk result (λ template. IsNarrow (source.view_of nodes.now) →
-        (filling : views.Filling) → tree_with template filling ≡ views.tree_with (source.view_of nodes.now) filling) }
+    ensures tree { IfOk result (λ template. (filling : views.Filling) →
+        tree_with template filling ≡ views.tree_with (source.view_of nodes.now) filling) }
 {
     if nodes.is_empty() {
         Ok(None)
@@ -70,8 +68,7 @@ fn template_for(alloc: Global, nodes: &[ViewNode]) -> Result<Option<Template>, O
 /// The same in a place of its own.
 #[cycle(planning)]
 fn boxed_plan(alloc: Global, levels: u64, nodes: List<ViewNode>) -> Result<Boxed<Plan>, OutOfMemory>
-    ensures plan { IfOk result (λ plan. IsNarrow (source.view_of nodes) →
-        planned plan ≡ view_meant (source.view_of nodes)) }
+    ensures plan { IfOk result (λ plan. planned plan ≡ view_meant (source.view_of nodes)) }
 {
     let plan = plan_of(alloc, levels, nodes)?;
     Boxed::new(alloc, plan)
@@ -85,7 +82,7 @@ fn plan_nodes(
     fills: &mut List<Fill>,
     nodes: List<ViewNode>,
 ) -> Result<(), OutOfMemory>
-    ensures filled { OnOk result (NarrowBelow (source.view_of nodes) →
+    ensures filled { OnOk result (
         filled_by fills.new ≡ then_filled (filled_by fills.old) (view_filled (source.view_of nodes))) }
 {
     for node in nodes.into_vec() {
@@ -102,7 +99,7 @@ fn plan_node(
     fills: &mut List<Fill>,
     node: ViewNode,
 ) -> Result<(), OutOfMemory>
-    ensures filled { OnOk result ((rest : language.View) → NarrowBelow (source.node_before node rest) →
+    ensures filled { OnOk result ((rest : language.View) →
         then_filled (filled_by fills.new) (view_filled rest)
         ≡ then_filled (filled_by fills.old) (view_filled (source.node_before node rest))) }
 {
@@ -175,8 +172,7 @@ fn plan_attribute(fills: &mut List<Fill>, attribute: ViewAttribute) -> Result<()
 /// What fills a node slot.
 #[cycle(planning)]
 fn plan_slot(alloc: Global, levels: u64, slot: ViewSlot) -> Result<SlotPlan, OutOfMemory>
-    ensures plan { IfOk result (λ plan. NarrowSlot (slot_of slot) →
-        slot_program plan ≡ slot_filled (slot_of slot)) }
+    ensures plan { IfOk result (λ plan. slot_program plan ≡ slot_filled (slot_of slot)) }
 {
     match slot {
         ViewSlot::TextOf(text) => Ok(SlotPlan::TextOf(text)),

@@ -1,12 +1,11 @@
 //! The template of a list of view nodes, with its paths.
-ghost use Rattle.std.specs.Prelude.{◌≡◌, ◌≤◌, ◌++◌, [], ◌∷◌, length, IfOk, OnOk, map};
-ghost use Rattle.rt_model.specs.Tree.{template_with, from_slot};
+ghost use Rattle.std.specs.Prelude.{◌≡◌, ◌++◌, [], ◌∷◌, length, IfOk, OnOk, map};
+ghost use Rattle.rt_model.specs.Tree.{from_slot};
 ghost use Rattle.rt_mirror.specs.Mirror.{attribute_in};
 ghost use Rattle.rt_mirror.specs.Sealed as mirror;
-ghost use Rattle.rt_language.specs.Syntax.{NoViews};
-ghost use Rattle.rt_language.specs.Views.{template_nodes};
+ghost use Rattle.rt_language.specs.Views as views;
+ghost use Rattle.rt_language.specs.Views.{template_in_bytes, template_nodes};
 ghost use Rattle.rt_syntax.specs.Mirror as source;
-ghost use Rattle.rt_script_views.specs.Narrow.{IsNarrow, NarrowBelow};
 ghost use Rattle.rt_script_views.specs.Built.{AttributeBuilt, AttributesBuilt, NodeBuilt, RowBuilt};
 
 use rt_parts::{Template, TemplateAttribute, TemplateNode};
@@ -25,8 +24,8 @@ struct Paths {
 
 /// The template with these nodes as its roots.
 pub(crate) fn template_of(alloc: Global, roots: &[ViewNode]) -> Result<Template, OutOfMemory>
-    ensures template { IfOk result (λ template. IsNarrow (source.view_of roots.now) →
-        mirror.template_of template ≡ template_with (template_nodes 0 0 (source.view_of roots.now))) }
+    ensures template { IfOk result (λ template.
+        mirror.template_of template ≡ template_in_bytes (template_nodes 0 0 (source.view_of roots.now))) }
 {
     let mut paths = Paths {
         node_paths: List::new(alloc),
@@ -54,7 +53,7 @@ fn row_of(
     paths: &mut Paths,
     nodes: &[ViewNode],
 ) -> Result<List<TemplateNode>, OutOfMemory>
-    ensures built { IfOk result (λ made. IsNarrow (source.view_of nodes.now) →
+    ensures built { IfOk result (λ made.
         RowBuilt paths.old paths.new (source.view_of nodes.now) (mirror.nodes_of made)) }
 {
     let mut made = List::new(alloc);
@@ -71,7 +70,7 @@ fn row_of(
 
 /// The step of a path to the node at an index, the greatest one for those past it.
 fn step_of(index: usize) -> u8
-    ensures step { index ≤ 255 → result ≡ index }
+    ensures step { result ≡ views.step_of index }
 {
     match u8::try_from(index) {
         Ok(step) => step,
@@ -82,7 +81,7 @@ fn step_of(index: usize) -> u8
 /// The node of a template at the present path.
 #[cycle(template)]
 fn node_of(alloc: Global, paths: &mut Paths, node: &ViewNode) -> Result<TemplateNode, OutOfMemory>
-    ensures built { IfOk result (λ made. NarrowBelow (source.node_before node.now NoViews) →
+    ensures built { IfOk result (λ made.
         NodeBuilt paths.old paths.new (source.node_before node.now) (mirror.node_before made)) }
 {
     match node {

@@ -2,7 +2,6 @@
 use Rattle.std.proofs.Common.{◌+◌, ◌*◌, ◌≡◌, length}
 use Rattle.std.specs.Vec.Iter.{into_iter_items, into_iter_len}
 use Rattle.rt_syntax.specs.Mirror.{view_of}
-use Rattle.rt_script_views.specs.Narrow.{NarrowBelow}
 use Rattle.rt_script_views.specs.Meant.{then_filled, filled_by, view_filled}
 use Rattle.rt_script_views.proofs.planning.+planning.Given as goal
 
@@ -23,8 +22,6 @@ decreases-plan_slot l = 5 * l.levels + 4
 
 abbrev pub invariant-plan_nodes-loop-node : goal.invariant-plan_nodes-loop-node
 invariant-plan_nodes-loop-node l = record {
-  filled : NarrowBelow (view_of l.fn.nodes) →
-      (then_filled (filled_by l.fills) (view_filled (view_of (into_iter_items l.node-iterator))) ≡ then_filled (filled_by l.fn.fills) (view_filled (view_of l.fn.nodes)))
-      × NarrowBelow (view_of (into_iter_items l.node-iterator));
+  filled : then_filled (filled_by l.fills) (view_filled (view_of (into_iter_items l.node-iterator))) ≡ then_filled (filled_by l.fn.fills) (view_filled (view_of l.fn.nodes));
   count : into_iter_len l.node-iterator ≡ length (into_iter_items l.node-iterator);
 }

@@ -7,4 +7,4 @@ returns-in_ok-template_of-clause-empty c = empty-some c.args.nodes.now (some-nod
 
 pub returns-in_ok-template_of-clause-tree : goal.returns-in_ok-template_of-clause-tree
 returns-in_ok-template_of-clause-tree c =
-    λ narrow filling. tree-some c.args.nodes.now c.in_ok-template_of.field-0 filling (some-nodes c.args.nodes.now c.if-is_empty.ensures) (c.in_ok-template_of.ensures.template narrow)
+    λ filling. tree-some c.args.nodes.now c.in_ok-template_of.field-0 filling (some-nodes c.args.nodes.now c.if-is_empty.ensures) c.in_ok-template_of.ensures.template

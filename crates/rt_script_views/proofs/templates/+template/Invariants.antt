@@ -1,12 +1,11 @@
 -- The nodes so far, and those that are left, are all; so are their paths.
 use Rattle.std.proofs.Common.{◌≡◌, drop}
 use Rattle.rt_syntax.specs.Mirror.{view_of}
-use Rattle.rt_script_views.specs.Narrow.{IsNarrow}
 use Rattle.rt_script_views.proofs.Rows.{RowSoFar}
 use Rattle.rt_script_views.proofs.templates.+template.Given as goal
 
 abbrev pub invariant-row_of-loop-node : goal.invariant-row_of-loop-node
 invariant-row_of-loop-node l = record {
   index : l.index ≡ l.node-index;
-  built : IsNarrow (view_of l.nodes) → RowSoFar l.fn.paths l.paths (view_of l.nodes) (view_of (drop l.node-index l.nodes)) l.made l.node-index;
+  built : RowSoFar l.fn.paths l.paths (view_of l.nodes) (view_of (drop l.node-index l.nodes)) l.made l.node-index;
 }
