@@ -9,7 +9,6 @@ ghost use Rattle.rt_language.specs.Meaning.{action_run, next_step, pending_at, p
 ghost use Rattle.rt_language.specs.Sequence.{go_on};
 ghost use Rattle.rt_language.specs.Syntax.{NoStatements};
 ghost use Rattle.rt_syntax.specs.Mirror.{statements_of, source_of};
-ghost use Rattle.rt_script_views.specs.Narrow.{IsNarrowSource};
 ghost use Rattle.rt_script.specs.Applications.{programs_of_script, meaning_of_script, props_of_script, body_of, asked_by, heard};
 ghost use Rattle.rt_script.specs.Seen.{Comes, ComesIfRemembered};
 ghost use Rattle.rt_script.specs.Laws.{scripts_are_lawful, MeansSource};
@@ -73,7 +72,7 @@ impl Script {
     /// None where a statement stands where it may not.
     pub fn new(alloc: Global, source: Source) -> Result<Option<Script>, OutOfMemory>
         ensures means { IfOk result (λ made. IfSome made (λ script.
-            IsNarrowSource (source_of source) → MeansSource script (source_of source))) }
+            MeansSource script (source_of source))) }
     {
         if !stands(&source) {
             return Ok(None);

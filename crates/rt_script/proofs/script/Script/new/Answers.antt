@@ -3,4 +3,4 @@ use Rattle.rt_script.proofs.SameSource.{means-source}
 use Rattle.rt_script.proofs.script.Script.new.Goals as goal
 
 pub returns : goal.returns
-returns c = record { means = λ narrow. means-source c.args.source c.in_ok-components.components (c.in_ok-components.ensures.plans narrow) }
+returns c = record { means = means-source c.args.source c.in_ok-components.components c.in_ok-components.ensures.plans }
