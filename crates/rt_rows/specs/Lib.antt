@@ -6,3 +6,4 @@ pub mod EventRows
 pub mod ListRows
 pub mod DocumentRows
 pub mod NamespaceRows
+pub mod AuthorRows

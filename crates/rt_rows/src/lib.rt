@@ -1,9 +1,10 @@
 //! Worked rows of single cases: counters at their ends, kinds of tasks, events, defaults, refused
-//! edits, namespaces.
+//! edits, namespaces, what authors are told.
 //!
 //! The rows stand in specs/; each function claims that its rows compute.
 #![tactic(auto)]
 
+mod author_rows;
 mod document_rows;
 mod event_rows;
 mod list_rows;
@@ -11,6 +12,9 @@ mod namespace_rows;
 mod spent_rows;
 mod suspended_rows;
 
+pub use author_rows::{
+    callback_without_a_turn, effect_of_a_hidden_scope, provides_two_values, row_is_too_long,
+};
 pub use document_rows::{
     attributes_are_in_order, attributes_go, no_such_node, nodes_of_another_kind, repeated_numbers,
 };
