@@ -1,6 +1,6 @@
 -- What is kept of scopes, one more at a time.
 use Rattle.std.proofs.Common.{ℕ, Bool, true, false, List, [], ◌∷◌, ◌++◌, ◌≡◌, refl, ap, nat_eq, Result, Ok, Err}
-use Rattle.std.specs.Prelude.{Option, Some, None, is_some, if◌then◌else◌, OnOk, IfOk}
+use Rattle.std.specs.Prelude.{Option, Some, None, is_some, if◌then◌else◌, OnOk, IfOk, IfErr}
 use Rattle.rt_model.proofs.Maps.{pick_true, eq_same}
 use Rattle.rt_model.specs.Lists.{at}
 
@@ -34,6 +34,11 @@ module _ {A : Type 0} where
 pub if_ok : {A E : Type 0} {X Y : A → Type 0} (result : Result A E) → IfOk result X → ((a : A) → X a → Y a) → IfOk result Y
 if_ok (Ok a) h f = f a h
 if_ok (Err e) h f = tt
+
+-- what is said of why it wasn't done, and what follows
+pub if_err : {A E : Type 0} {X Y : E → Type 0} (result : Result A E) → IfErr result X → ((e : E) → X e → Y e) → IfErr result Y
+if_err (Ok a) h f = tt
+if_err (Err e) h f = f e h
 
 -- and of what was done beside it
 pub if_ok_and : {A E : Type 0} {X Y : A → Type 0} {Z : Type 0} (result : Result A E) → IfOk result X → OnOk result Z → ((a : A) → X a → Z → Y a) → IfOk result Y

@@ -13,6 +13,8 @@ mod Turning
 mod Opening
 mod Running
 mod Hearings
+mod Short
+mod Breaking
 mod Quiet
 mod Reporting
 mod Ending

@@ -30,6 +30,7 @@ use Rattle.rt_turns.proofs.Beginnings.{rests_begin, rests_cut, rests_spent, open
 use Rattle.rt_work.specs.Items.{work_of}
 use Rattle.rt_vdom.specs.Machines.{machine_of, open_work, noted, first_in, fault_in, IsFresh, Did, WasCut, BeginsAs, RemembersFor, Remembers}
 use Rattle.rt_vdom.specs.Stands.{Going, StandsFor, StandsAt, StandsQuiet, Follows, Over, Reported}
+use Rattle.rt_vdom.specs.declared.course.Course.{Course}
 use Rattle.rt_vdom.specs.declared.ended.Ended.{Ended}
 use Rattle.rt_vdom.specs.declared.ended.Ended.TheVariants as ends
 use Rattle.rt_vdom.specs.declared.machine.Machine.{Machine}
@@ -159,16 +160,16 @@ module _ {P C Q V H T E L : Type 0} (app : Application (types C Q V H T E L)) (l
   built_at h v x items o = record (machine_of h inputs 0 x) { state = v; work = items; unit = is_some o }
 
   -- the build begins
-  pub stands_built : (polled : T) (old new : Machine P C Q V H T E L)
+  pub stands_built : (old new : Machine P C Q V H T E L)
       → IsFresh old
-      → state_of (at_first polled) (old.runtime).state ≡ first_state app.root props ones
+      → state_of at_first (old.runtime).state ≡ first_state app.root props ones
       → ((g : Unkept (types C Q V H T E L)) → Did app (unit_of app (state_of g (old.runtime).state) (next.RerunScope 0)) [] old new)
       → first_in new ≡ Some replay.Build
       → new ≡ record old { runtime = new.runtime; work = new.work; first = new.first }
       → StandsAt app limits (building app limits props inputs) [] new
-  stands_built polled old new fresh is builds first frame =
+  stands_built old new fresh is builds first frame =
       let m = start app props inputs in
-      let did = builds (at_first polled) in
+      let did = builds at_first in
       let h = did.kept in
       let v = state_of h (new.runtime).state in
       let done : run app m.state 0 ≡ Done v did.work = ap (λ (x : model.State (types C Q V H T E L)). run app x 0) (sym is) ∙ did.done in
@@ -188,13 +189,13 @@ module _ {P C Q V H T E L : Type 0} (app : Application (types C Q V H T E L)) (l
       subst (λ (o : Option replay.Entry). StandsFor app limits (building app limits props inputs) o [] new) (sym first) (h, m.state, here, tt)
 
   -- its own call was cut
-  pub built_refused : (polled : T) (old new : Machine P C Q V H T E L) (fault : model.Fault)
+  pub built_refused : (old new : Machine P C Q V H T E L) (fault : model.Fault)
       → IsFresh old
-      → state_of (at_first polled) (old.runtime).state ≡ first_state app.root props ones
+      → state_of at_first (old.runtime).state ≡ first_state app.root props ones
       → ((g : Unkept (types C Q V H T E L)) → WasCut app (unit_of app (state_of g (old.runtime).state) (next.RerunScope 0)) [] fault old new)
       → Refused app limits props inputs (start app props inputs) (replay.Build ∷ noted new) [] fault
-  built_refused polled old new fault fresh is builds =
-      let cut = builds (at_first polled) in
+  built_refused old new fault fresh is builds =
+      let cut = builds at_first in
       let v = state_of cut.kept (new.runtime).state in
       let done : run app (start app props inputs).state 0 ≡ Cut v fault = ap (λ (x : model.State (types C Q V H T E L)). run app x 0) (sym is) ∙ cut.cut in
       subst (λ (l : List replay.Entry). Refused app limits props inputs (start app props inputs) (replay.Build ∷ l) [] fault) (sym (fresh_log old new fresh cut.logged))
@@ -221,7 +222,7 @@ module _ {P C Q V H T E L : Type 0} (app : Application (types C Q V H T E L)) (l
       let number_is : last.taken ≡ taken = sym (ap (λ (x : replay.Machine (types C Q V H T E L)). x.taken) b.same) in
       let took = ap (λ (x : replay.Machine (types C Q V H T E L)). take_next x (input ∷ left)) (sym b.same) ∙ received g in
       let on = opens_taken app limits props inputs last u input left f.reached f.rest f.built b.quiet b.none ready took rest refl in
-      let log : noted new ≡ [] = ap (λ xs. map entry_of xs) (course ∙ b.course) in
+      let log : noted new ≡ [] = ap (λ xs. map entry_of xs) (ap (λ (k : Course). k.entries) course ∙ b.course) in
       let opening : replay.Taken (last.taken + 1) ≡ replay.Taken number = ap (λ (n : ℕ). replay.Taken (n + 1)) number_is ∙ ap (λ (n : ℕ). replay.Taken n) (sym counted) in
       let here : Rests app limits props inputs last (replay.Taken number ∷ noted new) [] (machine_of g left number new) =
       subst (λ (n : ℕ). Rests app limits props inputs last (replay.Taken number ∷ noted new) [] (machine_of g left n new)) (sym counted)
@@ -237,7 +238,7 @@ module _ {P C Q V H T E L : Type 0} (app : Application (types C Q V H T E L)) (l
       → map entry_of report.log ≡ r.opening ∷ noted old
       → report.default_enabled ≡ old.default_enabled
       → new ≡ record old { course = new.course }
-      → new.course ≡ []
+      → (new.course).entries ≡ []
       → Reported app limits r report before after new
   stands_reported report before after count old new over edits log enabled frame course =
       let s = over.settled in

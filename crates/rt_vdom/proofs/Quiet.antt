@@ -19,20 +19,18 @@ use Rattle.rt_turns.specs.Underway.{Rests, Works, Refused}
 use Rattle.rt_work.specs.Items.{item_of}
 use Rattle.rt_work.specs.declared.item.Item.{Item}
 use Rattle.rt_vdom.specs.Machines.{machine_of, open_work, noted, first_in, fault_in, HearsAs, RemembersFor}
-use Rattle.rt_vdom.specs.Stands.{Going, StandsFor, StandsAt, StandsQuiet, StandsBefore, TurnsAs, QuietAs, GoesOn, Over, Comes}
+use Rattle.rt_vdom.specs.Stands.{Going, StandsFor, StandsAt, StandsQuiet, StandsBefore, TurnsAs, QuietAs, GoesOn, Over, Broke, EndsEarly}
 use Rattle.rt_vdom.specs.Turns.{taken_by}
 use Rattle.rt_vdom.specs.declared.ended.Ended.{Ended}
 use Rattle.rt_vdom.specs.declared.ended.Ended.TheVariants as ends
 use Rattle.rt_vdom.specs.declared.machine.Machine.{Machine}
+use Rattle.rt_vdom.proofs.Breaking.{joined, broke_at, broke_after}
 use Rattle.rt_vdom.proofs.Running.{told_more}
 use Rattle.rt_vdom.proofs.Stacks.{pop_is}
 use Rattle.rt_vdom.proofs.Turning.{grown_none, heard_refused}
 
 none_some : {A : Type 0} {P : Type 0} {a : A} → None ≡ Some a → P
 none_some h = cc
-
-joined : (edits : List doc.Edit) (xs ys : List Edit) → (edits ++ map edit_of xs) ++ map edit_of ys ≡ edits ++ map edit_of (xs ++ ys)
-joined edits xs ys = append_assoc edits (map edit_of xs) (map edit_of ys) ∙ ap (λ es. edits ++ es) (sym (map-append edit_of xs ys))
 
 lengths : (xs ys : List Edit) (m n all : ℕ) → length xs ≡ m → length ys ≡ n → all ≡ m + n → length (xs ++ ys) ≡ all
 lengths xs ys m n all h k sum = length-append xs ys ∙ ap (λ a. a + length ys) h ∙ ap (λ b. m + b) k ∙ sym sum
@@ -126,14 +124,17 @@ module _ {P C Q V H T E L : Type 0} (app : Application (types C Q V H T E L)) (l
 
   pub quiet_came : (edits : List doc.Edit) (now : Option (List Edit)) (new : Machine P C Q V H T E L) (ended : Ended)
       → QuietAs app limits r edits new (Err ended)
+      → (fault_in ended ≡ None → Broke app limits r edits now now ended)
       → TurnsAs app limits r edits now now new (Err ended)
-  quiet_came edits now new ended h =
-      λ fault why.
-      record {
-        wrote = [];
-        told = grown_none now;
-        refused = subst (λ es. Refused app limits r.props r.inputs r.from (r.opening ∷ noted new) es fault) (sym (append-nil edits)) (h fault why);
-      }
+  quiet_came edits now new ended h broke = (
+    λ fault why.
+        record {
+          wrote = [];
+          told = grown_none now;
+          refused = subst (λ es. Refused app limits r.props r.inputs r.from (r.opening ∷ noted new) es fault) (sym (append-nil edits)) (h fault why);
+        },
+    broke,
+  )
 
   -- no turn yet
   pub goes_none : (edits : List doc.Edit) (now : Option (List Edit)) (d : Machine P C Q V H T E L) → StandsAt app limits r edits d → GoesOn app limits r edits now now 0 d
@@ -170,12 +171,23 @@ module _ {P C Q V H T E L : Type 0} (app : Application (types C Q V H T E L)) (l
   pub goes_came : (edits : List doc.Edit) (before now after : Option (List Edit)) (count : ℕ) (d e : Machine P C Q V H T E L) (ended : Ended)
       → (on : GoesOn app limits r edits before now count d)
       → TurnsAs app limits r (edits ++ map edit_of on.wrote) now after e (Err ended)
-      → Comes app limits r edits before after ended e
-  goes_came edits before now after count d e ended on t =
-      λ fault why.
-      let came = t fault why in
-      record {
-        wrote = on.wrote ++ came.wrote;
-        told = told_more before now after on.wrote came.wrote on.told came.told;
-        refused = subst (λ es. Refused app limits r.props r.inputs r.from (r.opening ∷ noted e) es fault) (joined edits on.wrote came.wrote) came.refused;
-      }
+      → EndsEarly app limits r edits before after ended e
+  goes_came edits before now after count d e ended on t = (
+    λ fault why.
+        let came = t.0 fault why in
+        record {
+          wrote = on.wrote ++ came.wrote;
+          told = told_more before now after on.wrote came.wrote on.told came.told;
+          refused = subst (λ es. Refused app limits r.props r.inputs r.from (r.opening ∷ noted e) es fault) (joined edits on.wrote came.wrote) came.refused;
+        },
+    λ none. broke_after app limits r edits before now after count d ended on (t.1 none),
+  )
+
+  -- memory was wanting after some turns
+  pub goes_wanting : (edits : List doc.Edit) (before now : Option (List Edit)) (count : ℕ) (d e : Machine P C Q V H T E L)
+      → GoesOn app limits r edits before now count d
+      → EndsEarly app limits r edits before now (ends.Run stops.OutOfMemory) e
+  goes_wanting edits before now count d e on = (
+    λ fault why. none_some why,
+    λ none. broke_after app limits r edits before now now count d (ends.Run stops.OutOfMemory) on (broke_at app limits r (edits ++ map edit_of on.wrote) now d (ends.Run stops.OutOfMemory) on.stands ([], refl)),
+  )

@@ -4,15 +4,18 @@ use Rattle.std.specs.Prelude.{Option, Some, None}
 use Rattle.rt_edits.specs.declared.edit.Edit.{Edit}
 use Rattle.rt_model.specs.Document as doc
 use Rattle.rt_model.specs.OneLog.{types}
+use Rattle.rt_model.specs.Tree.{Types}
 use Rattle.rt_model.specs.World.{Application}
 use Rattle.rt_model.specs.State as model
 use Rattle.rt_model.specs.Replay as replay
-use Rattle.rt_model.specs.Replay.{first_state, ones}
+use Rattle.rt_model.specs.Replay.{first_state, ones, start}
 use Rattle.rt_model.specs.Causes as causes
 use Rattle.rt_model.specs.Headline.{OneEach, is_opening}
 use Rattle.rt_model.specs.Told.{count_entries}
 use Rattle.rt_reports.specs.Counted.{CountsLog, logs_in}
-use Rattle.rt_reports.specs.Seen.{report_of}
+use Rattle.rt_moves.specs.Moves.{AtRest}
+use Rattle.rt_mirror.specs.Mirror.{edit_of}
+use Rattle.rt_reports.specs.Seen.{entry_of, report_of}
 use Rattle.rt_reports.specs.declared.report.Report.{Report}
 use Rattle.rt_scopes.specs.Mirror.{at_first, state_of}
 use Rattle.rt_scopes.specs.Names.{fault_of}
@@ -20,14 +23,17 @@ use Rattle.rt_scopes.specs.declared.names.Stop.{Stop}
 use Rattle.rt_scopes.specs.declared.names.Stop.TheVariants as stops
 use Rattle.rt_turns.specs.Underway.{Refused}
 use Rattle.rt_vdom.specs.Machines.{noted, fault_in, IsFresh, Builds}
-use Rattle.rt_vdom.specs.Sessions.{FinishedAt}
-use Rattle.rt_vdom.specs.Stands.{Going, StandsAt, SettlesAs, Comes, Follows, ReportsAs, RunsAs}
+use Rattle.rt_vdom.specs.Sessions.{FinishedAt, BrokeOff}
+use Rattle.rt_vdom.specs.Short.{PartBy}
+use Rattle.rt_vdom.specs.Stands.{Going, StandsAt, SettlesAs, EndsEarly, Over, Follows, ReportsAs, RunsAs}
 use Rattle.rt_vdom.specs.declared.ended.Ended.{Ended}
 use Rattle.rt_vdom.specs.declared.ended.Ended.TheVariants as ends
 use Rattle.rt_vdom.specs.declared.machine.Machine.{Machine}
+use Rattle.rt_vdom.proofs.Breaking.{broke_begun, broke_over}
 use Rattle.rt_vdom.proofs.Opening.{building, taking, built_refused}
 use Rattle.rt_vdom.proofs.Reports as counted
-use Rattle.rt_vdom.proofs.Running.{Running, running_first, running_more, running_ended, first_refused, next_refused}
+use Rattle.rt_vdom.proofs.Running.{Running, running_first, running_more, running_ended, first_refused, next_refused, first_short, next_short}
+use Rattle.rt_vdom.proofs.Short.{short_none, short_rests}
 use Rattle.rt_vdom.proofs.Turning.{grown_none}
 
 -- want of memory is no fault of the definitions
@@ -37,23 +43,54 @@ wanting fault why = cc
 some_fault : (a b : model.Fault) → Some a ≡ Some b → a ≡ b
 some_fault a b h = cc
 
+some_none : {A : Type 0} {X : Type 0} {a : A} → Some a ≡ None → X
+some_none h = cc
+
+module _ {K : Types} (app : Application K) (props : K.Props) (inputs : List (replay.Input K)) where
+  start_rests : AtRest (replay.start app props inputs)
+  start_rests = record { alive = refl; idle = refl; unit = refl }
+
 module _ {P C Q V H T E L : Type 0} (app : Application (types C Q V H T E L)) (limits : causes.Limits) (props : Q) (inputs : List (replay.Input (types C Q V H T E L))) where
   -- the build's own call was cut, or memory was wanting
-  pub built_cut : (polled : T) (old new : Machine P C Q V H T E L) (a : Option (List Edit)) (stop : Stop)
+  pub built_cut : (old new : Machine P C Q V H T E L) (a : Option (List Edit)) (stop : Stop)
       → IsFresh old
-      → state_of (at_first polled) (old.runtime).state ≡ first_state app.root props ones
+      → state_of at_first (old.runtime).state ≡ first_state app.root props ones
       → Builds app old new (Err stop)
-      → Comes app limits (building app limits props inputs) [] a a (ends.Run stop) new
-  built_cut polled old new a stops.OutOfMemory fresh is builds = λ fault why. wanting fault why
-  built_cut polled old new a (stops.Fault what) fresh is builds =
-      λ fault why.
-      record {
-        wrote = [];
-        told = grown_none a;
-        refused =
-            subst (λ (f : model.Fault). Refused app limits props inputs (replay.start app props inputs) (replay.Build ∷ noted new) [] f) (some_fault (fault_of what) fault why)
-            (built_refused app limits props inputs polled old new (fault_of what) fresh is builds);
-      }
+      → EndsEarly app limits (building app limits props inputs) [] a a (ends.Run stop) new
+  built_cut old new a stops.OutOfMemory fresh is builds = (
+    λ fault why. wanting fault why,
+    λ none. broke_begun app limits (building app limits props inputs) a (ends.Run stops.OutOfMemory) (start_rests app props inputs) ([], refl),
+  )
+  built_cut old new a (stops.Fault what) fresh is builds = (
+    λ fault why.
+        record {
+          wrote = [];
+          told = grown_none a;
+          refused =
+              subst (λ (f : model.Fault). Refused app limits props inputs (replay.start app props inputs) (replay.Build ∷ noted new) [] f) (some_fault (fault_of what) fault why)
+              (built_refused app limits props inputs old new (fault_of what) fresh is builds);
+        },
+    λ none. some_none none,
+  )
+
+  -- memory was wanting where an input was to be taken in
+  pub taking_wanting : (all left : List (replay.Input (types C Q V H T E L))) (taken number : ℕ) (last : replay.Machine (types C Q V H T E L)) (old new : Machine P C Q V H T E L) (a : Option (List Edit))
+      → Follows app limits props inputs all taken last old
+      → EndsEarly app limits (taking app limits props inputs left number last) [] a a (ends.Run stops.OutOfMemory) new
+  taking_wanting all left taken number last old new a follows = (
+    λ fault why. wanting fault why,
+    λ none. broke_begun app limits (taking app limits props inputs left number last) a (ends.Run stops.OutOfMemory) follows.rest ([], refl),
+  )
+
+module _ {P C Q V H T E L : Type 0} (app : Application (types C Q V H T E L)) (limits : causes.Limits) (r : Going (types C Q V H T E L)) where
+  -- memory was wanting for the report itself
+  pub report_wanting : (before after : Option (List Edit)) (count : ℕ) (d new : Machine P C Q V H T E L)
+      → Over app limits r [] before after count d
+      → EndsEarly app limits r [] before after (ends.Run stops.OutOfMemory) new
+  report_wanting before after count d new over = (
+    λ fault why. wanting fault why,
+    λ none. broke_over app limits r before after count d (ends.Run stops.OutOfMemory) over ([], refl),
+  )
 
 module _ {P C Q V H T E L : Type 0} (meaning : P → Application (types C Q V H T E L)) (limits : causes.Limits) where
   abbrev app_of : Machine P C Q V H T E L → Application (types C Q V H T E L)
@@ -72,9 +109,9 @@ module _ {P C Q V H T E L : Type 0} (meaning : P → Application (types C Q V H 
   -- what the build's report says
   abbrev pub FirstReports : Machine P C Q V H T E L → Option (List Edit) → Option (List Edit) → Machine P C Q V H T E L → Result Report Ended → Type 0
   FirstReports old a b new result =
-      (polled : T) (props : Q) (inputs : List (replay.Input (types C Q V H T E L)))
+      (props : Q) (inputs : List (replay.Input (types C Q V H T E L)))
       → IsFresh old
-      → state_of (at_first polled) (old.runtime).state ≡ first_state (app_of old).root props ones
+      → state_of at_first (old.runtime).state ≡ first_state (app_of old).root props ones
       → ReportsAs (app_of old) limits (building (app_of old) limits props inputs) a b new result
 
   -- what an input's report says
@@ -88,22 +125,22 @@ module _ {P C Q V H T E L : Type 0} (meaning : P → Application (types C Q V H 
   module _ (app : P) (props : Q) (inputs : List (replay.Input (types C Q V H T E L))) where
     -- the reports so far are those of the inputs that were taken
     abbrev pub Runs : Option (List Edit) → Option (List Edit) → List Report → List (replay.Input (types C Q V H T E L)) → ℕ → Machine P C Q V H T E L → Type 0
-    Runs before now reports left number d = (polled : T) → Running (meaning app) limits props inputs before now reports left number d
+    Runs before now reports left number d = Running (meaning app) limits props inputs before now reports left number d
 
     -- a session at its start
     abbrev pub Starts : Machine P C Q V H T E L → Type 0
-    Starts d = (polled : T) → state_of (at_first polled) (d.runtime).state ≡ first_state (meaning app).root props ones
+    Starts d = state_of at_first (d.runtime).state ≡ first_state (meaning app).root props ones
 
-    first_reports : (old new : Machine P C Q V H T E L) (a b : Option (List Edit)) (result : Result Report Ended) (polled : T)
+    first_reports : (old new : Machine P C Q V H T E L) (a b : Option (List Edit)) (result : Result Report Ended)
         → (old.runtime).app ≡ app
         → IsFresh old
         → Starts old
         → FirstReports old a b new result
         → ReportsAs (meaning app) limits (building (meaning app) limits props inputs) a b new result
-    first_reports old new a b result polled same fresh starts reports =
-        let there : state_of (at_first polled) (old.runtime).state ≡ first_state (app_of old).root props ones =
-        subst (λ (x : P). state_of (at_first polled) (old.runtime).state ≡ first_state (meaning x).root props ones) (sym same) (starts polled) in
-        subst (λ (x : P). ReportsAs (meaning x) limits (building (meaning x) limits props inputs) a b new result) same (reports polled props inputs fresh there)
+    first_reports old new a b result same fresh starts reports =
+        let there : state_of at_first (old.runtime).state ≡ first_state (app_of old).root props ones =
+        subst (λ (x : P). state_of at_first (old.runtime).state ≡ first_state (meaning x).root props ones) (sym same) starts in
+        subst (λ (x : P). ReportsAs (meaning x) limits (building (meaning x) limits props inputs) a b new result) same (reports props inputs fresh there)
 
     next_reports : (old new : Machine P C Q V H T E L) (input : replay.Input (types C Q V H T E L)) (left : List (replay.Input (types C Q V H T E L))) (taken number : ℕ) (last : replay.Machine (types C Q V H T E L)) (a b : Option (List Edit)) (result : Result Report Ended)
         → (old.runtime).app ≡ app
@@ -128,10 +165,9 @@ module _ {P C Q V H T E L : Type 0} (meaning : P → Application (types C Q V H 
         → reports ≡ none ++ report ∷ []
         → Runs a b reports left 0 new
     runs_first old new a b report none reports left same fresh starts first counts all empty pushed =
-        λ polled.
         let one : reports ≡ report ∷ [] = pushed ∙ ap (λ (rs : List Report). rs ++ report ∷ []) empty in
         let run : Running (meaning app) limits props inputs a b (report ∷ []) inputs 0 new =
-        running_first (meaning app) limits props inputs report a b new (first_reports old new a b (Ok report) polled same fresh starts first) counts in
+        running_first (meaning app) limits props inputs report a b new (first_reports old new a b (Ok report) same fresh starts first) counts in
         subst (λ (ins : List (replay.Input (types C Q V H T E L))). Running (meaning app) limits props inputs a b reports ins 0 new) (sym all)
         (subst (λ (rs : List Report). Running (meaning app) limits props inputs a b rs inputs 0 new) (sym one) run)
 
@@ -143,12 +179,47 @@ module _ {P C Q V H T E L : Type 0} (meaning : P → Application (types C Q V H 
         → FirstReports old a b new (Err ended)
         → none ≡ []
         → count_entries is_opening (noted new) ≡ 0
-        → T
         → RunsAs (meaning app) limits props inputs a b none (Err ended)
-    runs_first_cut old new a b ended none same fresh starts first empty later polled =
-        λ fault why.
-        subst (λ (rs : List Report). FinishedAt (meaning app) props inputs limits a b (map report_of rs) fault) (sym empty)
-        (first_refused (meaning app) limits props inputs a b new fault (first_reports old new a b (Err ended) polled same fresh starts first fault why) later)
+    runs_first_cut old new a b ended none same fresh starts first empty later =
+        let rep = first_reports old new a b (Err ended) same fresh starts first in (
+          λ fault why.
+              subst (λ (rs : List Report). FinishedAt (meaning app) props inputs limits a b (map report_of rs) fault) (sym empty)
+              (first_refused (meaning app) limits props inputs a b new fault (rep.0 fault why) later),
+          λ none.
+              let broke = rep.1 none in
+              subst (λ (rs : List Report). BrokeOff (meaning app) props inputs limits a b (map report_of rs) (PartBy ended)) (sym empty)
+              (first_short (meaning app) limits props inputs a b broke.wrote (PartBy ended) broke.told broke.short),
+        )
+
+    -- memory was wanting before the build
+    pub runs_none_wanting : (a : Option (List Edit)) (none : List Report)
+        → none ≡ []
+        → RunsAs (meaning app) limits props inputs a a none (Err (ends.Run stops.OutOfMemory))
+    runs_none_wanting a none empty = (
+      λ fault why. wanting fault why,
+      λ nothing.
+          subst (λ (rs : List Report). BrokeOff (meaning app) props inputs limits a a (map report_of rs) (PartBy (ends.Run stops.OutOfMemory))) (sym empty)
+          (first_short (meaning app) limits props inputs a a [] (PartBy (ends.Run stops.OutOfMemory)) (grown_none a)
+          (short_none (meaning app) limits (PartBy (ends.Run stops.OutOfMemory)) (start (meaning app) props inputs) (start_rests (meaning app) props inputs) ([], refl))),
+    )
+
+    -- memory was wanting to keep the build's report
+    pub runs_first_wanting : (old new : Machine P C Q V H T E L) (a b : Option (List Edit)) (report : Report) (none : List Report)
+        → (old.runtime).app ≡ app
+        → IsFresh old
+        → Starts old
+        → FirstReports old a b new (Ok report)
+        → none ≡ []
+        → RunsAs (meaning app) limits props inputs a b none (Err (ends.Run stops.OutOfMemory))
+    runs_first_wanting old new a b report none same fresh starts first empty =
+        let rep = first_reports old new a b (Ok report) same fresh starts first in
+        let Part = PartBy (ends.Run stops.OutOfMemory) in (
+          λ fault why. wanting fault why,
+          λ nothing.
+              subst (λ (rs : List Report). BrokeOff (meaning app) props inputs limits a b (map report_of rs) Part) (sym empty)
+              (first_short (meaning app) limits props inputs a b rep.wrote Part rep.told
+              (short_rests (meaning app) limits props inputs Part (start (meaning app) props inputs) rep.last (map entry_of report.log) (map edit_of rep.wrote) rep.rests ([], refl))),
+        )
 
     -- an input's report is finished
     pub runs_more : (now new : Machine P C Q V H T E L) (a b c : Option (List Edit)) (reports all : List Report) (report : Report) (was left : List (replay.Input (types C Q V H T E L))) (input : replay.Input (types C Q V H T E L)) (number next : ℕ)
@@ -161,9 +232,8 @@ module _ {P C Q V H T E L : Type 0} (meaning : P → Application (types C Q V H 
         → all ≡ reports ++ report ∷ []
         → Runs a c all left next new
     runs_more now new a b c reports all report was left input number next same runs step is more counts pushed =
-        λ polled.
         let run : Running (meaning app) limits props inputs a b reports (input ∷ left) number now =
-        subst (λ (ins : List (replay.Input (types C Q V H T E L))). Running (meaning app) limits props inputs a b reports ins number now) step (runs polled) in
+        subst (λ (ins : List (replay.Input (types C Q V H T E L))). Running (meaning app) limits props inputs a b reports ins number now) step runs in
         let rep = next_reports now new input left number next run.last b c (Ok report) same is run.follows more in
         subst (λ (rs : List Report). Running (meaning app) limits props inputs a c rs left next new) (sym pushed)
         (running_more (meaning app) limits props inputs reports report a b c left input number next now new run rep counts)
@@ -177,21 +247,59 @@ module _ {P C Q V H T E L : Type 0} (meaning : P → Application (types C Q V H 
         → NextReports now input next b c new (Err ended)
         → count_entries is_opening (noted new) ≡ 0
         → counted.Sofar inputs was number reports
-        → T
         → RunsAs (meaning app) limits props inputs a c reports (Err ended)
-    runs_more_cut now new a b c reports ended was left input number next same runs step is more later sofar polled =
-        λ fault why.
+    runs_more_cut now new a b c reports ended was left input number next same runs step is more later sofar =
         let run : Running (meaning app) limits props inputs a b reports (input ∷ left) number now =
-        subst (λ (ins : List (replay.Input (types C Q V H T E L))). Running (meaning app) limits props inputs a b reports ins number now) step (runs polled) in
+        subst (λ (ins : List (replay.Input (types C Q V H T E L))). Running (meaning app) limits props inputs a b reports ins number now) step runs in
         let so : counted.Sofar inputs (input ∷ left) number reports = subst (λ (ins : List (replay.Input (types C Q V H T E L))). counted.Sofar inputs ins number reports) step sofar in
-        let came = next_reports now new input left number next run.last b c (Err ended) same is run.follows more fault why in
-        next_refused (meaning app) limits props inputs reports a b c (input ∷ left) left input number next now new fault run refl is came later so
+        let rep = next_reports now new input left number next run.last b c (Err ended) same is run.follows more in (
+          λ fault why. next_refused (meaning app) limits props inputs reports a b c (input ∷ left) left input number next now new fault run refl is (rep.0 fault why) later so,
+          λ none.
+              let broke = rep.1 none in
+              next_short (meaning app) limits props inputs reports a b c (input ∷ left) number now broke.wrote (PartBy ended) run broke.told broke.short
+              (counted.sofar-begins inputs (input ∷ left) number reports so),
+        )
+
+    -- memory was wanting between two reports
+    pub runs_wanting : (now : Machine P C Q V H T E L) (a b : Option (List Edit)) (reports : List Report) (left : List (replay.Input (types C Q V H T E L))) (number : ℕ)
+        → Runs a b reports left number now
+        → counted.Sofar inputs left number reports
+        → RunsAs (meaning app) limits props inputs a b reports (Err (ends.Run stops.OutOfMemory))
+    runs_wanting now a b reports left number runs so =
+        let run = runs in
+        let Part = PartBy (ends.Run stops.OutOfMemory) in (
+          λ fault why. wanting fault why,
+          λ none.
+              next_short (meaning app) limits props inputs reports a b b left number now [] Part run (grown_none b)
+              (short_none (meaning app) limits Part run.last run.follows.rest ([], refl)) (counted.sofar-begins inputs left number reports so),
+        )
+
+    -- memory was wanting to keep an input's report
+    pub runs_more_wanting : (now new : Machine P C Q V H T E L) (a b c : Option (List Edit)) (reports : List Report) (report : Report) (was left : List (replay.Input (types C Q V H T E L))) (input : replay.Input (types C Q V H T E L)) (number next : ℕ)
+        → (now.runtime).app ≡ app
+        → Runs a b reports was number now
+        → was ≡ input ∷ left
+        → next ≡ number + 1
+        → NextReports now input next b c new (Ok report)
+        → counted.Sofar inputs was number reports
+        → RunsAs (meaning app) limits props inputs a c reports (Err (ends.Run stops.OutOfMemory))
+    runs_more_wanting now new a b c reports report was left input number next same runs step is more sofar =
+        let run : Running (meaning app) limits props inputs a b reports (input ∷ left) number now =
+        subst (λ (ins : List (replay.Input (types C Q V H T E L))). Running (meaning app) limits props inputs a b reports ins number now) step runs in
+        let so : counted.Sofar inputs (input ∷ left) number reports = subst (λ (ins : List (replay.Input (types C Q V H T E L))). counted.Sofar inputs ins number reports) step sofar in
+        let rep = next_reports now new input left number next run.last b c (Ok report) same is run.follows more in
+        let Part = PartBy (ends.Run stops.OutOfMemory) in (
+          λ fault why. wanting fault why,
+          λ none.
+              next_short (meaning app) limits props inputs reports a b c (input ∷ left) number now rep.wrote Part run rep.told
+              (short_rests (meaning app) limits props inputs Part run.last rep.last (map entry_of report.log) (map edit_of rep.wrote) rep.rests ([], refl))
+              (counted.sofar-begins inputs (input ∷ left) number reports so),
+        )
 
     -- no input is left
     pub runs_ended : (a b : Option (List Edit)) (reports : List Report) (left : List (replay.Input (types C Q V H T E L))) (number : ℕ) (d : Machine P C Q V H T E L)
         → Runs a b reports left number d
         → OneEach inputs (logs_in reports)
-        → T
         → RunsAs (meaning app) limits props inputs a b reports (Ok tt)
-    runs_ended a b reports left number d runs one_each polled =
-        running_ended (meaning app) limits props inputs reports a b left number d (runs polled) one_each
+    runs_ended a b reports left number d runs one_each =
+        running_ended (meaning app) limits props inputs reports a b left number d runs one_each

@@ -17,18 +17,20 @@ use Rattle.rt_model.specs.Told.{Told, is_settled}
 use Rattle.rt_model.specs.Headline.{OpensWith, InputsFrom, OneEach, CutFrom, OneEachThen, RanTo, Counts, is_opening, logs_of}
 use Rattle.rt_model.specs.Told.{count_entries}
 use Rattle.rt_reports.specs.Seen.{entry_of, report_of}
-use Rattle.rt_reports.specs.Counted.{CountsLog, logs_in}
+use Rattle.rt_reports.specs.Counted.{CountsLog, BeginsOneEach, logs_in}
 use Rattle.rt_reports.specs.declared.report.Report.{Report}
 use Rattle.rt_turns.specs.Sessions.{Sofar}
 use Rattle.rt_turns.specs.Underway.{Rests}
 use Rattle.rt_turns.proofs.Sessions.{rest_owes_none, sofar_none, sofar_more, sofar_ran, sofar_ran_to}
 use Rattle.rt_vdom.specs.Machines.{noted, fault_in}
-use Rattle.rt_vdom.specs.Sessions.{Finished, FinishedAt}
+use Rattle.rt_vdom.specs.Sessions.{Finished, FinishedAt, BrokeOff}
+use Rattle.rt_vdom.specs.Short.{Short, RanShort}
 use Rattle.rt_vdom.specs.Stands.{Going, Follows, Reported, CameTo}
 use Rattle.rt_vdom.specs.declared.machine.Machine.{Machine}
 use Rattle.rt_vdom.proofs.Opening.{building, taking}
 use Rattle.rt_vdom.proofs.Reports as counted
 use Rattle.rt_vdom.proofs.Reports.{filler, fills}
+use Rattle.rt_vdom.proofs.Short.{sofar_short}
 
 grown_twice : (old : Option (List Edit)) (xs ys : List Edit) → grown (grown old xs) ys ≡ grown old (xs ++ ys)
 grown_twice None xs ys = refl
@@ -54,6 +56,19 @@ module _ {K : tree.Types} where
   pub cut_there : (inputs : List (replay.Input K)) (logs more : List (List replay.Entry)) (last : List replay.Entry) → OneEach inputs (logs ++ last ∷ more) → OneEachThen inputs logs last
   cut_there inputs [] more last h = h.0
   cut_there inputs (log ∷ logs) more last h = (h.0, cut_at 1 inputs logs more last h.1)
+
+module _ {K : tree.Types} (app : Application K) (limits : causes.Limits) (props : K.Props) (inputs : List (replay.Input K)) where
+  -- it broke off before a report was finished
+  pub first_short : (before after : Option (List Edit)) (wrote : List Edit) (Part : List doc.Edit → List doc.Edit → Type 0)
+      → after ≡ grown before wrote
+      → Short app limits Part (start app props inputs) (map edit_of wrote)
+      → BrokeOff app props inputs limits before after [] Part
+  first_short before after wrote Part told short =
+      record {
+        wrote = wrote;
+        told = told;
+        ran_short = sofar_short app limits props inputs Part [] [] (map edit_of wrote) (start app props inputs) (sofar_none app limits props inputs) short (counted.none-begins inputs);
+      }
 
 module _ {P C Q V H T E L : Type 0} (app : Application (types C Q V H T E L)) (limits : causes.Limits) (props : Q) (inputs : List (replay.Input (types C Q V H T E L))) where
   -- the reports so far, the edits that the sink took, and the machine at which the next report may begin
@@ -166,4 +181,21 @@ module _ {P C Q V H T E L : Type 0} (app : Application (types C Q V H T E L)) (l
         ran_to =
             subst (λ es. RanTo app props inputs limits (Some es) (map report_of reports) fault) (sym (map-append edit_of run.wrote came.wrote))
             (sofar_ran_to app limits props inputs (map report_of reports) (map edit_of run.wrote) (map edit_of came.wrote) run.last last fault run.sofar came.refused one_each);
+      }
+
+  -- it broke off after these reports
+  pub next_short : (reports : List Report) (before now after : Option (List Edit)) (left : List (replay.Input (types C Q V H T E L))) (number : ℕ) (d : Machine P C Q V H T E L) (wrote : List Edit) (Part : List doc.Edit → List doc.Edit → Type 0)
+      → (run : Running before now reports left number d)
+      → after ≡ grown now wrote
+      → Short app limits Part run.last (map edit_of wrote)
+      → BeginsOneEach inputs (logs_in reports)
+      → BrokeOff app props inputs limits before after (map report_of reports) Part
+  next_short reports before now after left number d wrote Part run told short begins =
+      record {
+        wrote = run.wrote ++ wrote;
+        told = told_more before now after run.wrote wrote run.told told;
+        ran_short =
+            subst (λ es. RanShort app props inputs limits (Some es) (map report_of reports) Part) (sym (map-append edit_of run.wrote wrote))
+            (sofar_short app limits props inputs Part (map report_of reports) (map edit_of run.wrote) (map edit_of wrote) run.last run.sofar short
+            (subst (λ logs. BeginsOneEach inputs logs) (sym (logs_are reports)) begins));
       }

@@ -22,6 +22,7 @@ use Rattle.rt_turns.specs.Turn.{turn_of, unit_of, entry_for}
 use Rattle.rt_vdom.specs.Changes.{AllKept, KeepsFor, changes_of}
 use Rattle.rt_vdom.specs.Machines.{first_in, is_rerun, DidAs, BeginsAs, ServesAs, RemembersFor, Remembers, StillRemembers, KeepsLow, KeepsOn}
 use Rattle.rt_vdom.specs.Notes.{NotedBy}
+use Rattle.rt_vdom.specs.declared.course.Course.{Course}
 use Rattle.rt_vdom.specs.declared.ended.Ended.TheVariants as ends
 use Rattle.rt_vdom.specs.declared.machine.Machine.{Machine}
 use Rattle.rt_vdom.proofs.Framed.{LeavesOthers, state_in, turn_leaves, rerun_leaves, stands_after, stands_mounted}
@@ -29,7 +30,7 @@ use Rattle.rt_vdom.proofs.Framed.{LeavesOthers, state_in, turn_leaves, rerun_lea
 module _ {P C Q V H T E L : Type 0} (app : Application (types C Q V H T E L)) where
   -- a change that was cut, or for which memory was wanting
   pub did_cut : (o : Outcome (types C Q V H T E L)) (es : List replay.Entry) (old new : Machine P C Q V H T E L) (h : Unkept (types C Q V H T E L)) (stop : Stop)
-      → CutBy o (state_of h (new.runtime).state) stop → NotedBy {A = Unit {0}} old.course new.course es (Err stop) → DidAs app o es old new (Err stop)
+      → CutBy o (state_of h (new.runtime).state) stop → NotedBy {A = Unit {0}} (old.course).entries (new.course).entries es (Err stop) → DidAs app o es old new (Err stop)
   did_cut o es old new h stops.OutOfMemory cut log = tt
   did_cut o es old new h (stops.Fault what) cut log = record { kept = h; cut = cut; logged = log }
 
@@ -38,7 +39,7 @@ module _ {P C Q V H T E L : Type 0} (app : Application (types C Q V H T E L)) wh
       → nat_eq old.units limits.units ≡ false → mid.course ≡ old.course → DidAs app o es mid new (Err stop) → BeginsAs app limits o es old new (Err (ends.Run stop))
   begun_cut limits o es old mid new stops.OutOfMemory left same h = tt
   begun_cut limits o es old mid new (stops.Fault what) left same h =
-      (left, record { kept = h.kept; cut = h.cut; logged = h.logged ∙ ap (λ xs. map entry_of xs ++ es) same })
+      (left, record { kept = h.kept; cut = h.cut; logged = h.logged ∙ ap (λ (k : Course). map entry_of k.entries ++ es) same })
 
   -- an item whose change was cut
   pub served_cut : (deep : Option model.Fault) (o : Outcome (types C Q V H T E L)) (es : List replay.Entry) (old new : Machine P C Q V H T E L) (stop : Stop)

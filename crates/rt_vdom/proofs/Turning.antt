@@ -46,7 +46,7 @@ some_fault : (a b : model.Fault) → Some a ≡ Some b → a ≡ b
 some_fault a b h = cc
 
 module _ {K : Types} where
-  abbrev deep_at : causes.Limits → model.State K → model.Item K → Option model.Fault
+  abbrev pub deep_at : causes.Limits → model.State K → model.Item K → Option model.Fault
   deep_at limits w item = depth_refused limits (height_at w (item ∷ []))
 
 module _ {P C Q V H T E L : Type 0} where
@@ -62,10 +62,10 @@ module _ {P C Q V H T E L : Type 0} where
       ap (λ xs. busy (machine_of g left taken old) (state_of h (new.runtime).state) xs) (sym open_is)
       ∙ sym (ap (λ (d : Machine P C Q V H T E L). machine_of h left taken d) frame)
 
-  still_first : (old new : Machine P C Q V H T E L) (first : replay.Entry) → Within old new → first_in old ≡ Some first → first_in new ≡ Some first
+  pub still_first : (old new : Machine P C Q V H T E L) (first : replay.Entry) → Within old new → first_in old ≡ Some first → first_in new ≡ Some first
   still_first old new first frame is = ap (λ (d : Machine P C Q V H T E L). first_in d) frame ∙ is
 
-  still_remembered : (g : Unkept (types C Q V H T E L)) (old new : Machine P C Q V H T E L) (first : replay.Entry) (was : List (ℕ × model.Scope (types C Q V H T E L)))
+  pub still_remembered : (g : Unkept (types C Q V H T E L)) (old new : Machine P C Q V H T E L) (first : replay.Entry) (was : List (ℕ × model.Scope (types C Q V H T E L)))
       → first_in old ≡ Some first → first_in new ≡ Some first → StillRemembers old new → RemembersFor (Some first) old was → RemembersFor (Some first) new was
   still_remembered g old new first was before after still h =
       subst (λ (o : Option replay.Entry). RemembersFor o new was) after (still g was (subst (λ (o : Option replay.Entry). RemembersFor o old was) (sym before) h))

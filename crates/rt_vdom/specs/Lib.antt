@@ -1,4 +1,5 @@
 pub mod Ends
+pub mod Short
 pub mod Turns
 pub mod Notes
 pub mod Changes

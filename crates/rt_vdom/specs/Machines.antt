@@ -84,7 +84,7 @@ module _ {P C Q V H T E L : Type 0} where
 
   -- the entries after the one that opened the report
   abbrev pub noted : Machine P C Q V H T E L → List replay.Entry
-  noted d = map entry_of d.course
+  noted d = map entry_of (d.course).entries
 
   -- the entry that began the build or the unit at work
   abbrev pub first_in : Machine P C Q V H T E L → Option replay.Entry
@@ -116,7 +116,7 @@ module _ {P C Q V H T E L : Type 0} where
     pub work : d.work ≡ []
     pub hearing : d.hearing ≡ None
     pub first : d.first ≡ None
-    pub course : d.course ≡ []
+    pub course : (d.course).entries ≡ []
     pub units : d.units ≡ 0
     pub default_enabled : d.default_enabled ≡ true
 

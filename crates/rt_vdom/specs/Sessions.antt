@@ -8,7 +8,9 @@ use Rattle.rt_model.specs.World.{Application}
 use Rattle.rt_model.specs.State.{Fault}
 use Rattle.rt_model.specs.Replay.{Input}
 use Rattle.rt_model.specs.Causes.{Limits}
+use Rattle.rt_model.specs.Document as doc
 use Rattle.rt_model.specs.Headline.{Report, Ran, RanTo, Headline, CameTo}
+use Rattle.rt_vdom.specs.Short.{RanShort}
 
 module _ {K : Types} (app : Application K) (props : K.Props) (inputs : List (Input K)) (limits : Limits) (before after : Option (List Edit))
     (reports : List Report) where
@@ -23,6 +25,13 @@ module _ {K : Types} (app : Application K) (props : K.Props) (inputs : List (Inp
     pub wrote : List Edit
     pub told : after ≡ grown before wrote
     pub ran_to : RanTo app props inputs limits (Some (map edit_of wrote)) reports fault
+
+  -- it broke off: the sink took the edits of its reports, those of the units that were finished since, and a part of those of the unit
+  -- that was cut
+  pub record BrokeOff (Part : List doc.Edit → List doc.Edit → Type 0) : Type 0 where
+    pub wrote : List Edit
+    pub told : after ≡ grown before wrote
+    pub ran_short : RanShort app props inputs limits (Some (map edit_of wrote)) reports Part
 
   -- it finished with the headline: replay accepts the logs of its reports, the edits that the sink took after what
   -- it had never fault and give

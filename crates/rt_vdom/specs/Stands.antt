@@ -18,7 +18,8 @@ use Rattle.rt_reports.specs.declared.report.Report.{Report}
 use Rattle.rt_scopes.specs.Mirror.{Unkept}
 use Rattle.rt_turns.specs.Underway.{Rests, Works, Refused}
 use Rattle.rt_vdom.specs.Machines.{machine_of, noted, first_in, open_work, fault_in, RemembersFor}
-use Rattle.rt_vdom.specs.Sessions.{Finished, FinishedAt}
+use Rattle.rt_vdom.specs.Sessions.{Finished, FinishedAt, BrokeOff}
+use Rattle.rt_vdom.specs.Short.{Short, PartBy}
 use Rattle.rt_vdom.specs.declared.ended.Ended.{Ended}
 use Rattle.rt_vdom.specs.declared.machine.Machine.{Machine}
 
@@ -33,6 +34,13 @@ module _ (K : tree.Types) where
     pub left : List (replay.Input K)
     pub taken : ℕ
 
+module _ {K : tree.Types} (app : Application K) (limits : causes.Limits) (r : Going K) where
+  -- it broke off, with the edits so far and those that the sink took since
+  pub record Broke (edits : List doc.Edit) (before after : Option (List Edit)) (ended : Ended) : Type 0 where
+    pub wrote : List Edit
+    pub told : after ≡ grown before wrote
+    pub short : Short app limits (PartBy ended) r.from (edits ++ map edit_of wrote)
+
 module _ {P C Q V H T E L : Type 0} (app : Application (types C Q V H T E L)) (limits : causes.Limits) where
   -- between two reports: nothing is at work or owed, and the state is as the test for that left it
   pub record Between (left : List (replay.Input (types C Q V H T E L))) (taken : ℕ) (last : replay.Machine (types C Q V H T E L))
@@ -42,7 +50,7 @@ module _ {P C Q V H T E L : Type 0} (app : Application (types C Q V H T E L)) (l
     pub none : next last.state ≡ None
     pub idle : d.work ≡ []
     pub over : d.first ≡ None
-    pub course : d.course ≡ []
+    pub course : (d.course).entries ≡ []
     pub same : machine_of kept left taken d ≡ record last { state = at_rest last.state }
 
 module _ {P C Q V H T E L : Type 0} (app : Application (types C Q V H T E L)) (limits : causes.Limits) (r : Going (types C Q V H T E L))
@@ -91,6 +99,11 @@ module _ {P C Q V H T E L : Type 0} (app : Application (types C Q V H T E L)) (l
     abbrev pub Comes : List doc.Edit → Option (List Edit) → Option (List Edit) → Ended → Machine P C Q V H T E L → Type 0
     Comes edits before after ended d = (fault : model.Fault) → fault_in ended ≡ Some fault → CameTo edits before after fault d
 
+    -- it ends early: at a fault of the definitions, or it broke off
+    abbrev pub EndsEarly : List doc.Edit → Option (List Edit) → Option (List Edit) → Ended → Machine P C Q V H T E L → Type 0
+    EndsEarly edits before after ended d =
+        Comes edits before after ended d × (fault_in ended ≡ None → Broke app limits r edits before after ended)
+
     -- edits were written, and it stands with them
     pub record GoesOn (edits : List doc.Edit) (before after : Option (List Edit)) (count : ℕ) (d : Machine P C Q V H T E L) : Type 0 where
       pub wrote : List Edit
@@ -118,7 +131,7 @@ module _ {P C Q V H T E L : Type 0} (app : Application (types C Q V H T E L)) (l
     abbrev pub TurnsAs : List doc.Edit → Option (List Edit) → Option (List Edit) → Machine P C Q V H T E L → Result (Option ℕ) Ended → Type 0
     TurnsAs edits before after d (Ok None) = (after ≡ before) × Settled edits d
     TurnsAs edits before after d (Ok (Some count)) = GoesOn edits before after count d
-    TurnsAs edits before after d (Err ended) = Comes edits before after ended d
+    TurnsAs edits before after d (Err ended) = EndsEarly edits before after ended d
 
     -- a turn where nothing is at work, which writes nothing
     abbrev pub QuietAs : List doc.Edit → Machine P C Q V H T E L → Result (Option ℕ) Ended → Type 0
@@ -130,7 +143,7 @@ module _ {P C Q V H T E L : Type 0} (app : Application (types C Q V H T E L)) (l
     -- turns up to where nothing is left to do, or to a fault
     abbrev pub SettlesAs : List doc.Edit → Option (List Edit) → Option (List Edit) → Machine P C Q V H T E L → Result ℕ Ended → Type 0
     SettlesAs edits before after d (Ok count) = Over edits before after count d
-    SettlesAs edits before after d (Err ended) = Comes edits before after ended d
+    SettlesAs edits before after d (Err ended) = EndsEarly edits before after ended d
 
     -- a report is finished: its log, its edits, and the last machine, at which nothing is owed
     pub record Reported (report : Report) (before after : Option (List Edit)) (d : Machine P C Q V H T E L) : Type 0 where
@@ -145,7 +158,7 @@ module _ {P C Q V H T E L : Type 0} (app : Application (types C Q V H T E L)) (l
     -- by what is answered
     abbrev pub ReportsAs : Option (List Edit) → Option (List Edit) → Machine P C Q V H T E L → Result Report Ended → Type 0
     ReportsAs before after d (Ok report) = Reported report before after d
-    ReportsAs before after d (Err ended) = Comes [] before after ended d
+    ReportsAs before after d (Err ended) = EndsEarly [] before after ended d
 
 module _ {P C Q V H T E L : Type 0} (app : Application (types C Q V H T E L)) (limits : causes.Limits) (props : Q)
     (inputs : List (replay.Input (types C Q V H T E L))) where
@@ -158,8 +171,10 @@ module _ {P C Q V H T E L : Type 0} (app : Application (types C Q V H T E L)) (l
     pub between : Between app limits left taken last d
 
 module _ {K : tree.Types} (app : Application K) (limits : causes.Limits) (props : K.Props) (inputs : List (replay.Input K)) where
-  -- all reports: the edits, or a fault after those that were finished
+  -- all reports: the edits, or a fault after those that were finished, or it broke off after them
   abbrev pub RunsAs : Option (List Edit) → Option (List Edit) → List Report → Result (Unit {0}) Ended → Type 0
   RunsAs before after reports (Ok u) = Finished app props inputs limits before after (map report_of reports)
   RunsAs before after reports (Err ended) =
-      (fault : model.Fault) → fault_in ended ≡ Some fault → FinishedAt app props inputs limits before after (map report_of reports) fault
+      ((fault : model.Fault) → fault_in ended ≡ Some fault → FinishedAt app props inputs limits before after (map report_of reports) fault)
+      ×
+      (fault_in ended ≡ None → BrokeOff app props inputs limits before after (map report_of reports) (PartBy ended))

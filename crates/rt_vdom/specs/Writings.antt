@@ -1,5 +1,5 @@
 -- The edits of the build and of units.
-use Rattle.std.specs.Prelude.{◌≡◌, ℕ, List, map, length, Option, Some}
+use Rattle.std.specs.Prelude.{◌≡◌, ℕ, List, map, length, Option, Some, None}
 use Rattle.rt_edits.specs.Sinks.{grown}
 use Rattle.rt_edits.specs.declared.edit.Edit.{Edit}
 use Rattle.rt_mirror.specs.Mirror.{edit_of}
@@ -9,9 +9,18 @@ use Rattle.rt_model.specs.State as model
 use Rattle.rt_model.specs.Replay as replay
 use Rattle.rt_model.specs.Caused.{caused, caused_until}
 use Rattle.rt_scopes.specs.Mirror.{Unkept, state_of}
+use Rattle.rt_scopes.specs.declared.names.Stop.TheVariants as stops
 use Rattle.rt_vdom.specs.Machines.{RemembersFor, first_in, fault_in}
+use Rattle.rt_vdom.specs.Short.{PartBy}
 use Rattle.rt_vdom.specs.declared.ended.Ended.{Ended}
+use Rattle.rt_vdom.specs.declared.ended.Ended.TheVariants as ends
 use Rattle.rt_vdom.specs.declared.machine.Machine.{Machine}
+
+-- edits were written up to where the session broke off
+pub record WrotePart (edits : List Edit) (before after : Option (List Edit)) (ended : Ended) : Type 0 where
+  pub wrote : List Edit
+  pub told : after ≡ grown before wrote
+  pub part : PartBy ended (map edit_of wrote) (map edit_of edits)
 
 module _ {P C Q V H T E L : Type 0} (app : Application (types C Q V H T E L)) where
   -- the edits that the build or a unit causes, between a state whose scopes are remembered and the state as it stands
@@ -45,6 +54,16 @@ module _ {P C Q V H T E L : Type 0} (app : Application (types C Q V H T E L)) wh
     pub counted : length wrote ≡ count
     pub are : AreEdits first d wrote
 
+  -- a part of them was taken
+  pub record ClosesPart (first : replay.Entry) (d : Machine P C Q V H T E L) (before after : Option (List Edit)) (ended : Ended) : Type 0
+    where
+      pub wrote : List Edit
+      pub told : after ≡ grown before wrote
+      pub part :
+          (g : Unkept (types C Q V H T E L)) (w : model.State (types C Q V H T E L))
+          → RemembersFor (Some first) d w.scopes
+          → PartBy ended (map edit_of wrote) (caused app w (replay.mounted_state (state_of g (d.runtime).state)) first)
+
   -- the edits up to a refused item were taken
   pub record WroteUntil (item : model.Item (types C Q V H T E L)) (d : Machine P C Q V H T E L) (before after : Option (List Edit)) :
       Type 0 where
@@ -52,8 +71,26 @@ module _ {P C Q V H T E L : Type 0} (app : Application (types C Q V H T E L)) wh
     pub told : after ≡ grown before wrote
     pub are : AreEditsUntil item d wrote
 
+  -- a part of those up to a refused item was taken
+  pub record WrotePartUntil (item : model.Item (types C Q V H T E L)) (d : Machine P C Q V H T E L) (before after : Option (List Edit))
+      (ended : Ended) : Type 0 where
+    pub wrote : List Edit
+    pub told : after ≡ grown before wrote
+    pub part :
+        (first : replay.Entry)
+        → first_in d ≡ Some first
+        → (g : Unkept (types C Q V H T E L)) (w : model.State (types C Q V H T E L))
+        → RemembersFor (Some first) d w.scopes
+        → PartBy ended (map edit_of wrote) (caused_until app w (state_of g (d.runtime).state) (Some item) first)
+
   -- a run ends for its cause after they were taken, or for want of memory, or at the sink
   abbrev pub Cuts : model.Item (types C Q V H T E L) → Machine P C Q V H T E L → Option (List Edit) → Option (List Edit) → Ended → Ended
       → Type 0
   Cuts item d before after ended result =
       (fault : model.Fault) → fault_in result ≡ Some fault → (fault_in ended ≡ Some fault) × WroteUntil item d before after
+
+  -- where memory was wanting nothing was taken; where a fault came, and then writing broke off, a part of them was
+  pub record CutsShort (item : model.Item (types C Q V H T E L)) (d : Machine P C Q V H T E L) (before after : Option (List Edit))
+      (ended result : Ended) : Type 0 where
+    pub wants : ended ≡ ends.Run stops.OutOfMemory → (result ≡ ended) × (after ≡ before)
+    pub breaks : (fault : model.Fault) → fault_in ended ≡ Some fault → fault_in result ≡ None → WrotePartUntil item d before after result

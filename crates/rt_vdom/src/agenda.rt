@@ -70,7 +70,7 @@ pub(crate) fn turn_at<A: App>(
 ) -> Result<List<Item<A>>, Stop>
     ensures turned { Comes (λ w. turn_of (A.meaning runtime.old.app) w (item_of item.now))
         runtime.old.state runtime.new.state work_of result }
-    ensures noted { (g : _) → NotedBy course.old course.new
+    ensures noted { (g : _) → NotedBy course.old.entries course.new.entries
         (entries_at (A.meaning runtime.old.app) (state_of g runtime.old.state) (item_of item.now))
         result }
     ensures app { runtime.new.app ≡ runtime.old.app }
@@ -129,7 +129,7 @@ fn feed<A: App>(
     ensures fed { Comes (λ w. replay.outcome_of (A.meaning runtime.old.app) w
         (model.Feed scope (side_name_of side) (place_of place.now) (component_of component.now)))
         runtime.old.state runtime.new.state work_of result }
-    ensures noted { (g : _) → NotedBy course.old course.new
+    ensures noted { (g : _) → NotedBy course.old.entries course.new.entries
         (replay.entry_of (A.meaning runtime.old.app) (state_of g runtime.old.state)
         (model.Feed scope (side_name_of side) (place_of place.now) (component_of component.now)))
         result }
@@ -151,7 +151,7 @@ fn hand<A: App>(
     ensures handed { Comes (λ w.
         replay.handed (A.meaning runtime.old.app) w child (component_of component.now))
         runtime.old.state runtime.new.state work_of result }
-    ensures noted { (g : _) → NotedBy course.old course.new
+    ensures noted { (g : _) → NotedBy course.old.entries course.new.entries
         ((if replay.keeps (A.meaning runtime.old.app) (state_of g runtime.old.state) child
         (component_of component.now) then replay.Kept child else replay.Fed child) ∷ []) result }
     ensures app { runtime.new.app ≡ runtime.old.app }
@@ -209,7 +209,7 @@ fn make<A: App>(
     ensures made { Comes (λ w. replay.made (A.meaning runtime.old.app) w scope
         (side_name_of side) (place_of place.now) (component_of component.now))
         runtime.old.state runtime.new.state work_of result }
-    ensures noted { (g : _) → NotedBy course.old course.new
+    ensures noted { (g : _) → NotedBy course.old.entries course.new.entries
         (replay.Made (state_of g runtime.old.state).next_scope ∷ []) result }
     ensures app { runtime.new.app ≡ runtime.old.app }
 {
@@ -259,7 +259,7 @@ fn take<A: App>(
     ensures turned { Comes (λ w. turn_of (A.meaning runtime.old.app) w
         (model.Drop child scope (side_name_of side)))
         runtime.old.state runtime.new.state work_of result }
-    ensures noted { (g : _) → NotedBy course.old course.new
+    ensures noted { (g : _) → NotedBy course.old.entries course.new.entries
         (replay.Removed (removal.next_removed (state_of g runtime.old.state) child) ∷ []) result }
     ensures app { runtime.new.app ≡ runtime.old.app }
 {

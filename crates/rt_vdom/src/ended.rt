@@ -1,5 +1,7 @@
 //! Why a session ends early.
-ghost use Rattle.std.specs.Prelude.{◌≡◌, ℕ, Some, IsTrue, ◌↔◌};
+ghost use Rattle.std.specs.Prelude.{◌≡◌, ℕ, List, Some, IsTrue, ◌↔◌};
+ghost use Rattle.rt_model.specs.Document.{Edit};
+ghost use Rattle.rt_model.specs.Sentences.{IsFrontOf};
 ghost use Rattle.rt_reports.specs.Seen.{fault_of};
 ghost use Rattle.rt_scopes.specs.Names.{fault_of as cause_of};
 ghost use Rattle.rt_scopes.specs.declared.names.Stop.TheVariants as stops;
@@ -7,6 +9,7 @@ ghost use Rattle.rt_vdom.specs.Machines.{fault_in};
 ghost use Rattle.rt_vdom.specs.declared.ended.Ended.TheVariants as ends;
 ghost use Rattle.rt_reports.specs.declared.limits.Limits.{Limits};
 ghost use Rattle.rt_vdom.specs.Ends.{Explains, Causes};
+ghost use Rattle.rt_vdom.specs.Short.{PartBy, PartOf};
 
 use rt_reports::Fault;
 use rt_scopes::{Fault as Cause, Stop};
@@ -61,6 +64,7 @@ impl Ended {
         ensures causes { (limits : Limits) (before after : ℕ) →
             Explains limits before after self → Causes limits before after result }
         ensures of { fault_of result ≡ fault_in self }
+        ensures parts { (taken edits : List Edit) → PartBy self taken edits → PartOf result taken edits }
     {
         match self {
             Ended::Sink => Fault::SinkFault,
@@ -76,6 +80,7 @@ impl Ended {
 fn fault_of(cause: Cause) -> Fault
     ensures causes { (limits : Limits) (before after : ℕ) → Causes limits before after result }
     ensures of { fault_of result ≡ Some (cause_of cause) }
+    ensures parts { (taken edits : List Edit) → IsFrontOf taken edits → PartOf result taken edits }
 {
     match cause {
         Cause::IdsExhausted { what } => Fault::IdsExhausted { what },

@@ -64,8 +64,7 @@ impl<A: App> Machine<A> {
     pub fn start(alloc: Global, app: A, props: A::Props) -> Result<Machine<A>, OutOfMemory>
         ensures fresh { IfOk result (λ machine. IsFresh machine) }
         ensures app { IfOk result (λ machine. machine.runtime.app ≡ app) }
-        ensures state { IfOk result (λ machine. (polled : A.TaskState) →
-            state_of (at_first polled) machine.runtime.state
+        ensures state { IfOk result (λ machine. state_of at_first machine.runtime.state
             ≡ first_state (A.meaning app).root props ones) }
     {
         let firsts = Firsts {
@@ -95,11 +94,11 @@ impl<A: App> Machine<A> {
             OpensWith (entry_of first) (map entry_of report.log)) }
         ensures counts { IfOk result (λ report. CountsLog report) }
         ensures edits { IfOk result (λ report. report.edits ≡ edits) }
-        ensures log { IfOk result (λ report. report.log ≡ first ∷ self.old.course) }
+        ensures log { IfOk result (λ report. report.log ≡ first ∷ self.old.course.entries) }
         ensures default_enabled { IfOk result (λ report.
             report.default_enabled ≡ self.old.default_enabled) }
         ensures others { self.new ≡ record self.old { course = self.new.course } }
-        ensures course { self.new.course ≡ [] }
+        ensures course { self.new.course.entries ≡ [] }
     {
         let alloc = self.runtime.alloc;
         let course = mem::replace(&mut self.course, Course::new(alloc));

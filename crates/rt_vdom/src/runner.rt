@@ -10,7 +10,8 @@ ghost use Rattle.rt_reports.specs.Counted.{logs_in, edits_in, CountsLog, AllCoun
 ghost use Rattle.rt_reports.specs.declared.entry.Entry.TheVariants as entries;
 ghost use Rattle.rt_vdom.specs.Ends.{Took, Ends, Faulted};
 ghost use Rattle.rt_vdom.specs.Machines.{IsFresh, machine_of};
-ghost use Rattle.rt_vdom.specs.Sessions.{CameAt, Finished, FinishedAt, Headlined};
+ghost use Rattle.rt_vdom.specs.Sessions.{BrokeOff, CameAt, Finished, FinishedAt, Headlined};
+ghost use Rattle.rt_vdom.specs.Short.{PartOf};
 ghost use Rattle.rt_vdom.specs.Stands.{Follows, ReportsAs, RunsAs};
 
 use crate::ended::Ended;
@@ -45,26 +46,33 @@ pub fn session<A: App, M: WriteMutations>(
         (M.taken sink.old) (M.taken sink.new) (M.faults sink.old) (M.faults sink.new) refused) }
 
     // What was done is what the definitions do, and the sink took what they write.
-    ensures ran { (polled : A.TaskState) → IfOk result (λ reports.
+    ensures ran { IfOk result (λ reports.
         Finished (A.meaning app) root_props (map input_of inputs) (limits_of limits)
         (M.taken sink.old) (M.taken sink.new) (map report_of reports)) }
-    ensures ran_to { (polled : A.TaskState) → IfErr result (λ refused. (fault : _) →
+    ensures ran_to { IfErr result (λ refused. (fault : _) →
         fault_of refused.fault ≡ Some fault →
         FinishedAt (A.meaning app) root_props (map input_of inputs) (limits_of limits)
         (M.taken sink.old) (M.taken sink.new) (map report_of refused.reports) fault) }
 
+    // Where memory was wanting, or the sink failed, it took the edits of the reports, those of the
+    // units that were finished since, and a front of those of the unit that was cut.
+    ensures broke_off { IfErr result (λ refused.
+        fault_of refused.fault ≡ None →
+        BrokeOff (A.meaning app) root_props (map input_of inputs) (limits_of limits)
+        (M.taken sink.old) (M.taken sink.new) (map report_of refused.reports)
+        (PartOf refused.fault)) }
+
     // The headline of what was done, and of what was finished before a fault.
-    ensures headline { (polled : A.TaskState) → IfOk result (λ reports.
+    ensures headline { IfOk result (λ reports.
         Headlined (A.meaning app) root_props (map input_of inputs) (limits_of limits)
         (M.taken sink.old) (M.taken sink.new) (map report_of reports)) }
-    ensures came_to { (polled : A.TaskState) → IfErr result (λ refused. (fault : _) →
+    ensures came_to { IfErr result (λ refused. (fault : _) →
         fault_of refused.fault ≡ Some fault →
         CameAt (A.meaning app) root_props (map input_of inputs) (limits_of limits)
         (M.taken sink.old) (M.taken sink.new) (map report_of refused.reports) fault) }
 
     // Inputs that run without a fault end early only for want of memory or a sink that fails.
-    ensures completes { (polled : A.TaskState) →
-        IsValid (A.meaning app) root_props (map input_of inputs) (limits_of limits) →
+    ensures completes { IsValid (A.meaning app) root_props (map input_of inputs) (limits_of limits) →
         IfErr result (λ refused. fault_of refused.fault ≡ None) }
 {
     // What was done is the headline, whether it finished or came to a fault.
@@ -114,20 +122,17 @@ fn run_all<A: App, M: WriteMutations>(
         (M.faults sink.old) (M.faults sink.new) (edits_in reports.new)) }
     ensures err { IfErr result (λ ended. Ends limits (edits_in reports.new)
         (M.taken sink.old) (M.taken sink.new) (M.faults sink.old) (M.faults sink.new) ended) }
-    ensures runs { (polled : A.TaskState) →
-        RunsAs (A.meaning app) (limits_of limits) root_props (map input_of inputs)
+    ensures runs { RunsAs (A.meaning app) (limits_of limits) root_props (map input_of inputs)
         (M.taken sink.old) (M.taken sink.new) reports.new result }
 {
     let mut machine = Machine::start(alloc, app, root_props)?;
-    let built = machine.first_report(limits, sink);
-    machine.course.opens_none();
-    reports.push(built?)?;
+    let built = machine.first_report(limits, sink)?;
+    reports.push(built)?;
     let mut number = 0u64;
     for input in inputs.into_vec() {
         number = sum(number, 1)?;
-        let taken = machine.next_report(number, input, limits, sink);
-        machine.course.opens_none();
-        reports.push(taken?)?;
+        let taken = machine.next_report(number, input, limits, sink)?;
+        reports.push(taken)?;
     }
     Ok(())
 }
@@ -146,8 +151,8 @@ impl<A: App> Machine<A> {
             (M.faults sink.old) (M.faults sink.new) report.edits) }
         ensures err { IfErr result (λ ended. Ends limits 0
             (M.taken sink.old) (M.taken sink.new) (M.faults sink.old) (M.faults sink.new) ended) }
-        ensures reports { (polled : _) (props : _) (inputs : _) → IsFresh self.old →
-            state_of (at_first polled) self.old.runtime.state
+        ensures reports { (props : _) (inputs : _) → IsFresh self.old →
+            state_of at_first self.old.runtime.state
             ≡ first_state (A.meaning self.old.runtime.app).root props ones →
             ReportsAs (A.meaning self.old.runtime.app) (limits_of limits) (record {
               props = props;

@@ -1,5 +1,5 @@
 //! The edits of the build and of the units, written where these end.
-ghost use Rattle.std.specs.Prelude.{◌≡◌, ◌∷◌, [], ℕ, None, length, IfOk, IfErr, OnOk};
+ghost use Rattle.std.specs.Prelude.{◌≡◌, ◌∷◌, [], ℕ, None, length, IfOk, IfErr, OnOk, OnErr};
 ghost use Rattle.rt_edits.specs.Sinks.{grown};
 ghost use Rattle.rt_model.specs.Replay as replay;
 ghost use Rattle.rt_model.specs.Replay.{mounted_state};
@@ -9,7 +9,7 @@ ghost use Rattle.rt_scopes.specs.Mirror.{state_of};
 ghost use Rattle.rt_work.specs.Items.{item_of};
 ghost use Rattle.rt_vdom.specs.Ends.{Took, Ends, Explains};
 ghost use Rattle.rt_vdom.specs.Machines.{fault_in};
-ghost use Rattle.rt_vdom.specs.Writings.{AreCausedNow, AreEdits, AreEditsUntil, AreUntil, Closes, Cuts, WroteUntil};
+ghost use Rattle.rt_vdom.specs.Writings.{AreCausedNow, AreEdits, AreEditsUntil, AreUntil, Closes, ClosesPart, Cuts, CutsShort, WrotePart, WrotePartUntil, WroteUntil};
 
 use crate::ended::Ended;
 use crate::machine::Machine;
@@ -30,6 +30,7 @@ fn write_edit<M: WriteMutations>(alloc: Global, edit: &Edit, sink: &mut M) -> Re
     ensures err { IfErr result (λ ended. (limits : Limits) → Ends limits 0
         (M.taken sink.old) (M.taken sink.new) (M.faults sink.old) (M.faults sink.new) ended) }
     ensures cause { IfErr result (λ ended. fault_in ended ≡ None) }
+    ensures left { OnErr result (M.taken sink.new ≡ M.taken sink.old) }
 {
     match edit.write_to(alloc, sink) {
         Ok(()) => Ok(()),
@@ -47,6 +48,8 @@ fn write_edits<M: WriteMutations>(alloc: Global, edits: &[Edit], sink: &mut M) -
     ensures err { IfErr result (λ ended. (limits : Limits) → Ends limits 0
         (M.taken sink.old) (M.taken sink.new) (M.faults sink.old) (M.faults sink.new) ended) }
     ensures cause { IfErr result (λ ended. fault_in ended ≡ None) }
+    ensures part { IfErr result (λ ended.
+        WrotePart edits.now (M.taken sink.old) (M.taken sink.new) ended) }
 {
     for edit in edits {
         write_edit(alloc, edit, sink)?;
@@ -65,6 +68,8 @@ impl<A: App> Machine<A> {
         ensures cause { IfErr result (λ ended. fault_in ended ≡ None) }
         ensures closes { IfOk result (λ count. Closes (A.meaning self.old.runtime.app) (entry_of first)
             self.old (M.taken sink.old) (M.taken sink.new) count) }
+        ensures part { IfErr result (λ ended. ClosesPart (A.meaning self.old.runtime.app)
+            (entry_of first) self.old (M.taken sink.old) (M.taken sink.new) ended) }
         ensures mounted { OnOk result ((g : _) → state_of g self.new.runtime.state
             ≡ mounted_state (state_of g self.old.runtime.state)) }
         ensures app { self.new.runtime.app ≡ self.old.runtime.app }
@@ -174,6 +179,8 @@ impl<A: App> Machine<A> {
             (M.faults sink.old) (M.faults sink.new) result }
         ensures cuts { Cuts (A.meaning self.now.runtime.app) (item_of refused.now) self.now
             (M.taken sink.old) (M.taken sink.new) ended result }
+        ensures part { CutsShort (A.meaning self.now.runtime.app) (item_of refused.now) self.now
+            (M.taken sink.old) (M.taken sink.new) ended result }
     {
         if ended.wants_memory() {
             return ended;
@@ -193,6 +200,8 @@ impl<A: App> Machine<A> {
         ensures cause { IfErr result (λ ended. fault_in ended ≡ None) }
         ensures wrote { OnOk result (WroteUntil (A.meaning self.now.runtime.app)
             (item_of refused.now) self.now (M.taken sink.old) (M.taken sink.new)) }
+        ensures part { IfErr result (λ ended. WrotePartUntil (A.meaning self.now.runtime.app)
+            (item_of refused.now) self.now (M.taken sink.old) (M.taken sink.new) ended) }
     {
         let edits = self.caused_until(refused)?;
         write_edits(self.runtime.alloc, edits.as_slice(), sink)

@@ -1,4 +1,4 @@
-use Rattle.std.proofs.Common.{◌∙◌, ap, sym}
+use Rattle.std.proofs.Common.{rules, ◌∙◌, ap, sym}
 use Rattle.std.proofs.lemmas.Result.{err_from_is_err_and}
 use Rattle.rt_model.specs.Replay as replay
 use Rattle.rt_model.specs.State as model
@@ -20,3 +20,6 @@ returns-clause-drawn g c =
     λ kept.
     let same = ap (λ p. replay.draw_number (state_of kept c.args.runtime.now.state) c.args.scope (side_name_of c.args.side) (place_of p) (kind_of c.args.kind)) c.in_ok-place.ensures.copy in
     (kept, sym same ∙ c.in_ok-draw_number.ensures.done kept ∙ ap (λ xs. model.Done (state_of kept c.draw_number.new.self) (work_of xs)) (sym c.new.ensures.empty))
+
+pub returns-in_err-place-clause-drawn : goal.returns-in_err-place-clause-drawn
+returns-in_err-place-clause-drawn g c = λ kept. (kept, search rules)

@@ -23,7 +23,7 @@ returns-in-Some-clause-fed g c =
 pub returns-in-Some-clause-noted : goal.returns-in-Some-clause-noted
 returns-in-Some-clause-noted g c =
     λ kept.
-    noted_as c.args.course.now c.hand.new.course _ _ c.hand.result
+    noted_as c.args.course.now.entries c.hand.new.course.entries _ _ c.hand.result
     (feed_entries (g.A.App.meaning c.args.runtime.now.app) (state_of kept c.args.runtime.now.state) c.args.scope (side_name_of c.args.side) (place_of c.args.place.now) (component_of c.args.component.now) _
     (ap (λ p. replay.fed_child (state_of kept c.args.runtime.now.state) c.args.scope (side_name_of c.args.side) (place_of p)) (sym c.as_slice.ensures.items) ∙ sym (c.fed_child.ensures kept) ∙ c.in-Some.is))
     (c.hand.ensures.noted kept)
@@ -40,8 +40,8 @@ returns-in-None-clause-fed g c =
 pub returns-in-None-clause-noted : goal.returns-in-None-clause-noted
 returns-in-None-clause-noted g c =
     λ kept.
-    noted_none c.args.course.now
-    ∙ ap (λ xs. map entry_of c.args.course.now ++ xs)
+    noted_none c.args.course.now.entries
+    ∙ ap (λ xs. map entry_of c.args.course.now.entries ++ xs)
     (sym
     (feed_entries (g.A.App.meaning c.args.runtime.now.app) (state_of kept c.args.runtime.now.state) c.args.scope (side_name_of c.args.side) (place_of c.args.place.now) (component_of c.args.component.now) _
     (ap (λ p. replay.fed_child (state_of kept c.args.runtime.now.state) c.args.scope (side_name_of c.args.side) (place_of p)) (sym c.as_slice.ensures.items) ∙ sym (c.fed_child.ensures kept) ∙ c.in-None.is)))

@@ -1,4 +1,4 @@
-use Rattle.std.proofs.Common.{◌∙◌, [], ap, sym}
+use Rattle.std.proofs.Common.{rules, ◌∙◌, [], ap, sym}
 use Rattle.rt_mirror.specs.Sealed.{component_of}
 use Rattle.rt_model.specs.Replay as replay
 use Rattle.rt_model.specs.Run.{run}
@@ -23,9 +23,9 @@ returns-in_ok-note-clause-handed g c =
 pub returns-in_ok-note-clause-noted : goal.returns-in_ok-note-clause-noted
 returns-in_ok-note-clause-noted g c =
     λ kept.
-    noted_as c.args.course.now c.note.new.self _ _ c.put.result
+    noted_as c.args.course.now.entries c.note.new.self.entries _ _ c.put.result
     (entry_kept (g.A.App.meaning c.args.runtime.now.app) (state_of kept c.args.runtime.now.state) c.args.child (component_of c.args.component.now) (sym (c.keeps-kept.ensures kept) ∙ c.if-kept.true))
-    (noted_any c.args.course.now c.note.new.self _ c.put.result (noted_one _ _ _ c.in_ok-note.ensures.ok))
+    (noted_any c.args.course.now.entries c.note.new.self.entries _ c.put.result (noted_one _ _ _ c.in_ok-note.ensures.ok))
 
 pub returns-in_ok-note-2-clause-handed : goal.returns-in_ok-note-2-clause-handed
 returns-in_ok-note-2-clause-handed g c =
@@ -43,6 +43,15 @@ returns-in_ok-note-2-clause-handed g c =
 pub returns-in_ok-note-2-clause-noted : goal.returns-in_ok-note-2-clause-noted
 returns-in_ok-note-2-clause-noted g c =
     λ kept.
-    noted_as c.args.course.now c.note-else-kept.new.self _ _ c.put_and_run.result
+    noted_as c.args.course.now.entries c.note-else-kept.new.self.entries _ _ c.put_and_run.result
     (entry_fed (g.A.App.meaning c.args.runtime.now.app) (state_of kept c.args.runtime.now.state) c.args.child (component_of c.args.component.now) (sym (c.keeps-kept.ensures kept) ∙ c.if-kept.false))
-    (noted_any c.args.course.now c.note-else-kept.new.self _ c.put_and_run.result (noted_one _ _ _ c.in_ok-note-2.ensures.ok))
+    (noted_any c.args.course.now.entries c.note-else-kept.new.self.entries _ c.put_and_run.result (noted_one _ _ _ c.in_ok-note-2.ensures.ok))
+
+pub returns-in_err-component-clause-handed : goal.returns-in_err-component-clause-handed
+returns-in_err-component-clause-handed g c = λ kept. (kept, search rules)
+
+pub returns-in_err-note-clause-handed : goal.returns-in_err-note-clause-handed
+returns-in_err-note-clause-handed g c = λ kept. (kept, search rules)
+
+pub returns-in_err-note-2-clause-handed : goal.returns-in_err-note-2-clause-handed
+returns-in_err-note-2-clause-handed g c = λ kept. (kept, search rules)

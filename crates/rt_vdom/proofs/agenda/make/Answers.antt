@@ -1,4 +1,4 @@
-use Rattle.std.proofs.Common.{◌∙◌, ap, sym}
+use Rattle.std.proofs.Common.{rules, ◌∙◌, ap, sym}
 use Rattle.rt_mirror.specs.Sealed.{component_of}
 use Rattle.rt_model.specs.Replay as replay
 use Rattle.rt_model.specs.State as model
@@ -30,4 +30,10 @@ returns-else-is_live-clause-made g c =
     )
 
 pub returns-then-is_live-clause-noted : goal.returns-then-is_live-clause-noted
-returns-then-is_live-clause-noted g c = λ kept. noted_any c.args.course.now c.note.new.self _ c.make_below.result (noted_one _ _ _ c.in_ok-note.ensures.ok)
+returns-then-is_live-clause-noted g c = λ kept. noted_any c.args.course.now.entries c.note.new.self.entries _ c.make_below.result (noted_one _ _ _ c.in_ok-note.ensures.ok)
+
+pub returns-in_err-note-clause-made : goal.returns-in_err-note-clause-made
+returns-in_err-note-clause-made g c = λ kept. (kept, search rules)
+
+pub returns-in_err-place-clause-made : goal.returns-in_err-place-clause-made
+returns-in_err-place-clause-made g c = λ kept. (kept, search rules)

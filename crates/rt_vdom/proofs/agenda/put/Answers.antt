@@ -1,4 +1,4 @@
-use Rattle.std.proofs.Common.{◌∙◌, ap, sym, []}
+use Rattle.std.proofs.Common.{rules, ◌∙◌, ap, sym, []}
 use Rattle.rt_model.specs.State as model
 use Rattle.rt_scopes.specs.Mirror.{state_of}
 use Rattle.rt_work.specs.Items.{work_of}
@@ -10,3 +10,6 @@ returns-clause-done g c =
       kept,
       ap (λ w. model.Done w []) (sym (c.in_ok-put_component.ensures kept)) ∙ ap (λ xs. model.Done (state_of kept c.put_component.new.self) (work_of xs)) (sym c.new.ensures.empty),
     )
+
+pub returns-in_err-put_component-clause-done : goal.returns-in_err-put_component-clause-done
+returns-in_err-put_component-clause-done g c = λ kept. (kept, search rules)

@@ -1,3 +1,4 @@
+use Rattle.std.proofs.Common.{rules}
 use Rattle.std.proofs.lemmas.Result.{err_from_is_err_and}
 use Rattle.rt_places.specs.Places.{side_name_of}
 use Rattle.rt_scopes.specs.Mirror.{state_of}
@@ -14,7 +15,7 @@ returns-in_err-remove-clause-turned g c =
 pub returns-in_err-remove-clause-noted : goal.returns-in_err-remove-clause-noted
 returns-in_err-remove-clause-noted g c =
     λ kept.
-    noted_any c.args.course.now c.note.new.self _ c.from_residual-in_err-remove.result
+    noted_any c.args.course.now.entries c.note.new.self.entries _ c.from_residual-in_err-remove.result
     (noted_one_as _ _ _ _ c.in_ok-note.ensures.ok (gone_entry (state_of kept c.args.runtime.now.state) c.args.child c.in_ok-leaf.leaf (c.in_ok-leaf.ensures kept)))
 
 pub returns-clause-turned : goal.returns-clause-turned
@@ -28,3 +29,12 @@ returns-clause-turned g c =
 pub returns-clause-noted : goal.returns-clause-noted
 returns-clause-noted g c =
     λ kept. noted_one_as _ _ _ _ c.in_ok-note.ensures.ok (gone_entry (state_of kept c.args.runtime.now.state) c.args.child c.in_ok-leaf.leaf (c.in_ok-leaf.ensures kept))
+
+pub returns-in_err-leaf-clause-turned : goal.returns-in_err-leaf-clause-turned
+returns-in_err-leaf-clause-turned g c = λ kept. (kept, search rules)
+
+pub returns-in_err-note-clause-turned : goal.returns-in_err-note-clause-turned
+returns-in_err-note-clause-turned g c = λ kept. (kept, search rules)
+
+pub returns-in_err-drop_again-clause-turned : goal.returns-in_err-drop_again-clause-turned
+returns-in_err-drop_again-clause-turned g c = λ kept. (kept, search rules)

@@ -1,5 +1,7 @@
 use Rattle.rt_vdom.proofs.Ending.{never_some, never_refused}
-use Rattle.std.proofs.Common.{◌∙◌, sym}
+use Rattle.std.proofs.Common.{◌∙◌, map, sym}
+use Rattle.rt_reports.specs.Seen.{input_of, limits_of}
+use Rattle.rt_vdom.proofs.Short.{short_as}
 use Rattle.rt_vdom.proofs.runner.session.Goals as goal
 
 pub returns-in-Err-clause-refused : goal.returns-in-Err-clause-refused
@@ -16,12 +18,21 @@ returns-in-Err-clause-refused g c =
     }
 
 pub returns-in-Err-clause-ran_to : goal.returns-in-Err-clause-ran_to
-returns-in-Err-clause-ran_to g c = λ polled fault why. c.in-Err.ensures.runs polled fault (sym c.fault.ensures.of ∙ why)
+returns-in-Err-clause-ran_to g c = λ fault why. c.in-Err.ensures.runs.0 fault (sym c.fault.ensures.of ∙ why)
+
+pub returns-in-Err-clause-broke_off : goal.returns-in-Err-clause-broke_off
+returns-in-Err-clause-broke_off g c = λ none.
+    let broke = c.in-Err.ensures.runs.1 (sym c.fault.ensures.of ∙ none) in
+    record {
+      wrote = broke.wrote;
+      told = broke.told;
+      ran_short = short_as (g.A.App.meaning c.args.app) (limits_of c.args.limits) c.args.root_props (map input_of c.args.inputs) _ _ _ _ c.fault.ensures.parts broke.ran_short;
+    }
 
 -- the headline, and how a fault was come to, by the laws of a run
 pub returns-in-Ok-clause-headline : goal.returns-in-Ok-clause-headline
-returns-in-Ok-clause-headline g c = λ polled.
-    let done = c.in-Ok.ensures.runs polled in
+returns-in-Ok-clause-headline g c =
+    let done = c.in-Ok.ensures.runs in
     record {
       wrote = done.wrote;
       told = done.told;
@@ -29,8 +40,8 @@ returns-in-Ok-clause-headline g c = λ polled.
     }
 
 pub returns-in-Err-clause-came_to : goal.returns-in-Err-clause-came_to
-returns-in-Err-clause-came_to g c = λ polled fault why.
-    let done = c.in-Err.ensures.runs polled fault (sym c.fault.ensures.of ∙ why) in
+returns-in-Err-clause-came_to g c = λ fault why.
+    let done = c.in-Err.ensures.runs.0 fault (sym c.fault.ensures.of ∙ why) in
     record {
       wrote = done.wrote;
       told = done.told;
@@ -39,5 +50,5 @@ returns-in-Err-clause-came_to g c = λ polled fault why.
 
 -- where each log comes to no refusal, none was come to
 pub returns-in-Err-clause-completes : goal.returns-in-Err-clause-completes
-returns-in-Err-clause-completes g c = λ polled valid.
-    never_some _ (λ fault why. never_refused _ _ _ _ _ _ fault valid (c.in-Err.ensures.runs polled fault (sym c.fault.ensures.of ∙ why)).ran_to)
+returns-in-Err-clause-completes g c = λ valid.
+    never_some _ (λ fault why. never_refused _ _ _ _ _ _ fault valid (c.in-Err.ensures.runs.0 fault (sym c.fault.ensures.of ∙ why)).ran_to)

@@ -1,6 +1,7 @@
--- The edits so far were taken, and with those that are left it is what all lead to.
-use Rattle.std.proofs.Common.{◌≡◌, ◌≤◌, length, drop}
+-- The edits so far were taken, and with those that are left they are all.
+use Rattle.std.proofs.Common.{◌≡◌, ◌≤◌, ◌++◌, List, length, drop}
 use Rattle.rt_edits.specs.Sinks.{grown}
+use Rattle.rt_edits.specs.declared.edit.Edit.{Edit}
 use Rattle.rt_vdom.specs.Ends.{Took}
 use Rattle.rt_vdom.proofs.writing.write_edits.Given as goal
 
@@ -10,4 +11,4 @@ invariant-loop-edit g l =
     ×
     (l.edit-index ≤ length l.edits)
     ×
-    (grown (g.M.WriteMutations.taken l.sink) (drop l.edit-index l.edits) ≡ grown (g.M.WriteMutations.taken l.fn.sink) l.edits)
+    ((front : List Edit) × (front ++ drop l.edit-index l.edits ≡ l.edits) × (g.M.WriteMutations.taken l.sink ≡ grown (g.M.WriteMutations.taken l.fn.sink) front))

@@ -21,7 +21,7 @@ returns-in_err-items-clause-begins g c =
     (did_cut (g.A.App.meaning c.args.self.now.runtime.app) (unit_of (g.A.App.meaning c.args.self.now.runtime.app) (state_of kept c.args.self.now.runtime.state) (model_work c.args.work)) (entry_for (model_work c.args.work) ∷ []) c.args.self.now
     (record c.args.self.now { runtime = c.first_step.new.runtime; course = c.note.new.self; first = Some c.entry_for-entry.result; stood = c.in_ok-self.field-0; scopes = length c.as_slice.result.now })
     came.0 c.in_err-items.field-0.0 came.1
-    (noted_any {A = Unit {0}} c.args.self.now.course c.note.new.self (entry_for (model_work c.args.work) ∷ []) (Err c.in_err-items.field-0.0) (noted_one_as _ _ _ _ c.in_ok-note.ensures.ok (ap (λ e. e ∷ []) (sym c.entry_for-entry.ensures.entry)))))
+    (noted_any {A = Unit {0}} c.args.self.now.course.entries c.note.new.self.entries (entry_for (model_work c.args.work) ∷ []) (Err c.in_err-items.field-0.0) (noted_one_as _ _ _ _ c.in_ok-note.ensures.ok (ap (λ e. e ∷ []) (sym c.entry_for-entry.ensures.entry)))))
 
 pub returns-clause-begins : goal.returns-clause-begins
 returns-clause-begins g c =

@@ -16,7 +16,7 @@ returns-in_err-work-clause-builds g c =
     rw (p.1, p.2)
     (did_cut (g.A.App.meaning c.args.self.now.runtime.app) _ _ c.args.self.now
     (record c.args.self.now { runtime = c.run.new.self; first = Some entries.Build })
-    came.0 c.in_err-work.field-0.0 came.1 (noted_any {A = Unit {0}} c.args.self.now.course c.args.self.now.course [] (Err c.in_err-work.field-0.0) (noted_none c.args.self.now.course)))
+    came.0 c.in_err-work.field-0.0 came.1 (noted_any {A = Unit {0}} c.args.self.now.course.entries c.args.self.now.course.entries [] (Err c.in_err-work.field-0.0) (noted_none c.args.self.now.course.entries)))
 
 pub returns-clause-builds : goal.returns-clause-builds
 returns-clause-builds g c =
@@ -27,5 +27,5 @@ returns-clause-builds g c =
       work = work_of c.in_ok-work.work;
       done = came.1;
       open_is = stack_is _ _ c.in_ok-work.work c.in_ok-stack.ensures;
-      logged = noted_none c.args.self.now.course;
+      logged = noted_none c.args.self.now.course.entries;
     }

@@ -1,9 +1,11 @@
-use Rattle.std.proofs.Common.{sym, subst}
+use Rattle.std.proofs.Common.{[], refl, sym, ap, ◌∙◌, subst, map}
 use Rattle.std.proofs.lemmas.Result.{err_from_is_err_and}
 use Rattle.rt_reports.specs.Seen.{entry_of}
+use Rattle.rt_mirror.specs.Mirror.{edit_of}
+use Rattle.rt_vdom.specs.Short.{PartBy}
 use Rattle.rt_vdom.specs.Writings.{AreEdits}
-use Rattle.rt_vdom.proofs.Keeps.{if_ok_and}
-use Rattle.rt_vdom.proofs.Sinks.{ends-run}
+use Rattle.rt_vdom.proofs.Keeps.{if_ok_and, if_err}
+use Rattle.rt_vdom.proofs.Sinks.{ends-run, grown-none}
 use Rattle.rt_vdom.proofs.machine.Machine.close.Goals as goal
 
 pub returns-in_err-edits-clause-err : goal.returns-in_err-edits-clause-err
@@ -20,5 +22,25 @@ returns-clause-closes g c =
       told = told;
       counted = sym counted;
       are = subst (λ es. AreEdits (g.A.App.meaning c.args.self.now.runtime.app) (entry_of c.args.first) c.args.self.now es) (sym c.as_slice.ensures.items) c.in_ok-edits.ensures.edits;
+    }
+    )
+
+pub returns-in_err-edits-clause-part : goal.returns-in_err-edits-clause-part
+returns-in_err-edits-clause-part g c =
+    let p = err_from_is_err_and c.from_residual.result c.from_residual.ensures.1 in
+    rw (p.1, p.2) (record { wrote = []; told = grown-none (g.M.WriteMutations.taken c.args.sink.now); part = λ kept w remembers. (_, refl) })
+
+pub returns-clause-part : goal.returns-clause-part
+returns-clause-part g c =
+    if_err c.write_edits.result c.write_edits.ensures.part
+    (
+    λ ended h.
+    record {
+      wrote = h.wrote;
+      told = h.told;
+      part =
+          λ kept w remembers.
+          subst (λ es. PartBy ended (map edit_of h.wrote) es)
+          (ap (λ es. map edit_of es) c.as_slice.ensures.items ∙ c.in_ok-edits.ensures.edits kept w remembers) h.part;
     }
     )

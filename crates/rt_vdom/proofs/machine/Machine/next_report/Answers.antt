@@ -2,7 +2,7 @@ use Rattle.std.proofs.Common.{◌∙◌, ◌∷◌, [], Ok, Err, ap, map}
 use Rattle.std.proofs.lemmas.Result.{err_from_is_err_and}
 use Rattle.rt_reports.specs.Seen.{entry_of, input_of, limits_of}
 use Rattle.rt_vdom.proofs.Opening.{taking, stands_taken, stands_reported}
-use Rattle.rt_vdom.proofs.Reporting.{settled_from, wanting}
+use Rattle.rt_vdom.proofs.Reporting.{report_wanting, settled_from, taking_wanting}
 use Rattle.rt_vdom.proofs.Sinks.{ends-run}
 use Rattle.rt_vdom.proofs.machine.Machine.next_report.Goals as goal
 
@@ -13,7 +13,11 @@ returns-in_err-receive-clause-err g c =
 pub returns-in_err-receive-clause-reports : goal.returns-in_err-receive-clause-reports
 returns-in_err-receive-clause-reports g c =
     let p = err_from_is_err_and c.from_residual.result c.from_residual.ensures.1 in
-    rw (p.1, p.2) (λ props inputs left taken last is follows fault why. wanting fault why)
+    rw (p.1, p.2)
+    (
+    λ props inputs left taken last is follows.
+    taking_wanting (g.A.App.meaning c.args.self.now.runtime.app) (limits_of c.args.limits) props inputs (input_of c.args.input ∷ left) left taken c.args.number last c.args.self.now c.receive.new.self (g.M.WriteMutations.taken c.args.sink.now) follows
+    )
 
 pub returns-in_err-edits-clause-reports : goal.returns-in_err-edits-clause-reports
 returns-in_err-edits-clause-reports g c =
@@ -27,6 +31,23 @@ returns-in_err-edits-clause-reports g c =
     (taking app limits props inputs left c.args.number last) [] c.receive.ensures.app c.in_err-edits.ensures.settles
     (stands_taken app limits props inputs left (input_of c.args.input) taken c.args.number last c.args.self.now c.receive.new.self is follows
     (λ kept. c.in_ok-receive.ensures.received kept (input_of c.args.input ∷ left) left taken) c.receive.ensures.first c.receive.ensures.work c.receive.ensures.course)
+    )
+
+pub returns-in_err-report-clause-reports : goal.returns-in_err-report-clause-reports
+returns-in_err-report-clause-reports g c =
+    let p = err_from_is_err_and c.from_residual-in_err-report.result c.from_residual-in_err-report.ensures.1 in
+    rw (p.1, p.2)
+    (
+    λ props inputs left taken last is follows.
+    let app = g.A.App.meaning c.args.self.now.runtime.app in
+    let limits = limits_of c.args.limits in
+    let going = taking app limits props inputs left c.args.number last in
+    let before = g.M.WriteMutations.taken c.args.sink.now in
+    let after = g.M.WriteMutations.taken c.settle.new.sink in
+    report_wanting app limits going before after c.in_ok-edits.edits c.settle.new.self c.report.new.self
+    (settled_from g.A.App.meaning limits c.args.self.now c.receive.new.self c.settle.new.self before after (Ok c.in_ok-edits.edits) going [] c.receive.ensures.app c.in_ok-edits.ensures.settles
+    (stands_taken app limits props inputs left (input_of c.args.input) taken c.args.number last c.args.self.now c.receive.new.self is follows
+    (λ kept. c.in_ok-receive.ensures.received kept (input_of c.args.input ∷ left) left taken) c.receive.ensures.first c.receive.ensures.work c.receive.ensures.course))
     )
 
 pub returns-clause-reports : goal.returns-clause-reports

@@ -1,10 +1,10 @@
-use Rattle.std.proofs.Common.{[], ◌++◌, refl, sym, ◌∙◌, subst, map, rules}
+use Rattle.std.proofs.Common.{[], ◌+◌, ◌++◌, refl, sym, ◌∙◌, subst, map, rules}
 use Rattle.std.proofs.lemmas.Result.{err_from_is_err_and}
 use Rattle.std.specs.Prelude.{Ok, Err}
 use Rattle.rt_mirror.specs.Mirror.{edit_of}
 use Rattle.rt_reports.specs.Seen.{limits_of}
 use Rattle.rt_vdom.specs.Stands.{StandsAt, TurnsAs}
-use Rattle.rt_vdom.proofs.Quiet.{goes_none, goes_more, goes_over, goes_came}
+use Rattle.rt_vdom.proofs.Quiet.{goes_none, goes_more, goes_over, goes_came, goes_wanting}
 use Rattle.rt_vdom.proofs.Sinks.{took-more, took-to, none-taken, some-taken, took-ends, ends-low, run-after}
 use Rattle.rt_vdom.proofs.Turning.{grown_none}
 use Rattle.rt_vdom.proofs.machine.Machine.settle.Goals as goal
@@ -65,6 +65,28 @@ returns-in_err-edits-clause-err g c =
 
 pub returns-in_err-edits-clause-app : goal.returns-in_err-edits-clause-app
 returns-in_err-edits-clause-app g c = c.turn.ensures.app ∙ c.loop-turn.invariant.app
+
+pub returns-in_err-edits-clause-settles : goal.returns-in_err-edits-clause-settles
+returns-in_err-edits-clause-settles g c =
+    let p = err_from_is_err_and c.from_residual-in_err-edits.result c.from_residual-in_err-edits.ensures.1 in
+    rw (p.1, p.2)
+    (
+    λ r edits stands.
+    let limits = limits_of c.args.limits in
+    let on = c.loop-turn.invariant.on r edits stands in
+    let more = edits ++ map edit_of on.wrote in
+    goes_wanting (g.A.App.meaning c.args.self.now.runtime.app) (g.met.A.App.lawful c.args.self.now.runtime.app) limits r edits (g.M.WriteMutations.taken c.args.sink.now) (g.M.WriteMutations.taken c.turn.new.sink) (c.loop-turn.edits + c.in-Some.written) c.turn.new.self c.turn.new.self
+    (goes_more (g.A.App.meaning c.args.self.now.runtime.app) (g.met.A.App.lawful c.args.self.now.runtime.app) limits r edits (g.M.WriteMutations.taken c.args.sink.now) (g.M.WriteMutations.taken c.loop-turn.sink) (g.M.WriteMutations.taken c.turn.new.sink) c.loop-turn.edits c.in-Some.written (c.loop-turn.edits + c.in-Some.written) c.loop-turn.self c.turn.new.self on refl
+    (subst (λ o. TurnsAs (g.A.App.meaning c.args.self.now.runtime.app) limits r more (g.M.WriteMutations.taken c.loop-turn.sink) (g.M.WriteMutations.taken c.turn.new.sink) c.turn.new.self (Ok o)) c.in-Some.is
+    (subst (λ a. TurnsAs (g.A.App.meaning a) limits r more (g.M.WriteMutations.taken c.loop-turn.sink) (g.M.WriteMutations.taken c.turn.new.sink) c.turn.new.self (Ok c.in_ok-written.field-0)) c.loop-turn.invariant.app
+    (c.in_ok-written.ensures.turns r more (subst (λ a. StandsAt (g.A.App.meaning a) limits r more c.loop-turn.self) (sym c.loop-turn.invariant.app) on.stands)))))
+    )
+
+pub returns-clause-settles : goal.returns-clause-settles
+returns-clause-settles g c =
+    λ r edits stands.
+    goes_wanting (g.A.App.meaning c.args.self.now.runtime.app) (g.met.A.App.lawful c.args.self.now.runtime.app) (limits_of c.args.limits) r edits (g.M.WriteMutations.taken c.args.sink.now) (g.M.WriteMutations.taken c.loop-turn.sink) c.loop-turn.edits c.loop-turn.self c.loop-turn.self
+    (c.loop-turn.invariant.on r edits stands)
 
 pub returns-clause-app : goal.returns-clause-app
 returns-clause-app g c = c.loop-turn.invariant.app

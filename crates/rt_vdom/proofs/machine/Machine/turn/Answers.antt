@@ -1,8 +1,9 @@
-use Rattle.std.proofs.Common.{refl, sym, ap, ◌∙◌, subst}
+use Rattle.std.proofs.Common.{[], refl, sym, ap, ◌∙◌, subst}
 use Rattle.std.proofs.lemmas.Result.{err_from_is_err_and}
 use Rattle.std.specs.Prelude.{Some, None, option_map}
 use Rattle.rt_reports.specs.Seen.{entry_of, limits_of}
 use Rattle.rt_vdom.specs.Stands.{StandsFor}
+use Rattle.rt_vdom.proofs.Breaking.{broke_at, part_none}
 use Rattle.rt_vdom.proofs.Quiet.{stands_before, quiet_turns, quiet_came}
 use Rattle.rt_vdom.proofs.Sinks.{ends-caused}
 use Rattle.rt_vdom.proofs.machine.Machine.turn.Goals as goal
@@ -45,6 +46,11 @@ returns-in_err-quiet_turn-in-None-clause-turns g c =
     quiet_came app (g.met.A.App.lawful c.args.self.now.runtime.app) (limits_of c.args.limits) r edits (g.M.WriteMutations.taken c.args.sink.now) c.quiet_turn.new.self c.in_err-quiet_turn-in-None.field-0.0
     (c.in_err-quiet_turn-in-None.ensures.turns r edits c.in-None.is c.in_default.ensures.last.1
     (subst (λ d. StandsFor app (limits_of c.args.limits) r None edits d) same (subst (λ o. StandsFor app (limits_of c.args.limits) r o edits c.args.self.now) at stands)))
+    (
+    λ none.
+    broke_at app (limits_of c.args.limits) r edits (g.M.WriteMutations.taken c.args.sink.now) c.args.self.now c.in_err-quiet_turn-in-None.field-0.0 stands
+    (part_none c.args.limits c.in_err-quiet_turn-in-None.field-0.0 [] c.in_err-quiet_turn-in-None.ensures.err)
+    )
     )
 
 pub returns-in_ok-quiet_turn-in-None-clause-turns : goal.returns-in_ok-quiet_turn-in-None-clause-turns

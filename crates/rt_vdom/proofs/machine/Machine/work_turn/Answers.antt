@@ -3,7 +3,8 @@ use Rattle.std.proofs.lemmas.List.{append-nil}
 use Rattle.rt_reports.specs.Seen.{limits_of}
 use Rattle.rt_work.specs.Items.{item_of}
 use Rattle.rt_vdom.specs.Stands.{StandsAt}
-use Rattle.rt_vdom.specs.Writings.{WroteUntil}
+use Rattle.rt_vdom.specs.Writings.{WroteUntil, CutsShort}
+use Rattle.rt_vdom.proofs.Breaking.{broke_refused}
 use Rattle.rt_vdom.proofs.Turning.{grown_none, stands_served, stands_refused}
 use Rattle.rt_vdom.proofs.machine.Machine.work_turn.Goals as goal
 
@@ -23,8 +24,16 @@ returns-in-Ok-clause-turns g c =
 
 pub returns-in-Err-clause-turns : goal.returns-in-Err-clause-turns
 returns-in-Err-clause-turns g c =
-    λ r edits first is stands fault why.
-    let both = c.cut.ensures.cuts fault why in
-    stands_refused (g.A.App.meaning c.args.self.now.runtime.app) (g.met.A.App.lawful c.args.self.now.runtime.app) (limits_of c.args.limits) r (item_of c.args.item.now) first edits c.args.self.now c.serve.new.self
-    (g.M.WriteMutations.taken c.args.sink.now) (g.M.WriteMutations.taken c.cut.new.sink) c.in-Err.ended fault stands is c.serve.ensures.others c.in-Err.ensures.serves c.in-Err.ensures.remembers both.0
-    (subst (λ a. WroteUntil (g.A.App.meaning a) (item_of c.args.item.now) c.serve.new.self (g.M.WriteMutations.taken c.args.sink.now) (g.M.WriteMutations.taken c.cut.new.sink)) c.serve.ensures.app both.1)
+    λ r edits first is stands. (
+      λ fault why.
+          let both = c.cut.ensures.cuts fault why in
+          stands_refused (g.A.App.meaning c.args.self.now.runtime.app) (g.met.A.App.lawful c.args.self.now.runtime.app) (limits_of c.args.limits) r (item_of c.args.item.now) first edits c.args.self.now c.serve.new.self
+          (g.M.WriteMutations.taken c.args.sink.now) (g.M.WriteMutations.taken c.cut.new.sink) c.in-Err.ended fault stands is c.serve.ensures.others c.in-Err.ensures.serves c.in-Err.ensures.remembers both.0
+          (subst (λ a. WroteUntil (g.A.App.meaning a) (item_of c.args.item.now) c.serve.new.self (g.M.WriteMutations.taken c.args.sink.now) (g.M.WriteMutations.taken c.cut.new.sink)) c.serve.ensures.app both.1),
+      λ none.
+          let app = g.A.App.meaning c.args.self.now.runtime.app in
+          broke_refused app (g.met.A.App.lawful c.args.self.now.runtime.app) (limits_of c.args.limits) r (item_of c.args.item.now) first edits c.args.self.now c.serve.new.self
+          (g.M.WriteMutations.taken c.args.sink.now) (g.M.WriteMutations.taken c.cut.new.sink) c.in-Err.ended c.cut.result stands is c.serve.ensures.others c.in-Err.ensures.serves c.in-Err.ensures.remembers
+          (subst (λ a. CutsShort (g.A.App.meaning a) (item_of c.args.item.now) c.serve.new.self (g.M.WriteMutations.taken c.args.sink.now) (g.M.WriteMutations.taken c.cut.new.sink) c.in-Err.ended c.cut.result) c.serve.ensures.app c.cut.ensures.part)
+          none,
+    )
