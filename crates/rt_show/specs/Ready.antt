@@ -8,11 +8,13 @@ use Rattle.rt_language.specs.Meaning.{inputs_of}
 use Rattle.rt_script.specs.Applications.{props_of_script}
 use Rattle.rt_script.specs.Laws.{MeansSource}
 use Rattle.rt_script.specs.declared.script.Script.{Script}
-use Rattle.rt_script_views.specs.Narrow.{IsNarrowSource}
+
+-- the calls of a script are those of a source
+unfoldable pub IsMeant : Script → Source → Type 0
+IsMeant script said = MeansSource script said
 
 -- a script with the props of its root and its inputs is made of a source
 pub record MadeOf (said : Source) (script : Script) (props : List Value) (inputs : List (Input SourceTypes)) : Type 0 where
-  -- where no row of a view is too long, its calls are those of the source
-  pub means : IsNarrowSource said → MeansSource script said
+  pub means : IsMeant script said
   pub props_are : props ≡ props_of_script script
   pub inputs_are : inputs ≡ inputs_of said.inputs

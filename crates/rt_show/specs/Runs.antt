@@ -1,21 +1,16 @@
 -- What the program is given, what it prints of it, and how a run of it comes out.
-use Rattle.std.specs.Prelude.{◌≡◌, ◌⊎◌, ℕ, ◌<◌, ◌≤◌, List, ◌++◌, length, Option, Some, None, Result, Ok, Err}
-use Rattle.std.specs.List.{AllByRecursion}
+use Rattle.std.specs.Prelude.{◌≡◌, ◌⊎◌, ℕ, ◌<◌, List, Option, Some, None, Result, Ok, Err}
 use Rattle.rt_streams.specs.Reads.{IsWhole, IsLonger}
 use Rattle.rt_streams.specs.Writes.{grown, AddsFront}
 use Rattle.rt_model.specs.Document.{Edit}
-use Rattle.rt_model.specs.State.{Fault, OutOfTurns, TooDeep}
-use Rattle.rt_model.specs.Replay.{Entry, Input}
-use Rattle.rt_model.specs.Told.{is_unit, is_body, count_entries}
-use Rattle.rt_model.specs.Headline.{Report, OneEach, logs_of, Ran, RanTo}
+use Rattle.rt_model.specs.State.{Fault}
+use Rattle.rt_model.specs.Headline.{Report, Ran, RanTo, Headline, CameTo}
 use Rattle.rt_language.specs.Syntax.{Source}
-use Rattle.rt_language.specs.Expressions.{SourceTypes}
 use Rattle.rt_language.specs.Meaning.{meaning_of, props_of, inputs_of}
 use Rattle.rt_language.specs.Lines.{text_of, fault_text_of}
-use Rattle.rt_language.specs.Generated.{generated, total, summary_line}
+use Rattle.rt_language.specs.Generated.{generated, summary_line}
 use Rattle.rt_reports.specs.Seen.{limits_of}
 use Rattle.rt_reports.specs.declared.limits.Limits.{Limits}
-use Rattle.rt_script_views.specs.Narrow.{IsNarrowSource}
 use Rattle.rt_sources.specs.Describes.{Describes}
 use Rattle.rt_sources.specs.declared.reading.TheConstants.{SOURCE_LIMIT}
 use Rattle.rt_show.specs.Words.{usual}
@@ -45,69 +40,52 @@ abbrev pub Chooses : Wish → Source → (left after : Option (List ℕ)) → Ty
 Chooses (Run limits) said left after = DescribedBy said left after
 Chooses (Make rows) said left after = (said ≡ generated rows) × (after ≡ left)
 
--- a report counts the units and the bodies of its log
-pub record CountsItsLog (report : Report) : Type 0 where
-  pub units : report.units ≡ count_entries is_unit report.log
-  pub bodies : report.bodies ≡ count_entries is_body report.log
-
--- the reports of a run that was done
-pub record AreReports (reports : List Report) : Type 0 where
-  -- a report for the build and one for each input, in order
-  pub inputs : List (Input SourceTypes)
-  pub one_each : OneEach inputs (logs_of reports)
-  pub counts : AllByRecursion CountsItsLog reports
-
--- where its views are narrow, a source has a session within these limits with these reports; these edits of it were
--- taken, where that is told
-abbrev pub IsRun : Limits → Source → Option (List Edit) → List Report → Type 0
+-- a source has a session within these limits with these reports; these edits of it were taken, where that is told
+unfoldable pub IsRun : Limits → Source → Option (List Edit) → List Report → Type 0
 IsRun limits said taken reports =
-    IsNarrowSource said → Ran (meaning_of said) (props_of said) (inputs_of said.inputs) (limits_of limits) taken reports
+    Ran (meaning_of said) (props_of said) (inputs_of said.inputs) (limits_of limits) taken reports
 
 -- the same of a session that came to a fault
-abbrev pub IsRunTo : Limits → Source → List Edit → List Report → Fault → Type 0
+unfoldable pub IsRunTo : Limits → Source → List Edit → List Report → Fault → Type 0
 IsRunTo limits said edits reports fault =
-    IsNarrowSource said → RanTo (meaning_of said) (props_of said) (inputs_of said.inputs) (limits_of limits) (Some edits) reports fault
+    RanTo (meaning_of said) (props_of said) (inputs_of said.inputs) (limits_of limits) (Some edits) reports fault
+
+-- a source has the headline with these reports and edits, where those are told: replay accepts the logs, the edits never
+-- fault and give what shows after each report, and there every output is current, and fallbacks show just while they are held
+unfoldable pub HasHeadline : Source → Option (List Edit) → List Report → Type 0
+HasHeadline said taken reports =
+    Headline (meaning_of said) (props_of said) (inputs_of said.inputs) taken reports
+
+-- the same of the reports that were finished before a fault
+unfoldable pub HasCome : Limits → Source → List Edit → List Report → Fault → Type 0
+HasCome limits said edits reports fault =
+    CameTo (meaning_of said) (props_of said) (inputs_of said.inputs) (limits_of limits) (Some edits) reports fault
 
 -- the text of a run that was done: lines of edits, and lines of reports, numbered from 0
 pub record IsRunText (limits : Limits) (said : Source) (text : List ℕ) : Type 0 where
   pub edits : List Edit
   pub reports : List Report
-  pub run : AreReports reports
-  -- the reports count the edits
-  pub counted : length edits ≡ total (λ report. report.edits) reports
   -- they are those of a session of the source
   pub ran : IsRun limits said (Some edits) reports
+  pub headline : HasHeadline said (Some edits) reports
   pub printed : text ≡ text_of edits reports
-
--- a fault by its cause: spent units are those of the limit, a height is above the limit
-abbrev pub IsCaused : Limits → Fault → Type 0
-IsCaused limits (OutOfTurns units) = units ≡ limits.units
-IsCaused limits (TooDeep height) = limits.height < height
-IsCaused limits _ = Unit {0}
 
 -- the text of a run that a fault ended: lines of edits and of finished reports, and the line of the fault
 pub record IsFaultText (limits : Limits) (said : Source) (text : List ℕ) : Type 0 where
   pub edits : List Edit
   pub reports : List Report
   pub fault : Fault
-  pub cause : IsCaused limits fault
-  -- further logs make these the logs of the build and of each input, in order
-  pub inputs : List (Input SourceTypes)
-  pub later : List (List Entry)
-  pub begins : OneEach inputs (logs_of reports ++ later)
-  pub counts : AllByRecursion CountsItsLog reports
-  -- of the edits, the finished reports count no more than all
-  pub counted : total (λ report. report.edits) reports ≤ length edits
   -- they are those of a session of the source, which came to the fault
   pub ran : IsRunTo limits said edits reports fault
+  pub headline : HasCome limits said edits reports fault
   pub printed : text ≡ fault_text_of edits reports fault
 
 -- the line that sums up the reports of a run of so many rows
 pub record IsSummary (rows : ℕ) (said : Source) (text : List ℕ) : Type 0 where
   pub reports : List Report
-  pub run : AreReports reports
   -- they are those of a session of the source
   pub ran : IsRun usual said None reports
+  pub headline : HasHeadline said None reports
   pub printed : text ≡ summary_line rows reports
 
 -- the text of what was done

@@ -1,11 +1,13 @@
 //! The whole program over a source and an out.
-ghost use Rattle.std.specs.Prelude.{◌≡◌, ◌≤◌, None, map, IfOk, IfErr};
+ghost use Rattle.std.specs.Prelude.{◌≡◌, ◌≤◌, None, Some, map, IfOk, IfErr};
 ghost use Rattle.rt_language.specs.Generated as language;
-ghost use Rattle.rt_reports.specs.Seen.{input_of, report_of};
+ghost use Rattle.rt_language.specs.Meaning.{meaning_of, props_of, inputs_of};
+ghost use Rattle.rt_reports.specs.Seen.{fault_of, input_of, limits_of, report_of};
 ghost use Rattle.rt_syntax.specs.Mirror.{source_of};
+ghost use Rattle.rt_vdom.specs.Sessions.{CameAt, Finished, FinishedAt, Headlined};
 ghost use Rattle.rt_show.specs.declared.words.Wish.TheVariants as wishes;
 ghost use Rattle.rt_show.specs.Ready.{MadeOf};
-ghost use Rattle.rt_show.specs.Runs.{DescribedBy, AreReports, IsRun, Reads, Prints};
+ghost use Rattle.rt_show.specs.Runs.{DescribedBy, IsRun, HasHeadline, Reads, Prints};
 ghost use Rattle.rt_show.specs.Words.{usual};
 ghost use Rattle.rt_show.specs.Statuses.{Comes, Shows};
 
@@ -14,7 +16,7 @@ use crate::reason::Stop;
 use crate::summary::summary_line;
 use crate::words::{USUAL, Wish, wish_of};
 use crate::writing::{put_ended_run, put_run};
-use rt_edits::{Mutations, NoOpMutations};
+use rt_edits::{Mutations, NoOpMutations, WriteMutations};
 use rt_print::fault_line;
 use rt_refusals::refusal;
 use rt_script::{Script, inputs_of};
@@ -69,6 +71,7 @@ struct Prepared {
 }
 
 /// The application of a source, with the props of its root and its inputs.
+#[tactic(auto, using(crate::proofs::Runs::made_of))]
 fn prepare(alloc: Global, described: Described) -> Result<Prepared, OutOfMemory>
     ensures made { IfOk result (λ prepared. MadeOf (source_of described)
         prepared.script prepared.props (map input_of prepared.inputs)) }
@@ -85,6 +88,33 @@ fn prepare(alloc: Global, described: Described) -> Result<Prepared, OutOfMemory>
     })
 }
 
+/// A session of a script. What holds of it is said of each source that the script is made of.
+fn run_script<M: WriteMutations>(
+    alloc: Global,
+    script: Script,
+    props: Props,
+    inputs: List<Input<Script>>,
+    sink: &mut M,
+    limits: Limits,
+) -> Result<List<Report>, SessionFault>
+    ensures ran { (said : _) → MadeOf said script props (map input_of inputs) →
+        IfOk result (λ reports. Finished (meaning_of said) (props_of said) (inputs_of said.inputs)
+        (limits_of limits) (M.taken sink.old) (M.taken sink.new) (map report_of reports)) }
+    ensures headline { (said : _) → MadeOf said script props (map input_of inputs) →
+        IfOk result (λ reports. Headlined (meaning_of said) (props_of said) (inputs_of said.inputs)
+        (limits_of limits) (M.taken sink.old) (M.taken sink.new) (map report_of reports)) }
+    ensures ran_to { (said : _) → MadeOf said script props (map input_of inputs) →
+        IfErr result (λ refused. (fault : _) → fault_of refused.fault ≡ Some fault →
+        FinishedAt (meaning_of said) (props_of said) (inputs_of said.inputs)
+        (limits_of limits) (M.taken sink.old) (M.taken sink.new) (map report_of refused.reports) fault) }
+    ensures came_to { (said : _) → MadeOf said script props (map input_of inputs) →
+        IfErr result (λ refused. (fault : _) → fault_of refused.fault ≡ Some fault →
+        CameAt (meaning_of said) (props_of said) (inputs_of said.inputs)
+        (limits_of limits) (M.taken sink.old) (M.taken sink.new) (map report_of refused.reports) fault) }
+{
+    session(alloc, script, props, inputs, sink, limits)
+}
+
 /// Runs an application and prints what became of it.
 fn run<O: Out>(alloc: Global, described: Described, limits: Limits, out: &mut O) -> Result<(), Stop>
     ensures prints { Prints (wishes.Run limits) (source_of described) (O.written out.old) (O.written out.new)
@@ -96,7 +126,7 @@ fn run<O: Out>(alloc: Global, described: Described, limits: Limits, out: &mut O)
         inputs,
     } = prepare(alloc, described)?;
     let mut sink = Mutations::default_list(alloc);
-    match session(alloc, script, props, inputs, &mut sink, limits) {
+    match run_script(alloc, script, props, inputs, &mut sink, limits) {
         Ok(reports) => {
             put_run(alloc, sink.edits(), reports.as_slice(), out)?;
             Ok(())
@@ -120,8 +150,8 @@ fn run<O: Out>(alloc: Global, described: Described, limits: Limits, out: &mut O)
 /// The reports of the generated application's run.
 fn make(alloc: Global, rows: u64) -> Result<List<Report>, OutOfMemory>
     requires few { rows ≤ 10000 }
-    ensures reports { IfOk result (λ reports. AreReports (map report_of reports)) }
     ensures ran { IfOk result (λ reports. IsRun usual (language.generated rows) None (map report_of reports)) }
+    ensures headline { IfOk result (λ reports. HasHeadline (language.generated rows) None (map report_of reports)) }
 {
     let described = generated(alloc, rows)?;
     let Prepared {
@@ -130,7 +160,7 @@ fn make(alloc: Global, rows: u64) -> Result<List<Report>, OutOfMemory>
         inputs,
     } = prepare(alloc, described)?;
     let mut sink = NoOpMutations;
-    match session(alloc, script, props, inputs, &mut sink, USUAL) {
+    match run_script(alloc, script, props, inputs, &mut sink, USUAL) {
         Ok(reports) => Ok(reports),
         Err(_ended) => Err(OutOfMemory),
     }
