@@ -14,8 +14,8 @@ use Rattle.rt_model.specs.Sentences.{numbers_in, carried, all_carried}
 use Rattle.rt_model.proofs.Maps.{by_test}
 use Rattle.rt_model.proofs.SamePlaces.{template-true}
 use Rattle.rt_model.proofs.ViewCounts.{count_join}
-use Rattle.rt_written.specs.Settings.{counted}
-use Rattle.rt_written.specs.Meets.{NodesMeet, nodes_claims, ChildMeets, child_claims, way_claims, TreeMeets, SlotsMeet, SlotMeets, ItemsMeet, tree_claims, slots_claims, slot_claims, items_claims}
+use Rattle.rt_moves.specs.Settings.{counted}
+use Rattle.rt_moves.specs.Meets.{NodesMeet, nodes_claims, ChildMeets, child_claims, way_claims, TreeMeets, SlotsMeet, SlotMeets, ItemsMeet, tree_claims, slots_claims, slot_claims, items_claims}
 
 -- how often a number stands in a list
 abbrev pub listed : ℕ → List ℕ → ℕ

@@ -9,9 +9,9 @@ use Rattle.rt_model.specs.Document.{Forest, Empty, count_of}
 use Rattle.rt_model.specs.View.{tree_view, side_view, scope_view, nodes_of}
 use Rattle.rt_model.specs.Caused.{Written, writes, then_on, replaced_by, Both, tree_written, side_written, sides_written, written_within}
 use Rattle.rt_model.proofs.Maps.{pick_true, pick_false, by_test}
-use Rattle.rt_written.specs.Meets.{tree_claims}
-use Rattle.rt_written.specs.Trees.{IsUnfolded}
-use Rattle.rt_written.specs.Scopes.{between, Stays, SideMeets, under, MeetsDown, scope_claims}
+use Rattle.rt_moves.specs.Meets.{tree_claims}
+use Rattle.rt_moves.specs.Trees.{IsUnfolded}
+use Rattle.rt_moves.specs.Sweeps.{between, Stays, SideMeets, under, MeetsDown, scope_claims}
 use Rattle.rt_carried.proofs.Carries.{carries, carried_in_both, replaced_carries, Within, tree_within}
 
 module _ {K : Types} (app : Application K) (w v : State K) (unfolded : IsUnfolded w) (n : ℕ) where

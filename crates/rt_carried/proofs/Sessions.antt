@@ -31,7 +31,7 @@ use Rattle.rt_moves.proofs.Tellings.{told_where, told_machine}
 use Rattle.rt_ready.proofs.Lists.{every_join}
 use Rattle.rt_standing.proofs.Nodes.{Settled}
 use Rattle.rt_standing.proofs.Settled.{settled_of}
-use Rattle.rt_rerun.specs.Rerun.{Reruns}
+use Rattle.rt_moves.specs.Reruns.{Reruns}
 use Rattle.rt_rerun.proofs.Homes.{Under}
 use Rattle.rt_headline.proofs.Begins.{idle_settled, work_open, matches_serves, build_first, reached_on, idle, matches_entry, start_or_built, unit_begins, entry_aside}
 use Rattle.rt_carried.specs.Carried.{UnitsCarryAnew}

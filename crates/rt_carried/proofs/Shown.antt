@@ -17,15 +17,15 @@ use Rattle.rt_model.specs.Sentences.{all_carried, MayCome}
 use Rattle.rt_model.proofs.Maps.{by_test, eq_same}
 use Rattle.rt_model.proofs.NumbersStand.{child_among}
 use Rattle.rt_ready.proofs.Twigs.{up_found, below_found, found_live}
-use Rattle.rt_written.specs.Settings.{Setting, counted, beside}
-use Rattle.rt_written.specs.Scopes.{MeetsDown, scope_claims}
+use Rattle.rt_moves.specs.Settings.{Setting, counted, beside}
+use Rattle.rt_moves.specs.Sweeps.{MeetsDown, scope_claims}
 use Rattle.rt_written.proofs.Standing.{absent, count_placed}
 use Rattle.rt_written.proofs.Descent.{scope_sweep}
 use Rattle.rt_written.proofs.Unfolding.{tree_unfolds}
-use Rattle.rt_standing.specs.Standing.{HasChild}
+use Rattle.rt_moves.specs.Trees.{HasChild}
 use Rattle.rt_standing.proofs.Nodes.{Settled}
 use Rattle.rt_standing.proofs.Settled.{contained, settled_once}
-use Rattle.rt_rerun.specs.Rerun.{Reruns}
+use Rattle.rt_moves.specs.Reruns.{Reruns}
 use Rattle.rt_rerun.proofs.Homes.{Entry, Under, KidAt, scope_under}
 use Rattle.rt_rerun.proofs.Reruns.{Ended, rerun_ended, reruns_claim_once, reruns_keep_numbers, reruns_keep_setting, reruns_meet}
 use Rattle.rt_carried.specs.Carried.{RerunsCarryAnew}

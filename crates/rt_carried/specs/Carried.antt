@@ -12,7 +12,7 @@ use Rattle.rt_model.specs.Causes.{Limits}
 use Rattle.rt_model.specs.Told.{Told, Telling, telling, told_entry, tell_log, tell_reports, edits_of}
 use Rattle.rt_model.specs.Headline.{last_machine}
 use Rattle.rt_model.specs.Sentences.{all_carried, AllMayCome}
-use Rattle.rt_rerun.specs.Rerun.{Reruns}
+use Rattle.rt_moves.specs.Reruns.{Reruns}
 
 module _ {K : Types} (app : Application K) where
   -- of a lawful application: so it is with the edits of a rerun, where all numbers that edits carried before it were drawn before it

@@ -10,8 +10,8 @@ use Rattle.rt_model.specs.View.{element_attributes, element_listeners}
 use Rattle.rt_model.specs.Caused.{element_pass, left, come}
 use Rattle.rt_model.proofs.SamePlaces.{template-true}
 use Rattle.rt_model.proofs.Conjunctions.{and-left, and-right}
-use Rattle.rt_written.specs.Settings.{altered}
-use Rattle.rt_written.specs.Meets.{AttributesBring}
+use Rattle.rt_moves.specs.Settings.{altered}
+use Rattle.rt_moves.specs.Meets.{AttributesBring}
 use Rattle.rt_written.specs.Passes.{ElementsAlter}
 use Rattle.rt_written.proofs.Passes.{passes_bring}
 use Rattle.rt_entries.proofs.Keys.{Unique, flat, element_unique}

@@ -9,7 +9,7 @@ use Rattle.rt_model.specs.View.{one_attribute, one_listener, given_attributes, g
 use Rattle.rt_model.specs.Caused.{listens}
 use Rattle.rt_model.proofs.Maps.{pick_true, pick_false, by_test, eq_same}
 use Rattle.rt_model.proofs.Among.{numbers_same}
-use Rattle.rt_written.specs.Settings.{altered_once, and_altered, altered}
+use Rattle.rt_moves.specs.Settings.{altered_once, and_altered, altered}
 use Rattle.rt_written.specs.Entries.{NoneNamed}
 use Rattle.rt_written.proofs.Entries.{attributes_commute, listeners_commute, attribute_goes, attribute_differs}
 use Rattle.rt_entries.proofs.Keys.{clash, Beside, turned, AllBeside, flat, key_same}

@@ -8,7 +8,7 @@ use Rattle.rt_model.specs.Document.{Content, Edit, SetAttribute, CreateEventList
 use Rattle.rt_model.specs.Caused.{element_pass, text_under, listens, listens_under, one_left, left, one_come, come}
 use Rattle.rt_model.proofs.Maps.{by_test}
 use Rattle.rt_model.proofs.SamePlaces.{numbers-true}
-use Rattle.rt_written.specs.Settings.{and_altered, altered}
+use Rattle.rt_moves.specs.Settings.{and_altered, altered}
 use Rattle.rt_entries.proofs.Keys.{named, AllBeside, Unique, beside_both, beside_left, beside_right, unique_left, unique_right, flat}
 use Rattle.rt_entries.proofs.Marks.{Marks, altered_both, one, given, given_both, taken_last, Free, free_given, AllFree, all_free_one, marked, attribute_set, listener_set, text_goes, listener_leaves, text_differs}
 use Rattle.rt_entries.proofs.Orders.{one_kept, kept, text_found, one_found, found, found_swapped, beside_all_found, kept_found}

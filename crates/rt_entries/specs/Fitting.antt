@@ -2,7 +2,7 @@
 use Rattle.std.specs.Prelude.{ℕ, true, List, ◌≡◌}
 use Rattle.rt_model.specs.Tree.{Types, same_template, Tree, template_of, attributes_of, Place, Kind}
 use Rattle.rt_model.specs.Fits.{fits_at}
-use Rattle.rt_written.specs.Meets.{AttributesBring}
+use Rattle.rt_moves.specs.Meets.{AttributesBring}
 
 -- two outputs of one template, each of which passes the node test at some level: what is written of their attribute slots
 -- makes the new attributes and listeners of the old ones

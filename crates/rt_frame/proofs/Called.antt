@@ -12,7 +12,7 @@ use Rattle.rt_model.specs.Boundary.{counted_render, called_back}
 use Rattle.rt_model.specs.Removal.{tasks_in, end_all, tell_all, cells_in, cell_sources, read_contexts, without_scope, gone, stopped}
 use Rattle.rt_model.specs.Replay.{mounted, mounted_state, polled}
 use Rattle.rt_model.proofs.Maps.{by_test, at_here, at_there}
-use Rattle.rt_frame.specs.Frame.{shown}
+use Rattle.rt_moves.specs.Frames.{shown}
 use Rattle.rt_frame.proofs.Commanded.{Level, level_trans, level_equal, level_refl, level_rest, level_either, change_level, post_level, tell_level, end_level, throw_level, commands_level}
 
 module _ {K : Types} where

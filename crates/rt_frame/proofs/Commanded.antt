@@ -7,7 +7,7 @@ use Rattle.rt_model.specs.Tree.{Types, CapturedError}
 use Rattle.rt_model.specs.World.{Source, Cell, Error, Context, Target, ScopeTarget, TaskTarget, Command, KeepHook, NewCell, Write, DropCell, NewContext, Reset, ReadInto, Spawn, RemoveFuture, Wake, SetActive, QueueEffect, Provide, Update, Throw, ClearErrors, Resolved, Freeze, Application}
 use Rattle.rt_model.specs.State.{Posted, Mark, Woken, ClientOnly, Isomorphic, Scope, CellRow, ContextRow, TaskRow, State, is_live, changed_scope, change, error_context, suspense_context}
 use Rattle.rt_model.specs.Commands.{drop_posted, holding, post, post_target, names_source, readers, tell_contexts, tell, released, end, written_at, write_cell, drop_cell_row, caught_at, thrown_to, throw_error, cleared_at, activated, spawned, registered, frozen_at, change_context, provided_at, provide_context, command, commands}
-use Rattle.rt_frame.specs.Frame.{shown}
+use Rattle.rt_moves.specs.Frames.{shown}
 use Rattle.rt_model.proofs.Maps.{by_test, at_here, at_there, at_put_other, at_put_here}
 
 module _ {K : Types} where

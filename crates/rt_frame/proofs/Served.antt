@@ -12,7 +12,7 @@ use Rattle.rt_model.specs.Boundary.{children_of, tree_or_placeholder, counts_ren
 use Rattle.rt_model.specs.Removal.{clean_ups, without_scope, gone, stopped, cleaned, removed}
 use Rattle.rt_model.specs.Replay.{numbered, draw_number, with_child, with_new_scope, fed_child, keeps, made_in, with_props, handed, outcome_of}
 use Rattle.rt_model.proofs.Maps.{by_test, none_some, eq_same, at_put_here, at_put_other, at_put_none, at_append_here, at_append_none, at_without_other}
-use Rattle.rt_frame.specs.Frame.{Stand, Shown, those, stand, shown, Keeps, Leaves, served_by, made_by, Joins, JoinsO}
+use Rattle.rt_moves.specs.Frames.{Stand, Shown, those, stand, shown, Keeps, Leaves, served_by, made_by, Joins, JoinsO}
 use Rattle.rt_frame.proofs.Commanded.{Level, level_trans, level_refl, level_rest, change_level, commands_level}
 use Rattle.rt_frame.proofs.Called.{LevelO, stopped_level, told_level, next_level, once_level, where_level, kept_level, hooks_level, after_hooks_level, settled_answer_level, counted_level, called_back_level, unmarked_level, onward_level}
 

@@ -13,7 +13,7 @@ use Rattle.rt_model.specs.Boundary.{tree_or_placeholder, children_of, counts_ren
 use Rattle.rt_model.proofs.Maps.{eq_same, at_put_here, at_put_other, at_without_other}
 use Rattle.rt_model.proofs.RunFrames.{body_numbered}
 use Rattle.rt_ready.proofs.Lists.{IsServe, IsDrop, serves_are, drops_are}
-use Rattle.rt_fresh.specs.Heeds.{HasMark, leavings, Marked, SameOf}
+use Rattle.rt_moves.specs.Heeds.{HasMark, leavings, Marked, SameOf}
 use Rattle.rt_fresh.proofs.Calm.{error_of, context_of, holders_of, there_of, held_stays, holders_stay, Unique, unique_put, listed_same, Pending, pending_on, Calm, calm_then, calm_to, calm_refl, quiet_calm, quiet_rest, no_fall, put_by, change_quiet, CalmO, onward_calm, from_calm, calm_o_to, calm_o_if}
 use Rattle.rt_fresh.proofs.Commanded.{commands_calm}
 use Rattle.rt_fresh.proofs.Ran.{all_from, cells_rise, next_quiet, once_quiet, unmarked_calm, hooks_calm, after_hooks_calm, answered_calm, fallback_calm, called_back_calm}

@@ -9,7 +9,7 @@ use Rattle.rt_model.specs.World.{Source, Cell, Error, Context, same_source, Targ
 use Rattle.rt_model.specs.State.{Posted, Mark, Woken, Scope, LastCall, CellRow, ContextRow, TaskRow, State, Outcome, Done, Cut, onward, is_live, changed_scope, change, is_held, values_of}
 use Rattle.rt_model.specs.Commands.{post, post_target, names_source, readers, tell_contexts, tell}
 use Rattle.rt_model.proofs.Maps.{by_test, pick_true, pick_false, at_put_none, at_here, at_there, at_put_here, at_put_other, none_some}
-use Rattle.rt_fresh.specs.Heeds.{Low, HasMark, is_past, Leavings, leavings, Marked, SameOf, Heeds}
+use Rattle.rt_moves.specs.Heeds.{Low, HasMark, is_past, Leavings, leavings, Marked, SameOf, Heeds}
 use Rattle.rt_fresh.proofs.Marks.{clash, mark_first, mark_last, source_is}
 
 -- what quiet changes leave of a scope

@@ -28,7 +28,7 @@ use Rattle.rt_ready.proofs.Patched.{by_side, Turns, IsRow, Aside, Idle, aside_ro
 use Rattle.rt_ready.proofs.Made.{at_child, part, side_else, side_child, kids_here, slots_else, is_new}
 use Rattle.rt_ready.proofs.Opens.{Opens, OwnRows}
 use Rattle.rt_ready.proofs.Weaves.{put_side, put_turns, idle_same}
-use Rattle.rt_fresh.specs.Heeds.{Leavings, leavings}
+use Rattle.rt_moves.specs.Heeds.{Leavings, leavings}
 use Rattle.rt_fresh.proofs.Owed.{Alike}
 use Rattle.rt_fresh.proofs.Called.{Then, new_side, with_tree, agenda_of, agenda_is}
 

@@ -10,7 +10,8 @@ use Rattle.rt_model.specs.Laws.{Tests}
 use Rattle.rt_model.specs.State.{Mark, Woken, ClientOnly, Isomorphic, Scope, CellRow, ContextRow, TaskRow, State, is_live, changed_scope, change, is_held, holds, error_context, suspense_context}
 use Rattle.rt_model.specs.Commands.{drop_posted, one_more_source, holding, post, tell, released, end, written_at, drop_cell_row, caught_at, thrown_to, throw_error, cleared_at, activated, spawned, registered, frozen_at, provided_at, command, commands}
 use Rattle.rt_model.proofs.Maps.{by_test, eq_same, at_here, at_there, at_put_here, at_put_other, at_append_none, at_without_other, none_some}
-use Rattle.rt_fresh.specs.Heeds.{Low, HasMark, leavings, Marked, SameOf, Heeds, NewFrom, AllFrom}
+use Rattle.rt_moves.specs.Heeds.{Low, HasMark, leavings, Marked, SameOf, Heeds}
+use Rattle.rt_fresh.specs.Heeds.{NewFrom, AllFrom}
 use Rattle.rt_fresh.proofs.Marks.{clash, number_left, turned_round, from_apart, mark_first, mark_last, mark_stays}
 use Rattle.rt_fresh.proofs.Calm.{error_of, context_of, holders_of, mark_where, cell_in, held_by, same_scope, HoldersLive, Unique, unique_put, listed_same, Calm, calm_then, calm_if, calm_refl, Quiet, quiet_then, quiet_rest, quiet_if, quiet_refl, quiet_calm, no_fall, post_quiet, change_quiet, Turned, turned_calm, put_by}
 

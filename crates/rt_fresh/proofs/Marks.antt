@@ -8,7 +8,7 @@ use Rattle.rt_model.specs.World.{Source, Cell, Error, Context, same_source}
 use Rattle.rt_model.specs.State.{Posted, Mark}
 use Rattle.rt_model.specs.Commands.{same_posted, drop_posted, names_source}
 use Rattle.rt_model.proofs.Maps.{by_test, pick_true, pick_false, eq_same}
-use Rattle.rt_fresh.specs.Heeds.{HasMark}
+use Rattle.rt_moves.specs.Heeds.{HasMark}
 
 -- a test has one value
 pub clash : {P : Type 0} {b : Bool} → b ≡ true → b ≡ false → P

@@ -41,7 +41,7 @@ use Rattle.rt_ready.proofs.Made.{at_child, part, made_idle}
 use Rattle.rt_ready.proofs.Opens.{Opens, calm_twigs, run_opens, row_opens}
 use Rattle.rt_ready.proofs.Weaves.{knows_of, idle_same, put_side, numbered_twigs, props_twigs}
 use Rattle.rt_ready.proofs.Everywhere.{WovenOn, steps_idle, feeds_idle, fed_kid, batch_quiet, heard_stays, ReadyAt, work_state, move_ready, start_ready}
-use Rattle.rt_fresh.specs.Heeds.{is_past, leavings, Marked, SameOf}
+use Rattle.rt_moves.specs.Heeds.{is_past, leavings, Marked, SameOf}
 use Rattle.rt_fresh.proofs.Calm.{live_by, standing, error_of, context_of, holders_of, Unique, unique_put, Orderly, Pending, Calm, Quiet, quiet_then, quiet_calm, change_quiet, CalmO}
 use Rattle.rt_fresh.proofs.Ran.{next_quiet, rest_quiet, mounted_quiet, take_calm, polled_calm, effects_calm, heard_calm}
 use Rattle.rt_fresh.proofs.Owed.{Stage, still_at, rows_of, Alike, Called, called_again, BodyCurrent, StageHolds, OwesAs, ScopeOwes, Owes}

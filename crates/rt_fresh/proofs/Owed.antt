@@ -11,7 +11,7 @@ use Rattle.rt_model.specs.Run.{body_of, row_items}
 use Rattle.rt_model.specs.Boundary.{tree_or_placeholder, children_of}
 use Rattle.rt_model.specs.Current.{KeepsAnswer}
 use Rattle.rt_model.proofs.Maps.{by_test, pick_true, pick_false, eq_same}
-use Rattle.rt_fresh.specs.Heeds.{is_past, Leavings, leavings, Marked, SameOf, Heeds}
+use Rattle.rt_moves.specs.Heeds.{is_past, Leavings, leavings, Marked, SameOf, Heeds}
 use Rattle.rt_fresh.specs.Fresh.{CallStands, Fresh}
 use Rattle.rt_fresh.proofs.Marks.{all_named, named_of, each_or}
 use Rattle.rt_fresh.proofs.Calm.{Pending, pending_on, Calm, reads_by}

@@ -18,7 +18,7 @@ use Rattle.rt_model.proofs.SideRuns.{look_stay}
 use Rattle.rt_model.proofs.StepFrames.{look_same}
 use Rattle.rt_ready.proofs.Twigs.{SameTwigs}
 use Rattle.rt_ready.proofs.Opens.{calm_twigs}
-use Rattle.rt_fresh.specs.Heeds.{SameOf}
+use Rattle.rt_moves.specs.Heeds.{SameOf}
 use Rattle.rt_fresh.proofs.Marks.{number_left, number_stays, join_keeps, join_has}
 use Rattle.rt_fresh.proofs.Calm.{Pending, quiet_calm}
 use Rattle.rt_fresh.proofs.Ran.{look_quiet, unqueue}

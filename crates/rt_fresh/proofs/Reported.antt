@@ -16,7 +16,8 @@ use Rattle.rt_model.proofs.ToldReplayed.{First, first-of, log-replays, within-re
 use Rattle.rt_moves.specs.Moves.{Move, entries, Leads}
 use Rattle.rt_moves.proofs.Joins.{logs_join}
 use Rattle.rt_moves.proofs.Logs.{logs_are_moves}
-use Rattle.rt_fresh.specs.Reported.{EachIsCurrent, RanIsCurrent, RanToIsCurrent}
+use Rattle.rt_moves.specs.Current.{EachIsCurrent}
+use Rattle.rt_fresh.specs.Reported.{RanIsCurrent, RanToIsCurrent}
 use Rattle.rt_fresh.proofs.Moving.{HoldingOn, begun_holds}
 use Rattle.rt_fresh.proofs.Settled.{settled_dead, holding_current, holding_shown}
 

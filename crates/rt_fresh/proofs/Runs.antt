@@ -12,7 +12,7 @@ use Rattle.rt_model.specs.Commands.{names_source}
 use Rattle.rt_model.specs.Run.{call_body, has_output, row_of, runs_fallback, row_items, hooks_called, after_hooks, start_agenda, settled_answer, new_output, after_answer, boundary_run, run_as, run, unmarked}
 use Rattle.rt_model.specs.Current.{stayed, KeepsAnswer}
 use Rattle.rt_model.proofs.Maps.{by_test, pick_true, pick_false}
-use Rattle.rt_fresh.specs.Heeds.{leavings, Marked, SameOf}
+use Rattle.rt_moves.specs.Heeds.{leavings, Marked, SameOf}
 use Rattle.rt_fresh.proofs.Calm.{there_of, reads_by, Pending, Calm, calm_then, CalmO}
 use Rattle.rt_fresh.proofs.Ran.{hooks_calm, after_hooks_calm, answered_calm}
 use Rattle.rt_fresh.proofs.Owed.{Stage, Making, Asking, FirstCalls, FirstTurns, OpensFirst, Waits, CallsAgain, PatchesHidden, Frees, TurnsBack, Rests, Patches, Covers, Hides, Clears, Resolves, shows_at, steps_at, unread_at, rows_of, rows_join, rows_here, rows_there, NoRows, after_none, Kept, kept_by, still_at, alike_by, Called, called_again, BodyCurrent, AtStage, AtBody, OwesAs, ScopeOwes, Owes, owes_stays}

@@ -11,7 +11,7 @@ use Rattle.rt_model.specs.Run.{row_items, after_hooks, start_agenda}
 use Rattle.rt_model.specs.Boundary.{tree_or_placeholder, children_of, counts_render, counted_render, fallback_answered, side_scopes, drop_items, row_step, boundary_step, called_back}
 use Rattle.rt_model.proofs.Maps.{eq_same, at_put_here}
 use Rattle.rt_model.proofs.NumbersRun.{Idle, called_back_idle}
-use Rattle.rt_fresh.specs.Heeds.{Marked, SameOf}
+use Rattle.rt_moves.specs.Heeds.{Marked, SameOf}
 use Rattle.rt_fresh.proofs.Calm.{there_of, reads_by, Pending, Calm, calm_then, quiet_calm, quiet_rest, no_fall, change_quiet, CalmO}
 use Rattle.rt_fresh.proofs.Ran.{fallback_calm, called_back_calm}
 use Rattle.rt_fresh.proofs.Owed.{Stage, Asking, FirstCalls, OpensFirst, shows_at, patched_at, held_at, called_at, unread_at, rows_of, rows_join, rows_first, rows_other, rows_here, rows_there, NoRows, after_none, Kept, kept_by, Called, FallbackCurrent, StageHolds, AtStage, OwesAs, Owes, stage_stays}

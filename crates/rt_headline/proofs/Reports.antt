@@ -22,8 +22,8 @@ use Rattle.rt_moves.specs.Moves.{entries, moves_alone, IsSettled}
 use Rattle.rt_moves.specs.Reached.{Reached}
 use Rattle.rt_moves.proofs.Fuel.{fuel_suffices}
 use Rattle.rt_moves.proofs.Logs.{logs_are_moves}
-use Rattle.rt_written.specs.Trees.{IsUnfolded}
-use Rattle.rt_fresh.specs.Reported.{EachIsCurrent}
+use Rattle.rt_moves.specs.Trees.{IsUnfolded}
+use Rattle.rt_moves.specs.Current.{EachIsCurrent}
 use Rattle.rt_fresh.proofs.Reported.{ran_is_current, ran_to_is_current}
 use Rattle.rt_standing.proofs.Settled.{reached_unfold}
 use Rattle.rt_rerun.proofs.Reruns.{reruns_bring}

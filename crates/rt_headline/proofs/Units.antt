@@ -26,8 +26,8 @@ use Rattle.rt_moves.proofs.Insides.{alive_before, inside_lasts}
 use Rattle.rt_moves.proofs.Joins.{entries-append, Inside-append, Leads-append, logs_join}
 use Rattle.rt_moves.proofs.Settling.{settled_stays}
 use Rattle.rt_moves.proofs.Tellings.{told_where, entry_told, unit_is_told}
-use Rattle.rt_written.specs.Trees.{IsUnfolded}
-use Rattle.rt_rerun.specs.Rerun.{Reruns}
+use Rattle.rt_moves.specs.Trees.{IsUnfolded}
+use Rattle.rt_moves.specs.Reruns.{Reruns}
 use Rattle.rt_written.proofs.Standing.{comes_in, one_list_on}
 use Rattle.rt_frame.proofs.Commanded.{Level, level_trans}
 use Rattle.rt_frame.proofs.Called.{mounted_level}

@@ -6,8 +6,8 @@ use Rattle.rt_model.specs.Tree.{Types}
 use Rattle.rt_model.specs.State.{SideName, MainSide, ChildrenSide, FallbackSide, Side, Scope, State, side_of}
 use Rattle.rt_model.specs.Document.{Forest, Empty}
 use Rattle.rt_model.specs.View.{side_view, scope_view, view_within, nodes_of, view}
-use Rattle.rt_written.specs.Trees.{IsUnfolded}
-use Rattle.rt_frame.specs.Frame.{Shown, shown}
+use Rattle.rt_moves.specs.Trees.{IsUnfolded}
+use Rattle.rt_moves.specs.Frames.{Shown, shown}
 use Rattle.rt_frame.proofs.Commanded.{Level}
 
 module _ {K : Types} where

@@ -4,7 +4,7 @@ use Rattle.rt_model.specs.Lists.{at}
 use Rattle.rt_model.specs.Tree.{Types}
 use Rattle.rt_model.specs.World.{Application}
 use Rattle.rt_model.specs.Replay.{Entry, Taken, Heard, Poll, Effects, Machine, change_by}
-use Rattle.rt_frame.specs.Frame.{shown}
+use Rattle.rt_moves.specs.Frames.{shown}
 
 -- inputs, listeners, polls, effects
 abbrev pub is_calm : Entry → Bool

@@ -6,3 +6,12 @@ pub mod Calls
 pub mod Laws
 pub mod Units
 pub mod Reports
+pub mod Named
+pub mod Heeds
+pub mod Frames
+pub mod Trees
+pub mod Settings
+pub mod Meets
+pub mod Sweeps
+pub mod Reruns
+pub mod Current

@@ -38,7 +38,8 @@ use Rattle.rt_moves.proofs.Items.{due_at_work}
 use Rattle.rt_moves.proofs.Insides.{alive_before, live_due, made_due, fed_due, fed_change}
 use Rattle.rt_moves.proofs.Always.{Steady, Outlasts, at_work_where, take_work, heard_work, moves_last}
 use Rattle.rt_moves.proofs.Woods.{side_apart, move_sound}
-use Rattle.rt_ready.specs.Named.{Named, ReachedAreNamed}
+use Rattle.rt_moves.specs.Named.{Named}
+use Rattle.rt_ready.specs.Named.{ReachedAreNamed}
 use Rattle.rt_ready.proofs.Twigs.{bare, twig, twig_up, twig_side, twig_side_is, up, kids, slots, SameTwigs, by_scope, height_by, up_height}
 use Rattle.rt_ready.proofs.Woven.{owner, Fits, Behind, After, Stack, Woven, Whole, whole_woven, idle_whole, woven_whole, goes_whole, woven_same, whole_same}
 use Rattle.rt_ready.proofs.Patched.{IsRow, Aside, Idle}

@@ -12,7 +12,8 @@ use Rattle.rt_model.proofs.Stands.{Stands}
 use Rattle.rt_moves.specs.Moves.{serves_item, is_silent, AtWork}
 use Rattle.rt_moves.proofs.Always.{at_work_where}
 use Rattle.rt_moves.proofs.Items.{due_at_work}
-use Rattle.rt_ready.specs.Named.{Named, DueIsServed}
+use Rattle.rt_moves.specs.Named.{Named}
+use Rattle.rt_ready.specs.Named.{DueIsServed}
 use Rattle.rt_ready.proofs.Twigs.{up}
 use Rattle.rt_ready.proofs.Woven.{Woven, Climb}
 use Rattle.rt_ready.proofs.Taken.{LeafOf, leaf_found, live_up}

@@ -15,8 +15,8 @@ use Rattle.rt_model.proofs.Among.{Among, among_left, among_right, place_same}
 use Rattle.rt_model.proofs.SamePlaces.{template-true}
 use Rattle.rt_model.proofs.Conjunctions.{and-left}
 use Rattle.rt_model.proofs.ViewCounts.{count_join}
-use Rattle.rt_written.specs.Settings.{counted}
-use Rattle.rt_written.specs.Meets.{nodes_claims, child_claims, way_claims, tree_claims, slots_claims, slot_claims, items_claims}
+use Rattle.rt_moves.specs.Settings.{counted}
+use Rattle.rt_moves.specs.Meets.{nodes_claims, child_claims, way_claims, tree_claims, slots_claims, slot_claims, items_claims}
 
 -- once at most, and then this holds
 abbrev pub Here : ℕ → Type 0 → Type 0

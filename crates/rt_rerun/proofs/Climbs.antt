@@ -10,7 +10,7 @@ use Rattle.rt_ready.proofs.Twigs.{twig, twig_up, twig_below, twig_side, up, belo
 use Rattle.rt_ready.proofs.Woven.{Fits, Stack, Climb}
 use Rattle.rt_ready.proofs.Lists.{some_number}
 use Rattle.rt_ready.proofs.Weaves.{knows_of}
-use Rattle.rt_frame.specs.Frame.{Stand, Shown, stand, shown}
+use Rattle.rt_moves.specs.Frames.{Stand, Shown, stand, shown}
 use Rattle.rt_standing.proofs.Steps.{Ready}
 
 abbrev stand_up : Option Stand → Option ℕ

@@ -15,7 +15,7 @@ use Rattle.rt_ready.proofs.Twigs.{up, below, live_found}
 use Rattle.rt_ready.proofs.Woven.{Climb}
 use Rattle.rt_written.proofs.Heights.{height_low}
 use Rattle.rt_standing.proofs.Did.{same_scope}
-use Rattle.rt_standing.specs.Standing.{HasChild}
+use Rattle.rt_moves.specs.Trees.{HasChild}
 use Rattle.rt_standing.proofs.Nodes.{Shown, Settled, shown_of, view_of, kid_of}
 use Rattle.rt_rerun.proofs.Climbs.{climb_on, climb_height, rises, no_cycle, parent_lives}
 use Rattle.rt_rerun.proofs.Above.{climb_one}

@@ -22,7 +22,7 @@ use Rattle.rt_ready.proofs.Lists.{every_among}
 use Rattle.rt_ready.proofs.Weaves.{knows_of}
 use Rattle.rt_ready.proofs.Taken.{LeafOf, leaf_found}
 use Rattle.rt_ready.proofs.Everywhere.{fed_kid}
-use Rattle.rt_frame.specs.Frame.{stand, shown, Keeps}
+use Rattle.rt_moves.specs.Frames.{stand, shown, Keeps}
 use Rattle.rt_frame.proofs.Served.{removal_leaves}
 use Rattle.rt_standing.proofs.Steps.{Ready}
 use Rattle.rt_standing.proofs.Did.{same_scope, alike}

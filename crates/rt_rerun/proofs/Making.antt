@@ -17,13 +17,13 @@ use Rattle.rt_ready.proofs.Woven.{owner, Climb}
 use Rattle.rt_ready.proofs.Lists.{some_number}
 use Rattle.rt_ready.proofs.Made.{kid_stays, at_parent, at_child, is_new, part, kids_here, side_else}
 use Rattle.rt_ready.proofs.Patched.{by_side}
-use Rattle.rt_frame.specs.Frame.{stand}
+use Rattle.rt_moves.specs.Frames.{stand}
 use Rattle.rt_standing.proofs.Steps.{Ready, Lasts}
 use Rattle.rt_standing.proofs.Did.{same_scope, that_side, other_side}
 use Rattle.rt_standing.proofs.Lines.{Line, owner_lives}
 use Rattle.rt_standing.proofs.Dressed.{NoneOf}
 use Rattle.rt_standing.proofs.Clothed.{Clothed, clothed_lasts, made_is}
-use Rattle.rt_standing.specs.Standing.{HasChild}
+use Rattle.rt_moves.specs.Trees.{HasChild}
 use Rattle.rt_standing.proofs.Nodes.{Settled, kid_of}
 use Rattle.rt_rerun.proofs.Sides.{Link, link_child}
 use Rattle.rt_rerun.proofs.Climbs.{up_by, below_by, live_by, parent_lives, feed_fits, off_itself}

@@ -12,7 +12,7 @@ use Rattle.rt_model.specs.Caused.{Both}
 use Rattle.rt_model.proofs.Among.{Among, among_left, among_right}
 use Rattle.rt_model.proofs.SamePlaces.{template-true}
 use Rattle.rt_model.proofs.Conjunctions.{and-left, and-right}
-use Rattle.rt_written.specs.Meets.{AttributesBring, NodesMeet, ChildMeets, TreeMeets, SlotsMeet, SlotMeets, ItemsMeet}
+use Rattle.rt_moves.specs.Meets.{AttributesBring, NodesMeet, ChildMeets, TreeMeets, SlotsMeet, SlotMeets, ItemsMeet}
 use Rattle.rt_entries.specs.Fitting.{FittingBring}
 use Rattle.rt_standing.proofs.Nodes.{parts_of, Rows, tree_node, slot_node_is}
 

@@ -12,7 +12,7 @@ use Rattle.rt_model.specs.Boundary.{drop_items}
 use Rattle.rt_model.proofs.Among.{Among}
 use Rattle.rt_model.proofs.Agendas.{kept_among, kept_children_among}
 use Rattle.rt_ready.proofs.Lists.{every_among, every_join, serves_every, drops_every}
-use Rattle.rt_frame.specs.Frame.{shown}
+use Rattle.rt_moves.specs.Frames.{shown}
 use Rattle.rt_standing.proofs.Did.{Matches, after_of, that_side, other_side, agenda, renewed, Patch, RunDid, StepDid}
 use Rattle.rt_standing.proofs.Lines.{clash, NoStep}
 use Rattle.rt_rerun.proofs.Sides.{Link, link_patch}

@@ -21,7 +21,9 @@ use Rattle.rt_ready.proofs.Everywhere.{ReadyAt, move_ready, reached_ready}
 use Rattle.rt_frame.proofs.Called.{rest_level, mounted_level}
 use Rattle.rt_entries.specs.Fitting.{FittingBring}
 use Rattle.rt_entries.proofs.Elements.{fitting_bring}
-use Rattle.rt_rerun.specs.Rerun.{Outside, Reruns, RerunsBring, RerunsClaimOnce, RerunsKeepNumbers, RerunsLeaveOthers, RerunsKeepSetting, RerunsHidden, RerunsMeet}
+use Rattle.rt_moves.specs.Trees.{Outside}
+use Rattle.rt_moves.specs.Reruns.{Reruns}
+use Rattle.rt_rerun.specs.Rerun.{RerunsBring, RerunsClaimOnce, RerunsKeepNumbers, RerunsLeaveOthers, RerunsKeepSetting, RerunsHidden, RerunsMeet}
 use Rattle.rt_standing.proofs.Steps.{Ready, ready_of, rested_ready, served_keep}
 use Rattle.rt_standing.proofs.Clothed.{Clothed, clothed_lasts}
 use Rattle.rt_standing.proofs.Nodes.{Settled}

@@ -16,7 +16,7 @@ use Rattle.rt_model.proofs.MachineFrames.{numbered_later}
 use Rattle.rt_ready.proofs.Twigs.{up, kids, side_found, found_live}
 use Rattle.rt_ready.proofs.Woven.{owner, Climb}
 use Rattle.rt_ready.proofs.Lists.{every_among}
-use Rattle.rt_frame.specs.Frame.{Keeps}
+use Rattle.rt_moves.specs.Frames.{Keeps}
 use Rattle.rt_frame.proofs.Served.{run_leaves, item_leaves}
 use Rattle.rt_standing.proofs.Steps.{Ready}
 use Rattle.rt_standing.proofs.Did.{change_there, same_scope, that_side, other_side, RunDid, run_did, StepDid, step_did}

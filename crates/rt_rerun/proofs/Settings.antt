@@ -11,7 +11,7 @@ use Rattle.rt_model.specs.View.{element_attributes, element_listeners, child_vie
 use Rattle.rt_model.proofs.Among.{Among, among_left, among_right}
 use Rattle.rt_model.proofs.Places.{place_of, Apart, Distinct, spots_distinct}
 use Rattle.rt_ready.proofs.Lists.{all_among}
-use Rattle.rt_written.specs.Settings.{Setting, Alone, After, Ahead, Within, placed}
+use Rattle.rt_moves.specs.Settings.{Setting, Alone, After, Ahead, Within, placed}
 use Rattle.rt_standing.proofs.Lines.{among_either, every_of}
 
 -- a setting within another one

@@ -13,7 +13,7 @@ use Rattle.rt_model.proofs.Among.{Among}
 use Rattle.rt_ready.proofs.Twigs.{up, below, kids, found_live}
 use Rattle.rt_ready.proofs.Woven.{owner, Climb}
 use Rattle.rt_ready.proofs.Lists.{every_among}
-use Rattle.rt_frame.specs.Frame.{stand, shown, Keeps}
+use Rattle.rt_moves.specs.Frames.{stand, shown, Keeps}
 use Rattle.rt_standing.proofs.Steps.{Ready}
 use Rattle.rt_standing.proofs.Did.{alike}
 use Rattle.rt_standing.proofs.Lines.{among_either, AllOf}

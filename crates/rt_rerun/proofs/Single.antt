@@ -15,10 +15,10 @@ use Rattle.rt_model.proofs.Among.{Among}
 use Rattle.rt_model.proofs.NumbersStand.{child_among}
 use Rattle.rt_ready.proofs.Twigs.{live_found, up_found, below_found}
 use Rattle.rt_ready.proofs.Lists.{some_number}
-use Rattle.rt_frame.specs.Frame.{stand}
-use Rattle.rt_written.specs.Meets.{child_claims, tree_claims}
-use Rattle.rt_written.specs.Scopes.{between, under, scope_claims}
-use Rattle.rt_standing.specs.Standing.{HasChild}
+use Rattle.rt_moves.specs.Frames.{stand}
+use Rattle.rt_moves.specs.Meets.{child_claims, tree_claims}
+use Rattle.rt_moves.specs.Sweeps.{between, under, scope_claims}
+use Rattle.rt_moves.specs.Trees.{HasChild}
 use Rattle.rt_standing.proofs.Nodes.{Shown, Settled, shown_of, kid_of}
 use Rattle.rt_rerun.proofs.Sides.{Link}
 use Rattle.rt_rerun.proofs.Climbs.{up_by, below_by, off_itself}

@@ -14,11 +14,11 @@ use Rattle.rt_model.specs.View.{nodes_of, view}
 use Rattle.rt_model.specs.Caused.{written_within, written}
 use Rattle.rt_model.proofs.SideRuns.{rest_stay}
 use Rattle.rt_ready.proofs.Twigs.{found_live}
-use Rattle.rt_frame.specs.Frame.{shown}
+use Rattle.rt_moves.specs.Frames.{shown}
 use Rattle.rt_frame.proofs.Commanded.{Level}
 use Rattle.rt_frame.proofs.Called.{rest_level}
 use Rattle.rt_frame.proofs.Served.{stand_by}
-use Rattle.rt_written.specs.Scopes.{scope_claims}
+use Rattle.rt_moves.specs.Sweeps.{scope_claims}
 use Rattle.rt_written.proofs.Unfolding.{tree_unfolds}
 use Rattle.rt_written.proofs.Descent.{written_brings}
 use Rattle.rt_entries.specs.Fitting.{FittingBring}

@@ -1,45 +1,27 @@
 -- A rerun from its entry to its end: what its edits make of the document, what they claim, and what it leaves as it was.
-use Rattle.std.specs.Prelude.{ℕ, ◌<◌, ◌≤◌, true, false, nat_eq, List, [], ◌∷◌, length, Some, None, Ok, Contains, ◌≡◌}
+use Rattle.std.specs.Prelude.{ℕ, ◌<◌, ◌≤◌, true, false, List, length, Some, Ok, Contains, ◌≡◌}
 use Rattle.rt_model.specs.Lists.{at}
 use Rattle.rt_model.specs.Tree.{Types, Place, Kind}
 use Rattle.rt_model.specs.World.{Application}
 use Rattle.rt_model.specs.Laws.{IsLawful}
-use Rattle.rt_model.specs.State.{SideName, Scope, State, side_of, is_live, is_shown, parent_of}
+use Rattle.rt_model.specs.State.{SideName, Scope, side_of, is_live, is_shown}
 use Rattle.rt_model.specs.Document.{document_after}
 use Rattle.rt_model.specs.View.{nodes_of, view}
 use Rattle.rt_model.specs.Caused.{written}
-use Rattle.rt_model.specs.Replay.{Rerun, Input, Machine}
+use Rattle.rt_model.specs.Replay.{Input, Machine}
 use Rattle.rt_model.specs.Causes.{Limits}
-use Rattle.rt_moves.specs.Moves.{Move, Inside, IsLogged, IsClosed, Leads}
-use Rattle.rt_moves.specs.Reached.{Reached}
-use Rattle.rt_written.specs.Scopes.{MeetsDown, scope_claims}
-use Rattle.rt_written.specs.Settings.{Setting, placed}
-
--- along this path of parents up from a scope, to one without a parent, there isn't another scope
-abbrev pub Outside : {K : Types} → State K → ℕ → List ℕ → ℕ → Type 0
-Outside w root [] t = (nat_eq t root ≡ false) × (parent_of w.scopes t ≡ None)
-Outside w root (p ∷ path) t = (nat_eq t root ≡ false) × (parent_of w.scopes t ≡ Some p) × Outside w root path p
+use Rattle.rt_moves.specs.Sweeps.{MeetsDown, scope_claims}
+use Rattle.rt_moves.specs.Settings.{Setting, placed}
+use Rattle.rt_moves.specs.Trees.{Outside}
+use Rattle.rt_moves.specs.Reruns.{Reruns}
 
 module _ {K : Types} (app : Application K) where
-  -- from a machine that moves reach a scope is rerun, all work that this leads to is served, and the unit ends
-  pub record Reruns (limits : Limits) (props : K.Props) (inputs : List (Input K)) (m : Machine K) (s : ℕ) (v : Machine K) : Type 0 where
-    -- the machine after the entry
-    pub begun : Machine K
-    -- the machine whose work is served
-    pub served : Machine K
-    pub moves : List Move
-    pub reached : Reached app limits props inputs m
-    pub logged : IsLogged app limits m (Rerun s) begun
-    pub leads : Leads app limits begun moves served
-    pub inside : Inside moves
-    pub closed : IsClosed served v
-
   -- of a lawful application: the edits of a rerun never fault, and make what shows after it of what showed before it
   abbrev pub RerunsBring : Type 0
   RerunsBring =
       IsLawful K app
       → (limits : Limits) (props : K.Props) (inputs : List (Input K)) (m v : Machine K) (s : ℕ)
-      → Reruns limits props inputs m s v
+      → Reruns app limits props inputs m s v
       → document_after (written app m.state v.state s) (view m.state) ≡ Ok (view v.state)
 
   -- its edits claim no number twice
@@ -47,7 +29,7 @@ module _ {K : Types} (app : Application K) where
   RerunsClaimOnce =
       IsLawful K app
       → (limits : Limits) (props : K.Props) (inputs : List (Input K)) (m v : Machine K) (s : ℕ)
-      → Reruns limits props inputs m s v
+      → Reruns app limits props inputs m s v
       → (n : ℕ)
       → scope_claims app m.state v.state (length m.state.scopes) s n ≤ 1
 
@@ -56,7 +38,7 @@ module _ {K : Types} (app : Application K) where
   RerunsKeepNumbers =
       IsLawful K app
       → (limits : Limits) (props : K.Props) (inputs : List (Input K)) (m v : Machine K) (s : ℕ)
-      → Reruns limits props inputs m s v
+      → Reruns app limits props inputs m s v
       → (t n : ℕ) (x : Scope K) (a : SideName) (p : Place) (k : Kind)
       → at v.state.scopes t ≡ Some x
       → Contains (side_of x a).numbers (p, k, n)
@@ -68,7 +50,7 @@ module _ {K : Types} (app : Application K) where
   RerunsLeaveOthers =
       IsLawful K app
       → (limits : Limits) (props : K.Props) (inputs : List (Input K)) (m v : Machine K) (s : ℕ)
-      → Reruns limits props inputs m s v
+      → Reruns app limits props inputs m s v
       → (t : ℕ) (path : List ℕ)
       → (
       (x : Scope K)
@@ -83,7 +65,7 @@ module _ {K : Types} (app : Application K) where
   RerunsKeepSetting =
       IsLawful K app
       → (limits : Limits) (props : K.Props) (inputs : List (Input K)) (m v : Machine K) (s : ℕ)
-      → Reruns limits props inputs m s v
+      → Reruns app limits props inputs m s v
       → is_shown m.state s ≡ true
       → (is_shown v.state s ≡ true)
       × ((place : Setting) × (view m.state ≡ placed place (nodes_of m.state s)) × (view v.state ≡ placed place (nodes_of v.state s)))
@@ -93,7 +75,7 @@ module _ {K : Types} (app : Application K) where
   RerunsHidden =
       IsLawful K app
       → (limits : Limits) (props : K.Props) (inputs : List (Input K)) (m v : Machine K) (s : ℕ)
-      → Reruns limits props inputs m s v
+      → Reruns app limits props inputs m s v
       → is_shown m.state s ≡ false
       → view m.state ≡ view v.state
 
@@ -102,6 +84,6 @@ module _ {K : Types} (app : Application K) where
   RerunsMeet =
       IsLawful K app
       → (limits : Limits) (props : K.Props) (inputs : List (Input K)) (m v : Machine K) (s : ℕ)
-      → Reruns limits props inputs m s v
+      → Reruns app limits props inputs m s v
       → is_shown m.state s ≡ true
       → MeetsDown app m.state v.state (length m.state.scopes) s

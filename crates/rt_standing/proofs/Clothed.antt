@@ -25,7 +25,7 @@ use Rattle.rt_ready.proofs.Lists.{every_among}
 use Rattle.rt_ready.proofs.Weaves.{knows_of}
 use Rattle.rt_ready.proofs.Made.{at_child, part}
 use Rattle.rt_ready.proofs.Everywhere.{fed_kid}
-use Rattle.rt_frame.specs.Frame.{Shown, shown, Keeps}
+use Rattle.rt_moves.specs.Frames.{Shown, shown, Keeps}
 use Rattle.rt_frame.proofs.Served.{run_leaves, item_leaves, removal_leaves}
 use Rattle.rt_standing.proofs.Steps.{Ready, Outlasts, built_keep}
 use Rattle.rt_standing.proofs.Did.{change_there, agenda, Patch, RunDid, run_did, StepDid, step_did}

@@ -11,7 +11,7 @@ use Rattle.rt_model.specs.Run.{fault_of, with_next, called_where, is_own, answer
 use Rattle.rt_model.specs.Boundary.{children_of, tree_or_placeholder, counts_render, counted_render, fallback_answered, called_back, drop_items, side_scopes, row_step, boundary_step}
 use Rattle.rt_model.proofs.Maps.{eq_same, at_put_here}
 use Rattle.rt_model.proofs.NumbersRun.{Idle, called_back_idle}
-use Rattle.rt_frame.specs.Frame.{Shown, shown}
+use Rattle.rt_moves.specs.Frames.{Shown, shown}
 use Rattle.rt_frame.proofs.Commanded.{Level, level_trans, level_refl, level_rest, change_level, commands_level}
 use Rattle.rt_frame.proofs.Called.{LevelO, from_level, onward_level, unmarked_level, where_level, kept_level, hooks_level, after_hooks_level, settled_answer_level, counted_level, called_back_level}
 

@@ -11,7 +11,7 @@ use Rattle.rt_model.specs.Boundary.{drop_items}
 use Rattle.rt_model.proofs.Among.{Among, among_left, among_right}
 use Rattle.rt_ready.proofs.Woven.{owner}
 use Rattle.rt_ready.proofs.Lists.{every_among}
-use Rattle.rt_frame.specs.Frame.{shown}
+use Rattle.rt_moves.specs.Frames.{shown}
 use Rattle.rt_standing.proofs.Did.{Matches, after_of, that_side, other_side, side_shows, Patch, renewed, agenda, RunDid, StepDid}
 use Rattle.rt_standing.proofs.Lines.{clash, among_either, Ahead, NoStep, IsDropped, drop_items_of, agenda_of}
 

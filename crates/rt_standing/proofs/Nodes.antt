@@ -15,11 +15,11 @@ use Rattle.rt_model.proofs.NumbersStand.{child_among}
 use Rattle.rt_model.proofs.WellNumbered.{FitsBelow}
 use Rattle.rt_ready.proofs.Twigs.{slots, side_found, found_live}
 use Rattle.rt_ready.proofs.Woven.{idle_whole}
-use Rattle.rt_written.specs.Trees.{IsTree}
-use Rattle.rt_written.specs.Meets.{HasNode}
+use Rattle.rt_moves.specs.Trees.{IsTree}
+use Rattle.rt_moves.specs.Meets.{HasNode}
 use Rattle.rt_written.proofs.Heights.{height_low}
 use Rattle.rt_written.proofs.Unfolding.{tree_unfolds}
-use Rattle.rt_standing.specs.Standing.{HasChild}
+use Rattle.rt_moves.specs.Trees.{HasChild}
 use Rattle.rt_standing.proofs.Steps.{Ready}
 use Rattle.rt_standing.proofs.Trees.{Topped}
 use Rattle.rt_standing.proofs.Dressed.{Dressed}

@@ -22,7 +22,8 @@ use Rattle.rt_ready.proofs.Twigs.{kids, side_at, bare, up_found, below_found, si
 use Rattle.rt_ready.proofs.Woven.{InSlot, idle_whole}
 use Rattle.rt_ready.proofs.Everywhere.{reached_ready}
 use Rattle.rt_written.proofs.Unfolding.{tree_unfolds}
-use Rattle.rt_standing.specs.Standing.{StandsOnce, ReachedHaveOneRoot, ReachedUnfold, SettledHaveChildren, SettledStandOnce, SettledShowSides, SettledShowNodes, SettledNumberOnce}
+use Rattle.rt_moves.specs.Trees.{StandsOnce}
+use Rattle.rt_standing.specs.Standing.{ReachedHaveOneRoot, ReachedUnfold, SettledHaveChildren, SettledStandOnce, SettledShowSides, SettledShowNodes, SettledNumberOnce}
 use Rattle.rt_standing.proofs.Steps.{Ready, ready_of}
 use Rattle.rt_standing.proofs.Did.{same_scope}
 use Rattle.rt_standing.proofs.Trees.{Topped, ready_tree, reached_topped, reached_are_trees}

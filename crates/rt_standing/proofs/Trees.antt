@@ -18,9 +18,9 @@ use Rattle.rt_moves.specs.Calls.{IsReady}
 use Rattle.rt_moves.specs.Reached.{Reached}
 use Rattle.rt_ready.proofs.Twigs.{found_live, up_found}
 use Rattle.rt_ready.proofs.Everywhere.{reached_ready}
-use Rattle.rt_frame.specs.Frame.{Stand, stand, shown, Keeps, Leaves, served_by, JoinsO}
+use Rattle.rt_moves.specs.Frames.{Stand, stand, shown, Keeps, Leaves, served_by, JoinsO}
 use Rattle.rt_frame.proofs.Served.{stand_by, run_leaves, item_leaves, removal_leaves, make_joins}
-use Rattle.rt_written.specs.Trees.{IsTree}
+use Rattle.rt_moves.specs.Trees.{IsTree}
 use Rattle.rt_standing.proofs.Did.{same_scope}
 use Rattle.rt_standing.proofs.Steps.{Ready, ready_of, Outlasts, reached_keep}
 

@@ -1,43 +1,18 @@
 -- What stands wherever moves lead from a replay's start: the scopes are a tree, and where no work is open each of them shows a node.
-use Rattle.std.specs.Prelude.{ℕ, ◌+◌, true, List, [], Some, None, Contains, ◌≡◌}
+use Rattle.std.specs.Prelude.{ℕ, true, List, [], Some, None, Contains, ◌≡◌}
 use Rattle.rt_model.specs.Lists.{at}
 use Rattle.rt_model.specs.Tree.{Types, Tree, Place, VComponent, spots, component_at}
 use Rattle.rt_model.specs.World.{Application}
 use Rattle.rt_model.specs.Laws.{IsLawful}
-use Rattle.rt_model.specs.State.{SideName, Scope, State, side_of}
-use Rattle.rt_model.specs.Run.{child_at}
+use Rattle.rt_model.specs.State.{SideName, Scope, side_of}
 use Rattle.rt_model.specs.View.{nodes_of, view}
 use Rattle.rt_model.specs.Once.{NumbersOnce}
 use Rattle.rt_model.specs.Replay.{Input, Machine}
 use Rattle.rt_model.specs.Causes.{Limits}
 use Rattle.rt_moves.specs.Reached.{Reached}
-use Rattle.rt_written.specs.Meets.{HasNode}
-use Rattle.rt_written.specs.Trees.{IsUnfolded, IsTree}
-
-module _ {K : Types} (w : State K) where
-  -- a live child scope at a place of a scope's side, which knows where it stands, one level below
-  pub record HasChild (s : ℕ) (x : Scope K) (a : SideName) (p : Place) : Type 0 where
-    pub child : ℕ
-    pub record_of : Scope K
-    pub kid : child_at (side_of x a).children p ≡ Some child
-    pub live : at w.scopes child ≡ Some record_of
-    pub height : record_of.height ≡ x.height + 1
-    pub parent : record_of.parent ≡ Some s
-    pub below : record_of.below ≡ a
-
-  -- a scope stands at a place of another one's side at which its output has a component, and at no other place of any scope
-  pub record StandsOnce (s : ℕ) (x : Scope K) (a : SideName) (t : ℕ) : Type 0 where
-    pub tree : Tree K
-    pub place : Place
-    pub component : VComponent K
-    pub output : (side_of x a).output ≡ Some tree
-    pub slot : Contains (spots [] tree) (component_at place component)
-    pub kid : child_at (side_of x a).children place ≡ Some t
-    pub once :
-        (r : ℕ) (z : Scope K) (b : SideName) (q : Place)
-        → at w.scopes r ≡ Some z
-        → child_at (side_of z b).children q ≡ Some t
-        → (r ≡ s) × (b ≡ a) × (q ≡ place)
+use Rattle.rt_moves.specs.Meets.{HasNode}
+use Rattle.rt_moves.specs.Trees.{IsUnfolded, IsTree}
+use Rattle.rt_moves.specs.Trees.{HasChild, StandsOnce}
 
 module _ {K : Types} (app : Application K) where
   -- of a lawful application the scopes are a tree by their heights, until a fault ends the run

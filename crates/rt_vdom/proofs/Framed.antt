@@ -4,7 +4,7 @@ use Rattle.std.specs.Prelude.{Option, Some, None, is_some, option_map, if◌then
 use Rattle.std.proofs.lemmas.Bool.{eqb-true}
 use Rattle.rt_calls.specs.Kept.{each, scope_of}
 use Rattle.rt_calls.specs.declared.rest.Scope.{Scope as CodeScope}
-use Rattle.rt_frame.specs.Frame.{Leaves, Shown, shown}
+use Rattle.rt_moves.specs.Frames.{Leaves, Shown, shown}
 use Rattle.rt_frame.proofs.Served.{run_leaves, item_leaves, removal_leaves}
 use Rattle.rt_model.proofs.Maps.{by_test}
 use Rattle.rt_model.specs.Lists.{at, has}

@@ -1,7 +1,7 @@
 -- The scopes that a turn may change, and what is kept of them.
 use Rattle.std.specs.Prelude.{◌≡◌, ℕ, true, List, [], ◌∷◌, Option, is_some}
 use Rattle.std.specs.List.{AllByRecursion}
-use Rattle.rt_frame.specs.Frame.{served_by}
+use Rattle.rt_moves.specs.Frames.{served_by}
 use Rattle.rt_model.specs.Lists.{at}
 use Rattle.rt_model.specs.Tree.{Types}
 use Rattle.rt_model.specs.Next.{Work, RerunScope, PollTask, RunEffects}

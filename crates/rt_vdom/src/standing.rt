@@ -1,7 +1,7 @@
 //! What the scopes that a rerun changes were before it.
 ghost use Rattle.std.specs.Prelude.{◌≡◌, ℕ, true, is_some, option_map, IfOk, OnOk};
 ghost use Rattle.rt_model.specs.Lists.{at};
-ghost use Rattle.rt_frame.specs.Frame.{those};
+ghost use Rattle.rt_moves.specs.Frames.{those};
 ghost use Rattle.rt_calls.specs.Calls.{number_of};
 ghost use Rattle.rt_scopes.specs.Mirror.{scopes_of, state_of};
 ghost use Rattle.rt_shown.specs.Look as looks;

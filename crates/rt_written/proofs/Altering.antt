@@ -4,7 +4,7 @@ use Rattle.std.specs.Prelude.{Option, Some, None, Result, Ok, Err, if◌then◌e
 use Rattle.std.proofs.lemmas.Bool.{eqb-true}
 use Rattle.rt_model.specs.Document.{Content, DocElement, Forest, Empty, Node, Edit, SetAttribute, CreateEventListener, RemoveEventListener, DocFault, WrongKind, set_attribute, with_listener, without_listener, has_text, changed, content_of, count_of, on_element, with_content, apply, and_then, document_after}
 use Rattle.rt_model.proofs.Maps.{by_test, none_some}
-use Rattle.rt_written.specs.Settings.{Setting, placed, counted, beside, Brings, altered_once, and_altered, altered}
+use Rattle.rt_moves.specs.Settings.{Setting, placed, counted, beside, Brings, altered_once, and_altered, altered}
 use Rattle.rt_written.proofs.Standing.{own_1}
 use Rattle.rt_written.proofs.Changes.{on_there, first_is, first_changed}
 

@@ -7,7 +7,7 @@ use Rattle.rt_model.specs.Caused.{removals, replaced_by, last_of}
 use Rattle.rt_model.specs.Once.{NumbersOnce}
 use Rattle.rt_model.proofs.Maps.{pick_true, eq_same}
 use Rattle.rt_model.proofs.ViewCounts.{count_join}
-use Rattle.rt_written.specs.Settings.{Setting, After, Ahead, Within, placed, counted, beside, Brings}
+use Rattle.rt_moves.specs.Settings.{Setting, After, Ahead, Within, placed, counted, beside, Brings}
 use Rattle.rt_written.proofs.Standing.{join_empty, join_thrice, count_placed, own_1, Change, LeavesEnd, changed_there, content_there, comes_in, one_list_on}
 
 -- an edit on a node that is there

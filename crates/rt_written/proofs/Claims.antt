@@ -11,7 +11,7 @@ use Rattle.rt_model.specs.Caused.{Both}
 use Rattle.rt_model.proofs.Maps.{by_test}
 use Rattle.rt_model.proofs.SamePlaces.{template-true}
 use Rattle.rt_model.proofs.ViewCounts.{count_join}
-use Rattle.rt_written.specs.Meets.{NodesMeet, nodes_claims, ChildBrings, ChildMeets, child_claims, way_claims, TreeMeets, SlotsMeet, SlotMeets, ItemsMeet, tree_claims, slots_claims, slot_claims, items_claims}
+use Rattle.rt_moves.specs.Meets.{NodesMeet, nodes_claims, ChildBrings, ChildMeets, child_claims, way_claims, TreeMeets, SlotsMeet, SlotMeets, ItemsMeet, tree_claims, slots_claims, slot_claims, items_claims}
 
 no_more : (n : ℕ) → n ≤ n
 no_more n = omega arith

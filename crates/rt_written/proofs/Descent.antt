@@ -10,10 +10,10 @@ use Rattle.rt_model.specs.View.{tree_view, side_view, scope_view, nodes_of, view
 use Rattle.rt_model.specs.Caused.{Written, writes, then_on, Both, tree_written, side_written, sides_written, written_within, written}
 use Rattle.rt_model.specs.Once.{NumbersOnce}
 use Rattle.rt_model.proofs.Maps.{pick_true, pick_false, by_test}
-use Rattle.rt_written.specs.Settings.{Setting, placed, Brings}
-use Rattle.rt_written.specs.Meets.{Performs, HasNode, ChildBrings, tree_claims}
-use Rattle.rt_written.specs.Trees.{IsUnfolded}
-use Rattle.rt_written.specs.Scopes.{between, Stays, SideMeets, under, MeetsDown, scope_claims}
+use Rattle.rt_moves.specs.Settings.{Setting, placed, Brings}
+use Rattle.rt_moves.specs.Meets.{Performs, HasNode, ChildBrings, tree_claims}
+use Rattle.rt_moves.specs.Trees.{IsUnfolded}
+use Rattle.rt_moves.specs.Sweeps.{between, Stays, SideMeets, under, MeetsDown, scope_claims}
 use Rattle.rt_written.proofs.Changes.{document_brought}
 use Rattle.rt_written.proofs.Sweep.{of_to, is_written, claims_more, two_parts, gives_way, tree_performs}
 use Rattle.rt_written.proofs.Claims.{tree_claimed}

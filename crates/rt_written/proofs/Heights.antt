@@ -5,7 +5,7 @@ use Rattle.rt_model.specs.Lists.{at}
 use Rattle.rt_model.specs.Tree.{Types}
 use Rattle.rt_model.specs.State.{Scope, State}
 use Rattle.rt_model.proofs.Maps.{by_test, pick_true, pick_false, none_some}
-use Rattle.rt_written.specs.Trees.{IsTree}
+use Rattle.rt_moves.specs.Trees.{IsTree}
 
 -- a number is below another one, as a count
 abbrev low : ℕ → ℕ → ℕ

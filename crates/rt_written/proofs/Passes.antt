@@ -6,8 +6,8 @@ use Rattle.rt_model.specs.Document.{Content, DocElement, DocText, Forest, Empty,
 use Rattle.rt_model.specs.View.{element_attributes, element_listeners, nodes_view}
 use Rattle.rt_model.specs.Caused.{element_pass, attribute_pass, left, come}
 use Rattle.rt_model.proofs.ViewCounts.{count_join}
-use Rattle.rt_written.specs.Settings.{Brings}
-use Rattle.rt_written.specs.Meets.{AttributesBring}
+use Rattle.rt_moves.specs.Settings.{Brings}
+use Rattle.rt_moves.specs.Meets.{AttributesBring}
 use Rattle.rt_written.specs.Passes.{ElementsAlter}
 use Rattle.rt_written.proofs.Changes.{nothing_brings, both_bring, more_claimed, after_brings, children_bring, joined_bring}
 use Rattle.rt_written.proofs.Altering.{element_brings}

@@ -5,7 +5,7 @@ use Rattle.std.proofs.lemmas.Bool.{eqb-true}
 use Rattle.rt_model.specs.Document.{Content, Forest, Empty, Node, Edit, DocFault, join_rows, is_in, changed, either_content, content_of, count_of, clashes, if_fresh, apply, and_then, document_after}
 use Rattle.rt_model.proofs.Maps.{by_test, eq_same}
 use Rattle.rt_model.proofs.ViewCounts.{count_join}
-use Rattle.rt_written.specs.Settings.{Setting, Alone, After, Ahead, Within, placed, counted, beside}
+use Rattle.rt_moves.specs.Settings.{Setting, Alone, After, Ahead, Within, placed, counted, beside}
 
 pub join_empty : (f : Forest) → join_rows f Empty ≡ f
 join_empty Empty = refl

@@ -13,8 +13,8 @@ use Rattle.rt_model.specs.Caused.{Written, writes, then_on, is_place, halts, bui
 use Rattle.rt_model.proofs.Maps.{pick_false, by_test}
 use Rattle.rt_model.proofs.SamePlaces.{numbers-true, template-true}
 use Rattle.rt_model.proofs.ViewCounts.{count_join}
-use Rattle.rt_written.specs.Settings.{counted, Brings}
-use Rattle.rt_written.specs.Meets.{Performs, HasNode, NodesMeet, nodes_claims, ChildBrings, ChildMeets, child_claims, way_claims, TreeMeets, SlotsMeet, SlotMeets, ItemsMeet, tree_claims, slots_claims, slot_claims, items_claims}
+use Rattle.rt_moves.specs.Settings.{counted, Brings}
+use Rattle.rt_moves.specs.Meets.{Performs, HasNode, NodesMeet, nodes_claims, ChildBrings, ChildMeets, child_claims, way_claims, TreeMeets, SlotsMeet, SlotMeets, ItemsMeet, tree_claims, slots_claims, slot_claims, items_claims}
 use Rattle.rt_written.proofs.Standing.{join_empty}
 use Rattle.rt_written.proofs.Changes.{nothing_brings, text_brings, removed_brings, replaced_brings, inserted_brings, both_bring, more_claimed, after_brings, children_bring, joined_bring, paired_bring}
 

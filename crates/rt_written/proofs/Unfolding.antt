@@ -8,7 +8,7 @@ use Rattle.rt_model.specs.Run.{child_at}
 use Rattle.rt_model.specs.Heard.{number_at}
 use Rattle.rt_model.specs.Document.{Content, DocElement, DocText, Forest, Empty, Node, join_rows}
 use Rattle.rt_model.specs.View.{element_attributes, element_listeners, child_view, nodes_view, tree_view, slots_view, slot_view, items_view, side_view, scope_view, view_within, nodes_of}
-use Rattle.rt_written.specs.Trees.{IsTree}
+use Rattle.rt_moves.specs.Trees.{IsTree}
 use Rattle.rt_written.proofs.Heights.{height_low}
 
 -- what a side shows where f and g give the same for each of its child scopes

@@ -1,7 +1,6 @@
-pub mod Settings
 pub mod Rules
 pub mod Entries
-pub mod Meets
+pub mod Outputs
 pub mod Passes
 pub mod Trees
 pub mod Scopes

@@ -5,8 +5,8 @@ use Rattle.rt_model.specs.Heard.{number_at}
 use Rattle.rt_model.specs.Document.{DocElement, Edit}
 use Rattle.rt_model.specs.View.{element_attributes, element_listeners}
 use Rattle.rt_model.specs.Caused.{element_pass, left, come}
-use Rattle.rt_written.specs.Settings.{altered}
-use Rattle.rt_written.specs.Meets.{AttributesBring}
+use Rattle.rt_moves.specs.Settings.{altered}
+use Rattle.rt_moves.specs.Meets.{AttributesBring}
 
 -- in one pass the edits of each element alter it from what the first attributes give to what the second ones give
 abbrev pub ElementsAlter : {K : Types} → List (Place × Kind × ℕ) → Template → Place → List (List (Attribute K)) → List (List (Attribute K))

@@ -4,7 +4,7 @@ use Rattle.rt_model.specs.Lists.{Text}
 use Rattle.rt_model.specs.Document.{Content, DocText, Forest, Empty, Node, Edit, InsertNodesAfter, SetNodeText, join_rows, leaf, count_of, document_after}
 use Rattle.rt_model.specs.Caused.{removals, replaced_by, last_of}
 use Rattle.rt_model.specs.Once.{NumbersOnce}
-use Rattle.rt_written.specs.Settings.{Setting, placed, counted, Brings, altered}
+use Rattle.rt_moves.specs.Settings.{Setting, placed, counted, Brings, altered}
 
 -- no edit leaves a row as it is
 abbrev pub NothingBrings : Type 0

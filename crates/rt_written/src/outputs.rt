@@ -2,7 +2,7 @@
 
 ghost use Rattle.rt_model.specs.OneLog.{types};
 ghost use Rattle.rt_model.specs.World.{Application};
-ghost use Rattle.rt_written.specs.Meets.{OutputsBring, OutputsClaim};
+ghost use Rattle.rt_written.specs.Outputs.{OutputsBring, OutputsClaim};
 ghost use Rattle.rt_written.specs.Passes.{PassesBring};
 ghost use Rattle.rt_written.specs.Scopes.{ScopesBring, WrittenBrings};
 ghost use Rattle.rt_written.specs.Trees.{TreesUnfold};

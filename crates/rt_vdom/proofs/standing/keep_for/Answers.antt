@@ -1,5 +1,5 @@
 use Rattle.std.proofs.Common.{◌∙◌, ◌∷◌, [], ap, sym, subst}
-use Rattle.rt_frame.specs.Frame.{those}
+use Rattle.rt_moves.specs.Frames.{those}
 use Rattle.rt_model.specs.Replay.{fed_child}
 use Rattle.rt_places.specs.Places.{place_of, side_name_of}
 use Rattle.rt_scopes.specs.Mirror.{state_of}

@@ -1,4 +1,4 @@
-use Rattle.rt_written.specs.Meets.{ChildBrings}
+use Rattle.rt_moves.specs.Meets.{ChildBrings}
 use Rattle.rt_written.proofs.Claims.{tree_claimed}
 use Rattle.rt_written.proofs.outputs.outputs_claim.Goals as goal
 

@@ -7,8 +7,8 @@ use Rattle.rt_model.specs.Run.{child_at}
 use Rattle.rt_model.specs.Heard.{number_at}
 use Rattle.rt_model.specs.Document.{Content, Forest, Node, count_of}
 use Rattle.rt_model.specs.View.{nodes_view, tree_view, slot_view, items_view}
-use Rattle.rt_model.specs.Caused.{Written, attributes_written, Both, tree_written}
-use Rattle.rt_written.specs.Settings.{counted, Brings}
+use Rattle.rt_model.specs.Caused.{Written, attributes_written, Both}
+use Rattle.rt_moves.specs.Settings.{counted, Brings}
 
 -- nothing is refused, and the edits make the row g of the row f
 pub record Performs (w : Written) (f g : Forest) (claims : ℕ → ℕ) : Type 0 where
@@ -168,24 +168,3 @@ module _ {K : Types} (app : Application K) (b : Both K) (claims : ℕ → ℕ �
     items_claims n place i (more_trees y ys) no_trees = count_of n (items_view b.new b.new_child i place (more_trees y ys))
     items_claims n place i (more_trees y ys) (more_trees x xs) =
         tree_claims n (place ++ item i ∷ []) y x + items_claims n place (i + 1) ys xs
-
--- what is written between two outputs of one side that meet, where no place is refused, makes what the new one shows
--- of what the old one shows
-abbrev pub OutputsBring : {K : Types} → Application K → Type 0
-OutputsBring {K = K} app =
-    (b : Both K) (claims : ℕ → ℕ → ℕ) (above : Place) (new old : Tree K)
-    → b.stop ≡ None
-    → TreeMeets app b (λ t. ChildBrings b claims t) above new old
-    → Performs
-    (tree_written app b above new old)
-    (tree_view b.old b.old_child above old)
-    (tree_view b.new b.new_child above new)
-    (λ n. tree_claims app b claims n above new old)
-
--- and it claims no number but those that either output shows
-abbrev pub OutputsClaim : {K : Types} → Application K → Type 0
-OutputsClaim {K = K} app =
-    (b : Both K) (claims : ℕ → ℕ → ℕ) (above : Place) (new old : Tree K) (n : ℕ)
-    → TreeMeets app b (λ t. ChildBrings b claims t) above new old
-    → tree_claims app b claims n above new old
-    ≤ count_of n (tree_view b.old b.old_child above old) + count_of n (tree_view b.new b.new_child above new)
