@@ -22,7 +22,7 @@ use Rattle.rt_fresh.proofs.Moving.{HoldingOn, begun_holds}
 use Rattle.rt_fresh.proofs.Settled.{settled_dead, holding_current, holding_shown}
 
 -- a log has an entry
-abbrev IsFilled : List Entry → Type 0
+abbrev pub IsFilled : List Entry → Type 0
 IsFilled [] = ⊥
 IsFilled (e ∷ log) = Unit {0}
 
@@ -83,7 +83,7 @@ module _ {K : Types} (app : Application K) (lawful : IsLawful K app) where
       moved_holds limits props inputs v log found.0 found.1 found.2 filled
 
   -- after each report
-  told_hold : (limits : Limits) (props : K.Props) (inputs : List (Input K)) (logs : List (List Entry)) (before more : List Entry) (m last : Machine K) (told : List (Told K))
+  pub told_hold : (limits : Limits) (props : K.Props) (inputs : List (Input K)) (logs : List (List Entry)) (before more : List Entry) (m last : Machine K) (told : List (Told K))
       → replay_within app limits (Some (start app props inputs)) before ≡ Some m
       → tell_reports app m logs ≡ Some told
       → replay_within app limits (Some m) (joined logs ++ more) ≡ Some last
@@ -114,7 +114,7 @@ module _ {K : Types} (app : Application K) (lawful : IsLawful K app) where
   each_shown [] h settled = tt
   each_shown (r ∷ rs) h settled = (holding_shown app lawful r.machine settled.0 (h.0 (settled_dead app lawful r.machine settled.0)), each_shown rs h.1 settled.1)
 
-  each_is : (told : List (Told K)) → AllByRecursion (λ (r : Told K). HoldingOn app lawful ⊥ r.machine) told → AllByRecursion (λ (r : Told K). is_settled r.machine ≡ true) told → EachIsCurrent app told
+  pub each_is : (told : List (Told K)) → AllByRecursion (λ (r : Told K). HoldingOn app lawful ⊥ r.machine) told → AllByRecursion (λ (r : Told K). is_settled r.machine ≡ true) told → EachIsCurrent app told
   each_is told h settled = record { current = each_current told h settled; held = each_shown told h settled }
 
 pub ran_is_current : {K : Types} (app : Application K) → RanIsCurrent app

@@ -1,7 +1,7 @@
 -- Report by report the edits give what shows, and so the headline holds.
 use Rattle.std.proofs.Common.{true, false, ◌&&◌, not, List, [], ◌∷◌, ◌++◌, ◌≡◌, refl, sym, ap, ◌∙◌, subst, append_assoc, arith}
 use Rattle.std.proofs.lemmas.List.{append-nil}
-use Rattle.std.specs.Prelude.{Option, Some, None, Result, Ok, is_some}
+use Rattle.std.specs.Prelude.{Option, Some, None, Result, Ok, is_some, ◌≢◌}
 use Rattle.std.specs.List.{AllByRecursion}
 use Rattle.rt_model.specs.Lists.{joined}
 use Rattle.rt_model.specs.Tree.{Types}
@@ -24,10 +24,10 @@ use Rattle.rt_moves.proofs.Fuel.{fuel_suffices}
 use Rattle.rt_moves.proofs.Logs.{logs_are_moves}
 use Rattle.rt_moves.specs.Trees.{IsUnfolded}
 use Rattle.rt_moves.specs.Current.{EachIsCurrent}
-use Rattle.rt_fresh.proofs.Reported.{ran_is_current, ran_to_is_current}
+use Rattle.rt_fresh.proofs.Reported.{IsFilled, told_hold, each_is, ran_is_current, ran_to_is_current}
 use Rattle.rt_standing.proofs.Settled.{reached_unfold}
 use Rattle.rt_rerun.proofs.Reruns.{reruns_bring}
-use Rattle.rt_headline.specs.Sessions.{RanShows, RanToShows, RanIsHeadline, RanToIsCameTo}
+use Rattle.rt_headline.specs.Sessions.{RanShows, RanToShows, RanIsHeadline, RanToIsCameTo, FinishedHold}
 use Rattle.rt_headline.proofs.Begins.{reached_on}
 use Rattle.rt_headline.proofs.Units.{Brings, Rest, Ends, rest_ends}
 
@@ -185,4 +185,28 @@ ran_to_is_came_to app lawful props inputs limits taken reports fault ran =
       within = ran.within;
       cause = ran.cause;
       edits = ran.edits;
+    }
+
+filled : (log : List Entry) → log ≢ [] → IsFilled log
+filled [] h = absurd (h refl)
+filled (e ∷ log) h = tt
+
+all_filled : (logs : List (List Entry)) → AllByRecursion (λ (log : List Entry). log ≢ []) logs → AllByRecursion (λ (log : List Entry). IsFilled log) logs
+all_filled [] h = tt
+all_filled (log ∷ logs) h = (filled log h.0, all_filled logs h.1)
+
+pub finished_hold : {K : Types} (app : Application K) → FinishedHold app
+finished_hold app lawful props inputs limits reports told more last opened accepted within counted settled =
+    let logs : List (List Entry) = logs_of reports in
+    let holding = told_hold app lawful limits props inputs logs [] more (start app props inputs) last told refl accepted within (all_filled logs opened) in
+    let each : EachIsCurrent app told = each_is app lawful told holding settled in
+    record {
+      accepted = accepted;
+      counted = counted;
+      nothing_owed = settled;
+      shown =
+          all_show app lawful limits props inputs (reached_unfold app lawful limits props inputs) (reruns_bring app lawful limits props inputs)
+          logs more last told accepted within settled;
+      current = each.current;
+      held = each.held;
     }

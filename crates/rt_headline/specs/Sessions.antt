@@ -1,13 +1,16 @@
 -- Of every lawful application: what code proves of a session's reports is the headline.
-use Rattle.std.specs.Prelude.{List, Option, Ok}
+use Rattle.std.specs.Prelude.{true, List, [], ◌++◌, Option, Some, Ok, ◌≡◌, ◌≢◌}
+use Rattle.std.specs.List.{AllByRecursion}
+use Rattle.rt_model.specs.Lists.{joined}
 use Rattle.rt_model.specs.Tree.{Types}
 use Rattle.rt_model.specs.World.{Application}
 use Rattle.rt_model.specs.Laws.{IsLawful}
 use Rattle.rt_model.specs.State.{Fault}
-use Rattle.rt_model.specs.Replay.{Input}
-use Rattle.rt_model.specs.Causes.{Limits}
+use Rattle.rt_model.specs.Replay.{Entry, Input, Machine, start}
+use Rattle.rt_model.specs.Causes.{Limits, replay_within}
 use Rattle.rt_model.specs.Document.{Empty, Edit}
-use Rattle.rt_model.specs.Headline.{Report, DocumentIs, Ran, RanTo, Headline, CameTo}
+use Rattle.rt_model.specs.Told.{Told, tell_reports, is_settled}
+use Rattle.rt_model.specs.Headline.{Report, logs_of, AllCount, DocumentIs, Holds, Ran, RanTo, Headline, CameTo}
 
 module _ {K : Types} (app : Application K) where
   -- of a session that finished: its edits, run from an empty document, never fault, and after each report give what shows
@@ -41,3 +44,17 @@ module _ {K : Types} (app : Application K) where
       → (props : K.Props) (inputs : List (Input K)) (limits : Limits) (taken : Option (List Edit)) (reports : List Report) (fault : Fault)
       → RanTo app props inputs limits taken reports fault
       → CameTo app props inputs limits taken reports fault
+
+  -- reports that were finished keep it, whatever came after them: where each log has entries, replay accepts them and goes on,
+  -- the counts are right, and after each report nothing is at work or owed
+  abbrev pub FinishedHold : Type 0
+  FinishedHold =
+      IsLawful K app
+      → (props : K.Props) (inputs : List (Input K)) (limits : Limits) (reports : List Report) (told : List (Told K))
+      → (more : List Entry) (last : Machine K)
+      → AllByRecursion (λ (log : List Entry). log ≢ []) (logs_of reports)
+      → tell_reports app (start app props inputs) (logs_of reports) ≡ Some told
+      → replay_within app limits (Some (start app props inputs)) (joined (logs_of reports) ++ more) ≡ Some last
+      → AllCount reports told
+      → AllByRecursion (λ (r : Told K). is_settled r.machine ≡ true) told
+      → Holds app props inputs reports told

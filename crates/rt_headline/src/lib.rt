@@ -6,5 +6,5 @@
 mod sessions;
 
 pub use sessions::{
-    calm_entries_leave, ran_is_headline, ran_shows, ran_to_is_came_to, ran_to_shows,
+    calm_entries_leave, finished_hold, ran_is_headline, ran_shows, ran_to_is_came_to, ran_to_shows,
 };

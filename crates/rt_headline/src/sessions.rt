@@ -1,7 +1,7 @@
 //! From what code proves of a session to the headline.
 
 ghost use Rattle.rt_headline.specs.Calm.{CalmEntriesLeave};
-ghost use Rattle.rt_headline.specs.Sessions.{RanIsHeadline, RanShows, RanToIsCameTo, RanToShows};
+ghost use Rattle.rt_headline.specs.Sessions.{FinishedHold, RanIsHeadline, RanShows, RanToIsCameTo, RanToShows};
 ghost use Rattle.rt_model.specs.OneLog.{types};
 ghost use Rattle.rt_model.specs.World.{Application};
 
@@ -28,4 +28,9 @@ pub fn ran_is_headline<C, P, V, H, T, E, L>()
 /// A session that came to a fault keeps it of its finished reports, and came to that fault.
 pub fn ran_to_is_came_to<C, P, V, H, T, E, L>()
     ensures { (app : Application (types C P V H T E L)) → RanToIsCameTo app }
+{}
+
+/// Reports that were finished keep the headline's sentences, whatever came after them.
+pub fn finished_hold<C, P, V, H, T, E, L>()
+    ensures { (app : Application (types C P V H T E L)) → FinishedHold app }
 {}
