@@ -18,3 +18,4 @@ mod Breaking
 mod Quiet
 mod Reporting
 mod Ending
+pub mod Held

@@ -9,7 +9,8 @@ use Rattle.rt_model.specs.State.{Fault}
 use Rattle.rt_model.specs.Replay.{Input}
 use Rattle.rt_model.specs.Causes.{Limits}
 use Rattle.rt_model.specs.Document as doc
-use Rattle.rt_model.specs.Headline.{Report, Ran, RanTo, Headline, CameTo}
+use Rattle.rt_model.specs.Told.{Told}
+use Rattle.rt_model.specs.Headline.{Report, Holds, Ran, RanTo, Headline, CameTo}
 use Rattle.rt_vdom.specs.Short.{RanShort}
 
 module _ {K : Types} (app : Application K) (props : K.Props) (inputs : List (Input K)) (limits : Limits) (before after : Option (List Edit))
@@ -46,3 +47,10 @@ module _ {K : Types} (app : Application K) (props : K.Props) (inputs : List (Inp
     pub wrote : List Edit
     pub told : after ≡ grown before wrote
     pub came_to : CameTo app props inputs limits (Some (map edit_of wrote)) reports fault
+
+module _ {K : Types} (app : Application K) (props : K.Props) (inputs : List (Input K)) (reports : List Report) where
+  -- of the reports that were finished all sentences of the headline hold
+  pub record FinishedHeld : Type 0 where
+    -- the edits of each and the state after it
+    pub told : List (Told K)
+    pub holds : Holds app props inputs reports told

@@ -10,7 +10,7 @@ ghost use Rattle.rt_reports.specs.Counted.{logs_in, edits_in, CountsLog, AllCoun
 ghost use Rattle.rt_reports.specs.declared.entry.Entry.TheVariants as entries;
 ghost use Rattle.rt_vdom.specs.Ends.{Took, Ends, Faulted};
 ghost use Rattle.rt_vdom.specs.Machines.{IsFresh, machine_of};
-ghost use Rattle.rt_vdom.specs.Sessions.{BrokeOff, CameAt, Finished, FinishedAt, Headlined};
+ghost use Rattle.rt_vdom.specs.Sessions.{BrokeOff, CameAt, Finished, FinishedAt, FinishedHeld, Headlined};
 ghost use Rattle.rt_vdom.specs.Short.{PartOf};
 ghost use Rattle.rt_vdom.specs.Stands.{Follows, ReportsAs, RunsAs};
 
@@ -20,7 +20,7 @@ use crate::machine::Machine;
 use crate::turn::sum;
 use rt_calls::App;
 use rt_edits::WriteMutations;
-use rt_headline::{ran_is_headline, ran_to_is_came_to};
+use rt_headline::{finished_hold, ran_is_headline, ran_to_is_came_to};
 use rt_reports::{Entry, Input, Limits, Report, SessionFault};
 use rt_values::{List, OutOfMemory};
 use std::alloc::Global;
@@ -61,6 +61,10 @@ pub fn session<A: App, M: WriteMutations>(
         BrokeOff (A.meaning app) root_props (map input_of inputs) (limits_of limits)
         (M.taken sink.old) (M.taken sink.new) (map report_of refused.reports)
         (PartOf refused.fault)) }
+    ensures held { IfErr result (λ refused.
+        fault_of refused.fault ≡ None →
+        FinishedHeld (A.meaning app) root_props (map input_of inputs)
+        (map report_of refused.reports)) }
 
     // The headline of what was done, and of what was finished before a fault.
     ensures headline { IfOk result (λ reports.
@@ -75,7 +79,7 @@ pub fn session<A: App, M: WriteMutations>(
     ensures completes { IsValid (A.meaning app) root_props (map input_of inputs) (limits_of limits) →
         IfErr result (λ refused. fault_of refused.fault ≡ None) }
 {
-    // What was done is the headline, whether it finished or came to a fault.
+    // What was done is the headline, whether it finished, came to a fault or broke off.
     ran_is_headline::<
         A::Component,
         A::Props,
@@ -86,6 +90,15 @@ pub fn session<A: App, M: WriteMutations>(
         A::Payload,
     >();
     ran_to_is_came_to::<
+        A::Component,
+        A::Props,
+        A::Value,
+        A::Handler,
+        A::TaskState,
+        A::Effect,
+        A::Payload,
+    >();
+    finished_hold::<
         A::Component,
         A::Props,
         A::Value,

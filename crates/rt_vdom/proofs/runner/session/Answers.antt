@@ -2,6 +2,7 @@ use Rattle.rt_vdom.proofs.Ending.{never_some, never_refused}
 use Rattle.std.proofs.Common.{◌∙◌, map, sym}
 use Rattle.rt_reports.specs.Seen.{input_of, limits_of}
 use Rattle.rt_vdom.proofs.Short.{short_as}
+use Rattle.rt_vdom.proofs.Held.{held_of}
 use Rattle.rt_vdom.proofs.runner.session.Goals as goal
 
 pub returns-in-Err-clause-refused : goal.returns-in-Err-clause-refused
@@ -28,6 +29,12 @@ returns-in-Err-clause-broke_off g c = λ none.
       told = broke.told;
       ran_short = short_as (g.A.App.meaning c.args.app) (limits_of c.args.limits) c.args.root_props (map input_of c.args.inputs) _ _ _ _ c.fault.ensures.parts broke.ran_short;
     }
+
+pub returns-in-Err-clause-held : goal.returns-in-Err-clause-held
+returns-in-Err-clause-held g c = λ none.
+    let broke = c.in-Err.ensures.runs.1 (sym c.fault.ensures.of ∙ none) in
+    held_of (g.A.App.meaning c.args.app) c.args.root_props (map input_of c.args.inputs) (limits_of c.args.limits) _ _ _
+    (c.finished_hold.ensures (g.A.App.meaning c.args.app)) (g.met.A.App.lawful c.args.app) broke.ran_short
 
 -- the headline, and how a fault was come to, by the laws of a run
 pub returns-in-Ok-clause-headline : goal.returns-in-Ok-clause-headline
