@@ -18,8 +18,9 @@ use Rattle.rt_ready.proofs.Served.{due_is_served}
 use Rattle.rt_fresh.specs.Due.{DueIsAny}
 use Rattle.rt_fresh.proofs.Marks.{clash, or_left, or_right, by_either}
 use Rattle.rt_fresh.proofs.Calm.{leavings_by, live_by, quiet_calm}
-use Rattle.rt_fresh.proofs.Ran.{rest_quiet}
-use Rattle.rt_fresh.proofs.Moving.{Scheduled, calm_scheduled, Holding, reached_holds}
+use Rattle.rt_fresh.proofs.Looks.{rest_quiet}
+use Rattle.rt_fresh.proofs.Moved.{reached_holds}
+use Rattle.rt_fresh.proofs.Moving.{Scheduled, calm_scheduled, Holding}
 
 some_number : (a b : ℕ) → Some a ≡ Some b → a ≡ b
 some_number a b h = cc

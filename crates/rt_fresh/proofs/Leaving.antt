@@ -12,7 +12,8 @@ use Rattle.rt_model.specs.Removal.{kinds_in, cell_sources, context_sources, cell
 use Rattle.rt_model.proofs.Maps.{by_test, pick_true, pick_false, at_without_none, eq_same, at_here, at_there, at_without_here, at_without_other, none_some}
 use Rattle.rt_moves.specs.Heeds.{leavings, Marked, SameOf, Heeds}
 use Rattle.rt_fresh.proofs.Marks.{number_left, number_stays, clash, or_left, or_right, by_either, source_is}
-use Rattle.rt_fresh.proofs.Calm.{error_of, context_of, holders_of, cell_in, there_of, leavings_by, reads_by, held_stays, same_scope, HoldersLive, Unique, listed_same, listed_then, listed_to, live_by, Calm, Quiet, quiet_then, quiet_refl, tell_quiet, tell_marks, same_quiet, holders_by, holders_stay}
+use Rattle.rt_fresh.proofs.Told.{tell_quiet, tell_marks}
+use Rattle.rt_fresh.proofs.Calm.{error_of, context_of, holders_of, cell_in, there_of, leavings_by, reads_by, held_stays, same_scope, HoldersLive, Unique, listed_then, listed_to, live_by, Calm, Quiet, quiet_then, quiet_refl, same_quiet, holders_by, holders_stay}
 
 -- a number joins an ascending list
 inserted : (ks : List ℕ) (k : ℕ) → has (insert_number ks k) k ≡ true

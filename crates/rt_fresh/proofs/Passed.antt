@@ -1,5 +1,5 @@
 -- What a render while suspended passes over leaves all else, and what holds of a state and its open work.
-use Rattle.std.proofs.Common.{ℕ, zero, suc, ◌+◌, Bool, true, false, List, [], ◌∷◌, ◌≡◌, ◌⊎◌, inl, inr, refl, sym, ap, ◌∙◌, subst, nat_eq, length}
+use Rattle.std.proofs.Common.{ℕ, zero, suc, ◌+◌, Bool, true, false, List, ◌≡◌, ◌⊎◌, inl, inr, refl, sym, ap, ◌∙◌, subst, nat_eq, length}
 use Rattle.std.specs.Prelude.{Option, Some, None, if◌then◌else◌}
 use Rattle.std.proofs.lemmas.Bool.{eqb-true}
 use Rattle.rt_model.specs.Lists.{at, has, drop_number, join}
@@ -21,8 +21,8 @@ use Rattle.rt_ready.proofs.Opens.{calm_twigs}
 use Rattle.rt_moves.specs.Heeds.{SameOf}
 use Rattle.rt_fresh.proofs.Marks.{number_left, number_stays, join_keeps, join_has}
 use Rattle.rt_fresh.proofs.Calm.{Pending, quiet_calm}
-use Rattle.rt_fresh.proofs.Ran.{look_quiet, unqueue}
-use Rattle.rt_fresh.proofs.Owed.{rows_of, Called, BodyCurrent, StageHolds, OwesAs, ScopeOwes}
+use Rattle.rt_fresh.proofs.Looks.{look_quiet, unqueue}
+use Rattle.rt_fresh.proofs.Owed.{rows_of, Called, BodyCurrent, OwesAs}
 use Rattle.rt_fresh.proofs.Runs.{called_put}
 use Rattle.rt_fresh.proofs.ChildKinds.{kind_of, kinds_same}
 use Rattle.rt_fresh.proofs.Moving.{Holding, calm_holding}

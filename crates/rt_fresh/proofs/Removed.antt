@@ -9,10 +9,12 @@ use Rattle.rt_model.specs.Commands.{end, commands}
 use Rattle.rt_model.specs.Run.{fault_of, with_next, called_once, unmarked}
 use Rattle.rt_model.specs.Removal.{tasks_in, end_all, clean_ups, gone, stopped, cleaned, removed}
 use Rattle.rt_fresh.specs.Heeds.{AllFrom}
-use Rattle.rt_fresh.proofs.Calm.{Calm, calm_then, calm_to, calm_refl, quiet_calm, change_quiet, CalmO, from_calm}
-use Rattle.rt_fresh.proofs.Commanded.{commands_calm, end_calm}
+use Rattle.rt_fresh.proofs.Told.{change_quiet, CalmO, from_calm}
+use Rattle.rt_fresh.proofs.Calm.{Calm, calm_then, calm_to, calm_refl, quiet_calm}
+use Rattle.rt_fresh.proofs.Commanded.{commands_calm}
+use Rattle.rt_fresh.proofs.Tasks.{end_calm}
 use Rattle.rt_fresh.proofs.Leaving.{gone_calm}
-use Rattle.rt_fresh.proofs.Ran.{all_from, cells_rise, next_quiet, once_quiet, unmarked_calm}
+use Rattle.rt_fresh.proofs.Looks.{all_from, cells_rise, next_quiet, once_quiet, unmarked_calm}
 
 module _ {K : Types} where
   ends_calm : (n : ℕ) (w : State K) (ts : List ℕ) → Calm None n w (end_all w ts)

@@ -1,6 +1,6 @@
 -- Renders while suspended among entries: what holds between them.
-use Rattle.std.proofs.Common.{ℕ, ◌+◌, Bool, true, false, ◌&&◌, not, List, [], ◌∷◌, ◌++◌, ◌≡◌, ◌≤◌, ◌⊎◌, inl, inr, refl, sym, ap, ◌∙◌, subst, arith}
-use Rattle.std.specs.Prelude.{Option, Some, None, if◌then◌else◌, is_some}
+use Rattle.std.proofs.Common.{ℕ, Bool, true, false, ◌&&◌, List, [], ◌∷◌, ◌≡◌, ◌≤◌, inl, refl, sym, ap, ◌∙◌, subst, arith}
+use Rattle.std.specs.Prelude.{Option, Some, None, if◌then◌else◌}
 use Rattle.rt_model.specs.Lists.{at}
 use Rattle.rt_model.specs.Tree.{Types}
 use Rattle.rt_model.specs.World.{Application}
@@ -9,14 +9,13 @@ use Rattle.rt_model.specs.State.{Fault, Scope, State, Item, Outcome, Done, Cut}
 use Rattle.rt_model.specs.Next.{Work, RerunScope, PollTask, RunEffects, at_rest}
 use Rattle.rt_model.specs.Commands.{unqueued}
 use Rattle.rt_model.specs.Run.{run}
-use Rattle.rt_model.specs.Replay.{Entry, Build, Rerun, Poll, Input, Machine, no_listener, no_work, waiting, is_quiet, one_more_unit, rested, polled, ended_by, is_due, due, change_by, step, settled, accepts, outcome_of, rows_left, replay_on, start}
-use Rattle.rt_model.specs.Causes.{Limits, refusal, replay_within}
-use Rattle.rt_model.specs.Rendering.{entry_of, rendering_rest, rendering_next, at_state, rendering_due_at, rendering_due, rendering_step_at, rendering_accepts, renders_on}
-use Rattle.rt_model.specs.Sentences.{is_open, CurrentOrOwed, AllCurrentOrOwed, OthersCurrentOrOwed}
+use Rattle.rt_model.specs.Replay.{Entry, Rerun, Poll, Input, Machine, one_more_unit, rested, polled, ended_by, is_due, due, change_by, step, settled, outcome_of, rows_left, replay_on, start}
+use Rattle.rt_model.specs.Causes.{Limits}
+use Rattle.rt_model.specs.Rendering.{entry_of, rendering_rest, rendering_next, at_state, rendering_due_at, rendering_due, rendering_step_at, renders_on}
+use Rattle.rt_model.specs.Sentences.{is_open, CurrentOrOwed}
 use Rattle.rt_model.proofs.Begun.{Good}
-use Rattle.rt_model.proofs.Conjunctions.{and-left, and-right}
 use Rattle.rt_model.proofs.MachineFrames.{polled_later, change_follows}
-use Rattle.rt_model.proofs.NumbersStand.{Sound, change_good, due_match}
+use Rattle.rt_model.proofs.NumbersStand.{change_good, due_match}
 use Rattle.rt_model.proofs.Maps.{by_test}
 use Rattle.rt_model.proofs.Stands.{Stands}
 use Rattle.rt_model.specs.Lasting.{IsRooted}
@@ -27,7 +26,6 @@ use Rattle.rt_model.proofs.StepFrames.{follows_later}
 use Rattle.rt_model.proofs.Turns.{stay_stands}
 use Rattle.rt_moves.specs.Moves.{Move, Silent, Closed, Logged, entries, IsSettled, IsLogged, Leads}
 use Rattle.rt_moves.specs.Reached.{Reached}
-use Rattle.rt_moves.proofs.Always.{Steady}
 use Rattle.rt_moves.proofs.Fuel.{fuel_suffices}
 use Rattle.rt_moves.proofs.Insides.{alive_before}
 use Rattle.rt_moves.proofs.Logs.{Silently, settles, logs_are_moves}
@@ -35,13 +33,14 @@ use Rattle.rt_ready.proofs.Twigs.{SameTwigs}
 use Rattle.rt_ready.proofs.Woven.{Whole, Woven, idle_whole, woven_same}
 use Rattle.rt_ready.proofs.Weaves.{Knows, knows_of, run_whole}
 use Rattle.rt_ready.proofs.Opens.{calm_twigs}
-use Rattle.rt_ready.proofs.Everywhere.{WovenOn, calm_whole, begun_on, rested_whole, rested_knows, Anything, ReadyAt, move_ready, moves_ready, reached_ready}
+use Rattle.rt_ready.proofs.Everywhere.{WovenOn, calm_whole, begun_on, rested_whole, rested_knows, ReadyAt, move_ready, moves_ready, reached_ready}
 use Rattle.rt_fresh.specs.Rendered.{Stretch, Ordinary, Suspended, Stretches, RenderedAreCurrentOrOwed, AllRenderedAreCurrentOrOwed}
 use Rattle.rt_fresh.proofs.Limited.{limits_here, some_limits}
 use Rattle.rt_fresh.proofs.Ran.{polled_calm}
 use Rattle.rt_fresh.proofs.Owed.{rows_of}
 use Rattle.rt_fresh.proofs.Passed.{rendering_stay, rendering_later, rendering_holds}
-use Rattle.rt_fresh.proofs.Moving.{Holding, HoldingOn, HoldingO, ended, run_alone, rest_holding, calm_o_holding, moves_hold, reached_holds}
+use Rattle.rt_fresh.proofs.Moved.{rest_holding, calm_o_holding, moves_hold, reached_holds}
+use Rattle.rt_fresh.proofs.Moving.{Holding, HoldingOn, ended, run_alone}
 use Rattle.rt_fresh.proofs.Settled.{each_entry, current_or_owed, closed_rows}
 
 no_entry : (e : Entry) (es : List Entry) → e ∷ es ≡ [] → ⊥

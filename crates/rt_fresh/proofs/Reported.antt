@@ -18,7 +18,8 @@ use Rattle.rt_moves.proofs.Joins.{logs_join}
 use Rattle.rt_moves.proofs.Logs.{logs_are_moves}
 use Rattle.rt_moves.specs.Current.{EachIsCurrent}
 use Rattle.rt_fresh.specs.Reported.{RanIsCurrent, RanToIsCurrent}
-use Rattle.rt_fresh.proofs.Moving.{HoldingOn, begun_holds}
+use Rattle.rt_fresh.proofs.Moving.{HoldingOn}
+use Rattle.rt_fresh.proofs.Moved.{begun_holds}
 use Rattle.rt_fresh.proofs.Settled.{settled_dead, holding_current, holding_shown}
 
 -- a log has an entry

@@ -13,10 +13,13 @@ use Rattle.rt_model.specs.Run.{call_body, has_output, row_of, runs_fallback, row
 use Rattle.rt_model.specs.Current.{stayed, KeepsAnswer}
 use Rattle.rt_model.proofs.Maps.{by_test, pick_true, pick_false}
 use Rattle.rt_moves.specs.Heeds.{leavings, Marked, SameOf}
-use Rattle.rt_fresh.proofs.Calm.{there_of, reads_by, Pending, Calm, calm_then, CalmO}
+use Rattle.rt_fresh.proofs.Told.{CalmO}
+use Rattle.rt_fresh.proofs.Calm.{there_of, reads_by, Pending, Calm, calm_then}
 use Rattle.rt_fresh.proofs.Ran.{hooks_calm, after_hooks_calm, answered_calm}
-use Rattle.rt_fresh.proofs.Owed.{Stage, Making, Asking, FirstCalls, FirstTurns, OpensFirst, Waits, CallsAgain, PatchesHidden, Frees, TurnsBack, Rests, Patches, Covers, Hides, Clears, Resolves, shows_at, steps_at, unread_at, rows_of, rows_join, rows_here, rows_there, NoRows, after_none, Kept, kept_by, still_at, alike_by, Called, called_again, BodyCurrent, AtStage, AtBody, OwesAs, ScopeOwes, Owes, owes_stays}
-use Rattle.rt_fresh.proofs.Called.{Alone, Then, then_if, then_onward, new_side, with_tree, agenda_is, tree_own, tree_there, agenda_rows, CallAt, call_stays, run_calm, call_then}
+use Rattle.rt_fresh.proofs.RunStages.{Stage, Making, Asking, FirstCalls, FirstTurns, OpensFirst, Waits, CallsAgain, PatchesHidden, Frees, TurnsBack, Rests, Patches, Covers, Hides, Clears, Resolves, shows_at, steps_at, unread_at}
+use Rattle.rt_fresh.proofs.Owed.{rows_of, rows_join, rows_here, rows_there, NoRows, after_none, Kept, kept_by, still_at, alike_by, Called, called_again, BodyCurrent, AtStage, AtBody, OwesAs, ScopeOwes, Owes, owes_stays}
+use Rattle.rt_fresh.proofs.Alone.{Alone, Then, then_if, then_onward}
+use Rattle.rt_fresh.proofs.Called.{new_side, with_tree, agenda_is, tree_own, tree_there, agenda_rows, CallAt, call_stays, run_calm, call_then}
 
 pub some_bool : (a b : Bool) → Some a ≡ Some b → a ≡ b
 some_bool a b h = cc

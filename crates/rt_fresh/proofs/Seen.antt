@@ -9,7 +9,7 @@ use Rattle.rt_model.specs.Commands.{drop_posted, holding, released, one_more_sou
 use Rattle.rt_model.specs.Run.{fault_of, with_next, called_once, unmarked}
 use Rattle.rt_model.specs.Removal.{tasks_in, cell_sources, cells_in, read_contexts, end_all, tell_all, clean_ups, without_scope, gone, stopped, cleaned, removed}
 use Rattle.rt_fresh.proofs.Marks.{number_gone}
-use Rattle.rt_fresh.proofs.Called.{Then}
+use Rattle.rt_fresh.proofs.Alone.{Then}
 
 module _ {K : Types} where
   seen_if : (b : Bool) (x y w : State K) → x.seen ≡ w.seen → y.seen ≡ w.seen → (if b then x else y).seen ≡ w.seen

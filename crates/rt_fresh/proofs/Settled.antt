@@ -23,9 +23,11 @@ use Rattle.rt_fresh.specs.Settled.{OthersAreCurrentOrOwed, AllAreCurrentOrOwed, 
 use Rattle.rt_fresh.proofs.Marks.{or_left, or_right, clash}
 use Rattle.rt_fresh.proofs.Calm.{Pending, there_of, leavings_by, holders_of, Unique, Quiet}
 use Rattle.rt_fresh.proofs.Again.{means_again}
-use Rattle.rt_fresh.proofs.Ran.{look_quiet, drops_quiet}
-use Rattle.rt_fresh.proofs.Owed.{Stage, Making, Asking, FirstCalls, FirstTurns, OpensFirst, Waits, CallsAgain, PatchesHidden, Frees, TurnsBack, Rests, Patches, Covers, Hides, Clears, Resolves, shows_at, steps_at, unread_at, rows_of, Called, BodyCurrent, FallbackCurrent, StageHolds, OwesAs, Owes}
-use Rattle.rt_fresh.proofs.Moving.{Holding, reached_holds}
+use Rattle.rt_fresh.proofs.Looks.{look_quiet, drops_quiet}
+use Rattle.rt_fresh.proofs.RunStages.{Stage, Making, Asking, FirstCalls, FirstTurns, OpensFirst, Waits, CallsAgain, PatchesHidden, Frees, TurnsBack, Rests, Patches, Covers, Hides, Clears, Resolves, shows_at, steps_at, unread_at}
+use Rattle.rt_fresh.proofs.Owed.{rows_of, Called, BodyCurrent, FallbackCurrent, StageHolds, OwesAs, Owes}
+use Rattle.rt_fresh.proofs.Moved.{reached_holds}
+use Rattle.rt_fresh.proofs.Moving.{Holding}
 
 neither : (a b : Bool) → a || b ≡ false → (a ≡ false) × (b ≡ false)
 neither true b h = clash refl h

@@ -2,7 +2,7 @@
 use Rattle.std.proofs.Common.{false, List, [], ◌∷◌, ◌≡◌, refl, ap}
 use Rattle.std.specs.Prelude.{Some}
 use Rattle.rt_model.specs.State.{ChildrenSide, FallbackSide, RowStep, PatchChildren, MadeChildren, RunFallback, ShowFallback, ShowChildren, DropFallback, Resolve}
-use Rattle.rt_fresh.proofs.Owed.{Stage, Making, Asking, FirstCalls, FirstTurns, OpensFirst, Waits, CallsAgain, PatchesHidden, Frees, TurnsBack, Rests, Patches, Covers, Hides, Clears, Resolves, shows_at, steps_at, patched_at, held_at, called_at, unread_at}
+use Rattle.rt_fresh.proofs.RunStages.{Stage, Making, Asking, FirstCalls, FirstTurns, OpensFirst, Waits, CallsAgain, PatchesHidden, Frees, TurnsBack, Rests, Patches, Covers, Hides, Clears, Resolves, shows_at, steps_at, patched_at, held_at, called_at, unread_at}
 
 abbrev tail : List RowStep → List RowStep
 tail [] = []

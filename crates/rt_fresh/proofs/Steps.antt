@@ -12,10 +12,13 @@ use Rattle.rt_model.specs.Boundary.{tree_or_placeholder, children_of, counts_ren
 use Rattle.rt_model.proofs.Maps.{eq_same, at_put_here}
 use Rattle.rt_model.proofs.NumbersRun.{Idle, called_back_idle}
 use Rattle.rt_moves.specs.Heeds.{Marked, SameOf}
-use Rattle.rt_fresh.proofs.Calm.{there_of, reads_by, Pending, Calm, calm_then, quiet_calm, quiet_rest, no_fall, change_quiet, CalmO}
+use Rattle.rt_fresh.proofs.Told.{change_quiet, CalmO}
+use Rattle.rt_fresh.proofs.Calm.{there_of, reads_by, Pending, Calm, calm_then, quiet_calm, quiet_rest, no_fall}
 use Rattle.rt_fresh.proofs.Ran.{fallback_calm, called_back_calm}
-use Rattle.rt_fresh.proofs.Owed.{Stage, Asking, FirstCalls, OpensFirst, shows_at, patched_at, held_at, called_at, unread_at, rows_of, rows_join, rows_first, rows_other, rows_here, rows_there, NoRows, after_none, Kept, kept_by, Called, FallbackCurrent, StageHolds, AtStage, OwesAs, Owes, stage_stays}
-use Rattle.rt_fresh.proofs.Called.{Alone, put_alone, Then, then_onward, dropped_rows, new_side, with_tree, agenda_of, agenda_is, tree_own, tree_there, agenda_rows, CallAt, call_stays, step_calm, call_then}
+use Rattle.rt_fresh.proofs.RunStages.{Stage, Asking, FirstCalls, OpensFirst, shows_at, patched_at, held_at, called_at, unread_at}
+use Rattle.rt_fresh.proofs.Owed.{rows_of, rows_join, rows_first, rows_other, rows_here, rows_there, NoRows, after_none, Kept, kept_by, Called, FallbackCurrent, StageHolds, AtStage, OwesAs, Owes, stage_stays}
+use Rattle.rt_fresh.proofs.Alone.{Alone, put_alone, Then, then_onward, dropped_rows}
+use Rattle.rt_fresh.proofs.Called.{new_side, with_tree, agenda_of, agenda_is, tree_own, tree_there, agenda_rows, CallAt, call_stays, step_calm, call_then}
 use Rattle.rt_fresh.proofs.Runs.{some_bool, called_put, OthersOwe, others_stay, all_owe}
 use Rattle.rt_fresh.proofs.Stages.{Patching, patching, Calling, calling, Hiding, hiding, Showing, showing, Clearing, clearing, Resolving, resolving, asking}
 
