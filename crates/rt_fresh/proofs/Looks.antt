@@ -1,4 +1,4 @@
--- Marks, wakes and holders, looks, and the scopes that are mounted: calm changes.
+-- Numbers that rise, marks that go, holders, looks, mounted scopes and inputs: calm changes.
 use Rattle.std.proofs.Common.{ℕ, ◌+◌, Bool, true, false, List, [], ◌∷◌, ◌++◌, ◌≡◌, ◌≤◌, ◌⊎◌, ◌||◌, refl, sym, ap, ◌∙◌, subst, nat_eq, arith, inl, inr}
 use Rattle.std.proofs.lemmas.Bool.{eqb-true}
 use Rattle.std.specs.Prelude.{Option, Some, None, if◌then◌else◌, is_some}

@@ -1,4 +1,4 @@
--- Every move keeps what is owed, the kinds of children, and the order of holders and numbers.
+-- Each move keeps what is owed, the kinds of children, and the order of holders and numbers: a run, a step, a scope that is made or goes.
 use Rattle.std.proofs.Common.{ℕ, ◌+◌, ◌≤◌, Bool, true, false, List, [], ◌∷◌, ◌++◌, ◌≡◌, inl, inr, refl, sym, ap, ◌∙◌, subst, arith, nat_eq}
 use Rattle.std.proofs.lemmas.Bool.{eqb-true}
 use Rattle.std.specs.Prelude.{Option, Some, None, is_some, if◌then◌else◌}

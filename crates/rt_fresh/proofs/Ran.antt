@@ -1,4 +1,4 @@
--- What calls, looks and inputs leave: all of them are calm.
+-- What calls, polls, effects and listeners leave: all of them are calm.
 use Rattle.std.proofs.Common.{ℕ, Bool, true, false, List, [], ◌∷◌, ◌≤◌, not, refl, arith, inl, inr}
 use Rattle.std.specs.Prelude.{Option, Some, None}
 use Rattle.rt_model.specs.Lists.{at, put}
