@@ -122,23 +122,23 @@ module _ {K : Types} (app : Application K) where
   reached_unfold lawful limits props inputs m reached alive = tree_unfolds m.state (reached_are_trees app lawful limits props inputs m reached alive)
 
   pub settled_show_sides : SettledShowSides app
-  settled_show_sides lawful limits props inputs m s x reached alive built idle found =
+  settled_show_sides lawful limits props inputs m reached alive built idle s x found =
       let d : Shown x = shown_of m.state (settled_of app lawful limits props inputs m reached alive built idle) s x found in
       (d.side, d.tree, d.shows, d.output)
 
   pub settled_show_nodes : SettledShowNodes app
-  settled_show_nodes lawful limits props inputs m s x reached alive built idle found = has_node m.state (settled_of app lawful limits props inputs m reached alive built idle) s x found
+  settled_show_nodes lawful limits props inputs m reached alive built idle s x found = has_node m.state (settled_of app lawful limits props inputs m reached alive built idle) s x found
 
   pub settled_number_once : SettledNumberOnce app
   settled_number_once lawful limits props inputs m reached alive built idle = settled_once app lawful m.state (settled_of app lawful limits props inputs m reached alive built idle)
 
   pub reached_have_one_root : ReachedHaveOneRoot app
-  reached_have_one_root lawful limits props inputs m s x reached alive found none = (reached_topped app lawful limits props inputs m reached alive s x found none).1
+  reached_have_one_root lawful limits props inputs m reached alive s x found none = (reached_topped app lawful limits props inputs m reached alive s x found none).1
 
   pub settled_have_children : SettledHaveChildren app
-  settled_have_children lawful limits props inputs m s x a tree p c reached alive built idle found output g =
+  settled_have_children lawful limits props inputs m reached alive built idle s x a tree p c found output g =
       kid_of m.state (settled_of app lawful limits props inputs m reached alive built idle) s x a tree p c found output (among_contained (spots [] tree) (component_at p c) g)
 
   pub settled_stand_once : SettledStandOnce app
-  settled_stand_once lawful limits props inputs m t s y reached alive built idle found parent =
+  settled_stand_once lawful limits props inputs m reached alive built idle t s y found parent =
       stood_once m.state (settled_of app lawful limits props inputs m reached alive built idle) t s y found parent
