@@ -19,26 +19,22 @@ module _ {K : Types} (app : Application K) where
   Stretches m (Ordinary log ∷ rest) v = (u : Machine K) × (replay_on app (Some m) log ≡ Some u) × Stretches u rest v
   Stretches m (Suspended log ∷ rest) v = (u : Machine K) × (renders_on app (Some m) log ≡ Some u) × Stretches u rest v
 
-  -- of a lawful application: once the build has begun, ordinary entries and renders while suspended come in any order;
-  -- until a fault ends the run each scope that is on no open work is current, or owed a run, or was passed over by a render
-  abbrev pub RenderedAreCurrentOrOwed : Type 0
-  RenderedAreCurrentOrOwed =
+  -- of a lawful application, until a fault ends the run: once the build has begun, ordinary entries and renders while suspended
+  -- come in any order, and after them it holds
+  abbrev pub AfterStretches : (Machine K → Type 0) → Type 0
+  AfterStretches holds =
       IsLawful K app
       → (props : K.Props) (inputs : List (Input K)) (log : List Entry) (m v : Machine K) (stretches : List Stretch)
       → replay_on app (Some (start app props inputs)) log ≡ Some m
       → m.built ≡ true
       → Stretches m stretches v
       → v.dead ≡ None
-      → OthersCurrentOrOwed app v
+      → holds v
+
+  -- each scope that is on no open work is current, or owed a run, or was passed over by a render
+  abbrev pub RenderedAreCurrentOrOwed : Type 0
+  RenderedAreCurrentOrOwed = AfterStretches (λ v. OthersCurrentOrOwed app v)
 
   -- so where no work is open, as after a completed render, all scopes are
   abbrev pub AllRenderedAreCurrentOrOwed : Type 0
-  AllRenderedAreCurrentOrOwed =
-      IsLawful K app
-      → (props : K.Props) (inputs : List (Input K)) (log : List Entry) (m v : Machine K) (stretches : List Stretch)
-      → replay_on app (Some (start app props inputs)) log ≡ Some m
-      → m.built ≡ true
-      → Stretches m stretches v
-      → v.dead ≡ None
-      → v.work ≡ []
-      → AllCurrentOrOwed app v.state
+  AllRenderedAreCurrentOrOwed = AfterStretches (λ v. v.work ≡ [] → AllCurrentOrOwed app v.state)

@@ -12,44 +12,27 @@ use Rattle.rt_model.specs.Sentences.{AllCurrentOrOwed, OthersCurrentOrOwed}
 use Rattle.rt_moves.specs.Reached.{Reached}
 
 module _ {K : Types} (app : Application K) where
-  -- of a lawful application: once the build has begun, each scope that is on no open work is current or owed a run,
-  -- until a fault ends the run
-  abbrev pub OthersAreCurrentOrOwed : Type 0
-  OthersAreCurrentOrOwed =
+  -- of a lawful application it holds of each machine that moves reach, once the build has begun
+  abbrev pub OnceBuilt : (Machine K → Type 0) → Type 0
+  OnceBuilt holds =
       IsLawful K app
       → (limits : Limits) (props : K.Props) (inputs : List (Input K)) (m : Machine K)
       → Reached app limits props inputs m
       → m.built ≡ true
-      → m.dead ≡ None
-      → OthersCurrentOrOwed app m
+      → holds m
+
+  -- each scope that is on no open work is current or owed a run, until a fault ends the run
+  abbrev pub OthersAreCurrentOrOwed : Type 0
+  OthersAreCurrentOrOwed = OnceBuilt (λ m. m.dead ≡ None → OthersCurrentOrOwed app m)
 
   -- so where no work is open all scopes are
   abbrev pub AllAreCurrentOrOwed : Type 0
-  AllAreCurrentOrOwed =
-      IsLawful K app
-      → (limits : Limits) (props : K.Props) (inputs : List (Input K)) (m : Machine K)
-      → Reached app limits props inputs m
-      → m.built ≡ true
-      → m.dead ≡ None
-      → m.work ≡ []
-      → AllCurrentOrOwed app m.state
+  AllAreCurrentOrOwed = OnceBuilt (λ m. m.dead ≡ None → m.work ≡ [] → AllCurrentOrOwed app m.state)
 
   -- and where nothing is at work or owed every kept output is current
   abbrev pub SettledAreCurrent : Type 0
-  SettledAreCurrent =
-      IsLawful K app
-      → (limits : Limits) (props : K.Props) (inputs : List (Input K)) (m : Machine K)
-      → Reached app limits props inputs m
-      → m.built ≡ true
-      → is_settled m ≡ true
-      → AllCurrent app m.state
+  SettledAreCurrent = OnceBuilt (λ m. is_settled m ≡ true → AllCurrent app m.state)
 
   -- there a boundary shows its fallback just while live tasks hold it
   abbrev pub SettledShowHeld : Type 0
-  SettledShowHeld =
-      IsLawful K app
-      → (limits : Limits) (props : K.Props) (inputs : List (Input K)) (m : Machine K)
-      → Reached app limits props inputs m
-      → m.built ≡ true
-      → is_settled m ≡ true
-      → AllHeldShown m.state
+  SettledShowHeld = OnceBuilt (λ m. is_settled m ≡ true → AllHeldShown m.state)
