@@ -4,7 +4,7 @@ use Rattle.rt_model.specs.Lists.{at}
 use Rattle.rt_model.specs.Tree.{Types, Place, Kind}
 use Rattle.rt_model.specs.World.{Application}
 use Rattle.rt_model.specs.Laws.{IsLawful}
-use Rattle.rt_model.specs.State.{SideName, Scope, side_of, is_live, is_shown}
+use Rattle.rt_model.specs.State.{SideName, Scope, State, side_of, is_live, is_shown}
 use Rattle.rt_model.specs.Document.{document_after}
 use Rattle.rt_model.specs.View.{nodes_of, view}
 use Rattle.rt_model.specs.Caused.{written}
@@ -16,74 +16,66 @@ use Rattle.rt_moves.specs.Trees.{Outside}
 use Rattle.rt_moves.specs.Reruns.{Reruns}
 
 module _ {K : Types} (app : Application K) where
-  -- of a lawful application: the edits of a rerun never fault, and make what shows after it of what showed before it
-  abbrev pub RerunsBring : Type 0
-  RerunsBring =
+  -- of a lawful application it holds of the state before a rerun, the one after it, and the scope that ran
+  abbrev pub OfReruns : (State K → State K → ℕ → Type 0) → Type 0
+  OfReruns holds =
       IsLawful K app
       → (limits : Limits) (props : K.Props) (inputs : List (Input K)) (m v : Machine K) (s : ℕ)
       → Reruns app limits props inputs m s v
-      → document_after (written app m.state v.state s) (view m.state) ≡ Ok (view v.state)
+      → holds m.state v.state s
+
+  -- the edits of a rerun never fault, and make what shows after it of what showed before it
+  abbrev pub RerunsBring : Type 0
+  RerunsBring = OfReruns (λ w v s. document_after (written app w v s) (view w) ≡ Ok (view v))
 
   -- its edits claim no number twice
   abbrev pub RerunsClaimOnce : Type 0
-  RerunsClaimOnce =
-      IsLawful K app
-      → (limits : Limits) (props : K.Props) (inputs : List (Input K)) (m v : Machine K) (s : ℕ)
-      → Reruns app limits props inputs m s v
-      → (n : ℕ)
-      → scope_claims app m.state v.state (length m.state.scopes) s n ≤ 1
+  RerunsClaimOnce = OfReruns (λ w v s. (n : ℕ) → scope_claims app w v (length w.scopes) s n ≤ 1)
 
   -- a number that was drawn before it stands, if it does, at the place of the side of the scope at which it stood
   abbrev pub RerunsKeepNumbers : Type 0
   RerunsKeepNumbers =
-      IsLawful K app
-      → (limits : Limits) (props : K.Props) (inputs : List (Input K)) (m v : Machine K) (s : ℕ)
-      → Reruns app limits props inputs m s v
-      → (t n : ℕ) (x : Scope K) (a : SideName) (p : Place) (k : Kind)
-      → at v.state.scopes t ≡ Some x
+      OfReruns
+      (
+      λ w v s.
+      (t n : ℕ) (x : Scope K) (a : SideName) (p : Place) (k : Kind)
+      → at v.scopes t ≡ Some x
       → Contains (side_of x a).numbers (p, k, n)
-      → n < m.state.next.elements
-      → (z : Scope K) × (at m.state.scopes t ≡ Some z) × Contains (side_of z a).numbers (p, k, n)
+      → n < w.next.elements
+      → (z : Scope K) × (at w.scopes t ≡ Some z) × Contains (side_of z a).numbers (p, k, n)
+      )
 
   -- scopes that aren't below the scope stay, and show what they showed
   abbrev pub RerunsLeaveOthers : Type 0
   RerunsLeaveOthers =
-      IsLawful K app
-      → (limits : Limits) (props : K.Props) (inputs : List (Input K)) (m v : Machine K) (s : ℕ)
-      → Reruns app limits props inputs m s v
-      → (t : ℕ) (path : List ℕ)
+      OfReruns
+      (
+      λ w v s.
+      (t : ℕ) (path : List ℕ)
       → (
       (x : Scope K)
-      → at v.state.scopes t ≡ Some x
-      → Outside v.state s path t
-      → (z : Scope K) × (at m.state.scopes t ≡ Some z) × (x.shows ≡ z.shows) × ((a : SideName) → side_of x a ≡ side_of z a)
+      → at v.scopes t ≡ Some x
+      → Outside v s path t
+      → (z : Scope K) × (at w.scopes t ≡ Some z) × (x.shows ≡ z.shows) × ((a : SideName) → side_of x a ≡ side_of z a)
       )
-      × (is_live m.state t ≡ true → Outside m.state s path t → is_live v.state t ≡ true)
+      × (is_live w t ≡ true → Outside w s path t → is_live v t ≡ true)
+      )
 
   -- a shown scope is shown still, and what stands about its nodes stays
   abbrev pub RerunsKeepSetting : Type 0
   RerunsKeepSetting =
-      IsLawful K app
-      → (limits : Limits) (props : K.Props) (inputs : List (Input K)) (m v : Machine K) (s : ℕ)
-      → Reruns app limits props inputs m s v
-      → is_shown m.state s ≡ true
-      → (is_shown v.state s ≡ true)
-      × ((place : Setting) × (view m.state ≡ placed place (nodes_of m.state s)) × (view v.state ≡ placed place (nodes_of v.state s)))
+      OfReruns
+      (
+      λ w v s.
+      is_shown w s ≡ true
+      → (is_shown v s ≡ true)
+      × ((place : Setting) × (view w ≡ placed place (nodes_of w s)) × (view v ≡ placed place (nodes_of v s)))
+      )
 
   -- of a hidden one the document stays
   abbrev pub RerunsHidden : Type 0
-  RerunsHidden =
-      IsLawful K app
-      → (limits : Limits) (props : K.Props) (inputs : List (Input K)) (m v : Machine K) (s : ℕ)
-      → Reruns app limits props inputs m s v
-      → is_shown m.state s ≡ false
-      → view m.state ≡ view v.state
+  RerunsHidden = OfReruns (λ w v s. is_shown w s ≡ false → view w ≡ view v)
 
   -- from a shown scope down through all that is fed, the new outputs meet the old ones
   abbrev pub RerunsMeet : Type 0
-  RerunsMeet =
-      IsLawful K app
-      → (limits : Limits) (props : K.Props) (inputs : List (Input K)) (m v : Machine K) (s : ℕ)
-      → Reruns app limits props inputs m s v
-      → is_shown m.state s ≡ true
-      → MeetsDown app m.state v.state (length m.state.scopes) s
+  RerunsMeet = OfReruns (λ w v s. is_shown w s ≡ true → MeetsDown app w v (length w.scopes) s)
