@@ -1,5 +1,5 @@
 -- Hooks of a body: what stands at the index of the next one, and what a refused one leaves.
-use Rattle.std.specs.Prelude.{◌≡◌, ℕ, ◌+◌, Bool, true, false, ◌&&◌, Option, Some, None, option_map, Result, Ok, Err}
+use Rattle.std.specs.Prelude.{◌≡◌, ◌⊎◌, ℕ, ◌+◌, Bool, true, false, ◌&&◌, Option, Some, None, option_map, Result, Ok, Err}
 use Rattle.rt_model.specs.Lists.{nth}
 use Rattle.rt_model.specs.OneLog.{types}
 use Rattle.rt_model.specs.Program as program
@@ -62,3 +62,17 @@ module _ {P C Q V H T E L : Type 0} where
   HookRefused asked before after OutOfMemory = after ≡ refused before OutOfMemory
   HookRefused asked before after (IdsExhausted what) = ⊥
   HookRefused asked before after (HookChanged scope index kept named) = MetOther asked before after scope index kept named
+
+  -- a hook of another kind stands at an index
+  pub record OtherStands (asked at : ℕ) (c : Call P C Q V H T E L) (scope : ScopeId) (index kept named : ℕ) : Type 0 where
+    pub scope_is : scope ≡ c.world.scope
+    pub index_is : index ≡ at
+    pub kept_is : option_map kind_of (nth (given_of c.world).hooks at) ≡ Some kept
+    pub asked_is : named ≡ asked
+
+  -- why a value, or the clean-up after it, was refused
+  abbrev pub PairRefused : ℕ → Call P C Q V H T E L → CxFault → Type 0
+  PairRefused asked c OutOfMemory = Unit {0}
+  PairRefused asked c (IdsExhausted what) = ⊥
+  PairRefused asked c (HookChanged scope index kept named) =
+      OtherStands asked c.index c scope index kept named ⊎ OtherStands clean_up_kind (c.index + 1) c scope index kept named

@@ -48,7 +48,7 @@ pub struct Scope<P: Parts> {
 
 impl<P: Parts> Rest<P> {
     /// What is kept of a scope at its making, not yet run.
-    pub fn new(
+    pub(crate) fn new(
         alloc: Global,
         component: VComponent<P>,
         height: u64,

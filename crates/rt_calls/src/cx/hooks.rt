@@ -5,7 +5,7 @@ ghost use Rattle.rt_model.specs.Program.{kind_of, hooked, hook_value, hook_stand
 ghost use Rattle.rt_model.specs.World as model;
 ghost use Rattle.rt_model.specs.World.{clean_up_kind, before_render_kind, after_render_kind};
 ghost use Rattle.rt_calls.specs.Calls.{hook_of, given_of, world_of, call_of};
-ghost use Rattle.rt_calls.specs.Hooks.{is_changed, kept, held_or, standing, standing_after, both_stand, HookRefused};
+ghost use Rattle.rt_calls.specs.Hooks.{is_changed, kept, held_or, standing, standing_after, both_stand, HookRefused, PairRefused};
 ghost use Rattle.rt_calls.specs.Steps.{first_refusal, WantedMemory};
 
 use crate::command::Command;
@@ -137,6 +137,7 @@ impl<'a, P: Parts> Cx<'a, P, InBody> {
         ensures changed { is_changed result ≡ true → both_stand kind self.old ≡ false }
         ensures err { IfErr result (λ fault.
             self.new.fault ≡ first_refusal self.old.fault fault) }
+        ensures why { IfErr result (PairRefused kind self.old) }
         ensures world { self.new.world ≡ self.old.world }
     {
         let value = self.use_hook(alloc, kind, initial)?;
