@@ -1,12 +1,12 @@
 -- A task's state is taken out, to be polled.
 use Rattle.std.proofs.Common.{◌≡◌, ℕ, Bool, true, false, List, [], ◌∷◌, refl, ap, sym, ◌∙◌}
 use Rattle.std.specs.declared.snapshot.Snapshot.{Snapshot}
-use Rattle.std.specs.Prelude.{nat_eq, Option, Some, None, IfSome, option_map, if◌then◌else◌}
+use Rattle.std.specs.Prelude.{nat_eq, Option, Some, None, IfSome, IfNone, option_map, if◌then◌else◌}
 use Rattle.rt_model.specs.Lists.{at, put, or_else}
 use Rattle.rt_model.specs.OneLog.{types}
 use Rattle.rt_model.specs.State as model
 use Rattle.rt_calls.specs.Kept.{each}
-use Rattle.rt_scopes.specs.Mirror.{Unkept, task_of, state_of}
+use Rattle.rt_scopes.specs.Mirror.{Unkept, task_of, state_held, state_of}
 use Rattle.rt_scopes.specs.declared.state.TaskRow.{TaskRow}
 use Rattle.rt_scopes.specs.declared.state.State.{State}
 use Rattle.rt_scopes.proofs.Each.{found-each, put-each}
@@ -16,6 +16,11 @@ use Rattle.rt_scopes.proofs.CellsKept.{same-number}
 pub if_some : {A : Type 0} {F : A → Type 0} (o : Option A) → ((a : A) → o ≡ Some a → F a) → IfSome o F
 if_some None f = tt
 if_some (Some a) f = f a refl
+
+-- a fact where nothing is there
+pub if_none : {A F : Type 0} (o : Option A) → (o ≡ None → F) → IfNone o F
+if_none None f = f refl
+if_none (Some a) f = tt
 
 some_own : {A : Type 0} (a b : A) → Some a ≡ Some b → a ≡ b
 some_own {A = A} a b is = ap (λ (o : Option A). elim o as (λ _. A) [ None ↦ a | Some x ↦ x ]) is
@@ -51,3 +56,7 @@ module _ {P C Q V H T E L : Type 0} where
   taken_own g d t former taken there is =
       ap (option_map (λ (x : model.TaskRow (types C Q V H T E L)). x.state)) (found-each task_of d.tasks t (Some former) there)
       ∙ ap (λ (o : Option T). Some (or_else (former.was).value o)) is
+
+  -- a row whose state was taken out holds none
+  pub none_held : (d : State P C Q V H T E L) (t : ℕ) (former : TaskRow P C Q V H T E L) → Some former ≡ at d.tasks t → former.state ≡ None → state_held (at d.tasks t) ≡ None
+  none_held d t former there is = sym (ap state_held there) ∙ is

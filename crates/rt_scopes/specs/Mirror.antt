@@ -55,6 +55,11 @@ module _ {P C Q V H T E L : Type 0} where
     kind = task_kind_of x.kind;
   }
 
+  -- the state that a task's row holds, unless it was taken out
+  abbrev pub state_held : Option (TaskRow P C Q V H T E L) → Option T
+  state_held None = None
+  state_held (Some x) = x.state
+
   -- the scopes
   abbrev pub scopes_of : List (ℕ × Scope P C Q V H T E L) → List (ℕ × state.Scope (types C Q V H T E L))
   scopes_of scopes = each scope_of scopes

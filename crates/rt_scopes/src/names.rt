@@ -1,6 +1,6 @@
 //! Plain names: what is posted, what is owed, why a change ends early.
 
-use rt_calls::{Counter, CxFault};
+use rt_calls::Counter;
 use rt_values::OutOfMemory;
 
 /// What is posted: a mark of a scope, a wake of a task.
@@ -66,26 +66,5 @@ impl From<OutOfMemory> for Stop {
 
     fn from(_refused: OutOfMemory) -> Stop {
         Stop::OutOfMemory
-    }
-}
-
-impl Stop {
-    /// What a refusal of a call leads to.
-    pub fn of_call(fault: CxFault) -> Stop {
-        match fault {
-            CxFault::OutOfMemory => Stop::OutOfMemory,
-            CxFault::IdsExhausted { what } => Stop::Fault(Fault::IdsExhausted { what }),
-            CxFault::HookChanged {
-                scope,
-                index,
-                kept,
-                asked,
-            } => Stop::Fault(Fault::HookChanged {
-                scope: scope.0,
-                index,
-                kept,
-                asked,
-            }),
-        }
     }
 }

@@ -1,5 +1,5 @@
 //! Tasks: spawned, paused, ended.
-ghost use Rattle.std.specs.Prelude.{◌≡◌, ◌<◌, ◌&&◌, not, ◌++◌, ◌∷◌, [], ℕ, nat_eq, length, get_or, slice_set, OnOk, IfOk, IfSome, IfNone, Some, option_map, map, true, false, if◌then◌else◌};
+ghost use Rattle.std.specs.Prelude.{◌≡◌, ◌<◌, ◌&&◌, not, ◌++◌, ◌∷◌, [], ℕ, nat_eq, length, get_or, slice_set, OnOk, IfOk, IfSome, IfNone, Some, None, option_map, map, true, false, if◌then◌else◌};
 ghost use Rattle.std.specs.List.{list_any};
 ghost use Rattle.std.specs.Fn.{FnOnceReturnsAtMut};
 ghost use Rattle.rt_model.specs.Lists.{at};
@@ -9,7 +9,7 @@ ghost use Rattle.rt_calls.specs.Kept.{scope_of};
 ghost use Rattle.rt_scopes.specs.Holders.{others, let_go};
 ghost use Rattle.rt_model.specs.Removal.{end_all, tasks_in};
 ghost use Rattle.rt_scopes.specs.Names.{posted_of, task_kind_of};
-ghost use Rattle.rt_scopes.specs.Mirror.{TaskChange, change_task, scopes_of, state_of};
+ghost use Rattle.rt_scopes.specs.Mirror.{TaskChange, change_task, scopes_of, state_held, state_of};
 
 use crate::names::{Posted, TaskKind};
 use crate::numbers::{drop_number, drop_posted};
@@ -192,6 +192,7 @@ impl<P: Parts> State<P> {
         ensures left { (g : _) → state_of g self.new ≡ state_of g self.old }
         ensures own { IfSome result (λ taken. (g : _) →
             option_map (λ x. x.state) (at (state_of g self.old).tasks task) ≡ Some taken) }
+        ensures none { IfNone result (state_held (at self.old.tasks task) ≡ None) }
     {
         let Some(row) = self.tasks.get(task) else {
             return None;

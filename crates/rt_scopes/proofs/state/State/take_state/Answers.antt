@@ -1,5 +1,5 @@
 use Rattle.std.proofs.Common.{◌≡◌, ◌∙◌, sym}
-use Rattle.rt_scopes.proofs.Polls.{if_some, taken_out, taken_own}
+use Rattle.rt_scopes.proofs.Polls.{if_none, if_some, none_held, taken_out, taken_own}
 use Rattle.rt_scopes.proofs.state.State.take_state.Goals as goal
 
 pub returns-in-Some-replace-clause-left : goal.returns-in-Some-replace-clause-left
@@ -9,6 +9,13 @@ returns-in-Some-replace-clause-left g c = λ kept.
 pub returns-in-Some-replace-clause-own : goal.returns-in-Some-replace-clause-own
 returns-in-Some-replace-clause-own g c =
     if_some c.in-Some-replace.former.state (λ taken is kept. taken_own kept c.args.self.now c.args.task c.in-Some-replace.former taken c.in-Some-replace.ensures.former is)
+
+pub returns-in-Some-replace-clause-none : goal.returns-in-Some-replace-clause-none
+returns-in-Some-replace-clause-none g c =
+    if_none c.in-Some-replace.former.state (λ is. none_held c.args.self.now c.args.task c.in-Some-replace.former c.in-Some-replace.ensures.former is)
+
+pub returns-in-None-clause-none : goal.returns-in-None-clause-none
+returns-in-None-clause-none g c = absurd (cc (c.in-Some.ensures.value ∙ sym c.in-None.ensures.former))
 
 pub returns-in-None-clause-left : goal.returns-in-None-clause-left
 returns-in-None-clause-left g c = absurd (cc (c.in-Some.ensures.value ∙ sym c.in-None.ensures.former))
