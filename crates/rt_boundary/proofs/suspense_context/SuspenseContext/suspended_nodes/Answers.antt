@@ -1,0 +1,12 @@
+-- The hidden output of the row that was found.
+use Rattle.std.proofs.Common.{Some, None, ap, sym, ◌∙◌}
+use Rattle.rt_calls.specs.Kept.{scope_of}
+use Rattle.rt_scopes.proofs.Each.{found-each}
+use Rattle.rt_boundary.specs.Seen.{hidden_in}
+use Rattle.rt_boundary.proofs.suspense_context.SuspenseContext.suspended_nodes.Goals as goal
+
+pub returns-in-Some : goal.returns-in-Some
+returns-in-Some g c = record { hidden = λ kept. c.hidden_output.ensures ∙ ap hidden_in (sym (found-each scope_of (c.args.scopes.now.rows).table c.args.self.now.scope.0 (Some c.in-Some.found.now) c.in-Some.ensures)) }
+
+pub returns-in-None : goal.returns-in-None
+returns-in-None g c = record { hidden = λ kept. ap hidden_in (sym (found-each scope_of (c.args.scopes.now.rows).table c.args.self.now.scope.0 None c.in-None.ensures)) }
