@@ -16,8 +16,8 @@ pub struct ErrorContext {
 }
 
 impl ErrorContext {
-    /// The nearest error boundary from a scope upwards, itself included. None where there is none, as
-    /// of a scope that isn't live.
+    /// The nearest error boundary from a scope upwards, itself included. None where there is none,
+    /// as of a scope that isn't live.
     pub fn of<P: Parts>(scopes: &State<P>, scope: ScopeId) -> Option<ErrorContext>
         ensures nearest { (g : _) → option_map (λ context. context.scope.0) result
             ≡ error_context (state_of g scopes.now) scope.0 }

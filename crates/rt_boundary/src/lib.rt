@@ -1,4 +1,5 @@
-//! Boundaries: what is seen of them from outside, and the runs of suspense boundaries, step by step.
+//! Boundaries: what is seen of them from outside, and the runs of suspense boundaries, step by
+//! step.
 #![tactic(auto)]
 
 mod built_in;

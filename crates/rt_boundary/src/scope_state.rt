@@ -50,11 +50,12 @@ impl<'a, P: Parts> ScopeState<'a, P> {
         self.scope.rest.height
     }
 
-    /// The output that it keeps, of a suspense boundary that of the side that shows. None where there
-    /// is none yet.
+    /// The output that it keeps, of a suspense boundary that of the side that shows. None where
+    /// there is none yet.
     #[tactic(auto, using(crate::proofs::Seen::seen))]
     pub fn try_root_node(&self) -> Option<&'a VNode<P>>
-        ensures output { option_map tree_of (option_copied result) ≡ shown_output (scope_seen self.now) }
+        ensures output { option_map tree_of (option_copied result)
+            ≡ shown_output (scope_seen self.now) }
     {
         let scope = self.scope;
         match scope.rest.shows {

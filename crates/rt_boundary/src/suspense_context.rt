@@ -51,7 +51,8 @@ impl SuspenseContext {
         }
     }
 
-    /// Whether a suspended render passes over what is below the boundary. False where it was removed.
+    /// Whether a suspended render passes over what is below the boundary. False where it was
+    /// removed.
     pub fn frozen<P: Parts>(&self, scopes: &State<P>) -> bool
         ensures frozen { (g : _) →
             result ≡ frozen_in (at (state_of g scopes.now).scopes self.now.scope.0) }
@@ -73,8 +74,8 @@ impl SuspenseContext {
         }
     }
 
-    /// Whether the children are hidden: the fallback shows in their place. False where the boundary was
-    /// removed.
+    /// Whether the children are hidden: the fallback shows in their place. False where the boundary
+    /// was removed.
     pub fn is_suspended<P: Parts>(&self, scopes: &State<P>) -> bool
         ensures hidden { (g : _) → result
             ≡ shows_side (at (state_of g scopes.now).scopes self.now.scope.0) FallbackSide }
