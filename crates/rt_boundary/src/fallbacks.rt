@@ -30,7 +30,7 @@ pub(crate) fn call_fallback<A: App>(
     ensures called { Comes (λ w. run.call_body (A.meaning runtime.old.app) w boundary
         (component_of component.now) (λ v answer. model.fallback_answered
         (A.meaning runtime.old.app) v boundary (component_of component.now) answer))
-        runtime.old.state runtime.new.state work_of result }
+        runtime.old runtime.new work_of result }
     ensures app { runtime.new.app ≡ runtime.old.app }
 {
     let answer = runtime.call_body(boundary, component)?;
@@ -46,7 +46,7 @@ fn answer_fallback<A: App>(
 ) -> Result<List<Item<A>>, Stop>
     ensures answered { Comes (λ w. model.fallback_answered (A.meaning runtime.old.app) w boundary
         (component_of component.now) (element_of answer))
-        runtime.old.state runtime.new.state work_of result }
+        runtime.old runtime.new work_of result }
     ensures app { runtime.new.app ≡ runtime.old.app }
 {
     let counts = counts_render(component, &answer);
@@ -61,7 +61,7 @@ fn count_and_hook<A: App>(runtime: &mut Runtime<A>, boundary: u64, counts: bool)
     ensures counted { Comes (λ w. onward
         (counted_render (A.meaning runtime.old.app) w boundary counts)
         (λ v. after_hooks (A.meaning runtime.old.app) v boundary))
-        runtime.old.state runtime.new.state no_work result }
+        runtime.old runtime.new no_work result }
     ensures app { runtime.new.app ≡ runtime.old.app }
 {
     count(runtime, boundary, counts)?;
@@ -71,7 +71,7 @@ fn count_and_hook<A: App>(runtime: &mut Runtime<A>, boundary: u64, counts: bool)
 /// The render count rises where this says so.
 fn count<A: App>(runtime: &mut Runtime<A>, boundary: u64, counts: bool) -> Result<(), Stop>
     ensures counted { Comes (λ w. counted_render (A.meaning runtime.old.app) w boundary counts)
-        runtime.old.state runtime.new.state no_work result }
+        runtime.old runtime.new no_work result }
     ensures app { runtime.new.app ≡ runtime.old.app }
 {
     if counts {
@@ -89,7 +89,7 @@ fn patch_fallback<A: App>(
 ) -> Result<List<Item<A>>, Stop>
     ensures patched { Comes (λ w. start_agenda (A.meaning runtime.old.app) w boundary
         FallbackSide (tree_or_placeholder (element_of answer)))
-        runtime.old.state runtime.new.state work_of result }
+        runtime.old runtime.new work_of result }
     ensures app { runtime.new.app ≡ runtime.old.app }
 {
     let tree = placeholder_or(runtime.alloc, answer)?;

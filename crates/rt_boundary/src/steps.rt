@@ -24,7 +24,7 @@ pub fn boundary_step<A: App>(
 ) -> Result<List<Item<A>>, Stop>
     ensures done { Comes (λ w.
         model.boundary_step (A.meaning runtime.old.app) w boundary (row_step_of step))
-        runtime.old.state runtime.new.state work_of result }
+        runtime.old runtime.new work_of result }
     ensures app { runtime.new.app ≡ runtime.old.app }
 {
     match step {
@@ -42,7 +42,7 @@ pub fn boundary_step<A: App>(
 fn patch_children<A: App>(runtime: &mut Runtime<A>, boundary: u64) -> Result<List<Item<A>>, Stop>
     ensures done { Comes (λ w.
         model.boundary_step (A.meaning runtime.old.app) w boundary steps.PatchChildren)
-        runtime.old.state runtime.new.state work_of result }
+        runtime.old runtime.new work_of result }
     ensures app { runtime.new.app ≡ runtime.old.app }
 {
     let Some(found) = runtime.state.scope(boundary) else {
@@ -56,7 +56,7 @@ fn patch_children<A: App>(runtime: &mut Runtime<A>, boundary: u64) -> Result<Lis
 fn made_children<A: App>(runtime: &mut Runtime<A>, boundary: u64) -> Result<List<Item<A>>, Stop>
     ensures done { Comes (λ w.
         model.boundary_step (A.meaning runtime.old.app) w boundary steps.MadeChildren)
-        runtime.old.state runtime.new.state work_of result }
+        runtime.old runtime.new work_of result }
     ensures app { runtime.new.app ≡ runtime.old.app }
 {
     let Some(found) = runtime.state.scope(boundary) else {
@@ -70,7 +70,7 @@ fn made_children<A: App>(runtime: &mut Runtime<A>, boundary: u64) -> Result<List
 fn run_fallback<A: App>(runtime: &mut Runtime<A>, boundary: u64) -> Result<List<Item<A>>, Stop>
     ensures done { Comes (λ w.
         model.boundary_step (A.meaning runtime.old.app) w boundary steps.RunFallback)
-        runtime.old.state runtime.new.state work_of result }
+        runtime.old runtime.new work_of result }
     ensures app { runtime.new.app ≡ runtime.old.app }
 {
     let Some(found) = runtime.state.scope(boundary) else {
@@ -84,7 +84,7 @@ fn run_fallback<A: App>(runtime: &mut Runtime<A>, boundary: u64) -> Result<List<
 fn show_fallback<A: App>(runtime: &mut Runtime<A>, boundary: u64) -> Result<List<Item<A>>, Stop>
     ensures done { Comes (λ w.
         model.boundary_step (A.meaning runtime.old.app) w boundary steps.ShowFallback)
-        runtime.old.state runtime.new.state work_of result }
+        runtime.old runtime.new work_of result }
     ensures app { runtime.new.app ≡ runtime.old.app }
 {
     if !runtime.state.is_live(boundary) {
@@ -98,7 +98,7 @@ fn show_fallback<A: App>(runtime: &mut Runtime<A>, boundary: u64) -> Result<List
 fn show_children<A: App>(runtime: &mut Runtime<A>, boundary: u64) -> Result<List<Item<A>>, Stop>
     ensures done { Comes (λ w.
         model.boundary_step (A.meaning runtime.old.app) w boundary steps.ShowChildren)
-        runtime.old.state runtime.new.state work_of result }
+        runtime.old runtime.new work_of result }
     ensures app { runtime.new.app ≡ runtime.old.app }
 {
     if !runtime.state.is_live(boundary) {
@@ -112,7 +112,7 @@ fn show_children<A: App>(runtime: &mut Runtime<A>, boundary: u64) -> Result<List
 fn leave_fallback<A: App>(runtime: &mut Runtime<A>, boundary: u64) -> Result<List<Item<A>>, Stop>
     ensures done { Comes (λ w.
         model.boundary_step (A.meaning runtime.old.app) w boundary steps.DropFallback)
-        runtime.old.state runtime.new.state work_of result }
+        runtime.old runtime.new work_of result }
     ensures app { runtime.new.app ≡ runtime.old.app }
 {
     if !runtime.state.is_live(boundary) {
@@ -128,7 +128,7 @@ fn leave_fallback<A: App>(runtime: &mut Runtime<A>, boundary: u64) -> Result<Lis
 fn resolve<A: App>(runtime: &mut Runtime<A>, boundary: u64) -> Result<List<Item<A>>, Stop>
     ensures done { Comes (λ w.
         model.boundary_step (A.meaning runtime.old.app) w boundary steps.Resolve)
-        runtime.old.state runtime.new.state work_of result }
+        runtime.old runtime.new work_of result }
     ensures app { runtime.new.app ≡ runtime.old.app }
 {
     if !runtime.state.is_live(boundary) {

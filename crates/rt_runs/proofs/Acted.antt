@@ -1,6 +1,6 @@
 -- An effect, by what its call means.
-use Rattle.std.proofs.Common.{◌≡◌, ℕ, ◌+◌, Bool, List, [], ◌∷◌, ◌++◌, map, Some, None, true, false, refl, ap, sym, ◌∙◌}
-use Rattle.std.specs.Prelude.{nat_eq, if◌then◌else◌}
+use Rattle.std.proofs.Common.{◌≡◌, ℕ, ◌+◌, ◌-◌, ◌^◌, Bool, List, [], ◌∷◌, ◌++◌, map, Some, None, true, false, refl, ap, sym, ◌∙◌}
+use Rattle.std.specs.Prelude.{nat_eq, min, if◌then◌else◌}
 use Rattle.rt_calls.specs.declared.rows.Hook.{Hook}
 use Rattle.rt_calls.specs.declared.rows.Hook.TheVariants as kinds
 use Rattle.rt_model.specs.OneLog.{types}
@@ -26,8 +26,10 @@ use Rattle.rt_calls.specs.declared.faults.CxFault.{CxFault}
 use Rattle.rt_calls.specs.declared.faults.CxFault.TheVariants as refusals
 use Rattle.rt_scopes.specs.declared.names.Stop.{Stop}
 use Rattle.rt_scopes.specs.declared.state.State as code
-use Rattle.rt_scopes.specs.Mirror.{Unkept, state_of}
+use Rattle.rt_scopes.specs.Mirror.{Unkept, counts, state_of}
+use Rattle.rt_runs.specs.Counts.{Counts, CountsCut}
 use Rattle.rt_runs.specs.Outcomes.{CutBy, stop_of}
+use Rattle.rt_runs.proofs.Counted.{counted_once, counts_cut}
 use Rattle.rt_runs.proofs.Onward.{refused}
 use Rattle.rt_runs.specs.Hooks.{effects_in, in_turn, one_called}
 
@@ -119,7 +121,8 @@ module _ {P C Q V H T E L : Type 0} (app : Application (types C Q V H T E L)) wh
 module _ {P C Q V H T E L : Type 0} where
   -- an effect whose call met no refusal, by what the code kept of it
   pub acted_ok : (app : Application (types C Q V H T E L)) (d mid v : code.State P C Q V H T E L) (cx : Call P C Q V H T E L) (seen : CallWorld P C Q V H T E L)
-      (m : left.Meaning P C Q V H T E L (Unit {0})) (s : ℕ) (e : E) (rendering : Bool) (given : List (Command P C Q V H T E L)) (next : Firsts) (kept : Unkept (types C Q V H T E L))
+      (m : left.Meaning P C Q V H T E L (Unit {0})) (s : ℕ) (e : E) (rendering : Bool) (given : List (Command P C Q V H T E L)) (next : Firsts) (old new : ℕ) (kept : Unkept (types C Q V H T E L))
+      → new ≡ min (old + 1) (2 ^ 64 - 1)
       → cx ≡ begun false seen
       → calls.world_of seen ≡ world_of (state_of kept d) s None rendering
       → (HadMemory m → meaning_of no_answer m ≡ app.effect e (calls.world_of cx.world))
@@ -128,9 +131,9 @@ module _ {P C Q V H T E L : Type 0} where
       → mid ≡ record d { next = next }
       → next ≡ m.next
       → ((g : Unkept (types C Q V H T E L)) → state_of g v ≡ commands app (state_of g mid) s None (map command_of given))
-      → (after : Unkept (types C Q V H T E L)) × (acted app (state_of kept d) s e rendering ≡ Done (state_of after v) [])
-  acted_ok app d mid v cx seen m s e rendering given next kept begins world means none commands_are moved numbers done =
-      let after : Unkept (types C Q V H T E L) = record kept { calls = kept.calls + 1 } in
+      → (after : Unkept (types C Q V H T E L)) × (acted app (state_of kept d) s e rendering ≡ Done (state_of after v) []) × (Counts old kept.calls → Counts new after.calls)
+  acted_ok app d mid v cx seen m s e rendering given next old new kept raised begins world means none commands_are moved numbers done =
+      let after : Unkept (types C Q V H T E L) = counts kept in
       let had : HadMemory m = λ (wanting : m.fault ≡ Some refusals.OutOfMemory). cc in
       let meant : meaning_of no_answer m ≡ app.effect e (world_of (state_of kept d) s None rendering) =
       means had ∙ ap (λ (c : Call P C Q V H T E L). app.effect e (calls.world_of c.world)) begins ∙ ap (λ w. app.effect e w) world in
@@ -140,11 +143,13 @@ module _ {P C Q V H T E L : Type 0} where
             (done after
             ∙ ap (λ (x : code.State P C Q V H T E L). commands app (state_of after x) s None (map command_of given)) (moved ∙ ap (λ (n : Firsts). record d { next = n }) numbers)
             ∙ ap (λ (cs : List (Command P C Q V H T E L)). commands app (state_of after (record d { next = m.next })) s None (map command_of cs)) commands_are),
+        counted_once old new kept.calls raised,
       )
 
   -- an effect whose call met a refusal
   pub acted_no : (app : Application (types C Q V H T E L)) (d mid : code.State P C Q V H T E L) (cx : Call P C Q V H T E L) (seen : CallWorld P C Q V H T E L)
-      (m : left.Meaning P C Q V H T E L (Unit {0})) (s : ℕ) (e : E) (rendering : Bool) (refusal : CxFault) (stop : Stop) (next : Firsts) (kept : Unkept (types C Q V H T E L))
+      (m : left.Meaning P C Q V H T E L (Unit {0})) (s : ℕ) (e : E) (rendering : Bool) (refusal : CxFault) (stop : Stop) (next : Firsts) (old new : ℕ) (kept : Unkept (types C Q V H T E L))
+      → new ≡ min (old + 1) (2 ^ 64 - 1)
       → cx ≡ begun false seen
       → calls.world_of seen ≡ world_of (state_of kept d) s None rendering
       → (HadMemory m → meaning_of no_answer m ≡ app.effect e (calls.world_of cx.world))
@@ -152,9 +157,9 @@ module _ {P C Q V H T E L : Type 0} where
       → mid ≡ record d { next = next }
       → next ≡ m.next
       → stop ≡ stop_of refusal
-      → (after : Unkept (types C Q V H T E L)) × CutBy (acted app (state_of kept d) s e rendering) (state_of after mid) stop
-  acted_no app d mid cx seen m s e rendering refusal stop next kept begins world means some moved numbers is =
-      let after : Unkept (types C Q V H T E L) = record kept { calls = kept.calls + 1 } in (
+      → (after : Unkept (types C Q V H T E L)) × CutBy (acted app (state_of kept d) s e rendering) (state_of after mid) stop × CountsCut old kept.calls new after.calls stop
+  acted_no app d mid cx seen m s e rendering refusal stop next old new kept raised begins world means some moved numbers is =
+      let after : Unkept (types C Q V H T E L) = counts kept in (
         after,
         refused _ _ refusal stop is
             (λ f not_memory fault.
@@ -163,4 +168,5 @@ module _ {P C Q V H T E L : Type 0} where
             means had ∙ ap (λ (c : Call P C Q V H T E L). app.effect e (calls.world_of c.world)) begins ∙ ap (λ w. app.effect e w) world in
             acted_cut app (state_of kept d) (state_of after mid) s e rendering (meaning_of no_answer m) f meant (ap refusal_of some ∙ fault)
             (ap (λ (x : code.State P C Q V H T E L). state_of after x) (moved ∙ ap (λ (n : Firsts). record d { next = n }) numbers))),
+        counts_cut old kept.calls new after.calls stop (counted_once old new kept.calls raised),
       )

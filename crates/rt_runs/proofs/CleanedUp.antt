@@ -1,7 +1,7 @@
 -- A clean-up, by what its call means.
 use Rattle.std.proofs.Math.ListN.{drop_of_length-le}
-use Rattle.std.proofs.Common.{◌≡◌, ◌<◌, ◌≤◌, ◌+◌, ℕ, length, get_or, drop, ◌++◌, List, [], ◌∷◌, map, Some, None, refl, ap, sym, ◌∙◌}
-use Rattle.std.specs.Prelude.{true, false}
+use Rattle.std.proofs.Common.{◌≡◌, ◌<◌, ◌≤◌, ◌+◌, ◌-◌, ◌^◌, ℕ, length, get_or, drop, ◌++◌, List, [], ◌∷◌, map, Some, None, refl, ap, sym, ◌∙◌}
+use Rattle.std.specs.Prelude.{true, false, min}
 use Rattle.rt_model.specs.Tree.{Types}
 use Rattle.rt_model.specs.OneLog.{types}
 use Rattle.rt_model.specs.World.{Application, CallFault, Command, Meaning, Nothing}
@@ -24,8 +24,10 @@ use Rattle.rt_calls.specs.declared.world.Firsts.{Firsts}
 use Rattle.rt_scopes.specs.declared.names.Stop.{Stop}
 use Rattle.rt_scopes.specs.declared.state.State as code
 use Rattle.rt_scopes.specs.Mirror.{Unkept, counts, state_of}
+use Rattle.rt_runs.specs.Counts.{Counts, CountsCut}
 use Rattle.rt_runs.specs.CleanUps.{one_cleaned}
 use Rattle.rt_runs.specs.Outcomes.{CutBy, stop_of}
+use Rattle.rt_runs.proofs.Counted.{counted_once, counts_cut}
 use Rattle.rt_runs.proofs.Onward.{refused}
 use Rattle.rt_runs.proofs.Turns.{next_drop}
 
@@ -61,7 +63,8 @@ module _ {K : Types} (app : Application K) where
 module _ {P C Q V H T E L : Type 0} where
   -- a clean-up whose call met no refusal, by what the code kept of it
   pub cleaned_ok : (app : Application (types C Q V H T E L)) (d mid : code.State P C Q V H T E L) (cx : Call P C Q V H T E L) (seen : CallWorld P C Q V H T E L)
-      (m : left.Meaning P C Q V H T E L (Unit {0})) (s : ℕ) (e : E) (before given after : List (code_command.Command P C Q V H T E L)) (next : Firsts) (kept : Unkept (types C Q V H T E L))
+      (m : left.Meaning P C Q V H T E L (Unit {0})) (s : ℕ) (e : E) (before given after : List (code_command.Command P C Q V H T E L)) (next : Firsts) (old new : ℕ) (kept : Unkept (types C Q V H T E L))
+      → new ≡ min (old + 1) (2 ^ 64 - 1)
       → cx ≡ begun false seen
       → calls.world_of seen ≡ world_of (state_of kept d) s None true
       → (HadMemory m → meaning_of no_answer m ≡ app.effect e (calls.world_of cx.world))
@@ -72,7 +75,8 @@ module _ {P C Q V H T E L : Type 0} where
       → after ≡ before ++ given
       → (h : Unkept (types C Q V H T E L))
       × ((go : model.State (types C Q V H T E L) → List (Command (types C Q V H T E L)) → Outcome (types C Q V H T E L)) → one_cleaned app s e go (state_of kept d) (map command_of before) ≡ go (state_of h mid) (map command_of after))
-  cleaned_ok app d mid cx seen m s e before given after next kept begins world means none commands_are moved numbers more =
+      × (Counts old kept.calls → Counts new h.calls)
+  cleaned_ok app d mid cx seen m s e before given after next old new kept raised begins world means none commands_are moved numbers more =
       let had : HadMemory m = λ (wanting : m.fault ≡ Some refusals.OutOfMemory). cc in
       let meant : meaning_of no_answer m ≡ app.effect e (world_of (state_of kept d) s None true) =
       means had ∙ ap (λ (c : Call P C Q V H T E L). app.effect e (calls.world_of c.world)) begins ∙ ap (λ w. app.effect e w) world in (
@@ -83,11 +87,13 @@ module _ {P C Q V H T E L : Type 0} where
             (ap refusal_of none)
             (ap (λ (x : code.State P C Q V H T E L). state_of (counts kept) x) (moved ∙ ap (λ (n : Firsts). record d { next = n }) numbers))
             (ap (λ (cs : List (code_command.Command P C Q V H T E L)). map command_of cs) more ∙ mapped_on command_of before given ∙ ap (λ (cs : List (code_command.Command P C Q V H T E L)). map command_of before ++ map command_of cs) commands_are),
+        counted_once old new kept.calls raised,
       )
 
   -- a clean-up whose call met a refusal
   pub cleaned_no : (app : Application (types C Q V H T E L)) (d mid : code.State P C Q V H T E L) (cx : Call P C Q V H T E L) (seen : CallWorld P C Q V H T E L)
-      (m : left.Meaning P C Q V H T E L (Unit {0})) (s : ℕ) (e : E) (before : List (code_command.Command P C Q V H T E L)) (refusal : CxFault) (stop : Stop) (next : Firsts) (kept : Unkept (types C Q V H T E L))
+      (m : left.Meaning P C Q V H T E L (Unit {0})) (s : ℕ) (e : E) (before : List (code_command.Command P C Q V H T E L)) (refusal : CxFault) (stop : Stop) (next : Firsts) (old new : ℕ) (kept : Unkept (types C Q V H T E L))
+      → new ≡ min (old + 1) (2 ^ 64 - 1)
       → cx ≡ begun false seen
       → calls.world_of seen ≡ world_of (state_of kept d) s None true
       → (HadMemory m → meaning_of no_answer m ≡ app.effect e (calls.world_of cx.world))
@@ -97,7 +103,8 @@ module _ {P C Q V H T E L : Type 0} where
       → stop ≡ stop_of refusal
       → (h : Unkept (types C Q V H T E L))
       × ((go : model.State (types C Q V H T E L) → List (Command (types C Q V H T E L)) → Outcome (types C Q V H T E L)) → CutBy (one_cleaned app s e go (state_of kept d) (map command_of before)) (state_of h mid) stop)
-  cleaned_no app d mid cx seen m s e before refusal stop next kept begins world means some moved numbers is = (
+      × CountsCut old kept.calls new h.calls stop
+  cleaned_no app d mid cx seen m s e before refusal stop next old new kept raised begins world means some moved numbers is = (
     counts kept,
     λ go.
         refused _ _ refusal stop is
@@ -108,4 +115,5 @@ module _ {P C Q V H T E L : Type 0} where
         ap (λ (x : Meaning (types C Q V H T E L) _). cleaned_by app go (called_once (state_of kept d)) (map command_of before) x) (sym meant)
         ∙ cleaned_cut app (called_once (state_of kept d)) (state_of (counts kept) mid) (map command_of before) (meaning_of no_answer m) f go (ap refusal_of some ∙ fault)
         (ap (λ (x : code.State P C Q V H T E L). state_of (counts kept) x) (moved ∙ ap (λ (n : Firsts). record d { next = n }) numbers))),
+    counts_cut old kept.calls new (kept.calls + 1) stop (counted_once old new kept.calls raised),
   )

@@ -1,3 +1,4 @@
+pub mod Counted
 pub mod Onward
 pub mod Turns
 pub mod Told

@@ -1,6 +1,6 @@
 -- A poll, by what its call means.
-use Rattle.std.proofs.Common.{◌≡◌, ℕ, true, false, List, [], ◌∷◌, map, Option, Some, None, refl, ap, sym, ◌∙◌}
-use Rattle.std.specs.Prelude.{is_some, option_map}
+use Rattle.std.proofs.Common.{◌≡◌, ℕ, ◌+◌, ◌-◌, ◌^◌, false, List, [], map, Option, Some, None, refl, ap, sym, ◌∙◌}
+use Rattle.std.specs.Prelude.{is_some, min, option_map}
 use Rattle.rt_model.specs.Tree.{Types}
 use Rattle.rt_model.specs.OneLog.{types}
 use Rattle.rt_model.specs.Lists.{at}
@@ -26,8 +26,10 @@ use Rattle.rt_calls.specs.declared.world.Firsts.{Firsts}
 use Rattle.rt_scopes.specs.declared.names.Stop.{Stop}
 use Rattle.rt_scopes.specs.declared.state.State as code
 use Rattle.rt_scopes.specs.Mirror.{Unkept, change_task, changed_task, counts, state_of}
+use Rattle.rt_runs.specs.Counts.{Counts, CountsCut}
 use Rattle.rt_runs.specs.Outcomes.{CutBy, stop_of}
 use Rattle.rt_runs.specs.Polls.{StandsWith}
+use Rattle.rt_runs.proofs.Counted.{counted_once, counts_cut}
 use Rattle.rt_runs.proofs.Onward.{refused}
 
 module _ {K : Types} where
@@ -100,7 +102,8 @@ module _ {K : Types} (app : Application K) where
 module _ {P C Q V H T E L : Type 0} where
   -- a poll whose call met no refusal, by what the code kept of it
   pub polled_ok : (app : Application (types C Q V H T E L)) (d mid new : code.State P C Q V H T E L) (cx : Call P C Q V H T E L) (seen : CallWorld P C Q V H T E L)
-      (m : left.Meaning P C Q V H T E L (code_step.TaskStep T)) (s t : ℕ) (a : T) (x : TaskRow (types C Q V H T E L)) (step : code_step.TaskStep T) (given : List (code_command.Command P C Q V H T E L)) (next : Firsts) (later : code.State P C Q V H T E L) (kept : Unkept (types C Q V H T E L))
+      (m : left.Meaning P C Q V H T E L (code_step.TaskStep T)) (s t : ℕ) (a : T) (x : TaskRow (types C Q V H T E L)) (step : code_step.TaskStep T) (given : List (code_command.Command P C Q V H T E L)) (next : Firsts) (later : code.State P C Q V H T E L) (was now : ℕ) (kept : Unkept (types C Q V H T E L))
+      → now ≡ min (was + 1) (2 ^ 64 - 1)
       → cx ≡ begun false seen
       → calls.world_of seen ≡ world_of (state_of kept d) s (Some t) false
       → (HadMemory m → meaning_of step_of m ≡ app.poll a (calls.world_of cx.world))
@@ -114,7 +117,8 @@ module _ {P C Q V H T E L : Type 0} where
       → ((g : Unkept (types C Q V H T E L)) (y : TaskRow (types C Q V H T E L)) (n : Meaning (types C Q V H T E L) (TaskStep (types C Q V H T E L))) → at (state_of g mid).tasks t ≡ Some y → y.scope ≡ s → n.commands ≡ map command_of given → state_of g later ≡ left_by_poll app (state_of g mid) t y n (step_of step))
       → ((g : Unkept (types C Q V H T E L)) → state_of g new ≡ look (state_of g later))
       → (h : Unkept (types C Q V H T E L)) × (polled_by app (called_once (state_of kept d)) t x (app.poll a (world_of (state_of kept d) s (Some t) false)) ≡ Done (state_of h new) [])
-  polled_ok app d mid new cx seen m s t a x step given next later kept begins world means none answer commands_are moved numbers found own left looked =
+      × (Counts was kept.calls → Counts now h.calls)
+  polled_ok app d mid new cx seen m s t a x step given next later was now kept raised begins world means none answer commands_are moved numbers found own left looked =
       let had : HadMemory m = λ (wanting : m.fault ≡ Some refusals.OutOfMemory). cc in
       let M : Meaning (types C Q V H T E L) (TaskStep (types C Q V H T E L)) = app.poll a (world_of (state_of kept d) s (Some t) false) in
       let meant : meaning_of step_of m ≡ app.poll a (world_of (state_of kept d) s (Some t) false) =
@@ -131,11 +135,13 @@ module _ {P C Q V H T E L : Type 0} where
             ∙ ap (λ (z : Meaning (types C Q V H T E L) (TaskStep (types C Q V H T E L))). left_by_poll app (with_next (called_once (state_of kept d)) z.next) t x M (step_of step)) meant
             ∙ ap (λ z. left_by_poll app (with_next (called_once (state_of kept d)) M.next) t x M z) (ap step_of answer ∙ ap (λ (z : Meaning (types C Q V H T E L) (TaskStep (types C Q V H T E L))). z.answer) meant))
             (looked (counts kept)),
+        counted_once was now kept.calls raised,
       )
 
   -- a poll whose call met a refusal
   pub polled_no : (app : Application (types C Q V H T E L)) (d mid : code.State P C Q V H T E L) (cx : Call P C Q V H T E L) (seen : CallWorld P C Q V H T E L)
-      (m : left.Meaning P C Q V H T E L (code_step.TaskStep T)) (s t : ℕ) (a : T) (x : TaskRow (types C Q V H T E L)) (refusal : CxFault) (stop : Stop) (next : Firsts) (kept : Unkept (types C Q V H T E L))
+      (m : left.Meaning P C Q V H T E L (code_step.TaskStep T)) (s t : ℕ) (a : T) (x : TaskRow (types C Q V H T E L)) (refusal : CxFault) (stop : Stop) (next : Firsts) (was now : ℕ) (kept : Unkept (types C Q V H T E L))
+      → now ≡ min (was + 1) (2 ^ 64 - 1)
       → cx ≡ begun false seen
       → calls.world_of seen ≡ world_of (state_of kept d) s (Some t) false
       → (HadMemory m → meaning_of step_of m ≡ app.poll a (calls.world_of cx.world))
@@ -144,7 +150,8 @@ module _ {P C Q V H T E L : Type 0} where
       → next ≡ m.next
       → stop ≡ stop_of refusal
       → (h : Unkept (types C Q V H T E L)) × CutBy (polled_by app (called_once (state_of kept d)) t x (app.poll a (world_of (state_of kept d) s (Some t) false))) (state_of h mid) stop
-  polled_no app d mid cx seen m s t a x refusal stop next kept begins world means some moved numbers is = (
+      × CountsCut was kept.calls now h.calls stop
+  polled_no app d mid cx seen m s t a x refusal stop next was now kept raised begins world means some moved numbers is = (
     counts kept,
     refused _ _ refusal stop is
         (λ f not_memory fault.
@@ -155,4 +162,5 @@ module _ {P C Q V H T E L : Type 0} where
         (ap (λ (z : Meaning (types C Q V H T E L) (TaskStep (types C Q V H T E L))). z.fault) (sym meant) ∙ ap refusal_of some ∙ fault)
         (ap (λ (y : code.State P C Q V H T E L). state_of (counts kept) y) (moved ∙ ap (λ (n : Firsts). record d { next = n }) numbers)
         ∙ ap (λ (z : Meaning (types C Q V H T E L) (TaskStep (types C Q V H T E L))). with_next (called_once (state_of kept d)) z.next) meant)),
+    counts_cut was kept.calls now (kept.calls + 1) stop (counted_once was now kept.calls raised),
   )

@@ -1,6 +1,6 @@
 -- What a body's call left, taken on.
-use Rattle.std.proofs.Common.{◌≡◌, ℕ, ◌++◌, true, false, List, [], ◌∷◌, map, Option, Some, None, Result, Ok, Err, refl, ap, sym, subst, ◌∙◌}
-use Rattle.std.specs.Prelude.{◌≢◌, option_map}
+use Rattle.std.proofs.Common.{◌≡◌, ℕ, ◌++◌, ◌&&◌, true, false, List, [], ◌∷◌, map, Option, Some, None, Result, Ok, Err, refl, ap, sym, subst, ◌∙◌}
+use Rattle.std.specs.Prelude.{◌≢◌, is_some, option_map}
 use Rattle.rt_tracked.specs.declared.sources.Source.{Source}
 use Rattle.rt_parts.specs.declared.error.RenderError.{RenderError}
 use Rattle.rt_parts.specs.declared.error.RenderError.TheVariants as errors
@@ -35,17 +35,20 @@ use Rattle.rt_scopes.specs.declared.names.Stop.{Stop}
 use Rattle.rt_scopes.specs.declared.names.Stop.TheVariants as stops
 use Rattle.rt_scopes.specs.declared.state.State as code
 use Rattle.rt_scopes.specs.Mirror.{Unkept, counts, recalls, state_of}
-use Rattle.rt_runs.specs.Bodies.{Answered, Answers, Leaves, Settles, answer_in, error_kept, handled_by, meaning_left, plain_left}
+use Rattle.rt_runs.specs.Counts.{CountsOn, RaisesWhere, raised_where}
+use Rattle.rt_runs.specs.Bodies.{Answered, Leaves, Settles, answer_in, error_kept, handled_by, meaning_left, plain_left}
 use Rattle.rt_runs.specs.Outcomes.{stop_of}
+use Rattle.rt_runs.proofs.Counted.{counted_after}
 use Rattle.rt_runs.proofs.Onward.{refused}
 
 module _ {P C Q V H T E L : Type 0} (app : Application (types C Q V H T E L)) (d : code.State P C Q V H T E L) (s : ℕ) (parts : TurnParts P (Result (VNode P C Q V H T E L) RenderError) C Q V H T E L) where
-  -- what was taken on from each state of the model
+  -- what was taken on from each state of the model, with no call
   abbrev Taken : code.State P C Q V H T E L → Result (tree.Element (types C Q V H T E L)) Stop → Type 0
   Taken new result =
       (g : Unkept (types C Q V H T E L)) (world : model.World (types C Q V H T E L)) (aside : List model.Source)
       → (h : Unkept (types C Q V H T E L))
       × ((then_on : state.State (types C Q V H T E L) → tree.Element (types C Q V H T E L) → Outcome (types C Q V H T E L)) → Answered (answered_with app (state_of g d) s world then_on (meaning_left parts aside)) then_on (state_of h new) result)
+      × (h.calls ≡ g.calls)
 
   -- whether or not the application was called
   pub owned : (new : code.State P C Q V H T E L) (result : Result (tree.Element (types C Q V H T E L)) Stop) → Taken new result → Settles app d s parts new result
@@ -74,6 +77,7 @@ module _ {P C Q V H T E L : Type 0} (app : Application (types C Q V H T E L)) (d
         (λ f not_memory fault.
         let met : refusal_of parts.fault ≡ Some f = ap refusal_of some ∙ fault in
         rw met (ap (λ (x : code.State P C Q V H T E L). Cut (state_of g x) (run.fault_of f)) (sym moved))),
+    refl,
   )
 
   -- its tree failed the node test
@@ -88,6 +92,7 @@ module _ {P C Q V H T E L : Type 0} (app : Application (types C Q V H T E L)) (d
         let stands = kept_stands mid v g world aside moved reads in
         let met : refusal_of parts.fault ≡ None = ap refusal_of none in
         rw (met, bad) (ap (λ w. Cut w (BadNode s)) (sym stands)),
+    refl,
   )
 
   -- its commands were done
@@ -103,21 +108,28 @@ module _ {P C Q V H T E L : Type 0} (app : Application (types C Q V H T E L)) (d
         let stands = done (recalls g s (kept_as g world aside)) ∙ ap (λ w. commands app w s None (map command_of parts.commands)) (kept_stands mid v g world aside moved reads) in
         let met : refusal_of parts.fault ≡ None = ap refusal_of none in
         rw (met, good) (ap (λ w. then_on w (element_of parts.answer)) (sym stands)),
+    refl,
   )
 
-module _ {P C Q V H T E L : Type 0} where
+module _ {P C Q V H T E L : Type 0} (app : Application (types C Q V H T E L)) (d new : code.State P C Q V H T E L) (s : ℕ) (c : tree.VComponent (types C Q V H T E L)) where
+  -- a call of a body came to its answer, and to this count
+  abbrev AnswersTo : ℕ → ℕ → Result (Result (VNode P C Q V H T E L) RenderError) Stop → Unkept (types C Q V H T E L) → Type 0
+  AnswersTo old count result kept =
+      (h : Unkept (types C Q V H T E L))
+      × ((then_on : state.State (types C Q V H T E L) → tree.Element (types C Q V H T E L) → Outcome (types C Q V H T E L)) → Answered (call_body app (state_of kept d) s c then_on) then_on (state_of h new) (answer_in result))
+      × CountsOn old kept.calls count h.calls result
+
   -- a body was called, and what that left was taken on
-  pub answers_by : (app : Application (types C Q V H T E L)) (d new : code.State P C Q V H T E L) (s : ℕ) (c : tree.VComponent (types C Q V H T E L))
-      (parts : TurnParts P (Result (VNode P C Q V H T E L) RenderError) C Q V H T E L) (result : Result (Result (VNode P C Q V H T E L) RenderError) Stop)
+  pub answers_by : (old mid count : ℕ) (parts : TurnParts P (Result (VNode P C Q V H T E L) RenderError) C Q V H T E L) (result : Result (Result (VNode P C Q V H T E L) RenderError) Stop)
       → Leaves (body_of app c) d s parts
+      → RaisesWhere (is_own c) d s old mid
       → Settles app d s parts new (answer_in result)
+      → count ≡ mid
       → (parts.fault ≡ Some refusals.OutOfMemory → result ≡ Err stops.OutOfMemory)
-      → Answers (λ w then_on. call_body app w s c then_on) d new result
-  answers_by app d new s c parts result leaves settles memory kept = by_fault parts.fault refl
+      → (kept : Unkept (types C Q V H T E L)) → AnswersTo old count result kept
+  answers_by old mid count parts result leaves raises settles stays memory kept = by_fault parts.fault refl
     where
-      had_it : (parts.fault ≢ Some refusals.OutOfMemory)
-          → (h : Unkept (types C Q V H T E L))
-          × ((then_on : state.State (types C Q V H T E L) → tree.Element (types C Q V H T E L) → Outcome (types C Q V H T E L)) → Answered (call_body app (state_of kept d) s c then_on) then_on (state_of h new) (answer_in result))
+      had_it : (parts.fault ≢ Some refusals.OutOfMemory) → AnswersTo old count result kept
       had_it had =
           let world : model.World (types C Q V H T E L) = world_of (state_of kept d) s None true in
           let means = leaves had kept in
@@ -125,20 +137,21 @@ module _ {P C Q V H T E L : Type 0} where
             taken.0,
             λ then_on.
                 subst (λ (x : model.Meaning (types C Q V H T E L) (tree.Element (types C Q V H T E L))). Answered (answered_with app (called_where (is_own c world) (state_of kept d)) s world then_on x) then_on (state_of taken.0 new) (answer_in result)) means.1 (taken.1 then_on),
+            counted_after (is_own c world) old mid count (taken.0).calls kept result (raises kept) stays taken.2,
           )
 
-      by_fault : (f : Option CxFault) → parts.fault ≡ f
-          → (h : Unkept (types C Q V H T E L))
-          × ((then_on : state.State (types C Q V H T E L) → tree.Element (types C Q V H T E L) → Outcome (types C Q V H T E L)) → Answered (call_body app (state_of kept d) s c then_on) then_on (state_of h new) (answer_in result))
+      by_fault : (f : Option CxFault) → parts.fault ≡ f → AnswersTo old count result kept
       by_fault None e = had_it (λ wanting. cc)
       by_fault (Some refusals.OutOfMemory) e = (
         kept,
         λ then_on.
             subst (λ (r : Result (Result (VNode P C Q V H T E L) RenderError) Stop). Answered (call_body app (state_of kept d) s c then_on) then_on (state_of kept new) (answer_in r)) (sym (memory e)) tt,
+        subst (λ (r : Result (Result (VNode P C Q V H T E L) RenderError) Stop). CountsOn old kept.calls count kept.calls r) (sym (memory e)) tt,
       )
       by_fault (Some (refusals.IdsExhausted what)) e = had_it (λ wanting. cc)
       by_fault (Some (refusals.HookChanged scope index was asked)) e = had_it (λ wanting. cc)
 
+module _ {P C Q V H T E L : Type 0} where
   -- an answer at the mirror, its tree in one word or not
   sealed_answer : (answer : Result (VNode P C Q V H T E L) RenderError) → element_of answer ≡ mirror.element_of answer
   unfolding tree_of
@@ -176,6 +189,22 @@ module _ {P C Q V H T E L : Type 0} where
   error_seen None = refl
   error_seen (Some x) = refl
 
+module _ {K : tree.Types} where
+  -- a suspense boundary's fallback is the application's own where it is a component
+  pub own_fallback : (children : tree.Element K) (fallback : Option (K.Component × K.Props)) (w : model.World K)
+      → is_some fallback ≡ is_own (tree.SuspenseBoundary children fallback) w
+  own_fallback children None w = refl
+  own_fallback children (Some f) w = refl
+
+  -- an error boundary's body is the application's own where it has a handler and keeps an error
+  own_handler : {X : Type 0} (children : tree.Element K) (handler : Option (K.Component × K.Props)) (w : model.World K) (f : X → tree.CapturedError) (o : Option X)
+      → option_map f o ≡ w.values.error w.given.scope
+      → is_some o && is_some handler ≡ is_own (tree.ErrorBoundary children handler) w
+  own_handler children None w f None same = refl
+  own_handler children None w f (Some x) same = refl
+  own_handler children (Some h) w f None same = ap is_some same
+  own_handler children (Some h) w f (Some x) same = ap is_some same
+
 module _ {K : tree.Types} (app : Application K) where
   -- an error boundary's body reads the error that it keeps
   caught_as : (children : tree.Element K) (handler : Option (K.Component × K.Props)) (o : Option tree.CapturedError) (w : model.World K)
@@ -185,6 +214,21 @@ module _ {K : tree.Types} (app : Application K) where
   caught_as children (Some h) (Some e) w = refl
 
 module _ {P C Q V H T E L : Type 0} where
+  -- the world has the error that a boundary keeps
+  error_in : (d : code.State P C Q V H T E L) (s : ℕ) (kept : Unkept (types C Q V H T E L))
+      → option_map error_of (error_kept (at (d.rows).table s)) ≡ (world_of (state_of kept d) s None true).values.error s
+  error_in d s kept =
+      sym (ap (λ (x : Option (state.Scope (types C Q V H T E L))). elim x [ None ↦ None | Some y ↦ y.error ]) (at-each scope_of (d.rows).table s) ∙ error_seen (at (d.rows).table s))
+
+  -- an error boundary's handler is called where it has one and keeps an error
+  pub raises_handler : (d : code.State P C Q V H T E L) (s old new : ℕ) (children : tree.Element (types C Q V H T E L)) (handler : Option (C × Q))
+      → new ≡ raised_where (is_some (error_kept (at (d.rows).table s)) && is_some handler) old
+      → RaisesWhere (is_own (tree.ErrorBoundary children handler)) d s old new
+  raises_handler d s old new children handler raised kept =
+      raised
+      ∙ ap (λ own. raised_where own old)
+      (own_handler children handler (world_of (state_of kept d) s None true) error_of (error_kept (at (d.rows).table s)) (error_in d s kept))
+
   -- that read is put after the others
   pub leaves_caught : (app : Application (types C Q V H T E L)) (d : code.State P C Q V H T E L) (s : ℕ) (parts more : TurnParts P (Result (VNode P C Q V H T E L) RenderError) C Q V H T E L)
       (source : Source) (children : tree.Element (types C Q V H T E L)) (handler : Option (C × Q))
@@ -203,5 +247,5 @@ module _ {P C Q V H T E L : Type 0} where
             ∙ ap (λ (m : model.Meaning (types C Q V H T E L) (tree.Element (types C Q V H T E L))). also_read (model.Error s) m) means.1
             ∙ caught_as app children handler o world
             ∙ ap (λ (e : Option tree.CapturedError). caught app children handler world e)
-            (sym (ap (λ (x : Option (state.Scope (types C Q V H T E L))). elim x [ None ↦ None | Some y ↦ y.error ]) (at-each scope_of (d.rows).table s) ∙ error_seen (at (d.rows).table s))),
+            (error_in d s kept),
       )

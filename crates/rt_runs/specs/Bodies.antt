@@ -22,6 +22,8 @@ use Rattle.rt_calls.specs.declared.world.Firsts.{Firsts}
 use Rattle.rt_scopes.specs.declared.names.Stop.{Stop}
 use Rattle.rt_scopes.specs.declared.state.State.{State}
 use Rattle.rt_scopes.specs.Mirror.{Unkept, state_of}
+use Rattle.rt_runs.specs.declared.runtime.Runtime.{Runtime}
+use Rattle.rt_runs.specs.Counts.{CountsOn, counts_where}
 use Rattle.rt_runs.specs.Outcomes.{CutBy}
 
 module _ {K : Types} where
@@ -44,13 +46,14 @@ module _ {P C Q V H T E L : Type 0} where
   -- a call of a body came to its answer, whatever follows
   abbrev pub Answers : (state.State (types C Q V H T E L)
       → (state.State (types C Q V H T E L) → tree.Element (types C Q V H T E L) → Outcome (types C Q V H T E L))
-      → Outcome (types C Q V H T E L)) → State P C Q V H T E L → State P C Q V H T E L
+      → Outcome (types C Q V H T E L)) → Runtime P C Q V H T E L → Runtime P C Q V H T E L
       → Result (Result (VNode P C Q V H T E L) RenderError) Stop → Type 0
   Answers call old new result =
       (g : Unkept (types C Q V H T E L))
       → (h : Unkept (types C Q V H T E L))
       × ((then_on : state.State (types C Q V H T E L) → tree.Element (types C Q V H T E L) → Outcome (types C Q V H T E L))
-      → Answered (call (state_of g old) then_on) then_on (state_of h new) (answer_in result))
+      → Answered (call (state_of g old.state) then_on) then_on (state_of h new.state) (answer_in result))
+      × CountsOn old.calls g.calls new.calls h.calls result
 
   -- what a call left means this, with what it read aside
   abbrev pub meaning_left : TurnParts P (Result (VNode P C Q V H T E L) RenderError) C Q V H T E L → List model.Source
@@ -80,7 +83,7 @@ module _ {P C Q V H T E L : Type 0} where
   settled_result answer (Ok u) = Ok (element_of answer)
   settled_result answer (Err stop) = Err stop
 
-  -- what a call left was taken on, whatever its world and whatever follows
+  -- what a call left was taken on, whatever its world and whatever follows, and no other call was made
   abbrev pub Settles : Application (types C Q V H T E L) → State P C Q V H T E L → ℕ
       → TurnParts P (Result (VNode P C Q V H T E L) RenderError) C Q V H T E L → State P C Q V H T E L
       → Result (tree.Element (types C Q V H T E L)) Stop → Type 0
@@ -90,6 +93,7 @@ module _ {P C Q V H T E L : Type 0} where
       × ((then_on : state.State (types C Q V H T E L) → tree.Element (types C Q V H T E L) → Outcome (types C Q V H T E L))
       → Answered (answered_with app (called_where own (state_of g old)) scope world then_on (meaning_left parts aside)) then_on
       (state_of h new) result)
+      × (h.calls ≡ (counts_where own g).calls)
 
   -- the error that an error boundary keeps, where it is live
   abbrev pub error_kept : Option (Scope P C Q V H T E L) → Option CapturedError

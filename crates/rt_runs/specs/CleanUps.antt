@@ -10,8 +10,9 @@ use Rattle.rt_model.specs.Removal.{cleaned_by}
 use Rattle.rt_calls.specs.Calls.{command_of}
 use Rattle.rt_calls.specs.declared.command.Command.{Command as CodeCommand}
 use Rattle.rt_scopes.specs.declared.names.Stop.{Stop}
-use Rattle.rt_scopes.specs.declared.state.State.{State}
 use Rattle.rt_scopes.specs.Mirror.{Unkept, state_of}
+use Rattle.rt_runs.specs.declared.runtime.Runtime.{Runtime}
+use Rattle.rt_runs.specs.Counts.{CountsOn}
 use Rattle.rt_runs.specs.Outcomes.{CutBy}
 
 module _ {K : Types} (app : Application K) where
@@ -29,10 +30,11 @@ module _ {K : Types} where
 module _ {P C Q V H T E L : Type 0} where
   -- a step that leaves commands that wait came to what follows it, whatever that is
   abbrev pub ComesWaiting : ((model.State (types C Q V H T E L) → List (Command (types C Q V H T E L)) → Outcome (types C Q V H T E L))
-      → model.State (types C Q V H T E L) → List (Command (types C Q V H T E L)) → Outcome (types C Q V H T E L)) → State P C Q V H T E L
-      → List (CodeCommand P C Q V H T E L) → State P C Q V H T E L → List (CodeCommand P C Q V H T E L) → Result (Unit {0}) Stop → Type 0
+      → model.State (types C Q V H T E L) → List (Command (types C Q V H T E L)) → Outcome (types C Q V H T E L)) → Runtime P C Q V H T E L
+      → List (CodeCommand P C Q V H T E L) → Runtime P C Q V H T E L → List (CodeCommand P C Q V H T E L) → Result (Unit {0}) Stop → Type 0
   ComesWaiting step old before new after result =
       (g : Unkept (types C Q V H T E L))
       → (h : Unkept (types C Q V H T E L))
       × ((go : model.State (types C Q V H T E L) → List (Command (types C Q V H T E L)) → Outcome (types C Q V H T E L))
-      → CameWaiting (step go (state_of g old) (map command_of before)) go (state_of h new) (map command_of after) result)
+      → CameWaiting (step go (state_of g old.state) (map command_of before)) go (state_of h new.state) (map command_of after) result)
+      × CountsOn old.calls g.calls new.calls h.calls result

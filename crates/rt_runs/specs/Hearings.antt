@@ -12,9 +12,10 @@ use Rattle.rt_model.specs.Run.{called_once, with_next}
 use Rattle.rt_calls.specs.Answers.{event_of}
 use Rattle.rt_scopes.specs.declared.names.Stop.{Stop}
 use Rattle.rt_scopes.specs.declared.names.Stop.TheVariants as stops
-use Rattle.rt_scopes.specs.declared.state.State.{State}
 use Rattle.rt_scopes.specs.Mirror.{Unkept, state_of}
 use Rattle.rt_scopes.specs.Names.{fault_of}
+use Rattle.rt_runs.specs.declared.runtime.Runtime.{Runtime}
+use Rattle.rt_runs.specs.Counts.{CountsOn}
 
 module _ {K : Types} (app : Application K) where
   -- what a listener of a scope makes of an event in the present world
@@ -42,10 +43,11 @@ module _ {K : Types} (app : Application K) where
 
 module _ {P C Q V H T E L : Type 0} where
   -- a listener of a scope was called with an event
-  abbrev pub Hears : Application (types C Q V H T E L) → State P C Q V H T E L → ℕ → H → CodeEvent L → State P C Q V H T E L → CodeEvent L
-      → Result (Unit {0}) Stop → Type 0
+  abbrev pub Hears : Application (types C Q V H T E L) → Runtime P C Q V H T E L → ℕ → H → CodeEvent L → Runtime P C Q V H T E L
+      → CodeEvent L → Result (Unit {0}) Stop → Type 0
   Hears app old scope handler before new after result =
       (g : Unkept (types C Q V H T E L))
       → (h : Unkept (types C Q V H T E L))
-      × HearsAs app (state_of g old) scope (hearing app (state_of g old) scope handler (event_of before)) (state_of h new) (event_of after)
-      result
+      × HearsAs app (state_of g old.state) scope (hearing app (state_of g old.state) scope handler (event_of before)) (state_of h new.state)
+      (event_of after) result
+      × CountsOn old.calls g.calls new.calls h.calls result

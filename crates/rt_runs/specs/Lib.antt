@@ -1,3 +1,4 @@
+pub mod Counts
 pub mod Outcomes
 pub mod Hooks
 pub mod Bodies

@@ -12,6 +12,8 @@ use Rattle.rt_scopes.specs.Names.{fault_of}
 use Rattle.rt_calls.specs.declared.faults.CxFault.{CxFault}
 use Rattle.rt_calls.specs.declared.faults.CxFault.TheVariants as refusals
 use Rattle.rt_scopes.specs.declared.names.Fault.TheVariants as faults
+use Rattle.rt_runs.specs.declared.runtime.Runtime.{Runtime}
+use Rattle.rt_runs.specs.Counts.{CountsOn}
 
 -- what a refusal of a call leads to
 abbrev pub stop_of : CxFault → Stop
@@ -36,7 +38,16 @@ module _ {K : Types} where
 
 module _ {P C Q V H T E L : Type 0} where
   -- from the old state, with whatever it has that code doesn't keep, a change came to the new one
-  abbrev pub Comes : {A : Type 0} → (model.State (types C Q V H T E L) → Outcome (types C Q V H T E L)) → State P C Q V H T E L
+  abbrev pub StateComes : {A : Type 0} → (model.State (types C Q V H T E L) → Outcome (types C Q V H T E L)) → State P C Q V H T E L
       → State P C Q V H T E L → (A → List (Item (types C Q V H T E L))) → Result A Stop → Type 0
-  Comes change old new work result = (g : Unkept (types C Q V H T E L)) → (h : Unkept (types C Q V H T E L))
-      × Came (change (state_of g old)) (state_of h new) work result
+  StateComes change old new work result =
+      (g : Unkept (types C Q V H T E L)) → (h : Unkept (types C Q V H T E L)) × Came (change (state_of g old)) (state_of h new) work result
+
+  -- so it did, and the count of the application's calls goes on standing for those that the definitions count
+  abbrev pub Comes : {A : Type 0} → (model.State (types C Q V H T E L) → Outcome (types C Q V H T E L)) → Runtime P C Q V H T E L
+      → Runtime P C Q V H T E L → (A → List (Item (types C Q V H T E L))) → Result A Stop → Type 0
+  Comes change old new work result =
+      (g : Unkept (types C Q V H T E L))
+      → (h : Unkept (types C Q V H T E L))
+      × Came (change (state_of g old.state)) (state_of h new.state) work result
+      × CountsOn old.calls g.calls new.calls h.calls result

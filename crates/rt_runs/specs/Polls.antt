@@ -11,6 +11,8 @@ use Rattle.rt_model.specs.Replay.{left_by_poll, polled_by}
 use Rattle.rt_scopes.specs.declared.names.Stop.{Stop}
 use Rattle.rt_scopes.specs.declared.state.State.{State}
 use Rattle.rt_scopes.specs.Mirror.{Unkept, state_of}
+use Rattle.rt_runs.specs.declared.runtime.Runtime.{Runtime}
+use Rattle.rt_runs.specs.Counts.{CountsOn}
 use Rattle.rt_runs.specs.Outcomes.{Came, no_work}
 
 module _ {K : Types} where
@@ -22,13 +24,15 @@ module _ {K : Types} where
 
 module _ {P C Q V H T E L : Type 0} (app : Application (types C Q V H T E L)) where
   -- the poll of a task of a scope, which stands with this state
-  abbrev pub Polls : State P C Q V H T E L → ℕ → ℕ → T → State P C Q V H T E L → Result (Unit {0}) Stop → Type 0
+  abbrev pub Polls : Runtime P C Q V H T E L → ℕ → ℕ → T → Runtime P C Q V H T E L → Result (Unit {0}) Stop → Type 0
   Polls old scope task state new result =
       (g : Unkept (types C Q V H T E L)) (x : model.TaskRow (types C Q V H T E L))
-      → StandsWith (state_of g old) scope task state x
+      → StandsWith (state_of g old.state) scope task state x
       → (h : Unkept (types C Q V H T E L))
-      × Came (polled_by app (called_once (state_of g old)) task x (app.poll state (world_of (state_of g old) scope (Some task) false)))
-      (state_of h new) no_work result
+      × Came
+      (polled_by app (called_once (state_of g old.state)) task x (app.poll state (world_of (state_of g old.state) scope (Some task) false)))
+      (state_of h new.state) no_work result
+      × CountsOn old.calls g.calls new.calls h.calls result
 
   -- a poll of a task of a scope left another state or the end of the task, and its commands are done
   abbrev pub IsLeft : State P C Q V H T E L → ℕ → ℕ → TaskStep (types C Q V H T E L) → List (Command (types C Q V H T E L))

@@ -31,7 +31,7 @@ impl<A: App> Runtime<A> {
     pub fn after_answer(&mut self, scope: u64, answer: Element<A>) -> Result<List<Item<A>>, Stop>
         ensures followed { Comes (λ w.
             run.after_answer (A.meaning self.old.app) w scope (element_of answer))
-            self.old.state self.new.state work_of result }
+            self.old self.new work_of result }
         ensures app { self.new.app ≡ self.old.app }
     {
         match self.settle_and_hook(scope, &answer) {
@@ -45,7 +45,7 @@ impl<A: App> Runtime<A> {
         ensures settled { Comes (λ w. model.onward
             (settled_answer (A.meaning self.old.app) w scope (element_of answer.now))
             (λ v. after_hooks (A.meaning self.old.app) v scope))
-            self.old.state self.new.state no_work result }
+            self.old self.new no_work result }
         ensures app { self.new.app ≡ self.old.app }
     {
         self.settle(scope, answer)?;
@@ -56,7 +56,7 @@ impl<A: App> Runtime<A> {
     fn settle(&mut self, scope: u64, answer: &Element<A>) -> Result<(), Stop>
         ensures settled { Comes (λ w.
             settled_answer (A.meaning self.old.app) w scope (element_of answer.now))
-            self.old.state self.new.state no_work result }
+            self.old self.new no_work result }
         ensures app { self.new.app ≡ self.old.app }
     {
         match answer {
@@ -69,7 +69,7 @@ impl<A: App> Runtime<A> {
     fn settle_refusal(&mut self, scope: u64, refusal: &RenderError) -> Result<(), Stop>
         ensures settled { Comes (λ w.
             settled_answer (A.meaning self.old.app) w scope (unanswered refusal.now))
-            self.old.state self.new.state no_work result }
+            self.old self.new no_work result }
         ensures app { self.new.app ≡ self.old.app }
     {
         match refusal {
@@ -84,7 +84,7 @@ impl<A: App> Runtime<A> {
     /// An error is thrown from a scope.
     fn throw(&mut self, scope: u64, error: &CapturedError) -> Result<(), Stop>
         ensures thrown { Comes (λ w. model.Done (throw_error w scope (error_of error.now)) [])
-            self.old.state self.new.state no_work result }
+            self.old self.new no_work result }
         ensures app { self.new.app ≡ self.old.app }
     {
         let error = error.copy(self.alloc)?;
@@ -96,7 +96,7 @@ impl<A: App> Runtime<A> {
     fn new_output(&mut self, scope: u64, answer: Element<A>) -> Result<List<Item<A>>, Stop>
         ensures output { Comes (λ w.
             run.new_output (A.meaning self.old.app) w scope (element_of answer))
-            self.old.state self.new.state work_of result }
+            self.old self.new work_of result }
         ensures app { self.new.app ≡ self.old.app }
     {
         match answer {
@@ -109,7 +109,7 @@ impl<A: App> Runtime<A> {
     fn no_output(&mut self, scope: u64) -> Result<List<Item<A>>, Stop>
         ensures output { Comes (λ w. (if has_output w scope then model.Done w []
             else start_agenda (A.meaning self.old.app) w scope MainSide placeholder_tree))
-            self.old.state self.new.state work_of result }
+            self.old self.new work_of result }
         ensures app { self.new.app ≡ self.old.app }
     {
         if self.state.has_output(scope) {
@@ -128,7 +128,7 @@ impl<A: App> Runtime<A> {
     ) -> Result<List<Item<A>>, Stop>
         ensures patched { Comes (λ w.
             start_agenda (A.meaning self.old.app) w scope (side_name_of side) (tree_of tree))
-            self.old.state self.new.state work_of result }
+            self.old self.new work_of result }
         ensures app { self.new.app ≡ self.old.app }
     {
         Ok(start_agenda(self.alloc, &mut self.state, scope, side, tree)?)

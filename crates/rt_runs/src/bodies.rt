@@ -1,5 +1,5 @@
 //! The call of a component's body.
-ghost use Rattle.std.specs.Prelude.{◌≡◌, ◌++◌, ◌∷◌, [], ℕ, Err, Some, IfOk, option_map};
+ghost use Rattle.std.specs.Prelude.{◌≡◌, ◌++◌, ◌∷◌, ◌&&◌, [], ℕ, true, is_some, Err, Some, IfOk, OnOk, option_map};
 ghost use Rattle.std.specs.Option.{option_copied};
 ghost use Rattle.rt_model.specs.Lists.{at};
 ghost use Rattle.rt_model.specs.Run as run;
@@ -9,6 +9,7 @@ ghost use Rattle.rt_mirror.specs.Mirror as mirror;
 ghost use Rattle.rt_mirror.specs.Mirror.{fallback_of, handler_of};
 ghost use Rattle.rt_calls.specs.declared.faults.CxFault.TheVariants as refusals;
 ghost use Rattle.rt_scopes.specs.declared.names.Stop.TheVariants as stops;
+ghost use Rattle.rt_runs.specs.Counts.{RaisesWhere, raised_where};
 ghost use Rattle.rt_runs.specs.Bodies.{Answers, Leaves, Settles, answer_in, error_kept, handled_by, plain_left, settled_result};
 
 use crate::runtime::{Left, Runtime};
@@ -48,7 +49,7 @@ impl<A: App> Runtime<A> {
         // Whatever follows the answer, it comes to that.
         ensures answered { Answers (λ w then_on.
             run.call_body (A.meaning self.old.app) w scope (component_of component.now) then_on)
-            self.old.state self.new.state result }
+            self.old self.new result }
         ensures app { self.new.app ≡ self.old.app }
     {
         let parts = self.body_of(scope, component)?;
@@ -65,6 +66,7 @@ impl<A: App> Runtime<A> {
             self.new.state (answer_in result) }
         ensures memory { parts.fault ≡ Some refusals.OutOfMemory
             → result ≡ Err stops.OutOfMemory }
+        ensures calls { self.new.calls ≡ self.old.calls }
         ensures app { self.new.app ≡ self.old.app }
     {
         let TurnParts {
@@ -104,6 +106,7 @@ impl<A: App> Runtime<A> {
             }) self.new.state (settled_result answer.now result) }
         ensures memory { left.fault ≡ Some refusals.OutOfMemory
             → result ≡ Err stops.OutOfMemory }
+        ensures calls { self.new.calls ≡ self.old.calls }
         ensures app { self.new.app ≡ self.old.app }
     {
         let asked = self.after_call(left)?;
@@ -124,6 +127,8 @@ impl<A: App> Runtime<A> {
         ensures means { IfOk result (λ parts. Leaves
             (run.body_of (A.meaning self.old.app) (component_of component.now))
             self.old.state scope parts) }
+        ensures counted { OnOk result (RaisesWhere (run.is_own (component_of component.now))
+            self.old.state scope self.old.calls self.new.calls) }
         ensures state { self.new.state ≡ self.old.state }
         ensures app { self.new.app ≡ self.old.app }
     {
@@ -148,6 +153,7 @@ impl<A: App> Runtime<A> {
         ensures means { IfOk result (λ parts. Leaves
             ((A.meaning self.old.app).body component.now props.now)
             self.old.state scope parts) }
+        ensures counted { self.new.calls ≡ raised_where true self.old.calls }
         ensures state { self.new.state ≡ self.old.state }
         ensures app { self.new.app ≡ self.old.app }
     {
@@ -202,6 +208,8 @@ impl<A: App> Runtime<A> {
             (run.body_of (A.meaning self.old.app)
             (model.SuspenseBoundary children (fallback_of fallback.now)))
             self.old.state scope parts) }
+        ensures counted { self.new.calls
+            ≡ raised_where (is_some (fallback_of fallback.now)) self.old.calls }
         ensures state { self.new.state ≡ self.old.state }
         ensures app { self.new.app ≡ self.old.app }
     {
@@ -225,6 +233,9 @@ impl<A: App> Runtime<A> {
             (run.body_of (A.meaning self.old.app)
             (model.ErrorBoundary (element_of children.now) (handler_of handler.now)))
             self.old.state scope parts) }
+        ensures counted { OnOk result (self.new.calls ≡ raised_where
+            (is_some (error_kept (at self.old.state.rows.table scope))
+            && is_some (handler_of handler.now)) self.old.calls) }
         ensures state { self.new.state ≡ self.old.state }
         ensures app { self.new.app ≡ self.old.app }
     {
@@ -245,6 +256,9 @@ impl<A: App> Runtime<A> {
             (handler_of handler.now)
             (option_map mirror.error_of (error_kept (at self.old.state.rows.table scope))))
             self.old.state scope parts) }
+        ensures counted { OnOk result (self.new.calls ≡ raised_where
+            (is_some (error_kept (at self.old.state.rows.table scope))
+            && is_some (handler_of handler.now)) self.old.calls) }
         ensures state { self.new.state ≡ self.old.state }
         ensures app { self.new.app ≡ self.old.app }
     {
@@ -267,6 +281,8 @@ impl<A: App> Runtime<A> {
             (handled_by (A.meaning self.old.app) children (handler_of handler.now)
             (Some (record { serial = serial; text = text })))
             self.old.state scope parts) }
+        ensures counted { self.new.calls
+            ≡ raised_where (is_some (handler_of handler.now)) self.old.calls }
         ensures state { self.new.state ≡ self.old.state }
         ensures app { self.new.app ≡ self.old.app }
     {

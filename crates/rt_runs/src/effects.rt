@@ -54,7 +54,7 @@ impl<A: App> Runtime<A> {
     /// Does an effect in a scope, and then what it asked for.
     pub fn act(&mut self, scope: u64, effect: &A::Effect, rendering: bool) -> Result<(), Stop>
         ensures acted { Comes (λ w. acted (A.meaning self.old.app) w scope effect.now rendering)
-            self.old.state self.new.state no_work result }
+            self.old self.new no_work result }
         ensures app { self.new.app ≡ self.old.app }
     {
         let world = self.state.world(None, rendering);
@@ -70,7 +70,7 @@ impl<A: App> Runtime<A> {
     fn act_all(&mut self, scope: u64, effects: &[A::Effect], rendering: bool) -> Result<(), Stop>
         ensures acted { Comes (λ w.
             in_turn (λ u e. acted (A.meaning self.old.app) u scope e rendering) w effects.now)
-            self.old.state self.new.state no_work result }
+            self.old self.new no_work result }
         ensures app { self.new.app ≡ self.old.app }
     {
         for effect in effects {
@@ -84,7 +84,7 @@ impl<A: App> Runtime<A> {
     pub fn call_hooks(&mut self, scope: u64, kind: u32) -> Result<(), Stop>
         ensures called { Comes (λ w.
             hooks_called (A.meaning self.old.app) kind w scope (hooks_of w scope))
-            self.old.state self.new.state no_work result }
+            self.old self.new no_work result }
         ensures app { self.new.app ≡ self.old.app }
     {
         let effects = effects_of_kind(self.alloc, self.state.hooks_of(scope), kind)?;
@@ -94,7 +94,7 @@ impl<A: App> Runtime<A> {
     /// Takes the effects that a scope has queued and does them in order. A look follows.
     pub fn run_effects(&mut self, scope: u64) -> Result<(), Stop>
         ensures run { Comes (λ w. effects_run (A.meaning self.old.app) w scope)
-            self.old.state self.new.state no_work result }
+            self.old self.new no_work result }
         ensures app { self.new.app ≡ self.old.app }
     {
         let effects = self.state.take_effects(self.alloc, scope)?;
@@ -107,7 +107,7 @@ impl<A: App> Runtime<A> {
     /// passed over.
     pub fn call_back(&mut self, callbacks: &[(u64, A::Effect)]) -> Result<(), Stop>
         ensures called { Comes (λ w. called_back (A.meaning self.old.app) w callbacks.now)
-            self.old.state self.new.state no_work result }
+            self.old self.new no_work result }
         ensures app { self.new.app ≡ self.old.app }
     {
         for callback in callbacks {
@@ -119,7 +119,7 @@ impl<A: App> Runtime<A> {
     /// Does a resolved callback in its scope, where that is live.
     fn call_one(&mut self, callback: &(u64, A::Effect)) -> Result<(), Stop>
         ensures called { Comes (λ w. one_called (A.meaning self.old.app) w callback.now)
-            self.old.state self.new.state no_work result }
+            self.old self.new no_work result }
         ensures app { self.new.app ≡ self.old.app }
     {
         if !self.state.is_live(callback.0) {

@@ -17,8 +17,8 @@ impl<A: App> Runtime<A> {
         handler: &A::Handler,
         event: &mut Event<A::Payload>,
     ) -> Result<(), Stop>
-        ensures heard { Hears (A.meaning self.old.app) self.old.state scope handler.now event.old
-            self.new.state event.new result }
+        ensures heard { Hears (A.meaning self.old.app) self.old scope handler.now event.old
+            self.new event.new result }
         ensures app { self.new.app ≡ self.old.app }
     {
         let world = self.state.world(None, false);

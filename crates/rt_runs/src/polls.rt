@@ -15,7 +15,7 @@ impl<A: App> Runtime<A> {
     /// Polls a task: its wakes are spent, and a task that has ended goes. A look follows.
     pub fn poll(&mut self, task: u64) -> Result<(), Stop>
         ensures polled { Comes (λ w. polled (A.meaning self.old.app) w task)
-            self.old.state self.new.state no_work result }
+            self.old self.new no_work result }
         ensures app { self.new.app ≡ self.old.app }
     {
         self.state.unqueue(task);
@@ -32,8 +32,8 @@ impl<A: App> Runtime<A> {
 
     /// Polls a task of a scope whose state was taken out. A look follows.
     fn poll_in(&mut self, scope: u64, task: u64, state: A::TaskState) -> Result<(), Stop>
-        ensures polled { Polls (A.meaning self.old.app) self.old.state scope task state
-            self.new.state result }
+        ensures polled { Polls (A.meaning self.old.app) self.old scope task state
+            self.new result }
         ensures app { self.new.app ≡ self.old.app }
     {
         let world = self.state.world(Some(Task(task)), false);
@@ -56,6 +56,7 @@ impl<A: App> Runtime<A> {
     ) -> Result<(), OutOfMemory>
         ensures left { OnOk result (IsLeft (A.meaning self.old.app) self.old.state scope task
             (step_of step) (map command_of commands) self.new.state) }
+        ensures calls { self.new.calls ≡ self.old.calls }
         ensures app { self.new.app ≡ self.old.app }
     {
         match step {

@@ -15,7 +15,7 @@ impl<A: App> Runtime<A> {
     /// clean-ups asked for is done.
     pub fn remove(&mut self, scope: u64) -> Result<(), Stop>
         ensures removed { Comes (λ w. removed (A.meaning self.old.app) w scope)
-            self.old.state self.new.state no_work result }
+            self.old self.new no_work result }
         ensures app { self.new.app ≡ self.old.app }
     {
         self.state.stopped(self.alloc, scope)?;
@@ -27,7 +27,7 @@ impl<A: App> Runtime<A> {
     /// for is done.
     fn clean(&mut self, scope: u64, effects: &[A::Effect]) -> Result<(), Stop>
         ensures cleaned { Comes (λ w. cleaned (A.meaning self.old.app) scope effects.now w [])
-            self.old.state self.new.state no_work result }
+            self.old self.new no_work result }
         ensures app { self.new.app ≡ self.old.app }
     {
         let mut waiting = List::new(self.alloc);
@@ -47,7 +47,7 @@ impl<A: App> Runtime<A> {
         waiting: &mut List<Command<A>>,
     ) -> Result<(), Stop>
         ensures called { ComesWaiting (one_cleaned (A.meaning self.old.app) scope effect.now)
-            self.old.state waiting.old self.new.state waiting.new result }
+            self.old waiting.old self.new waiting.new result }
         ensures app { self.new.app ≡ self.old.app }
     {
         let world = self.state.world(None, true);

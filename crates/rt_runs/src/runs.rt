@@ -83,7 +83,7 @@ impl<A: App> Runtime<A> {
     /// steps of a suspense boundary. The agenda that this leads to; none of a scope that is gone.
     pub fn run(&mut self, scope: u64) -> Result<List<Item<A>>, Stop>
         ensures run { Comes (λ w. run.run (A.meaning self.old.app) w scope)
-            self.old.state self.new.state work_of result }
+            self.old self.new work_of result }
         ensures app { self.new.app ≡ self.old.app }
     {
         let Some(found) = self.state.scope(scope) else {
@@ -104,7 +104,7 @@ impl<A: App> Runtime<A> {
     ) -> Result<List<Item<A>>, Stop>
         ensures run { Comes (λ w. run_by (A.meaning self.old.app) w scope
             (component_of component.now) (map row_step_of steps.now))
-            self.old.state self.new.state work_of result }
+            self.old self.new work_of result }
         ensures app { self.new.app ≡ self.old.app }
     {
         self.state.unmark(scope);
@@ -121,7 +121,7 @@ impl<A: App> Runtime<A> {
     ) -> Result<List<Item<A>>, Stop>
         ensures run { Comes (λ w. run_on (A.meaning self.old.app) w scope
             (component_of component.now) (map row_step_of steps.now))
-            self.old.state self.new.state work_of result }
+            self.old self.new work_of result }
         ensures app { self.new.app ≡ self.old.app }
     {
         if is_suspense_boundary(component) {
@@ -136,7 +136,7 @@ impl<A: App> Runtime<A> {
         ensures run { Comes (λ w. call_body (A.meaning self.old.app) w scope
             (component_of component.now)
             (λ v answer. run.after_answer (A.meaning self.old.app) v scope answer))
-            self.old.state self.new.state work_of result }
+            self.old self.new work_of result }
         ensures app { self.new.app ≡ self.old.app }
     {
         let answer = self.call_body(scope, component)?;
@@ -148,7 +148,7 @@ impl<A: App> Runtime<A> {
     fn run_boundary(&mut self, boundary: u64, steps: &[RowStep]) -> Result<List<Item<A>>, Stop>
         ensures run { Comes (λ w. boundary_run (A.meaning self.old.app) w boundary
             (map row_step_of steps.now))
-            self.old.state self.new.state work_of result }
+            self.old self.new work_of result }
         ensures app { self.new.app ≡ self.old.app }
     {
         if runs_fallback(steps) {
@@ -161,7 +161,7 @@ impl<A: App> Runtime<A> {
     fn hook_and_run(&mut self, boundary: u64, steps: &[RowStep]) -> Result<List<Item<A>>, Stop>
         ensures run { Comes (λ w. onward (after_hooks (A.meaning self.old.app) w boundary)
             (λ v. Done v (run.row_items boundary (map row_step_of steps.now))))
-            self.old.state self.new.state work_of result }
+            self.old self.new work_of result }
         ensures app { self.new.app ≡ self.old.app }
     {
         self.call_hooks(boundary, AFTER_RENDER)?;

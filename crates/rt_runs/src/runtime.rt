@@ -84,6 +84,7 @@ impl<A: App> Runtime<A> {
             state_of at_first runtime.state
             ≡ first_state (A.meaning app).root props (firsts_of firsts)) }
         ensures app { IfOk result (λ runtime. runtime.app ≡ app) }
+        ensures uncalled { IfOk result (λ runtime. runtime.calls ≡ 0) }
     {
         let root = app.root(alloc)?;
         let state = State::first(alloc, root, props, firsts)?;
@@ -98,6 +99,7 @@ impl<A: App> Runtime<A> {
     /// Takes on the numbers that a call left, and gives its commands where it met no refusal.
     pub(crate) fn after_call(&mut self, left: Left<A>) -> Result<List<Command<A>>, Stop>
         ensures next { self.new.state ≡ record self.old.state { next = left.next } }
+        ensures calls { self.new.calls ≡ self.old.calls }
         ensures app { self.new.app ≡ self.old.app }
         ensures ok { IfOk result (λ commands. (commands ≡ left.commands) × (left.fault ≡ None)) }
         ensures cut { IfErr result (λ stop.

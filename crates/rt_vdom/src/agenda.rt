@@ -8,7 +8,7 @@ ghost use Rattle.rt_model.specs.Run.{run};
 ghost use Rattle.rt_mirror.specs.Sealed.{component_of};
 ghost use Rattle.rt_places.specs.Places.{kind_of, place_of, side_name_of};
 ghost use Rattle.rt_reports.specs.Seen.{limits_of};
-ghost use Rattle.rt_runs.specs.Outcomes.{Comes};
+ghost use Rattle.rt_runs.specs.Outcomes.{StateComes};
 ghost use Rattle.rt_scopes.specs.Mirror.{state_of};
 ghost use Rattle.rt_turns.specs.Turn.{again, turn_of, entries_at};
 ghost use Rattle.rt_work.specs.Items.{item_of, work_of};
@@ -68,7 +68,7 @@ pub(crate) fn turn_at<A: App>(
     course: &mut Course,
     item: &Item<A>,
 ) -> Result<List<Item<A>>, Stop>
-    ensures turned { Comes (λ w. turn_of (A.meaning runtime.old.app) w (item_of item.now))
+    ensures turned { StateComes (λ w. turn_of (A.meaning runtime.old.app) w (item_of item.now))
         runtime.old.state runtime.new.state work_of result }
     ensures noted { (g : _) → NotedBy course.old.entries course.new.entries
         (entries_at (A.meaning runtime.old.app) (state_of g runtime.old.state) (item_of item.now))
@@ -107,7 +107,7 @@ fn draw<A: App>(
     place: &Place,
     kind: Kind,
 ) -> Result<List<Item<A>>, Stop>
-    ensures drawn { Comes (λ w.
+    ensures drawn { StateComes (λ w.
         replay.draw_number w scope (side_name_of side) (place_of place.now) (kind_of kind))
         runtime.old.state runtime.new.state work_of result }
     ensures app { runtime.new.app ≡ runtime.old.app }
@@ -126,7 +126,7 @@ fn feed<A: App>(
     place: &Place,
     component: &VComponent<A>,
 ) -> Result<List<Item<A>>, Stop>
-    ensures fed { Comes (λ w. replay.outcome_of (A.meaning runtime.old.app) w
+    ensures fed { StateComes (λ w. replay.outcome_of (A.meaning runtime.old.app) w
         (model.Feed scope (side_name_of side) (place_of place.now) (component_of component.now)))
         runtime.old.state runtime.new.state work_of result }
     ensures noted { (g : _) → NotedBy course.old.entries course.new.entries
@@ -148,7 +148,7 @@ fn hand<A: App>(
     child: u64,
     component: &VComponent<A>,
 ) -> Result<List<Item<A>>, Stop>
-    ensures handed { Comes (λ w.
+    ensures handed { StateComes (λ w.
         replay.handed (A.meaning runtime.old.app) w child (component_of component.now))
         runtime.old.state runtime.new.state work_of result }
     ensures noted { (g : _) → NotedBy course.old.entries course.new.entries
@@ -173,7 +173,7 @@ fn put<A: App>(
     child: u64,
     component: VComponent<A>,
 ) -> Result<List<Item<A>>, Stop>
-    ensures done { Comes (λ w. model.Done
+    ensures done { StateComes (λ w. model.Done
         (replay.with_props (A.meaning runtime.old.app) w child (component_of component)) [])
         runtime.old.state runtime.new.state work_of result }
     ensures app { runtime.new.app ≡ runtime.old.app }
@@ -188,7 +188,7 @@ fn put_and_run<A: App>(
     child: u64,
     component: VComponent<A>,
 ) -> Result<List<Item<A>>, Stop>
-    ensures done { Comes (λ w. run (A.meaning runtime.old.app)
+    ensures done { StateComes (λ w. run (A.meaning runtime.old.app)
         (replay.with_props (A.meaning runtime.old.app) w child (component_of component)) child)
         runtime.old.state runtime.new.state work_of result }
     ensures app { runtime.new.app ≡ runtime.old.app }
@@ -206,7 +206,7 @@ fn make<A: App>(
     place: &Place,
     component: &VComponent<A>,
 ) -> Result<List<Item<A>>, Stop>
-    ensures made { Comes (λ w. replay.made (A.meaning runtime.old.app) w scope
+    ensures made { StateComes (λ w. replay.made (A.meaning runtime.old.app) w scope
         (side_name_of side) (place_of place.now) (component_of component.now))
         runtime.old.state runtime.new.state work_of result }
     ensures noted { (g : _) → NotedBy course.old.entries course.new.entries
@@ -232,7 +232,7 @@ fn make_below<A: App>(
     component: VComponent<A>,
 ) -> Result<List<Item<A>>, Stop>
     ensures made { ((g : _) → model.is_live (state_of g runtime.old.state) scope ≡ true) →
-        Comes (λ w. replay.made (A.meaning runtime.old.app) w scope
+        StateComes (λ w. replay.made (A.meaning runtime.old.app) w scope
         (side_name_of side) (place_of place) (component_of component))
         runtime.old.state runtime.new.state work_of result }
     ensures app { runtime.new.app ≡ runtime.old.app }
@@ -256,7 +256,7 @@ fn take<A: App>(
     scope: u64,
     side: SideName,
 ) -> Result<List<Item<A>>, Stop>
-    ensures turned { Comes (λ w. turn_of (A.meaning runtime.old.app) w
+    ensures turned { StateComes (λ w. turn_of (A.meaning runtime.old.app) w
         (model.Drop child scope (side_name_of side)))
         runtime.old.state runtime.new.state work_of result }
     ensures noted { (g : _) → NotedBy course.old.entries course.new.entries

@@ -3,7 +3,7 @@ ghost use Rattle.std.specs.Prelude.{◌≡◌, ℕ, ◌+◌, false, Some, IfErr,
 ghost use Rattle.rt_model.specs.Headline.{is_opening};
 ghost use Rattle.rt_model.specs.Replay as replay;
 ghost use Rattle.rt_reports.specs.Seen.{entry_of, limits_of};
-ghost use Rattle.rt_runs.specs.Outcomes.{Comes};
+ghost use Rattle.rt_runs.specs.Outcomes.{StateComes};
 ghost use Rattle.rt_scopes.specs.Mirror.{scopes_of};
 ghost use Rattle.rt_scopes.specs.Names.{work_of as model_work};
 ghost use Rattle.rt_turns.specs.Turn.{entry_for, unit_of};
@@ -36,7 +36,7 @@ fn entry_for(work: Work) -> Entry
 
 /// What a unit does first. The work that it leads to.
 fn first_step<A: App>(runtime: &mut Runtime<A>, work: Work) -> Result<List<Item<A>>, Stop>
-    ensures done { Comes (λ w. unit_of (A.meaning runtime.old.app) w (model_work work))
+    ensures done { StateComes (λ w. unit_of (A.meaning runtime.old.app) w (model_work work))
         runtime.old.state runtime.new.state work_of result }
     ensures app { runtime.new.app ≡ runtime.old.app }
 {

@@ -7,6 +7,7 @@ use Rattle.rt_model.specs.Boundary.{counted_render, tree_or_placeholder}
 use Rattle.rt_mirror.specs.Sealed.{element_of}
 use Rattle.rt_work.specs.Items.{work_of}
 use Rattle.rt_scopes.specs.Mirror.{state_of}
+use Rattle.rt_runs.proofs.Counted.{counts_then}
 use Rattle.rt_runs.proofs.Onward.{came_as, came_on, cut_as, cut_on}
 use Rattle.rt_boundary.proofs.fallbacks.answer_fallback.Goals as goal
 
@@ -23,6 +24,7 @@ returns-in-Ok-clause-answered g c =
           (came_as _ _ _ _ _
           (ap (λ (a : g.row.A.Denot). start_agenda (g.A.App.meaning a) (state_of done.0 c.count_and_hook.new.runtime.state) c.args.boundary FallbackSide (tree_or_placeholder (element_of c.args.answer))) (sym c.in-Ok.ensures.app))
           came.1)),
+      counts_then _ _ _ _ _ _ _ done.2 came.2,
     )
 
 pub returns-in-Err-clause-answered : goal.returns-in-Err-clause-answered
@@ -34,4 +36,5 @@ returns-in-Err-clause-answered g c =
       cut_as _ _ _ _
           (ap (λ b. onward (onward (counted_render app (state_of kept c.args.runtime.now.state) c.args.boundary b) (λ v. after_hooks app v c.args.boundary)) (λ v. start_agenda app v c.args.boundary FallbackSide (tree_or_placeholder (element_of c.args.answer)))) (sym c.counts_render-counts.ensures))
           (cut_on _ (λ v. start_agenda app v c.args.boundary FallbackSide (tree_or_placeholder (element_of c.args.answer))) _ _ cut.1),
+      cut.2,
     )

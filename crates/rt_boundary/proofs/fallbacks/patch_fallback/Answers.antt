@@ -12,7 +12,8 @@ returns-clause-patched g c =
     let came = c.patch.ensures.patched kept in (
       came.0,
       came_as _ _ _ _ _ (ap (λ t. start_agenda (g.A.App.meaning c.args.runtime.now.app) (state_of kept c.args.runtime.now.state) c.args.boundary FallbackSide t) (sym c.in_ok-tree.ensures)) came.1,
+      came.2,
     )
 
 pub returns-in_err-tree-clause-patched : goal.returns-in_err-tree-clause-patched
-returns-in_err-tree-clause-patched g c = λ kept. (kept, search rules)
+returns-in_err-tree-clause-patched g c = λ kept. (kept, search rules, search rules)

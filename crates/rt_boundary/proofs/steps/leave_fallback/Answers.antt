@@ -14,6 +14,7 @@ returns-then-not-is_live-clause-done g c =
       kept,
       step_dead (g.A.App.meaning c.args.runtime.now.app) (state_of kept c.args.runtime.now.state) c.args.boundary DropFallback (sym (c.is_live.ensures kept) ∙ c.if-not-is_live.true)
           ∙ ap (λ work. Done (state_of kept c.args.runtime.now.state) (work_of work)) (sym c.new.ensures.empty),
+      λ was. was,
     )
 
 pub returns-clause-done : goal.returns-clause-done
@@ -24,10 +25,11 @@ returns-clause-done g c =
           ∙ ap (λ w. Done w (drop_items c.args.boundary FallbackSide (fallback_scopes_in (state_of kept c.args.runtime.now.state) c.args.boundary))) (sym (c.in_ok-children.ensures.dropped kept))
           ∙ ap (λ ts. Done (state_of kept c.drop_fallback.new.state) (drop_items c.args.boundary FallbackSide ts)) (sym (c.as_slice.ensures.items ∙ c.in_ok-children.ensures.scopes kept))
           ∙ ap (λ work. Done (state_of kept c.drop_fallback.new.state) work) (sym c.in_ok-items.ensures),
+      λ was. was,
     )
 
 pub returns-in_err-children-clause-done : goal.returns-in_err-children-clause-done
-returns-in_err-children-clause-done g c = λ kept. (kept, search rules)
+returns-in_err-children-clause-done g c = λ kept. (kept, search rules, search rules)
 
 pub returns-in_err-items-clause-done : goal.returns-in_err-items-clause-done
-returns-in_err-items-clause-done g c = λ kept. (kept, search rules)
+returns-in_err-items-clause-done g c = λ kept. (kept, search rules, search rules)

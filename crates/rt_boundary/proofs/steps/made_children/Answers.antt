@@ -18,6 +18,7 @@ returns-in_default-clause-done g c =
       step_gone (g.A.App.meaning c.args.runtime.now.app) (state_of kept c.args.runtime.now.state) c.args.boundary MadeChildren
           (found-each scope_of (c.args.runtime.now.state.rows).table c.args.boundary None c.in_default.ensures)
           ∙ ap (λ work. Done (state_of kept c.args.runtime.now.state) (work_of work)) (sym c.new.ensures.empty),
+      λ was. was,
     )
 
 pub returns-clause-done : goal.returns-clause-done
@@ -28,7 +29,8 @@ returns-clause-done g c =
           (found-each scope_of (c.args.runtime.now.state.rows).table c.args.boundary (Some c.in-Some.found.now) c.in-Some.ensures)
           ∙ ap (λ held. Done (state_of kept c.args.runtime.now.state) (made_items c.args.boundary held)) (sym c.is_held-held.ensures)
           ∙ ap (λ work. Done (state_of kept c.args.runtime.now.state) work) (sym c.in_ok-made_items.ensures),
+      λ was. was,
     )
 
 pub returns-in_err-made_items-clause-done : goal.returns-in_err-made_items-clause-done
-returns-in_err-made_items-clause-done g c = λ kept. (kept, search rules)
+returns-in_err-made_items-clause-done g c = λ kept. (kept, search rules, search rules)

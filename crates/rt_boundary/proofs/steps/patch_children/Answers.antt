@@ -19,6 +19,7 @@ returns-in_default-clause-done g c =
       step_gone (g.A.App.meaning c.args.runtime.now.app) (state_of kept c.args.runtime.now.state) c.args.boundary PatchChildren
           (found-each scope_of (c.args.runtime.now.state.rows).table c.args.boundary None c.in_default.ensures)
           ∙ ap (λ work. Done (state_of kept c.args.runtime.now.state) (work_of work)) (sym c.new.ensures.empty),
+      λ was. was,
     )
 
 pub returns-clause-done : goal.returns-clause-done
@@ -32,7 +33,8 @@ returns-clause-done g c =
           (step_found app w c.args.boundary (scope_of c.in-Some.found.now) PatchChildren (found-each scope_of (c.args.runtime.now.state.rows).table c.args.boundary (Some c.in-Some.found.now) c.in-Some.ensures)
           ∙ ap (λ t. start_agenda app w c.args.boundary ChildrenSide t) (sym c.in_ok-tree.ensures))
           came.1,
+      came.2,
     )
 
 pub returns-in_err-tree-clause-done : goal.returns-in_err-tree-clause-done
-returns-in_err-tree-clause-done g c = λ kept. (kept, search rules)
+returns-in_err-tree-clause-done g c = λ kept. (kept, search rules, search rules)

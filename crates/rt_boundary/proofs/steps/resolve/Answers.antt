@@ -16,6 +16,7 @@ returns-then-not-is_live-clause-done g c =
       kept,
       step_dead (g.A.App.meaning c.args.runtime.now.app) (state_of kept c.args.runtime.now.state) c.args.boundary Resolve (sym (c.is_live.ensures kept) ∙ c.if-not-is_live.true)
           ∙ ap (λ work. Done (state_of kept c.args.runtime.now.state) (work_of work)) (sym c.new.ensures.empty),
+      λ was. was,
     )
 
 pub returns-in_err-call_back-clause-done : goal.returns-in_err-call_back-clause-done
@@ -28,7 +29,7 @@ returns-in_err-call_back-clause-done g c =
     ∙ ap (λ w. called_back app w (callbacks_of (state_of kept c.args.runtime.now.state) c.args.boundary)) (sym (c.in_ok-callbacks.ensures.turned kept))
     ∙ ap (λ es. called_back app (state_of kept c.resolve.new.self) es) (sym (c.as_slice.ensures.items ∙ c.in_ok-callbacks.ensures.callbacks kept)) in
     let p = err_from_is_err_and c.from_residual-in_err-call_back.result c.from_residual-in_err-call_back.ensures.1 in
-    rw (p.1, p.2) (cut.0, cut_as _ _ _ _ whole cut.1)
+    rw (p.1, p.2) (cut.0, cut_as _ _ _ _ whole cut.1, cut.2)
 
 pub returns-clause-done : goal.returns-clause-done
 returns-clause-done g c =
@@ -39,7 +40,7 @@ returns-clause-done g c =
     step_resolves app (state_of kept c.args.runtime.now.state) c.args.boundary (sym (c.is_live.ensures kept) ∙ c.if-not-is_live.false)
     ∙ ap (λ w. called_back app w (callbacks_of (state_of kept c.args.runtime.now.state) c.args.boundary)) (sym (c.in_ok-callbacks.ensures.turned kept))
     ∙ ap (λ es. called_back app (state_of kept c.resolve.new.self) es) (sym (c.as_slice.ensures.items ∙ c.in_ok-callbacks.ensures.callbacks kept)) in
-    (done.0, whole ∙ done.1 ∙ ap (λ work. Done (state_of done.0 c.call_back.new.self.state) (work_of work)) (sym c.new-2.ensures.empty))
+    (done.0, whole ∙ done.1 ∙ ap (λ work. Done (state_of done.0 c.call_back.new.self.state) (work_of work)) (sym c.new-2.ensures.empty), done.2)
 
 pub returns-in_err-callbacks-clause-done : goal.returns-in_err-callbacks-clause-done
-returns-in_err-callbacks-clause-done g c = λ kept. (kept, search rules)
+returns-in_err-callbacks-clause-done g c = λ kept. (kept, search rules, search rules)

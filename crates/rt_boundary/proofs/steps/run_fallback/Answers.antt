@@ -21,6 +21,7 @@ returns-in_default-clause-done g c =
       step_gone (g.A.App.meaning c.args.runtime.now.app) (state_of kept c.args.runtime.now.state) c.args.boundary RunFallback
           (found-each scope_of (c.args.runtime.now.state.rows).table c.args.boundary None c.in_default.ensures)
           ∙ ap (λ work. Done (state_of kept c.args.runtime.now.state) (work_of work)) (sym c.new.ensures.empty),
+      λ was. was,
     )
 
 pub returns-clause-done : goal.returns-clause-done
@@ -34,7 +35,8 @@ returns-clause-done g c =
           (step_found app w c.args.boundary (scope_of c.in-Some.found.now) RunFallback (found-each scope_of (c.args.runtime.now.state.rows).table c.args.boundary (Some c.in-Some.found.now) c.in-Some.ensures)
           ∙ ap (λ k. call_body app w c.args.boundary (component_of k) (λ v answer. fallback_answered app v c.args.boundary (component_of k) answer)) (sym c.in_ok-component.ensures))
           came.1,
+      came.2,
     )
 
 pub returns-in_err-component-clause-done : goal.returns-in_err-component-clause-done
-returns-in_err-component-clause-done g c = λ kept. (kept, search rules)
+returns-in_err-component-clause-done g c = λ kept. (kept, search rules, search rules)

@@ -3,12 +3,13 @@ use Rattle.std.proofs.Common.{◌∙◌, refl, ap, sym}
 use Rattle.std.proofs.lemmas.Result.{err_from_is_err_and}
 use Rattle.rt_model.specs.Run.{acted}
 use Rattle.rt_scopes.specs.Mirror.{state_of}
+use Rattle.rt_runs.proofs.Counted.{cut_then}
 use Rattle.rt_runs.proofs.Onward.{cut_as}
 use Rattle.rt_runs.proofs.Turns.{next_done, next_cut, all_done}
 use Rattle.rt_runs.proofs.runtime.Runtime.act_all.Goals as goal
 
 pub loop-effect-init : goal.loop-effect-init
-loop-effect-init g c = record { so_far = λ kept. (kept, refl); app = refl }
+loop-effect-init g c = record { so_far = λ kept. (kept, refl, λ was. was); app = refl }
 
 pub loop-effect-preserved : goal.loop-effect-preserved
 loop-effect-preserved g c = record {
@@ -21,6 +22,7 @@ loop-effect-preserved g c = record {
         before.1
             ∙ next_done (λ w e. acted (g.A.App.meaning c.args.self.now.app) w c.args.scope e c.args.rendering) (state_of before.0 c.loop-effect.self.state)
             (state_of done.0 c.act.new.self.state) c.args.effects.now c.loop-effect.effect-index c.effect-item.result c.loop-effect-test.true c.effect-item.is (by ∙ done.1),
+        λ was. done.2 (before.2 was),
       );
   app = c.in_ok-act.ensures.app ∙ c.loop-effect.invariant.app;
 }
@@ -38,6 +40,7 @@ returns-in_err-act-clause-acted g c =
           (next_cut (λ w e. acted (g.A.App.meaning c.args.self.now.app) w c.args.scope e c.args.rendering) (state_of before.0 c.loop-effect.self.state)
           (state_of cut.0 c.act.new.self.state) c.args.effects.now c.loop-effect.effect-index c.effect-item.result c.in_err-act.field-0.0 c.loop-effect-test.true c.effect-item.is
           (cut_as _ _ (state_of cut.0 c.act.new.self.state) c.in_err-act.field-0.0 by cut.1)),
+      cut_then _ _ _ _ _ _ c.in_err-act.field-0.0 before.2 cut.2,
     )
 
 pub returns-clause-acted : goal.returns-clause-acted
@@ -48,4 +51,5 @@ returns-clause-acted g c =
       before.1
           ∙ all_done (λ w e. acted (g.A.App.meaning c.args.self.now.app) w c.args.scope e c.args.rendering) (state_of before.0 c.loop-effect.self.state) c.args.effects.now
           c.loop-effect.effect-index c.loop-effect-test.false,
+      before.2,
     )

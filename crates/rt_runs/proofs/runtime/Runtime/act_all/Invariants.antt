@@ -2,6 +2,7 @@
 use Rattle.std.proofs.Common.{◌≡◌, drop}
 use Rattle.rt_model.specs.Run.{acted}
 use Rattle.rt_scopes.specs.Mirror.{Unkept, state_of}
+use Rattle.rt_runs.specs.Counts.{Counts}
 use Rattle.rt_runs.specs.Hooks.{in_turn}
 use Rattle.rt_runs.proofs.runtime.Runtime.act_all.Given as goal
 
@@ -11,6 +12,7 @@ invariant-loop-effect g l = record {
       (kept : Unkept _)
       → (after : Unkept _)
       × (in_turn (λ w e. acted (g.A.App.meaning l.fn.self.app) w l.scope e l.rendering) (state_of kept l.fn.self.state) l.effects
-      ≡ in_turn (λ w e. acted (g.A.App.meaning l.fn.self.app) w l.scope e l.rendering) (state_of after l.self.state) (drop l.effect-index l.effects));
+      ≡ in_turn (λ w e. acted (g.A.App.meaning l.fn.self.app) w l.scope e l.rendering) (state_of after l.self.state) (drop l.effect-index l.effects))
+      × (Counts l.fn.self.calls kept.calls → Counts l.self.calls after.calls);
   app : l.self.app ≡ l.fn.self.app;
 }

@@ -5,6 +5,7 @@ use Rattle.rt_model.specs.Run.{new_output}
 use Rattle.rt_mirror.specs.Sealed.{element_of}
 use Rattle.rt_work.specs.Items.{work_of}
 use Rattle.rt_scopes.specs.Mirror.{state_of}
+use Rattle.rt_runs.proofs.Counted.{counts_then}
 use Rattle.rt_runs.proofs.Onward.{came_as, came_on, cut_on}
 use Rattle.rt_runs.proofs.runtime.Runtime.after_answer.Goals as goal
 
@@ -18,6 +19,7 @@ returns-in-Ok-clause-followed g c =
           (came_as _ _ _ _ _
           (ap (λ (a : g.row.A.Denot). new_output (g.A.App.meaning a) (state_of done.0 c.settle_and_hook.new.self.state) c.args.scope (element_of c.args.answer)) (sym c.in-Ok.ensures.app))
           came.1),
+      counts_then _ _ _ _ _ _ _ done.2 came.2,
     )
 
 pub returns-in-Err-clause-followed : goal.returns-in-Err-clause-followed
@@ -26,4 +28,5 @@ returns-in-Err-clause-followed g c =
     let cut = c.in-Err.ensures.settled kept in (
       cut.0,
       cut_on _ (λ v. new_output (g.A.App.meaning c.args.self.now.app) v c.args.scope (element_of c.args.answer)) _ _ cut.1,
+      cut.2,
     )

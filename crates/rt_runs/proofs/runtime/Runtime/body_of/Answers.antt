@@ -1,14 +1,17 @@
 -- The body of each kind of component.
-use Rattle.std.proofs.Common.{subst}
+use Rattle.std.proofs.Common.{◌∙◌, refl, ap, subst}
 use Rattle.std.specs.Prelude.{[]}
 use Rattle.rt_model.specs.Tree.{ErrorBoundary}
 use Rattle.rt_model.specs.Run.{body_of, plain}
-use Rattle.rt_mirror.specs.Mirror.{handler_of}
+use Rattle.rt_mirror.specs.Mirror.{fallback_of, handler_of}
 use Rattle.rt_mirror.specs.Sealed.{element_of}
 use Rattle.rt_mirror.proofs.SealedComponents.{component_App, component_Root}
-use Rattle.rt_scopes.proofs.Changed.{if_ok}
+use Rattle.rt_scopes.proofs.Changed.{if_ok, on_ok}
 use Rattle.rt_runs.specs.Bodies.{Leaves}
-use Rattle.rt_runs.proofs.BuiltIns.{error_boundary_handler, error_boundary_is, fragment_is, suspense_boundary_children, suspense_boundary_is}
+use Rattle.rt_runs.specs.Counts.{raised_where}
+use Rattle.rt_runs.proofs.BuiltIns.{error_boundary_children, error_boundary_handler, error_boundary_is, fragment_is, suspense_boundary_children, suspense_boundary_fallback, suspense_boundary_is}
+use Rattle.rt_runs.proofs.Counted.{on_any}
+use Rattle.rt_runs.proofs.Settled.{own_fallback, raises_handler}
 use Rattle.rt_runs.proofs.runtime.Runtime.body_of.Goals as goal
 
 pub returns-in-App-clause-means : goal.returns-in-App-clause-means
@@ -33,3 +36,28 @@ pub returns-in-SuspenseBoundary-clause-means : goal.returns-in-SuspenseBoundary-
 returns-in-SuspenseBoundary-clause-means g c =
     rw (c.in-SuspenseBoundary.is, suspense_boundary_is c.in-SuspenseBoundary.props)
     (if_ok c.fallback.result c.fallback.ensures.means (λ parts means. means (element_of (suspense_boundary_children c.in-SuspenseBoundary.props))))
+
+pub returns-in-App-clause-counted : goal.returns-in-App-clause-counted
+returns-in-App-clause-counted g c = rw (c.in-App.is, component_App g.row.A.Denot c.in-App.component c.in-App.props) (on_any c.render.result (λ kept. c.render.ensures.counted))
+
+pub returns-in-Root-clause-counted : goal.returns-in-Root-clause-counted
+returns-in-Root-clause-counted g c = rw (c.in-Root.is, component_Root c.in-Root.props) (on_any c.rooted.result (λ kept. refl))
+
+pub returns-in-Fragment-clause-counted : goal.returns-in-Fragment-clause-counted
+returns-in-Fragment-clause-counted g c = rw (c.in-Fragment.is, fragment_is c.in-Fragment.props) (on_any c.fragment.result (λ kept. refl))
+
+pub returns-in-ErrorBoundary-clause-counted : goal.returns-in-ErrorBoundary-clause-counted
+returns-in-ErrorBoundary-clause-counted g c =
+    rw (c.in-ErrorBoundary.is, error_boundary_is c.in-ErrorBoundary.props)
+    (on_ok c.caught.result c.caught.ensures.counted
+    (λ raised.
+    raises_handler c.args.self.now.state c.args.scope c.args.self.now.calls c.caught.new.self.calls (element_of (error_boundary_children c.in-ErrorBoundary.props)) (handler_of (error_boundary_handler c.in-ErrorBoundary.props)) raised))
+
+pub returns-in-SuspenseBoundary-clause-counted : goal.returns-in-SuspenseBoundary-clause-counted
+returns-in-SuspenseBoundary-clause-counted g c =
+    rw (c.in-SuspenseBoundary.is, suspense_boundary_is c.in-SuspenseBoundary.props)
+    (on_any c.fallback.result
+    (λ kept.
+    c.fallback.ensures.counted
+    ∙ ap (λ own. raised_where own c.args.self.now.calls)
+    (own_fallback (element_of (suspense_boundary_children c.in-SuspenseBoundary.props)) (fallback_of (suspense_boundary_fallback c.in-SuspenseBoundary.props)) _)))

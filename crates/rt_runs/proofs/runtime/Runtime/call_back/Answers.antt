@@ -4,12 +4,13 @@ use Rattle.std.proofs.lemmas.Result.{err_from_is_err_and}
 use Rattle.rt_scopes.specs.Mirror.{state_of}
 use Rattle.rt_runs.specs.Hooks.{one_called}
 use Rattle.rt_runs.proofs.Acted.{called_in_turn}
+use Rattle.rt_runs.proofs.Counted.{cut_then}
 use Rattle.rt_runs.proofs.Onward.{cut_as}
 use Rattle.rt_runs.proofs.Turns.{next_done, next_cut, all_done}
 use Rattle.rt_runs.proofs.runtime.Runtime.call_back.Goals as goal
 
 pub loop-callback-init : goal.loop-callback-init
-loop-callback-init g c = record { so_far = λ kept. (kept, refl); app = refl }
+loop-callback-init g c = record { so_far = λ kept. (kept, refl, λ was. was); app = refl }
 
 pub loop-callback-preserved : goal.loop-callback-preserved
 loop-callback-preserved g c = record {
@@ -22,6 +23,7 @@ loop-callback-preserved g c = record {
         before.1
             ∙ next_done (one_called (g.A.App.meaning c.args.self.now.app)) (state_of before.0 c.loop-callback.self.state) (state_of done.0 c.call_one.new.self.state)
             c.args.callbacks.now c.loop-callback.callback-index c.callback-item.result c.loop-callback-test.true c.callback-item.is (by ∙ done.1),
+        λ was. done.2 (before.2 was),
       );
   app = c.in_ok-call_one.ensures.app ∙ c.loop-callback.invariant.app;
 }
@@ -40,6 +42,7 @@ returns-in_err-call_one-clause-called g c =
           (next_cut (one_called (g.A.App.meaning c.args.self.now.app)) (state_of before.0 c.loop-callback.self.state) (state_of cut.0 c.call_one.new.self.state)
           c.args.callbacks.now c.loop-callback.callback-index c.callback-item.result c.in_err-call_one.field-0.0 c.loop-callback-test.true c.callback-item.is
           (cut_as _ _ (state_of cut.0 c.call_one.new.self.state) c.in_err-call_one.field-0.0 by cut.1)),
+      cut_then _ _ _ _ _ _ c.in_err-call_one.field-0.0 before.2 cut.2,
     )
 
 pub returns-clause-called : goal.returns-clause-called
@@ -51,4 +54,5 @@ returns-clause-called g c =
       whole ∙ before.1
           ∙ all_done (one_called (g.A.App.meaning c.args.self.now.app)) (state_of before.0 c.loop-callback.self.state) c.args.callbacks.now
           c.loop-callback.callback-index c.loop-callback-test.false,
+      before.2,
     )

@@ -12,7 +12,7 @@ returns-clause-called g c =
     let whole =
     hooks_in_turn (g.A.App.meaning c.args.self.now.app) c.args.kind (state_of kept c.args.self.now.state) c.args.scope c.hooks_of.result.now
     c.as_slice.result.now (c.hooks_of.ensures kept) (c.as_slice.ensures.items ∙ c.in_ok-effects.ensures) in
-    (came.0, came_as _ _ _ _ _ whole came.1)
+    (came.0, came_as _ _ _ _ _ whole came.1, came.2)
 
 pub returns-in_err-effects-clause-called : goal.returns-in_err-effects-clause-called
-returns-in_err-effects-clause-called g c = λ kept. (kept, search rules)
+returns-in_err-effects-clause-called g c = λ kept. (kept, search rules, search rules)

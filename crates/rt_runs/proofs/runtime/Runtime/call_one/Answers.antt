@@ -8,7 +8,7 @@ use Rattle.rt_runs.proofs.runtime.Runtime.call_one.Goals as goal
 pub returns-then-not-is_live-clause-called : goal.returns-then-not-is_live-clause-called
 returns-then-not-is_live-clause-called g c =
     λ kept.
-    (kept, called_gone (g.A.App.meaning c.args.self.now.app) (state_of kept c.args.self.now.state) c.args.callback.now (sym (c.is_live.ensures kept) ∙ c.if-not-is_live.true))
+    (kept, called_gone (g.A.App.meaning c.args.self.now.app) (state_of kept c.args.self.now.state) c.args.callback.now (sym (c.is_live.ensures kept) ∙ c.if-not-is_live.true), λ was. was)
 
 pub returns-clause-called : goal.returns-clause-called
 returns-clause-called g c =
@@ -18,4 +18,5 @@ returns-clause-called g c =
       came_as _ _ _ _ _
           (called_live (g.A.App.meaning c.args.self.now.app) (state_of kept c.args.self.now.state) c.args.callback.now (sym (c.is_live.ensures kept) ∙ c.if-not-is_live.false))
           came.1,
+      came.2,
     )

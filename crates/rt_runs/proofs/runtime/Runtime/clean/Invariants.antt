@@ -3,6 +3,7 @@ use Rattle.std.proofs.Common.{◌≡◌, [], drop, map}
 use Rattle.rt_model.specs.Removal.{cleaned}
 use Rattle.rt_calls.specs.Calls.{command_of}
 use Rattle.rt_scopes.specs.Mirror.{Unkept, state_of}
+use Rattle.rt_runs.specs.Counts.{Counts}
 use Rattle.rt_runs.proofs.runtime.Runtime.clean.Given as goal
 
 abbrev pub invariant-loop-effect : goal.invariant-loop-effect
@@ -11,6 +12,7 @@ invariant-loop-effect g l = record {
       (kept : Unkept _)
       → (after : Unkept _)
       × (cleaned (g.A.App.meaning l.fn.self.app) l.scope l.effects (state_of kept l.fn.self.state) []
-      ≡ cleaned (g.A.App.meaning l.fn.self.app) l.scope (drop l.effect-index l.effects) (state_of after l.self.state) (map command_of l.waiting));
+      ≡ cleaned (g.A.App.meaning l.fn.self.app) l.scope (drop l.effect-index l.effects) (state_of after l.self.state) (map command_of l.waiting))
+      × (Counts l.fn.self.calls kept.calls → Counts l.self.calls after.calls);
   app : l.self.app ≡ l.fn.self.app;
 }

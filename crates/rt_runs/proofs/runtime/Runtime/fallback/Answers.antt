@@ -1,5 +1,5 @@
 -- The fallback, by whether it has a component.
-use Rattle.std.proofs.Common.{ap}
+use Rattle.std.proofs.Common.{refl, ap}
 use Rattle.std.specs.Prelude.{Ok}
 use Rattle.rt_model.specs.Tree.{placeholder_tree, rendered}
 use Rattle.rt_runs.proofs.Settled.{leaves_plain}
@@ -14,3 +14,12 @@ returns-in_ok-tree-in-Placeholder-clause-means g c =
 
 pub returns-in-Component-clause-means : goal.returns-in-Component-clause-means
 returns-in-Component-clause-means g c = rw c.in-Component.is (if_ok c.render.result c.render.ensures.means (λ parts means children. means))
+
+pub returns-in_ok-tree-in-Placeholder-clause-counted : goal.returns-in_ok-tree-in-Placeholder-clause-counted
+returns-in_ok-tree-in-Placeholder-clause-counted g c = rw c.in-Placeholder.is refl
+
+pub returns-in_err-tree-in-Placeholder-clause-counted : goal.returns-in_err-tree-in-Placeholder-clause-counted
+returns-in_err-tree-in-Placeholder-clause-counted g c = rw c.in-Placeholder.is refl
+
+pub returns-in-Component-clause-counted : goal.returns-in-Component-clause-counted
+returns-in-Component-clause-counted g c = rw c.in-Component.is c.render.ensures.counted

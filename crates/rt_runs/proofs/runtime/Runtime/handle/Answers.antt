@@ -1,5 +1,5 @@
 -- What handles an error, by whether a component does.
-use Rattle.std.proofs.Common.{ap}
+use Rattle.std.proofs.Common.{refl, ap}
 use Rattle.std.specs.Prelude.{Ok}
 use Rattle.rt_model.specs.Tree.{rendered}
 use Rattle.rt_model.specs.Run.{error_tree}
@@ -14,3 +14,12 @@ returns-in_ok-tree-in-Default-clause-means g c =
 
 pub returns-in-Component-clause-means : goal.returns-in-Component-clause-means
 returns-in-Component-clause-means g c = rw c.in-Component.is (if_ok c.render.result c.render.ensures.means (λ parts means children serial. means))
+
+pub returns-in_ok-tree-in-Default-clause-counted : goal.returns-in_ok-tree-in-Default-clause-counted
+returns-in_ok-tree-in-Default-clause-counted g c = rw c.in-Default.is refl
+
+pub returns-in_err-tree-in-Default-clause-counted : goal.returns-in_err-tree-in-Default-clause-counted
+returns-in_err-tree-in-Default-clause-counted g c = rw c.in-Default.is refl
+
+pub returns-in-Component-clause-counted : goal.returns-in-Component-clause-counted
+returns-in-Component-clause-counted g c = rw c.in-Component.is c.render.ensures.counted

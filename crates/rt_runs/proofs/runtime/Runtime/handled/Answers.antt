@@ -1,12 +1,14 @@
 -- An error boundary's answer, by the error that it keeps.
-use Rattle.std.proofs.Common.{ap, subst}
-use Rattle.std.specs.Prelude.{Ok, Some, option_map}
+use Rattle.std.proofs.Common.{◌∙◌, ◌&&◌, ap, subst}
+use Rattle.std.specs.Prelude.{Ok, Some, is_some, option_map}
 use Rattle.rt_model.specs.Tree.{rendered}
 use Rattle.rt_model.specs.Run.{children_tree}
 use Rattle.rt_mirror.specs.Mirror.{error_of, handler_of}
 use Rattle.rt_mirror.specs.Sealed.{element_of}
 use Rattle.rt_scopes.proofs.Changed.{if_ok}
 use Rattle.rt_runs.specs.Bodies.{Leaves, handled_by}
+use Rattle.rt_runs.specs.Counts.{raised_where}
+use Rattle.rt_runs.proofs.Counted.{on_any}
 use Rattle.rt_runs.proofs.Settled.{leaves_plain}
 use Rattle.rt_runs.proofs.runtime.Runtime.handled.Goals as goal
 
@@ -25,3 +27,12 @@ returns-clause-means g c =
     (subst (λ t. Leaves (handled_by (g.A.App.meaning c.args.self.now.app) (element_of c.args.children.now) (handler_of c.args.handler.now) (Some (record { serial = c.in-Some.error.now.serial; text = t }))) c.args.self.now.state c.args.scope parts)
     c.in_ok-text.ensures.copy
     (means (element_of c.args.children.now) c.in-Some.error.now.serial)))
+
+pub returns-in_default-clause-counted : goal.returns-in_default-clause-counted
+returns-in_default-clause-counted g c = ap (λ o. raised_where (is_some o && is_some (handler_of c.args.handler.now)) c.args.self.now.calls) c.in_default.ensures
+
+pub returns-clause-counted : goal.returns-clause-counted
+returns-clause-counted g c =
+    on_any c.handle.result
+    (c.handle.ensures.counted
+    ∙ ap (λ o. raised_where (is_some o && is_some (handler_of c.args.handler.now)) c.args.self.now.calls) c.in-Some.ensures)

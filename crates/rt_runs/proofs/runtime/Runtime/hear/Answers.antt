@@ -10,7 +10,7 @@ returns-clause-heard g c =
     let left = c.apart-left.ensures in
     let parts = c.parts.ensures in
     heard_ok (g.A.App.meaning c.args.self.now.app) c.args.self.now.state c.after_call.new.self.state c.commands.new.self c.enter-cx.result _ c.in_ok-turn.turn.meaning
-    c.args.scope c.args.handler.now c.args.event.now c.handle.new.event c.in_ok-commands.commands _ kept c.enter-cx.ensures.begun (c.world-world.ensures kept _)
+    c.args.scope c.args.handler.now c.args.event.now c.handle.new.event c.in_ok-commands.commands _ _ _ kept (c.in_ok-commands.ensures.calls ∙ c.enter-cx.ensures.counted) c.enter-cx.ensures.begun (c.world-world.ensures kept _)
     c.in_ok-turn.ensures.means (sym parts.fault ∙ sym left.fault ∙ c.in_ok-commands.ensures.ok.1)
     (c.in_ok-commands.ensures.ok.0 ∙ left.commands ∙ parts.commands)
     c.in_ok-commands.ensures.next (left.next ∙ parts.next)
@@ -25,11 +25,11 @@ returns-in_err-commands-clause-heard g c =
     let p = err_from_is_err_and c.from_residual-in_err-commands.result c.from_residual-in_err-commands.ensures.1 in
     rw (p.1, p.2)
     (heard_no (g.A.App.meaning c.args.self.now.app) c.args.self.now.state c.after_call.new.self.state c.enter-cx.result _ c.in_ok-turn.turn.meaning c.args.scope
-    c.args.handler.now c.args.event.now c.handle.new.event refusal.0 _ _ kept c.enter-cx.ensures.begun (c.world-world.ensures kept _) c.in_ok-turn.ensures.means
+    c.args.handler.now c.args.event.now c.handle.new.event refusal.0 _ _ _ _ kept (c.in_err-commands.ensures.calls ∙ c.enter-cx.ensures.counted) c.enter-cx.ensures.begun (c.world-world.ensures kept _) c.in_ok-turn.ensures.means
     (sym parts.fault ∙ sym left.fault ∙ refusal.1) c.in_err-commands.ensures.next (left.next ∙ parts.next) refusal.2)
 
 pub returns-in_err-turn-clause-heard : goal.returns-in_err-turn-clause-heard
-returns-in_err-turn-clause-heard g c = λ kept. (kept, search rules)
+returns-in_err-turn-clause-heard g c = λ kept. (kept, search rules, search rules)
 
 pub returns-in_err-commands-2-clause-heard : goal.returns-in_err-commands-2-clause-heard
-returns-in_err-commands-2-clause-heard g c = λ kept. (kept, search rules)
+returns-in_err-commands-2-clause-heard g c = λ kept. (kept, search rules, search rules)

@@ -13,7 +13,7 @@ returns-in_err-call_hooks-clause-run g c =
     λ kept.
     let cut = c.in_err-call_hooks.ensures.called kept in
     let p = err_from_is_err_and c.from_residual.result c.from_residual.ensures.1 in
-    rw (p.1, p.2) (cut.0, cut_on _ (λ v. Done v (row_items c.args.boundary (map row_step_of c.args.steps.now))) _ _ cut.1)
+    rw (p.1, p.2) (cut.0, cut_on _ (λ v. Done v (row_items c.args.boundary (map row_step_of c.args.steps.now))) _ _ cut.1, cut.2)
 
 pub returns-clause-run : goal.returns-clause-run
 returns-clause-run g c =
@@ -22,7 +22,8 @@ returns-clause-run g c =
       done.0,
       done_on _ (λ v. Done v (row_items c.args.boundary (map row_step_of c.args.steps.now))) (state_of done.0 c.call_hooks.new.self.state) done.1
           ∙ ap (λ work. Done (state_of done.0 c.call_hooks.new.self.state) work) (sym c.in_ok-row_items.ensures),
+      done.2,
     )
 
 pub returns-in_err-row_items-clause-run : goal.returns-in_err-row_items-clause-run
-returns-in_err-row_items-clause-run g c = λ kept. (kept, search rules)
+returns-in_err-row_items-clause-run g c = λ kept. (kept, search rules, search rules)

@@ -17,5 +17,5 @@ returns-clause-output g c =
     rw c.in-Err.is
     (comes_as (λ w. if has_output w c.args.scope then Done w [] else start_agenda (g.A.App.meaning c.args.self.now.app) w c.args.scope MainSide placeholder_tree)
     (λ w. new_output (g.A.App.meaning c.args.self.now.app) w c.args.scope (element_of {P = g.row.A.Denot} (Err c.in-Err.field-0)))
-    c.args.self.now.state c.no_output.new.self.state work_of c.no_output.result
+    c.args.self.now.state c.no_output.new.self.state c.args.self.now.calls c.no_output.new.self.calls work_of c.no_output.result
     (λ w. no_tree g.row.A.Denot _ _ _ _ _ _ _ (g.A.App.meaning c.args.self.now.app) w c.args.scope c.in-Err.field-0) c.no_output.ensures.output)

@@ -17,6 +17,7 @@ returns-then-has_output-clause-output g c =
       kept,
       ap (λ b. if b then Done w [] else start_agenda (g.A.App.meaning c.args.self.now.app) w c.args.scope MainSide placeholder_tree) (sym (c.has_output.ensures kept) ∙ c.if-has_output.true)
           ∙ ap (λ work. Done w (work_of work)) (sym c.new.ensures.empty),
+      λ was. was,
     )
 
 pub returns-clause-output : goal.returns-clause-output
@@ -29,7 +30,8 @@ returns-clause-output g c =
           (ap (λ b. if b then Done w [] else start_agenda (g.A.App.meaning c.args.self.now.app) w c.args.scope MainSide placeholder_tree) (sym (c.has_output.ensures kept) ∙ c.if-has_output.false)
           ∙ ap (λ t. start_agenda (g.A.App.meaning c.args.self.now.app) w c.args.scope MainSide t) (sym (placeholder_is c.in_ok-tree.tree c.in_ok-tree.ensures.tree)))
           came.1,
+      came.2,
     )
 
 pub returns-in_err-tree-clause-output : goal.returns-in_err-tree-clause-output
-returns-in_err-tree-clause-output g c = λ kept. (kept, search rules)
+returns-in_err-tree-clause-output g c = λ kept. (kept, search rules, search rules)

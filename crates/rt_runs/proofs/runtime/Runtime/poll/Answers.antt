@@ -12,6 +12,7 @@ returns-then-not-has_task-clause-polled g c =
     λ kept. (
       kept,
       polled_gone (g.A.App.meaning c.args.self.now.app) (state_of kept c.args.self.now.state) (state_of kept c.unqueue.new.self) c.args.task (sym (c.unqueue.ensures kept)) (sym (c.has_task.ensures kept) ∙ c.if-not-has_task.true),
+      λ was. was,
     )
 
 pub returns-clause-polled : goal.returns-clause-polled
@@ -32,4 +33,5 @@ returns-clause-polled g c =
           (sym (c.unqueue.ensures kept) ∙ there)
           stands)
           came.1,
+      came.2,
     )

@@ -13,7 +13,7 @@ returns-clause-polled g c =
     let left = c.apart-step.ensures in
     let parts = c.parts.ensures in
     polled_ok (g.A.App.meaning c.args.self.now.app) c.args.self.now.state c.after_call.new.self.state c.look.new.self c.enter-cx.result _ c.in_ok-turn.turn.meaning
-    c.args.scope c.args.task c.args.state x c.apart-step.result.0 c.in_ok-commands.commands _ c.take_step.new.self.state kept c.enter-cx.ensures.begun (c.world-world.ensures kept _)
+    c.args.scope c.args.task c.args.state x c.apart-step.result.0 c.in_ok-commands.commands _ c.take_step.new.self.state _ _ kept (c.in_ok-take_step.ensures.calls ∙ c.in_ok-commands.ensures.calls ∙ c.enter-cx.ensures.counted) c.enter-cx.ensures.begun (c.world-world.ensures kept _)
     c.in_ok-turn.ensures.means (sym parts.fault ∙ sym left.fault ∙ c.in_ok-commands.ensures.ok.1)
     (left.answer ∙ parts.answer) (c.in_ok-commands.ensures.ok.0 ∙ left.commands ∙ parts.commands)
     c.in_ok-commands.ensures.next (left.next ∙ parts.next) stands.found stands.own
@@ -29,14 +29,14 @@ returns-in_err-commands-clause-polled g c =
     let p = err_from_is_err_and c.from_residual-in_err-commands.result c.from_residual-in_err-commands.ensures.1 in
     rw (p.1, p.2)
     (polled_no (g.A.App.meaning c.args.self.now.app) c.args.self.now.state c.after_call.new.self.state c.enter-cx.result _ c.in_ok-turn.turn.meaning
-    c.args.scope c.args.task c.args.state x refusal.0 _ _ kept c.enter-cx.ensures.begun (c.world-world.ensures kept _) c.in_ok-turn.ensures.means
+    c.args.scope c.args.task c.args.state x refusal.0 _ _ _ _ kept (c.in_err-commands.ensures.calls ∙ c.enter-cx.ensures.counted) c.enter-cx.ensures.begun (c.world-world.ensures kept _) c.in_ok-turn.ensures.means
     (sym parts.fault ∙ sym left.fault ∙ refusal.1) c.in_err-commands.ensures.next (left.next ∙ parts.next) refusal.2)
 
 pub returns-in_err-turn-clause-polled : goal.returns-in_err-turn-clause-polled
-returns-in_err-turn-clause-polled g c = λ kept x stands. (kept, search rules)
+returns-in_err-turn-clause-polled g c = λ kept x stands. (kept, search rules, search rules)
 
 pub returns-in_err-take_step-clause-polled : goal.returns-in_err-take_step-clause-polled
-returns-in_err-take_step-clause-polled g c = λ kept x stands. (kept, search rules)
+returns-in_err-take_step-clause-polled g c = λ kept x stands. (kept, search rules, search rules)
 
 pub returns-in_err-look-clause-polled : goal.returns-in_err-look-clause-polled
-returns-in_err-look-clause-polled g c = λ kept x stands. (kept, search rules)
+returns-in_err-look-clause-polled g c = λ kept x stands. (kept, search rules, search rules)

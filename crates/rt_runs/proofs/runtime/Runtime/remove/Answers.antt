@@ -16,10 +16,11 @@ returns-clause-removed g c =
           (removed_as (g.A.App.meaning c.args.self.now.app) (state_of kept c.args.self.now.state) (state_of kept c.stopped.new.self) c.args.scope c.as_slice.result.now (c.in_ok-stopped.ensures kept)
           (c.as_slice.ensures.items ∙ c.in_ok-effects.ensures ∙ ap (λ hs. clean_ups hs []) (c.hooks_of.ensures kept)))
           came.1,
+      came.2,
     )
 
 pub returns-in_err-stopped-clause-removed : goal.returns-in_err-stopped-clause-removed
-returns-in_err-stopped-clause-removed g c = λ kept. (kept, search rules)
+returns-in_err-stopped-clause-removed g c = λ kept. (kept, search rules, search rules)
 
 pub returns-in_err-effects-clause-removed : goal.returns-in_err-effects-clause-removed
-returns-in_err-effects-clause-removed g c = λ kept. (kept, search rules)
+returns-in_err-effects-clause-removed g c = λ kept. (kept, search rules, search rules)

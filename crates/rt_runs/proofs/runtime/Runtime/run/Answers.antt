@@ -19,6 +19,7 @@ returns-in_default-clause-run g c =
       kept,
       run_gone (g.A.App.meaning c.args.self.now.app) (state_of kept c.args.self.now.state) c.args.scope (found-each scope_of (c.args.self.now.state.rows).table c.args.scope None c.in_default.ensures)
           ∙ ap (λ work. Done (state_of kept c.args.self.now.state) (work_of work)) (sym c.new.ensures.empty),
+      λ was. was,
     )
 
 pub returns-clause-run : goal.returns-clause-run
@@ -32,7 +33,8 @@ returns-clause-run g c =
           (ap component_of (sym c.in_ok-component.ensures))
           (c.row_of-steps.ensures ∙ ap (λ held. row_of (option_map side_name_of c.in-Some.found.now.rest.shows) held) c.is_held.ensures))
           came.1,
+      came.2,
     )
 
 pub returns-in_err-component-clause-run : goal.returns-in_err-component-clause-run
-returns-in_err-component-clause-run g c = λ kept. (kept, search rules)
+returns-in_err-component-clause-run g c = λ kept. (kept, search rules, search rules)

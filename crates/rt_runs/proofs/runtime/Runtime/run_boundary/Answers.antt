@@ -13,6 +13,7 @@ returns-then-runs_fallback-clause-run g c =
       kept,
       run_held (g.A.App.meaning c.args.self.now.app) (state_of kept c.args.self.now.state) c.args.boundary (map row_step_of c.args.steps.now) c.runs_fallback.result c.runs_fallback.ensures c.if-runs_fallback.true
           ∙ ap (λ work. Done (state_of kept c.args.self.now.state) work) (sym c.in_ok-row_items.ensures),
+      λ was. was,
     )
 
 pub returns-clause-run : goal.returns-clause-run
@@ -23,7 +24,8 @@ returns-clause-run g c =
       came_as _ _ _ _ _
           (run_free (g.A.App.meaning c.args.self.now.app) (state_of kept c.args.self.now.state) c.args.boundary (map row_step_of c.args.steps.now) c.runs_fallback.result c.runs_fallback.ensures c.if-runs_fallback.false)
           came.1,
+      came.2,
     )
 
 pub returns-in_err-row_items-clause-run : goal.returns-in_err-row_items-clause-run
-returns-in_err-row_items-clause-run g c = λ kept. (kept, search rules)
+returns-in_err-row_items-clause-run g c = λ kept. (kept, search rules, search rules)

@@ -9,6 +9,7 @@ use Rattle.rt_mirror.specs.Sealed.{component_of}
 use Rattle.rt_work.specs.Items.{row_step_of, work_of}
 use Rattle.rt_scopes.specs.Mirror.{state_of}
 use Rattle.rt_runs.specs.Runs.{run_on}
+use Rattle.rt_runs.proofs.Counted.{counts_then}
 use Rattle.rt_runs.proofs.Onward.{came_as, came_on, cut_as, cut_on}
 use Rattle.rt_runs.proofs.runtime.Runtime.run_component.Goals as goal
 
@@ -23,6 +24,7 @@ returns-in_err-call_hooks-clause-run g c =
       cut_as _ _ _ _
           (ap (λ u. onward (hooks_called app before_render_kind u c.args.scope (hooks_of u c.args.scope)) (λ v. run_on app v c.args.scope (component_of c.args.component.now) (map row_step_of c.args.steps.now))) (sym (c.unmark.ensures kept)))
           (cut_on _ (λ v. run_on app v c.args.scope (component_of c.args.component.now) (map row_step_of c.args.steps.now)) _ _ cut.1),
+      cut.2,
     )
 
 pub returns-clause-run : goal.returns-clause-run
@@ -38,4 +40,5 @@ returns-clause-run g c =
           (came_as _ _ _ _ _
           (ap (λ (a : g.row.A.Denot). run_on (g.A.App.meaning a) (state_of done.0 c.call_hooks.new.self.state) c.args.scope (component_of c.args.component.now) (map row_step_of c.args.steps.now)) (sym c.in_ok-call_hooks.ensures.app))
           came.1)),
+      counts_then _ _ _ _ _ _ _ done.2 came.2,
     )

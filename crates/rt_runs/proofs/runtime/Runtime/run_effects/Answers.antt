@@ -17,7 +17,7 @@ returns-in_err-act_all-clause-run g c =
     effects_in_turn (g.A.App.meaning c.args.self.now.app) (state_of kept c.args.self.now.state) (state_of kept c.take_effects.new.self) c.args.scope c.as_slice.result.now
     (c.in_ok-effects.ensures.taken kept) (c.as_slice.ensures.items ∙ c.in_ok-effects.ensures.effects kept) in
     let p = err_from_is_err_and c.from_residual-in_err-act_all.result c.from_residual-in_err-act_all.ensures.1 in
-    rw (p.1, p.2) (cut.0, cut_as _ _ _ _ whole (cut_on _ (λ u. Done (look u) []) _ _ cut.1))
+    rw (p.1, p.2) (cut.0, cut_as _ _ _ _ whole (cut_on _ (λ u. Done (look u) []) _ _ cut.1), cut.2)
 
 pub returns-clause-run : goal.returns-clause-run
 returns-clause-run g c =
@@ -26,10 +26,10 @@ returns-clause-run g c =
     let whole =
     effects_in_turn (g.A.App.meaning c.args.self.now.app) (state_of kept c.args.self.now.state) (state_of kept c.take_effects.new.self) c.args.scope c.as_slice.result.now
     (c.in_ok-effects.ensures.taken kept) (c.as_slice.ensures.items ∙ c.in_ok-effects.ensures.effects kept) in
-    (done.0, whole ∙ done_on _ (λ u. Done (look u) []) _ done.1 ∙ ap (λ u. Done u []) (sym (c.in_ok-look.ensures done.0)))
+    (done.0, whole ∙ done_on _ (λ u. Done (look u) []) _ done.1 ∙ ap (λ u. Done u []) (sym (c.in_ok-look.ensures done.0)), done.2)
 
 pub returns-in_err-effects-clause-run : goal.returns-in_err-effects-clause-run
-returns-in_err-effects-clause-run g c = λ kept. (kept, search rules)
+returns-in_err-effects-clause-run g c = λ kept. (kept, search rules, search rules)
 
 pub returns-in_err-look-clause-run : goal.returns-in_err-look-clause-run
-returns-in_err-look-clause-run g c = λ kept. (kept, search rules)
+returns-in_err-look-clause-run g c = λ kept. (kept, search rules, search rules)

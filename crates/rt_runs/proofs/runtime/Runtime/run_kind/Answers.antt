@@ -16,6 +16,7 @@ returns-then-is_suspense_boundary-clause-run g c =
           (run_suspense (g.A.App.meaning c.args.self.now.app) (state_of kept c.args.self.now.state) c.args.scope (component_of c.args.component.now) (map row_step_of c.args.steps.now)
           c.is_suspense_boundary.result c.is_suspense_boundary.ensures c.if-is_suspense_boundary.true)
           came.1,
+      came.2,
     )
 
 pub returns-else-is_suspense_boundary-clause-run : goal.returns-else-is_suspense_boundary-clause-run
@@ -27,4 +28,5 @@ returns-else-is_suspense_boundary-clause-run g c =
           (run_other (g.A.App.meaning c.args.self.now.app) (state_of kept c.args.self.now.state) c.args.scope (component_of c.args.component.now) (map row_step_of c.args.steps.now)
           c.is_suspense_boundary.result c.is_suspense_boundary.ensures c.if-is_suspense_boundary.false)
           came.1,
+      came.2,
     )

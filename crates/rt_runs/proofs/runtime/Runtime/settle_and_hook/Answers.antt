@@ -7,6 +7,7 @@ use Rattle.rt_model.specs.State.{hooks_of}
 use Rattle.rt_model.specs.Run.{after_hooks, hooks_called}
 use Rattle.rt_scopes.specs.Mirror.{state_of}
 use Rattle.rt_runs.specs.Outcomes.{no_work}
+use Rattle.rt_runs.proofs.Counted.{counts_then}
 use Rattle.rt_runs.proofs.Onward.{came_as, came_on, cut_on}
 use Rattle.rt_runs.proofs.runtime.Runtime.settle_and_hook.Goals as goal
 
@@ -15,7 +16,7 @@ returns-in_err-settle-clause-settled g c =
     λ kept.
     let cut = c.in_err-settle.ensures.settled kept in
     let p = err_from_is_err_and c.from_residual.result c.from_residual.ensures.1 in
-    rw (p.1, p.2) (cut.0, cut_on _ (λ v. after_hooks (g.A.App.meaning c.args.self.now.app) v c.args.scope) _ _ cut.1)
+    rw (p.1, p.2) (cut.0, cut_on _ (λ v. after_hooks (g.A.App.meaning c.args.self.now.app) v c.args.scope) _ _ cut.1, cut.2)
 
 pub returns-clause-settled : goal.returns-clause-settled
 returns-clause-settled g c =
@@ -27,4 +28,5 @@ returns-clause-settled g c =
           (came_as _ _ _ _ _
           (ap (λ (a : g.row.A.Denot). hooks_called (g.A.App.meaning a) after_render_kind (state_of done.0 c.settle.new.self.state) c.args.scope (hooks_of (state_of done.0 c.settle.new.self.state) c.args.scope)) (sym c.in_ok-settle.ensures.app))
           came.1),
+      counts_then _ _ _ _ _ _ _ done.2 came.2,
     )

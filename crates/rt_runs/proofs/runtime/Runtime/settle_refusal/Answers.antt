@@ -11,4 +11,4 @@ pub returns-in-Suspended-clause-settled : goal.returns-in-Suspended-clause-settl
 returns-in-Suspended-clause-settled g c =
     rw c.in-Suspended.is
     (told (λ w. suspends_on w c.args.scope c.in-Suspended.future.origin.0 c.in-Suspended.future.task.0 (at w.tasks c.in-Suspended.future.task.0))
-    c.args.self.now.state c.suspends_on.new.self c.suspends_on.result c.suspends_on.ensures.done c.suspends_on.ensures.cut)
+    c.args.self.now.state c.suspends_on.new.self c.args.self.now.calls c.suspends_on.result c.suspends_on.ensures.done c.suspends_on.ensures.cut)

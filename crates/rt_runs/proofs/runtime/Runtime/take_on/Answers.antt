@@ -1,5 +1,5 @@
 -- What a body's call left, by how far it came.
-use Rattle.std.proofs.Common.{◌∙◌, ap, sym, map}
+use Rattle.std.proofs.Common.{◌∙◌, refl, ap, sym, map}
 use Rattle.std.specs.Prelude.{Ok, Err, None}
 use Rattle.std.proofs.lemmas.Result.{err_from_is_err_and}
 use Rattle.rt_model.specs.Commands.{commands}
@@ -8,6 +8,7 @@ use Rattle.rt_calls.specs.Calls.{command_of}
 use Rattle.rt_scopes.specs.Mirror.{state_of}
 use Rattle.rt_scopes.specs.declared.names.Fault.TheVariants as faults
 use Rattle.rt_scopes.specs.declared.names.Stop.TheVariants as stops
+use Rattle.rt_runs.specs.Counts.{counts_where}
 use Rattle.rt_runs.proofs.Settled.{owned, taken_bad, taken_no, taken_ok}
 use Rattle.rt_runs.proofs.runtime.Runtime.take_on.Goals as goal
 
@@ -23,7 +24,7 @@ returns-in_err-asked-clause-settled g c =
 pub returns-in_err-keep_reads-clause-settled : goal.returns-in_err-keep_reads-clause-settled
 returns-in_err-keep_reads-clause-settled g c =
     let p = err_from_is_err_and c.from_residual-in_err-keep_reads.result c.from_residual-in_err-keep_reads.ensures.1 in
-    rw (p.1, p.2) (λ kept own world aside. (kept, λ then_on. tt))
+    rw (p.1, p.2) (λ kept own world aside. (counts_where own kept, λ then_on. tt, refl))
 
 pub returns-then-not-answer_fits-clause-settled : goal.returns-then-not-answer_fits-clause-settled
 returns-then-not-answer_fits-clause-settled g c =
@@ -35,7 +36,7 @@ returns-then-not-answer_fits-clause-settled g c =
 pub returns-in_err-commands-clause-settled : goal.returns-in_err-commands-clause-settled
 returns-in_err-commands-clause-settled g c =
     let p = err_from_is_err_and c.from_residual-in_err-commands.result c.from_residual-in_err-commands.ensures.1 in
-    rw (p.1, p.2) (λ kept own world aside. (kept, λ then_on. tt))
+    rw (p.1, p.2) (λ kept own world aside. (counts_where own kept, λ then_on. tt, refl))
 
 pub returns-clause-settled : goal.returns-clause-settled
 returns-clause-settled g c =

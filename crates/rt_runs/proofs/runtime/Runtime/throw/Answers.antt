@@ -12,10 +12,11 @@ returns-clause-thrown g c =
     λ kept. (
       kept,
       ap (λ w. Done w []) (sym (c.in_ok-throw_error.ensures kept ∙ ap (λ e. throw_error (state_of kept c.args.self.now.state) c.args.scope (error_of e)) c.in_ok-error.ensures)),
+      λ was. was,
     )
 
 pub returns-in_err-error-clause-thrown : goal.returns-in_err-error-clause-thrown
-returns-in_err-error-clause-thrown g c = λ kept. (kept, search rules)
+returns-in_err-error-clause-thrown g c = λ kept. (kept, search rules, search rules)
 
 pub returns-in_err-throw_error-clause-thrown : goal.returns-in_err-throw_error-clause-thrown
-returns-in_err-throw_error-clause-thrown g c = λ kept. (kept, search rules)
+returns-in_err-throw_error-clause-thrown g c = λ kept. (kept, search rules, search rules)
