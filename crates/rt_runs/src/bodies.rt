@@ -114,7 +114,7 @@ impl<A: App> Runtime<A> {
         if !answer_fits(answer) {
             return Err(Stop::Fault(Fault::BadNode { scope }));
         }
-        self.state.commands(self.alloc, scope, None, asked)?;
+        self.state.do_commands(self.alloc, scope, None, asked)?;
         Ok(())
     }
 

@@ -62,7 +62,7 @@ impl<A: App> Runtime<A> {
         let turn = self.app.run_effect(self.alloc, effect, cx)?;
         let ((), left) = apart(turn.parts());
         let commands = self.after_call(left)?;
-        self.state.commands(self.alloc, scope, None, commands)?;
+        self.state.do_commands(self.alloc, scope, None, commands)?;
         Ok(())
     }
 
@@ -92,7 +92,7 @@ impl<A: App> Runtime<A> {
     }
 
     /// Takes the effects that a scope has queued and does them in order. A look follows.
-    pub fn run_effects(&mut self, scope: u64) -> Result<(), Stop>
+    pub fn call_effects(&mut self, scope: u64) -> Result<(), Stop>
         ensures run { Comes (λ w. effects_run (A.meaning self.old.app) w scope)
             self.old self.new no_work result }
         ensures app { self.new.app ≡ self.old.app }

@@ -11,7 +11,7 @@ use rt_values::ScopeId;
 impl<A: App> Runtime<A> {
     /// Calls a listener's handler with an event, in the scope that it belongs to, and then does
     /// what it asked for.
-    pub fn hear(
+    pub fn call_handler(
         &mut self,
         scope: u64,
         handler: &A::Handler,
@@ -26,7 +26,7 @@ impl<A: App> Runtime<A> {
         let turn = self.app.handle(self.alloc, handler, event, cx)?;
         let ((), left) = apart(turn.parts());
         let commands = self.after_call(left)?;
-        self.state.commands(self.alloc, scope, None, commands)?;
+        self.state.do_commands(self.alloc, scope, None, commands)?;
         Ok(())
     }
 }

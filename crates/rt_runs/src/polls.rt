@@ -13,7 +13,7 @@ use rt_values::{List, OutOfMemory, ScopeId, Task};
 
 impl<A: App> Runtime<A> {
     /// Polls a task: its wakes are spent, and a task that has ended goes. A look follows.
-    pub fn poll(&mut self, task: u64) -> Result<(), Stop>
+    pub fn poll_task(&mut self, task: u64) -> Result<(), Stop>
         ensures polled { Comes (λ w. polled (A.meaning self.old.app) w task)
             self.old self.new no_work result }
         ensures app { self.new.app ≡ self.old.app }
@@ -63,12 +63,12 @@ impl<A: App> Runtime<A> {
             TaskStep::Pending(state) => {
                 self.state.keep_state(task, state)?;
                 self.state
-                    .commands(self.alloc, scope, Some(task), commands)?;
+                    .do_commands(self.alloc, scope, Some(task), commands)?;
                 Ok(())
             }
             TaskStep::Ready => {
                 self.state
-                    .commands(self.alloc, scope, Some(task), commands)?;
+                    .do_commands(self.alloc, scope, Some(task), commands)?;
                 self.state.end(task)?;
                 Ok(())
             }

@@ -13,7 +13,7 @@ impl<A: App> Runtime<A> {
     /// Removes a scope that has no child left: its tasks end, its marks and effects go, all its
     /// clean-ups are called, last made first; then it goes with what it owns, and what the
     /// clean-ups asked for is done.
-    pub fn remove(&mut self, scope: u64) -> Result<(), Stop>
+    pub fn remove_leaf(&mut self, scope: u64) -> Result<(), Stop>
         ensures removed { Comes (λ w. removed (A.meaning self.old.app) w scope)
             self.old self.new no_work result }
         ensures app { self.new.app ≡ self.old.app }
@@ -35,7 +35,7 @@ impl<A: App> Runtime<A> {
             self.clean_up(scope, effect, &mut waiting)?;
         }
         self.state.gone(self.alloc, scope)?;
-        self.state.commands(self.alloc, scope, None, waiting)?;
+        self.state.do_commands(self.alloc, scope, None, waiting)?;
         Ok(())
     }
 

@@ -16,7 +16,7 @@ use std::alloc::Global;
 
 impl<P: Parts> State<P> {
     /// The commands of a call in a scope, in order; `polled` is the task that was polled.
-    pub fn commands(
+    pub fn do_commands(
         &mut self,
         alloc: Global,
         scope: u64,

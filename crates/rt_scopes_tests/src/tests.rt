@@ -45,7 +45,7 @@ fn spawned(alloc: Global) -> Result<Option<Work>, OutOfMemory> {
         isomorphic: false,
     })?;
     commands.push(Command::NewCell { cell: 1, value: 5 })?;
-    state.commands(alloc, 0, None, commands)?;
+    state.do_commands(alloc, 0, None, commands)?;
     state.at_rest(alloc)?;
     Ok(state.next_at_rest())
 }

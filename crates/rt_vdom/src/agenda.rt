@@ -266,7 +266,7 @@ fn take<A: App>(
     let alloc = runtime.alloc;
     let leaf = next_removed(alloc, &runtime.state, child)?;
     course.note(Entry::Removed(ScopeId(leaf)))?;
-    runtime.remove(leaf)?;
+    runtime.remove_leaf(leaf)?;
     Ok(drop_again(alloc, leaf == child, child, scope, side)?)
 }
 

@@ -284,7 +284,7 @@ impl<A: App> Machine<A> {
         let mut event = event;
         self.course.note(Entry::Heard(ScopeId(listener.origin)))?;
         self.runtime
-            .hear(listener.origin, &listener.handler, &mut event)?;
+            .call_handler(listener.origin, &listener.handler, &mut event)?;
         self.default_enabled = !event.prevented;
         let listeners = further(alloc, bubbles, &event, others);
         self.hearing = Some(Hearing {

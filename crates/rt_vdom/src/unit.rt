@@ -43,11 +43,11 @@ fn first_step<A: App>(runtime: &mut Runtime<A>, work: Work) -> Result<List<Item<
     match work {
         Work::RerunScope(scope) => runtime.run(scope),
         Work::PollTask(task) => {
-            runtime.poll(task)?;
+            runtime.poll_task(task)?;
             Ok(List::new(runtime.alloc))
         }
         Work::RunEffects(scope) => {
-            runtime.run_effects(scope)?;
+            runtime.call_effects(scope)?;
             Ok(List::new(runtime.alloc))
         }
     }

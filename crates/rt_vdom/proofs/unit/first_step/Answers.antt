@@ -8,18 +8,18 @@ use Rattle.rt_work.specs.Items.{work_of}
 use Rattle.rt_vdom.proofs.Arms.{came_as, cut_as}
 use Rattle.rt_vdom.proofs.unit.first_step.Goals as goal
 
-pub returns-in_err-poll-in-PollTask-clause-done : goal.returns-in_err-poll-in-PollTask-clause-done
-returns-in_err-poll-in-PollTask-clause-done g c =
+pub returns-in_err-poll_task-in-PollTask-clause-done : goal.returns-in_err-poll_task-in-PollTask-clause-done
+returns-in_err-poll_task-in-PollTask-clause-done g c =
     λ kept.
-    let cut = c.in_err-poll-in-PollTask.ensures.polled kept in
+    let cut = c.in_err-poll_task-in-PollTask.ensures.polled kept in
     let p = err_from_is_err_and c.from_residual.result c.from_residual.ensures.1 in
     rw (p.1, p.2) (cut.0, cut_as _ _ _ _ (ap (λ x. unit_of (g.A.App.meaning c.args.runtime.now.app) (state_of kept c.args.runtime.now.state) (model_work x)) c.in-PollTask.is) cut.1)
 
-pub returns-in_err-run_effects-in-RunEffects-clause-done : goal.returns-in_err-run_effects-in-RunEffects-clause-done
-returns-in_err-run_effects-in-RunEffects-clause-done g c =
+pub returns-in_err-call_effects-in-RunEffects-clause-done : goal.returns-in_err-call_effects-in-RunEffects-clause-done
+returns-in_err-call_effects-in-RunEffects-clause-done g c =
     λ kept.
-    let cut = c.in_err-run_effects-in-RunEffects.ensures.run kept in
-    let p = err_from_is_err_and c.from_residual-in_err-run_effects-in-RunEffects.result c.from_residual-in_err-run_effects-in-RunEffects.ensures.1 in
+    let cut = c.in_err-call_effects-in-RunEffects.ensures.run kept in
+    let p = err_from_is_err_and c.from_residual-in_err-call_effects-in-RunEffects.result c.from_residual-in_err-call_effects-in-RunEffects.ensures.1 in
     rw (p.1, p.2) (cut.0, cut_as _ _ _ _ (ap (λ x. unit_of (g.A.App.meaning c.args.runtime.now.app) (state_of kept c.args.runtime.now.state) (model_work x)) c.in-RunEffects.is) cut.1)
 
 pub returns-in-RerunScope-clause-done : goal.returns-in-RerunScope-clause-done
@@ -28,22 +28,22 @@ returns-in-RerunScope-clause-done g c =
     let came = c.run.ensures.run kept in
     (came.0, came_as _ _ _ _ _ (ap (λ x. unit_of (g.A.App.meaning c.args.runtime.now.app) (state_of kept c.args.runtime.now.state) (model_work x)) c.in-RerunScope.is) came.1)
 
-pub returns-in_ok-poll-in-PollTask-clause-done : goal.returns-in_ok-poll-in-PollTask-clause-done
-returns-in_ok-poll-in-PollTask-clause-done g c =
+pub returns-in_ok-poll_task-in-PollTask-clause-done : goal.returns-in_ok-poll_task-in-PollTask-clause-done
+returns-in_ok-poll_task-in-PollTask-clause-done g c =
     λ kept.
-    let came = c.in_ok-poll-in-PollTask.ensures.polled kept in (
+    let came = c.in_ok-poll_task-in-PollTask.ensures.polled kept in (
       came.0,
       ap (λ x. unit_of (g.A.App.meaning c.args.runtime.now.app) (state_of kept c.args.runtime.now.state) (model_work x)) c.in-PollTask.is
           ∙ came.1
-          ∙ ap (λ xs. Done (state_of came.0 c.poll.new.self.state) (work_of xs)) (sym c.new.ensures.empty),
+          ∙ ap (λ xs. Done (state_of came.0 c.poll_task.new.self.state) (work_of xs)) (sym c.new.ensures.empty),
     )
 
-pub returns-in_ok-run_effects-in-RunEffects-clause-done : goal.returns-in_ok-run_effects-in-RunEffects-clause-done
-returns-in_ok-run_effects-in-RunEffects-clause-done g c =
+pub returns-in_ok-call_effects-in-RunEffects-clause-done : goal.returns-in_ok-call_effects-in-RunEffects-clause-done
+returns-in_ok-call_effects-in-RunEffects-clause-done g c =
     λ kept.
-    let came = c.in_ok-run_effects-in-RunEffects.ensures.run kept in (
+    let came = c.in_ok-call_effects-in-RunEffects.ensures.run kept in (
       came.0,
       ap (λ x. unit_of (g.A.App.meaning c.args.runtime.now.app) (state_of kept c.args.runtime.now.state) (model_work x)) c.in-RunEffects.is
           ∙ came.1
-          ∙ ap (λ xs. Done (state_of came.0 c.run_effects.new.self.state) (work_of xs)) (sym c.new-in-RunEffects.ensures.empty),
+          ∙ ap (λ xs. Done (state_of came.0 c.call_effects.new.self.state) (work_of xs)) (sym c.new-in-RunEffects.ensures.empty),
     )

@@ -9,12 +9,12 @@ returns-clause-acted g c =
     λ kept.
     let left = c.apart-left.ensures in
     let parts = c.parts.ensures in
-    acted_ok (g.A.App.meaning c.args.self.now.app) c.args.self.now.state c.after_call.new.self.state c.commands.new.self c.enter-cx.result _ c.in_ok-turn.turn.meaning
+    acted_ok (g.A.App.meaning c.args.self.now.app) c.args.self.now.state c.after_call.new.self.state c.do_commands.new.self c.enter-cx.result _ c.in_ok-turn.turn.meaning
     c.args.scope c.args.effect.now c.args.rendering c.in_ok-commands.commands _ _ _ kept (c.in_ok-commands.ensures.calls ∙ c.enter-cx.ensures.counted) c.enter-cx.ensures.begun (c.world-world.ensures kept _)
     c.in_ok-turn.ensures.means (sym parts.fault ∙ sym left.fault ∙ c.in_ok-commands.ensures.ok.1)
     (c.in_ok-commands.ensures.ok.0 ∙ left.commands ∙ parts.commands)
     c.in_ok-commands.ensures.next (left.next ∙ parts.next)
-    (λ u. c.in_ok-commands-2.ensures (g.A.App.meaning c.args.self.now.app) (g.met.A.App.lawful c.args.self.now.app).tests_values u)
+    (λ u. c.in_ok-do_commands.ensures (g.A.App.meaning c.args.self.now.app) (g.met.A.App.lawful c.args.self.now.app).tests_values u)
 
 pub returns-in_err-commands-clause-acted : goal.returns-in_err-commands-clause-acted
 returns-in_err-commands-clause-acted g c =
@@ -31,5 +31,5 @@ returns-in_err-commands-clause-acted g c =
 pub returns-in_err-turn-clause-acted : goal.returns-in_err-turn-clause-acted
 returns-in_err-turn-clause-acted g c = λ kept. (kept, search rules, search rules)
 
-pub returns-in_err-commands-2-clause-acted : goal.returns-in_err-commands-2-clause-acted
-returns-in_err-commands-2-clause-acted g c = λ kept. (kept, search rules, search rules)
+pub returns-in_err-do_commands-clause-acted : goal.returns-in_err-do_commands-clause-acted
+returns-in_err-do_commands-clause-acted g c = λ kept. (kept, search rules, search rules)

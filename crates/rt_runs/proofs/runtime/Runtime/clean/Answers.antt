@@ -65,12 +65,12 @@ returns-clause-cleaned g c =
       before.1
           ∙ last_cleaned app (state_of before.0 c.loop-effect.self.state) c.args.scope c.args.effects.now c.loop-effect.effect-index (map command_of c.loop-effect.waiting) c.loop-effect-test.false
           ∙ ap (λ w. Done (commands app w c.args.scope None (map command_of c.loop-effect.waiting)) []) (sym (c.in_ok-gone.ensures before.0))
-          ∙ ap (λ w. Done w []) (sym (c.in_ok-commands.ensures app (g.met.A.App.lawful c.args.self.now.app).tests_values (forgets before.0 c.args.scope))),
+          ∙ ap (λ w. Done w []) (sym (c.in_ok-do_commands.ensures app (g.met.A.App.lawful c.args.self.now.app).tests_values (forgets before.0 c.args.scope))),
       before.2,
     )
 
 pub returns-in_err-gone-clause-cleaned : goal.returns-in_err-gone-clause-cleaned
 returns-in_err-gone-clause-cleaned g c = λ kept. (kept, search rules, search rules)
 
-pub returns-in_err-commands-clause-cleaned : goal.returns-in_err-commands-clause-cleaned
-returns-in_err-commands-clause-cleaned g c = λ kept. (kept, search rules, search rules)
+pub returns-in_err-do_commands-clause-cleaned : goal.returns-in_err-do_commands-clause-cleaned
+returns-in_err-do_commands-clause-cleaned g c = λ kept. (kept, search rules, search rules)

@@ -33,17 +33,17 @@ returns-then-not-answer_fits-clause-settled g c =
     c.after_call.new.self.state c.keep_reads.new.self c.in_ok-asked.ensures.ok.1 c.in_ok-asked.ensures.next c.in_ok-keep_reads.ensures
     (sym c.answer_fits.ensures ∙ c.if-not-answer_fits.true))
 
-pub returns-in_err-commands-clause-settled : goal.returns-in_err-commands-clause-settled
-returns-in_err-commands-clause-settled g c =
-    let p = err_from_is_err_and c.from_residual-in_err-commands.result c.from_residual-in_err-commands.ensures.1 in
+pub returns-in_err-do_commands-clause-settled : goal.returns-in_err-do_commands-clause-settled
+returns-in_err-do_commands-clause-settled g c =
+    let p = err_from_is_err_and c.from_residual-in_err-do_commands.result c.from_residual-in_err-do_commands.ensures.1 in
     rw (p.1, p.2) (λ kept own world aside. (counts_where own kept, λ then_on. tt, refl))
 
 pub returns-clause-settled : goal.returns-clause-settled
 returns-clause-settled g c =
-    owned (g.A.App.meaning c.args.self.now.app) c.args.self.now.state c.args.scope (record { answer = c.args.answer.now; reads = c.args.reads; commands = c.args.left.commands; next = c.args.left.next; fault = c.args.left.fault }) c.commands.new.self (Ok (element_of c.args.answer.now))
+    owned (g.A.App.meaning c.args.self.now.app) c.args.self.now.state c.args.scope (record { answer = c.args.answer.now; reads = c.args.reads; commands = c.args.left.commands; next = c.args.left.next; fault = c.args.left.fault }) c.do_commands.new.self (Ok (element_of c.args.answer.now))
     (taken_ok (g.A.App.meaning c.args.self.now.app) c.args.self.now.state c.args.scope (record { answer = c.args.answer.now; reads = c.args.reads; commands = c.args.left.commands; next = c.args.left.next; fault = c.args.left.fault })
-    c.after_call.new.self.state c.keep_reads.new.self c.commands.new.self c.in_ok-asked.ensures.ok.1 c.in_ok-asked.ensures.next c.in_ok-keep_reads.ensures
+    c.after_call.new.self.state c.keep_reads.new.self c.do_commands.new.self c.in_ok-asked.ensures.ok.1 c.in_ok-asked.ensures.next c.in_ok-keep_reads.ensures
     (sym c.answer_fits.ensures ∙ c.if-not-answer_fits.false)
     (λ kept.
-    c.in_ok-commands.ensures (g.A.App.meaning c.args.self.now.app) (g.met.A.App.lawful c.args.self.now.app).tests_values kept
+    c.in_ok-do_commands.ensures (g.A.App.meaning c.args.self.now.app) (g.met.A.App.lawful c.args.self.now.app).tests_values kept
     ∙ ap (λ given. commands (g.A.App.meaning c.args.self.now.app) (state_of kept c.keep_reads.new.self) c.args.scope None (map command_of given)) c.in_ok-asked.ensures.ok.0))

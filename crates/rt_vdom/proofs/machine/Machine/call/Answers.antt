@@ -10,15 +10,15 @@ use Rattle.rt_vdom.proofs.Arms.{noted_one}
 use Rattle.rt_vdom.proofs.Hearings.{call_heard, call_cut}
 use Rattle.rt_vdom.proofs.machine.Machine.call.Goals as goal
 
-pub returns-in_err-hear-clause-calls : goal.returns-in_err-hear-clause-calls
-returns-in_err-hear-clause-calls g c =
+pub returns-in_err-call_handler-clause-calls : goal.returns-in_err-call_handler-clause-calls
+returns-in_err-call_handler-clause-calls g c =
     λ kept left taken all.
     let app = g.A.App.meaning c.args.self.now.runtime.app in
     let m = record (machine_of kept left taken c.args.self.now) { listeners = all; event = Some (event_of c.args.event); bubbles = c.args.bubbles } in
-    let came = c.in_err-hear.ensures.heard kept in
-    let p = err_from_is_err_and c.from_residual-in_err-hear.result c.from_residual-in_err-hear.ensures.1 in
+    let came = c.in_err-call_handler.ensures.heard kept in
+    let p = err_from_is_err_and c.from_residual-in_err-call_handler.result c.from_residual-in_err-call_handler.ensures.1 in
     rw (p.1, p.2)
-    (call_cut app m (listener_in c.args.listener.now) (listeners_of c.args.others) _ _ (λ h. m) (event_of c.args.event) (event_of c.hear.new.event) _ c.in_err-hear.field-0.0 refl refl came.1
+    (call_cut app m (listener_in c.args.listener.now) (listeners_of c.args.others) _ _ (λ h. m) (event_of c.args.event) (event_of c.call_handler.new.event) _ c.in_err-call_handler.field-0.0 refl refl came.1
     (noted_one _ _ _ c.in_ok-note.ensures.ok))
 
 pub returns-clause-calls : goal.returns-clause-calls
@@ -26,10 +26,10 @@ returns-clause-calls g c =
     λ kept left taken all.
     let app = g.A.App.meaning c.args.self.now.runtime.app in
     let m = record (machine_of kept left taken c.args.self.now) { listeners = all; event = Some (event_of c.args.event); bubbles = c.args.bubbles } in
-    let came = c.in_ok-hear.ensures.heard kept in
+    let came = c.in_ok-call_handler.ensures.heard kept in
     let h = came.0 in
-    let v = state_of h c.hear.new.self.state in
-    let after = event_of c.hear.new.event in
+    let v = state_of h c.call_handler.new.self.state in
+    let after = event_of c.call_handler.new.event in
     let n = record m { default_enabled = not after.prevented } in (
       h,
       call_heard app m (listener_in c.args.listener.now) (listeners_of c.args.others) (event_of c.args.event) after v came.1

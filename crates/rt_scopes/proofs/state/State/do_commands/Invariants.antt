@@ -6,7 +6,7 @@ use Rattle.rt_model.specs.Laws.{Tests}
 use Rattle.rt_model.specs.Commands.{commands}
 use Rattle.rt_calls.specs.Calls.{command_of}
 use Rattle.rt_scopes.specs.Mirror.{state_of}
-use Rattle.rt_scopes.proofs.state.State.commands.Given as goal
+use Rattle.rt_scopes.proofs.state.State.do_commands.Given as goal
 
 abbrev pub invariant-loop-command : goal.invariant-loop-command
 invariant-loop-command g l = record {

@@ -5,7 +5,7 @@ use Rattle.rt_scopes.specs.Mirror.{state_of}
 use Rattle.rt_runs.specs.Polls.{StandsWith}
 use Rattle.rt_runs.proofs.Onward.{came_as}
 use Rattle.rt_runs.proofs.Polled.{polled_as, polled_gone, row_found, row_scope}
-use Rattle.rt_runs.proofs.runtime.Runtime.poll.Goals as goal
+use Rattle.rt_runs.proofs.runtime.Runtime.poll_task.Goals as goal
 
 pub returns-then-not-has_task-clause-polled : goal.returns-then-not-has_task-clause-polled
 returns-then-not-has_task-clause-polled g c =

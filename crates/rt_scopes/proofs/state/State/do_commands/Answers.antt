@@ -3,7 +3,7 @@ use Rattle.std.specs.Vec.Iter.{into_iter_items}
 use Rattle.rt_model.specs.Commands.{commands}
 use Rattle.rt_calls.specs.Calls.{command_of}
 use Rattle.rt_scopes.specs.Mirror.{state_of}
-use Rattle.rt_scopes.proofs.state.State.commands.Goals as goal
+use Rattle.rt_scopes.proofs.state.State.do_commands.Goals as goal
 
 nothing_left : {A : Type 0} (xs : List A) → length xs ≡ 0 → xs ≡ []
 nothing_left [] none = refl

@@ -7,7 +7,7 @@ use Rattle.rt_model.specs.State.{Done}
 use Rattle.rt_scopes.specs.Mirror.{state_of}
 use Rattle.rt_runs.proofs.Acted.{effects_in_turn}
 use Rattle.rt_runs.proofs.Onward.{cut_on, cut_as, done_on}
-use Rattle.rt_runs.proofs.runtime.Runtime.run_effects.Goals as goal
+use Rattle.rt_runs.proofs.runtime.Runtime.call_effects.Goals as goal
 
 pub returns-in_err-act_all-clause-run : goal.returns-in_err-act_all-clause-run
 returns-in_err-act_all-clause-run g c =

@@ -5,7 +5,7 @@ use Rattle.rt_model.specs.Removal.{clean_ups}
 use Rattle.rt_scopes.specs.Mirror.{state_of}
 use Rattle.rt_runs.proofs.CleanedUp.{removed_as}
 use Rattle.rt_runs.proofs.Onward.{came_as}
-use Rattle.rt_runs.proofs.runtime.Runtime.remove.Goals as goal
+use Rattle.rt_runs.proofs.runtime.Runtime.remove_leaf.Goals as goal
 
 pub returns-clause-removed : goal.returns-clause-removed
 returns-clause-removed g c =
