@@ -5,6 +5,7 @@ use Rattle.rt_model.specs.Lists.{same_numbers, same_option}
 use Rattle.rt_model.specs.Tree.{Types, TemplateAttribute, fixed, from_slot, TemplateNodes, no_nodes, element_node, text_node, slot_node, Template, same_template, AttributeValue, text_value, no_value, listener, Attribute, Tree, block, Slots, no_slots, more_slots, Slot, text_slot, placeholder_slot, component_slot, fragment_slot, Trees, no_trees, more_trees, item, Place, Kind, an_element, a_text, place_in, attributes_in}
 use Rattle.rt_model.specs.World.{Application}
 use Rattle.rt_model.specs.Values.{is_same_component}
+use Rattle.rt_model.specs.State.{Side}
 use Rattle.rt_model.specs.Run.{child_at}
 use Rattle.rt_model.specs.Heard.{number_at}
 use Rattle.rt_model.specs.Document.{Forest, Empty, Node, Edit, AppendChildren, SetNodeText, SetAttribute, CreateEventListener, RemoveEventListener, InsertNodesAfter, count_of}
@@ -116,7 +117,7 @@ carried_in_both n a b =
     (λ e. rw e (omega arith))
     (λ e. rw e (omega (arith, carries_both n a.edits b.edits)))
 
-carried_if : (n m : ℕ) (b : Bool) (w u : Written) → carries n w.edits ≤ m → carries n u.edits ≤ m → carries n (if b then w else u).edits ≤ m
+pub carried_if : (n m : ℕ) (b : Bool) (w u : Written) → carries n w.edits ≤ m → carries n u.edits ≤ m → carries n (if b then w else u).edits ≤ m
 carried_if n m true w u h g = h
 carried_if n m false w u h g = g
 
@@ -127,14 +128,19 @@ none_carried n m = omega arith
 abbrev pub Within : ℕ → Written → Forest → ℕ → Type 0
 Within n w f claim = count_of n f + carries n w.edits ≤ claim
 
-module _ {K : Types} (app : Application K) (b : Both K) (child : ℕ → Type 0) (claims : ℕ → ℕ → ℕ) (n : ℕ) (each : (t : ℕ) → child t → Within n (b.under t) (b.old_child t) (claims t n)) where
+-- only the shapes of the outputs matter: the two are to meet with any new numbers and children
+module _ {K : Types} (app : Application K) (b : Both K) (other : Side K) (stand_in : ℕ → Forest) (child : ℕ → Type 0) (claims : ℕ → ℕ → ℕ) (n : ℕ)
+    (each : (t : ℕ) → child t → Within n (b.under t) (b.old_child t) (claims t n)) where
+  abbrev shape : Both K
+  shape = record b { new = other; new_child = stand_in }
+
   way_carried : (place : Place) (stop : Option Place) (f g : Forest) → carries n (built_whole stop place (replaced_by f g)).edits ≤ count_of n g
   way_carried place stop f g = carried_if n (count_of n g) (is_around place stop) halts (writes (replaced_by f g)) (none_carried n (count_of n g)) (replaced_carries n f g)
 
   way_within : (place : Place) (y x : Slot K) → Within n (slot_replaced app b place y x) (slot_view b.old b.old_child x place) (way_claims app b claims n place y x)
   way_within place y x = omega (arith, way_carried place b.stop (slot_view b.old b.old_child x place) (slot_view b.new b.new_child y place))
 
-  child_within : (place : Place) (o : Option ℕ) → ChildMeets app b child o → Within n (child_written app b place o) (child_view b.old_child o) (child_claims app b claims n o)
+  child_within : (place : Place) (o : Option ℕ) → ChildMeets app shape child o → Within n (child_written app b place o) (child_view b.old_child o) (child_claims app b claims n o)
   child_within place None h = omega arith
   child_within place (Some t) h =
       let inner = each t h in
@@ -145,7 +151,7 @@ module _ {K : Types} (app : Application K) (b : Both K) (child : ℕ → Type 0)
   nodes_within : (whole : Template) (above : Place) (given : List (List (Attribute K))) (of : ℕ → Place → Written) (old : ℕ → Place → Forest) (claim : ℕ → Place → ℕ) (meets : ℕ → Place → Type 0)
       → ((k : ℕ) (place : Place) → meets k place → Within n (of k place) (old k place) (claim k place))
       → (nodes : TemplateNodes) (up : List ℕ) (i : ℕ)
-      → NodesMeet b.old.numbers b.new.numbers whole above meets up i nodes
+      → NodesMeet b.old.numbers other.numbers whole above meets up i nodes
       → Within n (slot_pass of (place_in whole above) up i nodes) (nodes_view b.old.numbers whole above given old up i nodes) (nodes_claims n b.old.numbers whole above claim up i nodes)
   nodes_within whole above given of old claim meets slots no_nodes up i h = omega arith
   nodes_within whole above given of old claim meets slots (element_node tag namespace attributes children rest) up i h =
@@ -169,12 +175,12 @@ module _ {K : Types} (app : Application K) (b : Both K) (child : ℕ → Type 0)
 
   mutual
     -- of trees that meet
-    pub tree_within : (above : Place) (y x : Tree K) → TreeMeets app b child above y x → Within n (tree_written app b above y x) (tree_view b.old b.old_child above x) (tree_claims app b claims n above y x)
-    tree_within above (block template given slots) (block other others olds) h =
-        by_test (same_template template other)
+    pub tree_within : (above : Place) (y x : Tree K) → TreeMeets app shape child above y x → Within n (tree_written app b above y x) (tree_view b.old b.old_child above x) (tree_claims app b claims n above y x)
+    tree_within above (block template given slots) (block wanted others olds) h =
+        by_test (same_template template wanted)
         (λ e.
-        let view : tree_view b.old b.old_child above (block other others olds) ≡ tree_view b.old b.old_child above (block template others olds) =
-        ap (λ (t : Template). tree_view b.old b.old_child above (block t others olds)) (sym (template-true template other e)) in
+        let view : tree_view b.old b.old_child above (block wanted others olds) ≡ tree_view b.old b.old_child above (block template others olds) =
+        ap (λ (t : Template). tree_view b.old b.old_child above (block t others olds)) (sym (template-true template wanted e)) in
         let attributes : List Edit = attributes_written b.old.numbers above template given others in
         let none : carries n attributes ≡ 0 = ap (λ (xs : List ℕ). listed n xs) (attributes_bare b.old.numbers above template given others) in
         let pass : Written = slot_pass (λ k place. slots_written app b slots olds k place) (place_in template above) [] 0 template.roots in
@@ -183,15 +189,15 @@ module _ {K : Types} (app : Application K) (b : Both K) (child : ℕ → Type 0)
         (λ k place. slots_written app b slots olds k place)
         (λ k place. slots_view b.old b.old_child olds k place)
         (λ k place. slots_claims app b claims n slots olds k place)
-        (λ k place. SlotsMeet app b child slots olds k place)
+        (λ k place. SlotsMeet app shape child slots olds k place)
         (λ k place m. slots_within slots olds k place m)
         template.roots [] 0 ((h.0 e).1) in
         rw (e, view) (omega (arith, slots_in, none, carried_in_both n (writes attributes) pass)))
         (λ e.
-        let way = way_carried above b.stop (tree_view b.old b.old_child above (block other others olds)) (tree_view b.new b.new_child above (block template given slots)) in
+        let way = way_carried above b.stop (tree_view b.old b.old_child above (block wanted others olds)) (tree_view b.new b.new_child above (block template given slots)) in
         rw e (omega (arith, way)))
 
-    slots_within : (ys xs : Slots K) (k : ℕ) (place : Place) → SlotsMeet app b child ys xs k place
+    slots_within : (ys xs : Slots K) (k : ℕ) (place : Place) → SlotsMeet app shape child ys xs k place
         → Within n (slots_written app b ys xs k place) (slots_view b.old b.old_child xs k place) (slots_claims app b claims n ys xs k place)
     slots_within no_slots no_slots k place h = omega arith
     slots_within no_slots (more_slots u others) k place h = absurd h
@@ -199,7 +205,7 @@ module _ {K : Types} (app : Application K) (b : Both K) (child : ℕ → Type 0)
     slots_within (more_slots v rest) (more_slots u others) zero place h = slot_within place v u h
     slots_within (more_slots v rest) (more_slots u others) (suc k) place h = slots_within rest others k place h
 
-    slot_within : (place : Place) (y x : Slot K) → SlotMeets app b child place y x
+    slot_within : (place : Place) (y x : Slot K) → SlotMeets app shape child place y x
         → Within n (slot_written app b place y x) (slot_view b.old b.old_child x place) (slot_claims app b claims n place y x)
     slot_within place (text_slot t) (text_slot u) h =
         let edit : Written = writes (SetNodeText (number_at b.old.numbers place a_text) t ∷ []) in
@@ -214,7 +220,7 @@ module _ {K : Types} (app : Application K) (b : Both K) (child : ℕ → Type 0)
     slot_within place (fragment_slot (more_trees y ys)) (fragment_slot (more_trees x xs)) h = items_within place 0 0 (more_trees y ys) (more_trees x xs) h
     slot_within place y x h = way_within place y x
 
-    items_within : (place : Place) (i last : ℕ) (ys xs : Trees K) → ItemsMeet app b child place i ys xs
+    items_within : (place : Place) (i last : ℕ) (ys xs : Trees K) → ItemsMeet app shape child place i ys xs
         → Within n (items_written app b place i last ys xs) (items_view b.old b.old_child i place xs) (items_claims app b claims n place i ys xs)
     items_within place i last no_trees xs h =
         let none : carries n (removals (items_view b.old b.old_child i place xs)) ≡ 0 = ap (λ (m : List ℕ). listed n m) (removals_bare (items_view b.old b.old_child i place xs)) in

@@ -71,7 +71,7 @@ module _ {K : Types} (app : Application K) (w v : State K) (unfolded : IsUnfolde
       let claims : ℕ → ℕ → ℕ = λ t i. scope_claims app w v m t i in
       nothing_more m s h (tree_written app b [] k.new k.old) (tree_view (side_of h.old h.old_side) (λ t. nodes_of w t) [] k.old) (tree_claims app b claims n [] k.new k.old)
       (pick_true _ _ e ∙ of_output m s h k) (side_showed s h.old h.old_side k.old h.lived h.showed k.had) (kept_claims m s h k e)
-      (tree_within app b (λ t. MeetsDown app w v m t) claims n below [] k.new k.old k.meets)
+      (tree_within app b b.new b.new_child (λ t. MeetsDown app w v m t) claims n below [] k.new k.old k.meets)
 
   -- what a scope writes, with all that is below it
   pub scope_within : (m s : ℕ) → MeetsDown app w v m s → Within n (written_within app [] w v m s) (nodes_of w s) (scope_claims app w v m s n)

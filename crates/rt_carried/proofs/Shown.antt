@@ -29,49 +29,15 @@ use Rattle.rt_moves.specs.Reruns.{Reruns}
 use Rattle.rt_rerun.proofs.Homes.{Entry, Under, KidAt, scope_under}
 use Rattle.rt_rerun.proofs.Reruns.{Ended, rerun_ended, reruns_claim_once, reruns_keep_numbers, reruns_keep_setting, reruns_meet}
 use Rattle.rt_carried.specs.Carried.{RerunsCarryAnew}
-use Rattle.rt_carried.proofs.Carries.{listed, carries}
+use Rattle.rt_carried.proofs.Carries.{carries}
+use Rattle.rt_carried.proofs.Drawn.{never_among, all_listed}
+use Rattle.rt_carried.proofs.Unshown.{own_under}
 use Rattle.rt_carried.proofs.Down.{scope_within}
 
-or_none : (a b : Bool) → a ≡ false → b ≡ false → a || b ≡ false
-or_none false b h g = g
-or_none true b h g = h
-
-others : (x n : ℕ) → x < n → nat_eq x n ≡ false
-others x n h = by_test (nat_eq x n) (λ e. let same : x ≡ n = eqb-true x n e in absurd (omega (arith, h, same))) (λ e. e)
-
--- a number from a bound on isn't among numbers below it
-pub not_among : (xs : List ℕ) (n bound : ℕ) → AllByRecursion (λ (k : ℕ). k < bound) xs → bound ≤ n → has xs n ≡ false
-not_among [] n bound h low = refl
-not_among (x ∷ xs) n bound h low =
-    let less : x < bound = h.0 in
-    or_none (nat_eq x n) (has xs n) (others x n (omega (arith, less, low))) (not_among xs n bound h.1 low)
-
--- what holds of each number that is in a list holds of all
-pub all_listed : (P : ℕ → Type 0) (xs : List ℕ) → ((n : ℕ) → 0 < listed n xs → P n) → AllByRecursion P xs
-all_listed P [] h = tt
-all_listed P (x ∷ xs) h = (h x (here x), all_listed P xs (λ n more. h n (later n more)))
-  where
-    here : (n : ℕ) → 0 < counted (nat_eq n n) + listed n xs
-    here n = by_test (nat_eq n n) (λ e. rw e (omega arith)) (λ e. let same : nat_eq n n ≡ true = eq_same n in cc)
-
-    later : (n : ℕ) → 0 < listed n xs → 0 < counted (nat_eq x n) + listed n xs
-    later n more = omega (arith, more)
-
 module _ {K : Types} (v : State K) (g : Settled v) (n : ℕ) where
-  kid_entry : (t : ℕ) (x : Scope K) (a : SideName) (p : Place) (kid : HasChild v t x a p) → at v.scopes t ≡ Some x → KidAt v g n t a p kid.child
-  kid_entry t x a p kid found =
-      record {
-        row = x;
-        found = found;
-        child = child_among (side_of x a).children p kid.child kid.kid;
-        above = up_found v kid.child kid.record_of kid.live ∙ kid.parent;
-        below_is = below_found v kid.child kid.record_of kid.live ∙ ap (λ (s : SideName). Some s) kid.below;
-      }
-
   -- a number that a scope shows stands in it or below it
   pub stands_under : (t : ℕ) (x : Scope K) → at v.scopes t ≡ Some x → 0 < count_of n (nodes_of v t) → Under v g n t
-  stands_under t x found more =
-      (scope_under v g n v g (λ s y a p k there e. record { row = y; found = there; number = e }) (λ s y a p kid there some u. kid_entry s y a p kid there) t x found).1 more
+  stands_under t x found more = (own_under v g n t x found).1 more
 
   -- one that the document shows stands in a live scope
   pub shown_stands : 0 < count_of n (view v) → Under v g n 0
@@ -154,11 +120,15 @@ module _ {K : Types} (app : Application K) (lawful : IsLawful K app) (limits : L
       let z = reruns_keep_numbers app lawful limits props inputs m v s r u.scope n i.row u.side u.place u.kind i.found (contained (side_of i.row u.side).numbers (u.place, u.kind, n) i.number) drawn in
       inr (absent n (view m.state) c.hidden, record { scope = u.scope; row = z.0; side = u.side; place = u.place; kind = u.kind; live = z.1; kept = z.2 })
       )
-      (λ e. let later : m.state.next.elements ≤ n = grind (arith, e) in inl (not_among earlier n m.state.next.elements low later))
+      (
+      λ e.
+      let later : m.state.next.elements ≤ n = grind (arith, e) in
+      inl (never_among (λ (k : ℕ). k < m.state.next.elements) n (λ less. omega (arith, less, later)) earlier low)
+      )
 
   -- and was drawn by the end
-  pub comes_low : (n : ℕ) → Comes n → n < v.state.next.elements
-  comes_low n c = (in_range v.state ended.after n s c.stands).1
+  pub comes_low : (n : ℕ) → Comes n → (0 < n) × (n < v.state.next.elements)
+  comes_low n c = in_range v.state ended.after n s c.stands
 
 module _ {K : Types} (app : Application K) where
   pub reruns_carry_anew : RerunsCarryAnew app
