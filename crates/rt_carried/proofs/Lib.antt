@@ -8,6 +8,7 @@ pub mod Cut
 pub mod Shown
 mod Rests
 mod Open
+mod Running
 mod Wrote
 mod Entries
 mod Sessions

@@ -11,8 +11,8 @@ use Rattle.rt_model.specs.State.{Fault, State, Item}
 use Rattle.rt_model.specs.Replay.{Entry, Build, Taken, Heard, Rerun, Poll, Effects, Made, Fed, Kept, Removed, Input, Machine, no_listener, no_work, waiting, is_quiet, is_due, due, change_by, step, accepts, rows_left, replay_on, start}
 use Rattle.rt_model.specs.Document.{Edit, AppendChildren, count_of}
 use Rattle.rt_model.specs.View.{view}
-use Rattle.rt_model.specs.Caused.{written, caused}
-use Rattle.rt_model.specs.Causes.{Limits, refusal, replay_within}
+use Rattle.rt_model.specs.Caused.{written, caused, caused_until}
+use Rattle.rt_model.specs.Causes.{Limits, first_item, next_height, depth_refused, refusal, replay_within, edits_at_depth}
 use Rattle.rt_model.specs.Told.{Told, Telling, opens, opened, telling, told_by, closed_unit, told_entry, tell_log, tell_reports, edits_of}
 use Rattle.rt_model.specs.Headline.{last_machine}
 use Rattle.rt_model.specs.Sentences.{all_carried, MayCome, AllMayCome}
@@ -34,12 +34,13 @@ use Rattle.rt_standing.proofs.Settled.{settled_of}
 use Rattle.rt_moves.specs.Reruns.{Reruns}
 use Rattle.rt_rerun.proofs.Homes.{Under}
 use Rattle.rt_headline.proofs.Begins.{idle_settled, work_open, matches_serves, build_first, reached_on, idle, matches_entry, start_or_built, unit_begins, entry_aside}
-use Rattle.rt_carried.specs.Carried.{UnitsCarryAnew}
+use Rattle.rt_carried.specs.Carried.{UnitsCarryAnew, CutUnitsCarryAnew}
 use Rattle.rt_carried.proofs.Carries.{carries, carried_both, appended_carries}
 use Rattle.rt_carried.proofs.Drawn.{Below, still_below, less_than, never_among, all_listed}
 use Rattle.rt_carried.proofs.Shown.{shown_stands, in_range, carried_comes, may_come, comes_low}
 use Rattle.rt_fresh.proofs.Limited.{alive_at, some_limits}
 use Rattle.rt_carried.proofs.Rests.{Begins, begins, Finishes, rests, no_moves}
+use Rattle.rt_carried.proofs.Running.{open_come}
 use Rattle.rt_carried.proofs.Entries.{Between, entry_so}
 
 module _ {K : Types} where
@@ -152,3 +153,52 @@ module _ {K : Types} (app : Application K) where
           let x = (entry_so app lawful props inputs limits before [] t u e u.machine so.0 so.1 one alive).0 in
           let same : x.edits ≡ edits = append_cancel_left t.edits x.edits edits (sym x.grown ∙ grown) in
           subst (λ (es : List Edit). AllMayCome (all_carried (before ++ t.edits)) u.before es) same x.come
+
+  -- up to a place where no fault has ended the run
+  module _ (lawful : IsLawful K app) (props : K.Props) (inputs : List (Input K)) (logs : List (List Entry)) (told : List (Told K)) (log : List Entry) (t : Telling K)
+      (tells : tell_reports app (start app props inputs) logs ≡ Some told) (quiet : AllByRecursion (λ (r : Told K). is_quiet r.machine ≡ true) told)
+      (goes : tell_log app (Some (telling (last_machine (start app props inputs) told))) log ≡ Some t) (alive : t.machine.dead ≡ None) where
+    so_far : (limits : Limits) × Between app lawful props inputs limits (joined (edits_of told)) t
+    so_far =
+        let from : Machine K = start app props inputs in
+        let last : Machine K = last_machine from told in
+        let accepted : replay_on app (Some from) (joined logs ++ log) ≡ Some t.machine =
+        replay-append app (joined logs) log (Some from)
+        ∙ ap (λ (o : Option (Machine K)). replay_on app o log) (reports-replay app from logs told tells)
+        ∙ log-replays app log (telling last) t goes in
+        let found = some_limits app (joined logs ++ log) from t.machine accepted in
+        let limits : Limits = found.0 in
+        let reports = reports_so app lawful props inputs limits [] logs log from t.machine told (start_so app lawful props inputs limits) tells quiet found.1 in
+        let on : replay_within app limits (Some last) (log ++ []) ≡ Some t.machine = ap (λ (es : List Entry). replay_within app limits (Some last) es) (append-nil log) ∙ reports.1 in
+        (limits, (log_so app lawful props inputs limits (joined (edits_of told)) log [] (telling last) t t.machine reports.0 goes on alive).0)
+
+    -- the edits up to any item that is refused next
+    next_come : AllMayCome (all_carried (joined (edits_of told) ++ t.edits)) t.before (caused_until app t.before t.machine.state (first_item t.machine.work) t.first)
+    next_come =
+        let limits : Limits = so_far.0 in
+        let so : Between app lawful props inputs limits (joined (edits_of told)) t = so_far.1 in
+        elim so.phase [
+          | inl rest ↦
+              (let none : t.machine.work ≡ [] = idle app lawful limits props inputs t.machine so.reached alive rest in
+              subst (λ (work : List (Item K)). AllMayCome (all_carried (joined (edits_of told) ++ t.edits)) t.before (caused_until app t.before t.machine.state (first_item work) t.first)) (sym none) tt)
+          | inr o ↦ open_come app lawful props inputs limits (all_carried (joined (edits_of told) ++ t.edits)) t.before t.first t.machine o alive (first_item t.machine.work)
+        ]
+
+  pub cut_units_carry_anew : CutUnitsCarryAnew app
+  cut_units_carry_anew lawful limits props inputs logs told log t edits tells quiet goes left = by_dead t.machine.dead refl left
+    where
+      Come : Type 0
+      Come = AllMayCome (all_carried (joined (edits_of told) ++ t.edits)) t.before edits
+
+      same_come : (es : List Edit) → t.edits ++ es ≡ t.edits ++ edits → AllMayCome (all_carried (joined (edits_of told) ++ t.edits)) t.before es → Come
+      same_come es same h = subst (λ (ds : List Edit). AllMayCome (all_carried (joined (edits_of told) ++ t.edits)) t.before ds) (append_cancel_left t.edits es edits same) h
+
+      by_depth : (o : Option Fault) → t.machine.dead ≡ None → edits_at_depth app t o ≡ t.edits ++ edits → Come
+      by_depth None alive same = same_come [] (append-nil t.edits ∙ same) tt
+      by_depth (Some fault) alive same =
+          same_come (caused_until app t.before t.machine.state (first_item t.machine.work) t.first) same (next_come lawful props inputs logs told log t tells quiet goes alive)
+
+      by_dead : (o : Option Fault) → t.machine.dead ≡ o
+          → elim o as (λ z. List Edit) [ None ↦ edits_at_depth app t (depth_refused limits (next_height t.machine)) | Some fault ↦ t.edits ] ≡ t.edits ++ edits → Come
+      by_dead None alive same = by_depth (depth_refused limits (next_height t.machine)) alive same
+      by_dead (Some fault) dead same = same_come [] (append-nil t.edits ∙ same) tt

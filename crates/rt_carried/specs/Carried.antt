@@ -8,7 +8,7 @@ use Rattle.rt_model.specs.Laws.{IsLawful}
 use Rattle.rt_model.specs.Replay.{Entry, Input, Machine, is_quiet, start}
 use Rattle.rt_model.specs.Document.{Edit}
 use Rattle.rt_model.specs.Caused.{written}
-use Rattle.rt_model.specs.Causes.{Limits}
+use Rattle.rt_model.specs.Causes.{Limits, edits_at_refusal}
 use Rattle.rt_model.specs.Told.{Told, Telling, telling, told_entry, tell_log, tell_reports, edits_of}
 use Rattle.rt_model.specs.Headline.{last_machine}
 use Rattle.rt_model.specs.Sentences.{all_carried, AllMayCome}
@@ -39,3 +39,16 @@ module _ {K : Types} (app : Application K) where
       → u.machine.dead ≡ None
       → u.edits ≡ t.edits ++ edits
       → AllMayCome (all_carried (joined (edits_of told) ++ t.edits)) u.before edits
+
+  -- along such logs: where limits refuse the next make of the unit that is open, the edits that they leave of it carry
+  -- what may come in the same way
+  abbrev pub CutUnitsCarryAnew : Type 0
+  CutUnitsCarryAnew =
+      IsLawful K app
+      → (limits : Limits) (props : K.Props) (inputs : List (Input K)) (logs : List (List Entry)) (told : List (Told K))
+      → (log : List Entry) (t : Telling K) (edits : List Edit)
+      → tell_reports app (start app props inputs) logs ≡ Some told
+      → AllByRecursion (λ (r : Told K). is_quiet r.machine ≡ true) told
+      → tell_log app (Some (telling (last_machine (start app props inputs) told))) log ≡ Some t
+      → edits_at_refusal app limits t ≡ t.edits ++ edits
+      → AllMayCome (all_carried (joined (edits_of told) ++ t.edits)) t.before edits

@@ -1,6 +1,6 @@
 //! The numbers that the edits of units carry.
 
-ghost use Rattle.rt_carried.specs.Carried.{RerunsCarryAnew, UnitsCarryAnew};
+ghost use Rattle.rt_carried.specs.Carried.{CutUnitsCarryAnew, RerunsCarryAnew, UnitsCarryAnew};
 ghost use Rattle.rt_model.specs.OneLog.{types};
 ghost use Rattle.rt_model.specs.World.{Application};
 
@@ -13,4 +13,9 @@ pub fn reruns_carry_anew<C, P, V, H, T, E, L>()
 /// edit carried, but those of hidden nodes.
 pub fn units_carry_anew<C, P, V, H, T, E, L>()
     ensures { (app : Application (types C P V H T E L)) → UnitsCarryAnew app }
+{}
+
+/// So do the edits of a unit that limits cut, where they refuse the next scope that it would make.
+pub fn cut_units_carry_anew<C, P, V, H, T, E, L>()
+    ensures { (app : Application (types C P V H T E L)) → CutUnitsCarryAnew app }
 {}

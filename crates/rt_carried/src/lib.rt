@@ -5,4 +5,4 @@
 
 mod carrying;
 
-pub use carrying::{reruns_carry_anew, units_carry_anew};
+pub use carrying::{cut_units_carry_anew, reruns_carry_anew, units_carry_anew};
