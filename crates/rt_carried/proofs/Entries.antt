@@ -195,7 +195,7 @@ module _ {K : Types} (app : Application K) (lawful : IsLawful K app) (props : K.
     accept : accepts app m e ≡ Some v
     accept = ap (λ (b : Bool). if b then Some (step app t.machine e) else None) due_now
 
-    within : replay_within app limits (Some m) (e ∷ []) ≡ Some v
+    pub within : replay_within app limits (Some m) (e ∷ []) ≡ Some v
     within =
         ap (λ (o : Option Fault). replay_within app limits (elim o as (λ z. Option (Machine K)) [ None ↦ accepts app t.machine e | Some fault ↦ None ]) []) none_refused
         ∙ ap (λ (o : Option (Machine K)). replay_within app limits o []) accept
@@ -301,7 +301,7 @@ module _ {K : Types} (app : Application K) (lawful : IsLawful K app) (props : K.
         elim so.phase [ inl rest ↦ at_rest_on h same rest | inr o ↦ in_unit_on h same o ]
 
   -- what is told of an entry that is due
-  told_due : (t u : Telling K) (e : Entry) → is_due app (due app t.machine) e ≡ true → told_entry app t e ≡ Some u → u ≡ closed_unit app (opened t e) (opens e || t.machine.unit) (step app t.machine e)
+  pub told_due : (t u : Telling K) (e : Entry) → is_due app (due app t.machine) e ≡ true → told_entry app t e ≡ Some u → u ≡ closed_unit app (opened t e) (opens e || t.machine.unit) (step app t.machine e)
   told_due t u e due_now told =
       same_telling u (closed_unit app (opened t e) (opens e || t.machine.unit) (step app t.machine e))
       (sym told

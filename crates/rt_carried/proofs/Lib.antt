@@ -7,8 +7,11 @@ pub mod Midway
 pub mod Cut
 pub mod Shown
 mod Rests
+mod Faults
 mod Open
 mod Running
+mod Dying
 mod Wrote
 mod Entries
+mod Faulted
 mod Sessions

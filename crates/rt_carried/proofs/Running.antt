@@ -103,11 +103,11 @@ module _ {K : Types} (app : Application K) (lawful : IsLawful K app) (props : K.
 
   -- the edits up to any item, of the unit that is open
   module _ (xs : List ℕ) (w : State K) (first : Entry) (m : Machine K) (o : OpenUnit app lawful props inputs limits xs w first m) (here : m.dead ≡ None) where
-    ready_here : ReadyAt app lawful m
+    pub ready_here : ReadyAt app lawful m
     ready_here =
         moves_ready app lawful limits o.begun m o.done o.leads (move_ready app lawful limits o.from o.begun (Logged first) o.logged (reached_ready app lawful limits props inputs o.from o.reached))
 
-    open_serving : (s : ℕ) (logged : IsLogged app limits o.from (Rerun s) o.begun) → Serving o.from s o.reached o.alive o.unit logged.due_is m.state m.work × AtWork m
+    pub open_serving : (s : ℕ) (logged : IsLogged app limits o.from (Rerun s) o.begun) → Serving o.from s o.reached o.alive o.unit logged.due_is m.state m.work × AtWork m
     open_serving s logged =
         let begun : (o.begun).dead ≡ None = alive_before app limits o.begun m o.done (o.begun).dead refl o.leads here in
         goes_serving o.from s o.reached o.alive o.unit logged.due_is o.begun m o.done

@@ -8,7 +8,7 @@ use Rattle.rt_model.specs.Tree.{Types}
 use Rattle.rt_model.specs.World.{Application}
 use Rattle.rt_model.specs.Laws.{IsLawful}
 use Rattle.rt_model.specs.State.{Fault, State, Item}
-use Rattle.rt_model.specs.Replay.{Entry, Build, Taken, Heard, Rerun, Poll, Effects, Made, Fed, Kept, Removed, Input, Machine, no_listener, no_work, waiting, is_quiet, is_due, due, change_by, step, accepts, rows_left, replay_on, start}
+use Rattle.rt_model.specs.Replay.{Entry, Build, Taken, Heard, Rerun, Poll, Effects, Made, Fed, Kept, Removed, Input, Machine, no_listener, no_work, waiting, is_quiet, is_due, if_live, due_item, due, change_by, step, accepts, rows_left, replay_on, start}
 use Rattle.rt_model.specs.Document.{Edit, AppendChildren, count_of}
 use Rattle.rt_model.specs.View.{view}
 use Rattle.rt_model.specs.Caused.{written, caused, caused_until}
@@ -42,6 +42,7 @@ use Rattle.rt_fresh.proofs.Limited.{alive_at, some_limits}
 use Rattle.rt_carried.proofs.Rests.{Begins, begins, Finishes, rests, no_moves}
 use Rattle.rt_carried.proofs.Running.{open_come}
 use Rattle.rt_carried.proofs.Entries.{Between, entry_so}
+use Rattle.rt_carried.proofs.Faulted.{entry_faulted}
 
 module _ {K : Types} where
   same_telling : (t u : Telling K) → Some t ≡ Some u → t ≡ u
@@ -120,8 +121,20 @@ module _ {K : Types} (app : Application K) (lawful : IsLawful K app) (props : K.
   start_so = record { log = []; accepted = refl; reached = record { moves = []; leads = refl }; settled = refl; alive = refl; low = tt; phase = inl refl }
 
 module _ {K : Types} (app : Application K) where
+  -- an accepted entry came where no fault had ended the run
+  came_alive : (m v : Machine K) (e : Entry) → replay_on app (Some m) (e ∷ []) ≡ Some v → m.dead ≡ None
+  came_alive m v e h = by_dead m.dead refl
+    where
+      by_dead : (o : Option Fault) → m.dead ≡ o → m.dead ≡ None
+      by_dead None is = is
+      by_dead (Some fault) is =
+          let none : due app m ≡ None =
+          ap (λ (o : Option Fault). if_live m.state (elim o as (λ z. Option Entry) [ None ↦ (if m.built then due_item app m m.work else Some Build) | Some f ↦ None ])) is in
+          let absurdity : None ≡ Some v = sym (ap (λ (o : Option Entry). replay_on app (if is_due app o e then Some (step app m e) else None) []) none) ∙ h in
+          cc
+
   pub units_carry_anew : UnitsCarryAnew app
-  units_carry_anew lawful props inputs logs told log e t u edits tells quiet goes one alive grown = by_limits (some_limits app whole from u.machine accepted)
+  units_carry_anew lawful props inputs logs told log e t u edits tells quiet goes one grown = by_limits (some_limits app whole from u.machine accepted)
     where
       from : Machine K
       from = start app props inputs
@@ -131,6 +144,9 @@ module _ {K : Types} (app : Application K) where
 
       whole : List Entry
       whole = joined logs ++ (log ++ e ∷ [])
+
+      before : List Edit
+      before = joined (edits_of told)
 
       alone : replay_on app (Some t.machine) (e ∷ []) ≡ Some u.machine
       alone = log-replays app (e ∷ []) t u (ap (λ (o : Option (Telling K)). tell_log app o []) one)
@@ -144,15 +160,23 @@ module _ {K : Types} (app : Application K) where
           ∙ alone
 
       by_limits : (limits : Limits) × (replay_within app limits (Some from) whole ≡ Some u.machine) → AllMayCome (all_carried (joined (edits_of told) ++ t.edits)) u.before edits
-      by_limits found =
-          let limits : Limits = found.0 in
-          let before : List Edit = joined (edits_of told) in
-          let reports = reports_so app lawful props inputs limits [] logs (log ++ e ∷ []) from u.machine told (start_so app lawful props inputs limits) tells quiet found.1 in
-          let here : t.machine.dead ≡ None = alive_at app (e ∷ []) t.machine u.machine alone alive in
-          let so = log_so app lawful props inputs limits before log (e ∷ []) (telling last) t u.machine reports.0 goes reports.1 here in
-          let x = (entry_so app lawful props inputs limits before [] t u e u.machine so.0 so.1 one alive).0 in
-          let same : x.edits ≡ edits = append_cancel_left t.edits x.edits edits (sym x.grown ∙ grown) in
-          subst (λ (es : List Edit). AllMayCome (all_carried (before ++ t.edits)) u.before es) same x.come
+      by_limits found = by_dead u.machine.dead refl
+        where
+          limits : Limits
+          limits = found.0
+
+          reports : So app lawful props inputs limits before (telling last) × (replay_within app limits (Some last) (log ++ e ∷ []) ≡ Some u.machine)
+          reports = reports_so app lawful props inputs limits [] logs (log ++ e ∷ []) from u.machine told (start_so app lawful props inputs limits) tells quiet found.1
+
+          so : So app lawful props inputs limits before t × (replay_within app limits (Some t.machine) (e ∷ []) ≡ Some u.machine)
+          so = log_so app lawful props inputs limits before log (e ∷ []) (telling last) t u.machine reports.0 goes reports.1 (came_alive t.machine u.machine e alone)
+
+          these : (es : List Edit) → u.edits ≡ t.edits ++ es → AllMayCome (all_carried (before ++ t.edits)) u.before es → AllMayCome (all_carried (before ++ t.edits)) u.before edits
+          these es same come = subst (λ (ds : List Edit). AllMayCome (all_carried (before ++ t.edits)) u.before ds) (append_cancel_left t.edits es edits (sym same ∙ grown)) come
+
+          by_dead : (o : Option Fault) → u.machine.dead ≡ o → AllMayCome (all_carried (before ++ t.edits)) u.before edits
+          by_dead None alive = let x = (entry_so app lawful props inputs limits before [] t u e u.machine so.0 so.1 one alive).0 in these x.edits x.grown x.come
+          by_dead (Some fault) dead = let x = entry_faulted app lawful props inputs limits before [] t u e u.machine fault so.0 so.1 one dead in these x.edits x.grown x.come
 
   -- up to a place where no fault has ended the run
   module _ (lawful : IsLawful K app) (props : K.Props) (inputs : List (Input K)) (logs : List (List Entry)) (told : List (Told K)) (log : List Entry) (t : Telling K)

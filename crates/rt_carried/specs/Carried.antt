@@ -25,7 +25,7 @@ module _ {K : Types} (app : Application K) where
       → AllMayCome earlier m.state (written app m.state v.state s)
 
   -- along the accepted logs of a session: reports are finished, a log goes on from there, and one more entry adds edits,
-  -- which are those of a unit that it ends; unless a fault ended the run in it, they carry what may come,
+  -- which are those of a unit that it ends, or in which a fault ends the run; they carry what may come,
   -- with all edits of the session before them as the earlier ones
   abbrev pub UnitsCarryAnew : Type 0
   UnitsCarryAnew =
@@ -36,7 +36,6 @@ module _ {K : Types} (app : Application K) where
       → AllByRecursion (λ (r : Told K). is_quiet r.machine ≡ true) told
       → tell_log app (Some (telling (last_machine (start app props inputs) told))) log ≡ Some t
       → told_entry app t e ≡ Some u
-      → u.machine.dead ≡ None
       → u.edits ≡ t.edits ++ edits
       → AllMayCome (all_carried (joined (edits_of told) ++ t.edits)) u.before edits
 
