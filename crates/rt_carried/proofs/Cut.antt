@@ -1,7 +1,6 @@
 -- The edits of a unit so far carry numbers that may come, at each machine while its work is served.
-use Rattle.std.proofs.Common.{ℕ, zero, suc, ◌≤◌, ◌<◌, Bool, true, false, List, [], ◌∷◌, ◌≡◌, inl, inr, refl, sym, ap, ◌∙◌, subst, arith, length}
+use Rattle.std.proofs.Common.{ℕ, zero, suc, ◌≤◌, ◌<◌, true, List, ◌≡◌, inl, inr, sym, ap, ◌∙◌, arith, length}
 use Rattle.std.specs.Prelude.{Option, Some, None, nat_lt}
-use Rattle.std.specs.List.{AllByRecursion}
 use Rattle.rt_model.specs.Lists.{at}
 use Rattle.rt_model.specs.Tree.{Types}
 use Rattle.rt_model.specs.World.{Application}
@@ -9,7 +8,7 @@ use Rattle.rt_model.specs.Laws.{IsLawful}
 use Rattle.rt_model.specs.State.{SideName, Scope, State, Item, side_of, is_live}
 use Rattle.rt_model.specs.Replay.{Rerun}
 use Rattle.rt_model.specs.Document.{Edit}
-use Rattle.rt_model.specs.View.{nodes_of, view}
+use Rattle.rt_model.specs.View.{view}
 use Rattle.rt_model.specs.Caused.{Way, way_to, written_within, caused_until}
 use Rattle.rt_model.specs.Sentences.{all_carried, MayCome, AllMayCome}
 use Rattle.rt_model.proofs.Maps.{by_test}
@@ -65,17 +64,18 @@ module _ {K : Types} (app : Application K) (first v : State K) (f : Settled firs
           let low : suc n < first.next.elements = grind (arith, e) in
           let home = carried_home app first v f h (suc n) (omega arith) low way (length first.scopes) s z lived more in
           let u : Under first f (suc n) s = home.1 in
-          inr
-          (absent (suc n) (view first) (hidden first f (suc n) s z lived u home.0),
-          record {
-            scope = u.scope;
-            row = u.entry.row;
-            side = u.side;
-            place = u.place;
-            kind = u.kind;
-            live = u.entry.found;
-            kept = contained (side_of u.entry.row u.side).numbers (u.place, u.kind, suc n) u.entry.number;
-          })
+          inr (
+            absent (suc n) (view first) (hidden first f (suc n) s z lived u home.0),
+            record {
+              scope = u.scope;
+              row = u.entry.row;
+              side = u.side;
+              place = u.place;
+              kind = u.kind;
+              live = u.entry.found;
+              kept = contained (side_of u.entry.row u.side).numbers (u.place, u.kind, suc n) u.entry.number;
+            },
+          )
           )
           (
           λ e.

@@ -1,11 +1,11 @@
 -- A rerun in which a fault ends the run: the last state keeps what it has to of the one in which the rerun began.
-use Rattle.std.proofs.Common.{ℕ, ◌≤◌, ◌<◌, Bool, true, false, List, [], ◌∷◌, ◌≡◌, refl, sym, ap, ◌∙◌, subst, arith, nat_eq, inl, inr}
+use Rattle.std.proofs.Common.{ℕ, ◌≤◌, Bool, true, false, List, [], ◌∷◌, ◌≡◌, refl, sym, ap, ◌∙◌, subst, arith, nat_eq, inl, inr}
 use Rattle.std.specs.Prelude.{Option, Some, None, if◌then◌else◌}
 use Rattle.rt_model.specs.Lists.{at}
-use Rattle.rt_model.specs.Tree.{Types, Tree, Place, Kind, Spot, component_at}
-use Rattle.rt_model.specs.World.{Application, Event}
+use Rattle.rt_model.specs.Tree.{Types, Tree, Place, Kind, component_at}
+use Rattle.rt_model.specs.World.{Application}
 use Rattle.rt_model.specs.Laws.{IsLawful}
-use Rattle.rt_model.specs.State.{SideName, Side, Scope, State, Fault, Item, Draw, Row, Feed, Make, Drop, Outcome, Done, Cut, empty_side, side_of}
+use Rattle.rt_model.specs.State.{Side, State, Fault, Item, Feed, Make, Drop, Outcome, Done, Cut, empty_side, side_of}
 use Rattle.rt_model.specs.Run.{spots_of, run}
 use Rattle.rt_model.specs.Next.{at_rest}
 use Rattle.rt_model.specs.Removal.{removed}

@@ -7,7 +7,7 @@ use Rattle.rt_model.specs.Laws.{IsLawful}
 use Rattle.rt_model.specs.State.{Fault, State, Item, world_of}
 use Rattle.rt_model.specs.Commands.{commands}
 use Rattle.rt_model.specs.Run.{with_next, fault_of, called_once}
-use Rattle.rt_model.specs.Replay.{Entry, Build, Taken, Heard, Rerun, Poll, Effects, Made, Fed, Kept, Removed, Input, EventAt, WakeOf, WriteOf, MarkOf, Drain, Machine, rested, is_due, due, waiting, looked_where_quiet, then_looked, taken_in, take_next, further, heard_by, heard_event, heard_first, change_by, step}
+use Rattle.rt_model.specs.Replay.{Entry, Build, Taken, Heard, Rerun, Poll, Effects, Made, Fed, Kept, Removed, Input, EventAt, WakeOf, WriteOf, MarkOf, Drain, Machine, rested, is_due, due, waiting, looked_where_quiet, then_looked, taken_in, take_next, further, heard_event, heard_first, change_by, step}
 use Rattle.rt_model.specs.Document.{Edit}
 use Rattle.rt_model.specs.Heard.{Listener}
 use Rattle.rt_model.specs.Caused.{caused_until}
@@ -16,7 +16,7 @@ use Rattle.rt_model.specs.Told.{Telling, opens, opened, closed_unit, told_entry}
 use Rattle.rt_model.specs.Sentences.{all_carried, AllMayCome}
 use Rattle.rt_model.proofs.FaultsOnce.{open_gate}
 use Rattle.rt_model.proofs.Maps.{by_test}
-use Rattle.rt_moves.specs.Moves.{Move, Logged, entries, serves_item, AtWork, IsLogged, Leads}
+use Rattle.rt_moves.specs.Moves.{Logged, serves_item, AtWork, IsLogged}
 use Rattle.rt_moves.specs.Reached.{Reached}
 use Rattle.rt_moves.proofs.Logs.{logs_are_moves}
 use Rattle.rt_moves.proofs.Tellings.{told_where, told_machine}

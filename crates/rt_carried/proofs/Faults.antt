@@ -1,21 +1,21 @@
 -- Where a fault cuts a change the sides of scopes are as they were before it, but for a scope that it made.
 use Rattle.std.proofs.Common.{ℕ, ◌+◌, ◌≤◌, ◌<◌, Bool, true, false, List, [], ◌∷◌, ◌++◌, ◌≡◌, ◌⊎◌, inl, inr, refl, sym, ap, ◌∙◌, subst, arith, nat_eq}
-use Rattle.std.specs.Prelude.{Option, Some, None, if◌then◌else◌, is_some}
+use Rattle.std.specs.Prelude.{Option, Some, None, if◌then◌else◌}
 use Rattle.std.proofs.lemmas.Bool.{eqb-true}
-use Rattle.rt_model.specs.Lists.{at, put, drop_number}
-use Rattle.rt_model.specs.Tree.{Types, Tree, VComponent, Own, Root, Fragment, ErrorBoundary, SuspenseBoundary, Place, Kind, Element, rendered, failed, suspended, placeholder_tree, Spot, component_at, spots}
+use Rattle.rt_model.specs.Lists.{at, put}
+use Rattle.rt_model.specs.Tree.{Types, Tree, VComponent, Own, Root, Fragment, ErrorBoundary, SuspenseBoundary, Place, Element, rendered, failed, suspended, placeholder_tree, spots}
 use Rattle.rt_model.specs.World.{Scopes, Elements, at_end, before_render_kind, CallFault, Command, World, Meaning, Nothing, Application}
-use Rattle.rt_model.specs.State.{SideName, MainSide, ChildrenSide, FallbackSide, IdsExhausted, BadNode, RowStep, PatchChildren, MadeChildren, RunFallback, ShowFallback, ShowChildren, DropFallback, Resolve, Side, Scope, State, Item, Draw, Row, Feed, Make, Drop, Outcome, Done, Cut, onward, empty_side, side_of, with_side, new_scope, changed_scope, change, is_live, is_held, hooks_of, world_of}
+use Rattle.rt_model.specs.State.{SideName, MainSide, ChildrenSide, FallbackSide, IdsExhausted, BadNode, RowStep, PatchChildren, MadeChildren, RunFallback, ShowFallback, ShowChildren, DropFallback, Resolve, Side, Scope, State, Item, Draw, Row, Feed, Make, Drop, Outcome, Done, Cut, onward, empty_side, side_of, new_scope, changed_scope, change, is_live, is_held, hooks_of, world_of}
 use Rattle.rt_model.specs.Commands.{commands}
 use Rattle.rt_model.specs.Run.{fault_of, with_next, called_once, called_where, is_own, answer_fits, kept_call, body_of, call_body, spots_of, patched, start_agenda, has_output, new_output, after_answer, settled_answer, after_hooks, row_of, row_items, runs_fallback, boundary_run, run_as, hooks_called, unmarked, run}
 use Rattle.rt_model.specs.Boundary.{children_of, tree_or_placeholder, counts_render, counted_render, fallback_answered, called_back, row_step}
-use Rattle.rt_model.specs.Removal.{clean_ups, gone, stopped, cleaned, removed}
-use Rattle.rt_model.specs.Replay.{numbered, draw_number, with_child, with_new_scope, fed_child, keeps, made_in, with_props, handed, outcome_of}
-use Rattle.rt_model.proofs.Maps.{by_test, eq_same, at_put_here, at_put_other, at_put_none, at_append_here, at_append_none}
+use Rattle.rt_model.specs.Removal.{clean_ups, stopped, cleaned, removed}
+use Rattle.rt_model.specs.Replay.{numbered, with_child, with_new_scope, fed_child, keeps, made_in, with_props, handed, outcome_of}
+use Rattle.rt_model.proofs.Maps.{by_test, at_put_here, at_put_other, at_put_none, at_append_here, at_append_none}
 use Rattle.rt_model.proofs.Among.{Among, among_push}
 use Rattle.rt_ready.proofs.Twigs.{found_live, live_found}
 use Rattle.rt_moves.specs.Frames.{shown}
-use Rattle.rt_frame.proofs.Commanded.{Level, level_trans, level_refl, level_rest, change_level, commands_level}
+use Rattle.rt_frame.proofs.Commanded.{Level, level_trans, level_rest, change_level, commands_level}
 use Rattle.rt_frame.proofs.Called.{LevelO, stopped_level, next_level, once_level, where_level, kept_level, hooks_level, after_hooks_level, settled_answer_level, counted_level, called_back_level, unmarked_level, onward_level}
 use Rattle.rt_standing.proofs.Did.{Alike, alike, same_scope}
 
@@ -254,13 +254,12 @@ module _ {K : Types} where
             elim (f.sides t x.0 x.1) [
               | inl empty ↦ inl (λ a. x.2 a ∙ empty a)
               | inr z ↦
-                  inr
-                  (
-                  z.0,
-                  z.1,
-                  λ a.
-                      let told = z.2 a in
-                      (ap (λ (i : Side K). i.output) (x.2 a) ∙ told.0, ap (λ (i : Side K). i.numbers) (x.2 a) ∙ told.1, λ e g. told.2 e (subst (λ (i : Side K). Among i.children e) (x.2 a) g))
+                  inr (
+                    z.0,
+                    z.1,
+                    λ a.
+                        let told = z.2 a in
+                        (ap (λ (i : Side K). i.output) (x.2 a) ∙ told.0, ap (λ (i : Side K). i.numbers) (x.2 a) ∙ told.1, λ e g. told.2 e (subst (λ (i : Side K). Among i.children e) (x.2 a) g)),
                   )
             ];
         lives = λ t live low. let y = found_live (at v.scopes t) live in let x = h t y.0 y.1 in f.lives t (live_found u t x.0 x.1) low;

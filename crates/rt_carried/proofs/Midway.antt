@@ -1,13 +1,13 @@
 -- What a state in the midst of a unit keeps of the one in which the unit began; and of a number that was drawn before,
 -- that it shows, or that the edits up to there carry, where its home was.
-use Rattle.std.proofs.Common.{ℕ, zero, suc, ◌+◌, ◌≤◌, ◌<◌, Bool, true, false, ◌&&◌, List, [], ◌∷◌, ◌≡◌, refl, sym, ap, ◌∙◌, subst, arith, nat_eq, length}
+use Rattle.std.proofs.Common.{ℕ, zero, suc, ◌+◌, ◌≤◌, ◌<◌, Bool, true, false, ◌&&◌, [], ◌≡◌, refl, sym, ap, ◌∙◌, subst, arith, nat_eq, length}
 use Rattle.std.specs.Prelude.{Option, Some, None, if◌then◌else◌, is_some, nat_lt}
 use Rattle.std.proofs.lemmas.Bool.{eqb-true}
 use Rattle.rt_model.specs.Lists.{at}
 use Rattle.rt_model.specs.Tree.{Types, Tree, Place, Kind, VComponent, Spot, node_at, component_at, spots}
 use Rattle.rt_model.specs.World.{Application}
 use Rattle.rt_model.specs.Values.{is_same_component}
-use Rattle.rt_model.specs.State.{SideName, same_side, Side, Scope, State, side_of, is_live, is_shown}
+use Rattle.rt_model.specs.State.{SideName, same_side, Scope, State, side_of, is_live, is_shown}
 use Rattle.rt_model.specs.Run.{child_at, spots_of}
 use Rattle.rt_model.specs.Heard.{number_at}
 use Rattle.rt_model.specs.Document.{Forest, Empty, count_of}
@@ -20,7 +20,6 @@ use Rattle.rt_model.proofs.SamePlaces.{number_stands}
 use Rattle.rt_model.proofs.ViewCounts.{one_if, passes}
 use Rattle.rt_model.proofs.WellNumbered.{FitsBelow}
 use Rattle.rt_ready.proofs.Twigs.{up, below, live_found}
-use Rattle.rt_moves.specs.Settings.{counted}
 use Rattle.rt_moves.specs.Meets.{child_claims, tree_claims}
 use Rattle.rt_moves.specs.Trees.{HasChild}
 use Rattle.rt_standing.proofs.Nodes.{Shown, Settled, shown_of, view_of, kid_of, rows_of_side}

@@ -1,5 +1,5 @@
 -- From the start of a session through finished reports to any entry of the next one.
-use Rattle.std.proofs.Common.{ℕ, ◌≤◌, ◌<◌, Bool, true, false, ◌&&◌, ◌||◌, not, List, [], ◌∷◌, ◌++◌, ◌≡◌, ◌⊎◌, inl, inr, refl, sym, ap, ◌∙◌, subst, arith, append_assoc}
+use Rattle.std.proofs.Common.{true, false, ◌&&◌, not, List, [], ◌∷◌, ◌++◌, ◌≡◌, inl, inr, refl, sym, ap, ◌∙◌, subst, append_assoc}
 use Rattle.std.proofs.lemmas.List.{append-nil, append_cancel_left}
 use Rattle.std.specs.Prelude.{Option, Some, None, if◌then◌else◌, is_some}
 use Rattle.std.specs.List.{AllByRecursion}
@@ -7,39 +7,21 @@ use Rattle.rt_model.specs.Lists.{joined}
 use Rattle.rt_model.specs.Tree.{Types}
 use Rattle.rt_model.specs.World.{Application}
 use Rattle.rt_model.specs.Laws.{IsLawful}
-use Rattle.rt_model.specs.State.{Fault, State, Item}
-use Rattle.rt_model.specs.Replay.{Entry, Build, Taken, Heard, Rerun, Poll, Effects, Made, Fed, Kept, Removed, Input, Machine, no_listener, no_work, waiting, is_quiet, is_due, if_live, due_item, due, change_by, step, accepts, rows_left, replay_on, start}
-use Rattle.rt_model.specs.Document.{Edit, AppendChildren, count_of}
-use Rattle.rt_model.specs.View.{view}
-use Rattle.rt_model.specs.Caused.{written, caused, caused_until}
-use Rattle.rt_model.specs.Causes.{Limits, first_item, next_height, depth_refused, refusal, replay_within, edits_at_depth}
-use Rattle.rt_model.specs.Told.{Told, Telling, opens, opened, telling, told_by, closed_unit, told_entry, tell_log, tell_reports, edits_of}
+use Rattle.rt_model.specs.State.{Fault, Item}
+use Rattle.rt_model.specs.Replay.{Entry, Build, Input, Machine, no_listener, no_work, waiting, is_quiet, is_due, if_live, due_item, due, step, replay_on, start}
+use Rattle.rt_model.specs.Document.{Edit}
+use Rattle.rt_model.specs.Caused.{caused_until}
+use Rattle.rt_model.specs.Causes.{Limits, first_item, next_height, depth_refused, replay_within, edits_at_depth}
+use Rattle.rt_model.specs.Told.{Told, Telling, telling, told_by, told_entry, tell_log, tell_reports, edits_of}
 use Rattle.rt_model.specs.Headline.{last_machine}
-use Rattle.rt_model.specs.Sentences.{all_carried, MayCome, AllMayCome}
+use Rattle.rt_model.specs.Sentences.{all_carried, AllMayCome}
 use Rattle.rt_model.proofs.Conjunctions.{and-left, and-right}
-use Rattle.rt_model.proofs.FaultsOnce.{open_gate}
-use Rattle.rt_model.proofs.LastsAlways.{logs_last}
-use Rattle.rt_model.proofs.Maps.{by_test}
 use Rattle.rt_model.proofs.ToldReplayed.{First, first-of, log-replays, reports-replay, replay-append}
-use Rattle.rt_moves.specs.Moves.{Move, Closed, Logged, serves_item, Inside, moves_alone, IsSettled, AtWork, IsClosed, IsLogged, Leads}
-use Rattle.rt_moves.specs.Reached.{Reached}
-use Rattle.rt_moves.proofs.Fuel.{fuel_suffices}
-use Rattle.rt_moves.proofs.Insides.{alive_before, inside_lasts}
-use Rattle.rt_moves.proofs.Joins.{Inside-append, Leads-append}
-use Rattle.rt_moves.proofs.Logs.{logs_are_moves}
-use Rattle.rt_moves.proofs.Tellings.{told_where, told_machine}
-use Rattle.rt_ready.proofs.Lists.{every_join}
-use Rattle.rt_standing.proofs.Nodes.{Settled}
-use Rattle.rt_standing.proofs.Settled.{settled_of}
-use Rattle.rt_moves.specs.Reruns.{Reruns}
-use Rattle.rt_rerun.proofs.Homes.{Under}
-use Rattle.rt_headline.proofs.Begins.{idle_settled, work_open, matches_serves, build_first, reached_on, idle, matches_entry, start_or_built, unit_begins, entry_aside}
+use Rattle.rt_moves.specs.Moves.{moves_alone}
+use Rattle.rt_headline.proofs.Begins.{idle}
 use Rattle.rt_carried.specs.Carried.{UnitsCarryAnew, CutUnitsCarryAnew}
-use Rattle.rt_carried.proofs.Carries.{carries, carried_both, appended_carries}
-use Rattle.rt_carried.proofs.Drawn.{Below, still_below, less_than, never_among, all_listed}
-use Rattle.rt_carried.proofs.Shown.{shown_stands, in_range, carried_comes, may_come, comes_low}
+use Rattle.rt_carried.proofs.Drawn.{Below}
 use Rattle.rt_fresh.proofs.Limited.{alive_at, some_limits}
-use Rattle.rt_carried.proofs.Rests.{Begins, begins, Finishes, rests, no_moves}
 use Rattle.rt_carried.proofs.Running.{open_come}
 use Rattle.rt_carried.proofs.Entries.{Between, entry_so}
 use Rattle.rt_carried.proofs.Faulted.{entry_faulted}

@@ -1,32 +1,29 @@
 -- A number that the edits of a rerun carry stands in the state after it, and didn't show before it.
-use Rattle.std.proofs.Common.{ℕ, zero, suc, ◌+◌, ◌≤◌, ◌<◌, Bool, true, false, ◌||◌, List, [], ◌∷◌, ◌≡◌, inl, inr, refl, ap, ◌∙◌, arith, nat_eq, length}
+use Rattle.std.proofs.Common.{ℕ, zero, suc, ◌+◌, ◌≤◌, ◌<◌, true, false, List, [], ◌≡◌, inl, inr, refl, ap, ◌∙◌, arith, length}
 use Rattle.std.specs.Prelude.{Option, Some, None, nat_lt}
 use Rattle.std.specs.List.{AllByRecursion}
-use Rattle.std.proofs.lemmas.Bool.{eqb-true}
-use Rattle.rt_model.specs.Lists.{at, has}
-use Rattle.rt_model.specs.Tree.{Types, Place}
+use Rattle.rt_model.specs.Lists.{at}
+use Rattle.rt_model.specs.Tree.{Types}
 use Rattle.rt_model.specs.World.{Application}
 use Rattle.rt_model.specs.Laws.{IsLawful}
-use Rattle.rt_model.specs.State.{SideName, Scope, State, side_of, is_shown}
+use Rattle.rt_model.specs.State.{Scope, State, side_of, is_shown}
 use Rattle.rt_model.specs.Replay.{Input, Machine}
 use Rattle.rt_model.specs.Document.{Forest, Edit, count_of}
 use Rattle.rt_model.specs.View.{scope_view, nodes_of, view}
 use Rattle.rt_model.specs.Caused.{written_within, written}
 use Rattle.rt_model.specs.Causes.{Limits}
 use Rattle.rt_model.specs.Sentences.{all_carried, MayCome}
-use Rattle.rt_model.proofs.Maps.{by_test, eq_same}
-use Rattle.rt_model.proofs.NumbersStand.{child_among}
-use Rattle.rt_ready.proofs.Twigs.{up_found, below_found, found_live}
-use Rattle.rt_moves.specs.Settings.{Setting, counted, beside}
+use Rattle.rt_model.proofs.Maps.{by_test}
+use Rattle.rt_ready.proofs.Twigs.{found_live}
+use Rattle.rt_moves.specs.Settings.{Setting, beside}
 use Rattle.rt_moves.specs.Sweeps.{MeetsDown, scope_claims}
 use Rattle.rt_written.proofs.Standing.{absent, count_placed}
 use Rattle.rt_written.proofs.Descent.{scope_sweep}
 use Rattle.rt_written.proofs.Unfolding.{tree_unfolds}
-use Rattle.rt_moves.specs.Trees.{HasChild}
 use Rattle.rt_standing.proofs.Nodes.{Settled}
 use Rattle.rt_standing.proofs.Settled.{contained, settled_once}
 use Rattle.rt_moves.specs.Reruns.{Reruns}
-use Rattle.rt_rerun.proofs.Homes.{Entry, Under, KidAt, scope_under}
+use Rattle.rt_rerun.proofs.Homes.{Entry, Under}
 use Rattle.rt_rerun.proofs.Reruns.{Ended, rerun_ended, reruns_claim_once, reruns_keep_numbers, reruns_keep_setting, reruns_meet}
 use Rattle.rt_carried.specs.Carried.{RerunsCarryAnew}
 use Rattle.rt_carried.proofs.Carries.{carries}

@@ -1,6 +1,6 @@
 -- Two outputs that pass the node test meet in their shapes: stand-ins take the places of the new children.
-use Rattle.std.proofs.Common.{ℕ, List, [], ◌∷◌, ◌++◌, ◌≡◌, inl, inr, refl, sym, ap, ◌∙◌, subst, true}
-use Rattle.std.specs.Prelude.{Option, Some, None}
+use Rattle.std.proofs.Common.{ℕ, List, [], ◌∷◌, ◌++◌, ◌≡◌, inl, inr, refl, sym, ◌∙◌, subst, true}
+use Rattle.std.specs.Prelude.{Option, Some}
 use Rattle.rt_model.specs.Tree.{Types, Tree, VComponent, Place, same_place, Spot, node_at, component_at, spots}
 use Rattle.rt_model.specs.World.{Application}
 use Rattle.rt_model.specs.State.{Side}

@@ -1,5 +1,5 @@
 -- The numbers that edits carry: each is that of a hidden node that is shown again, or one that no edit carried before.
-use Rattle.std.specs.Prelude.{ℕ, ◌<◌, true, List, ◌++◌, Some, None, ◌≡◌}
+use Rattle.std.specs.Prelude.{ℕ, ◌<◌, true, List, ◌++◌, Some, ◌≡◌}
 use Rattle.std.specs.List.{AllByRecursion}
 use Rattle.rt_model.specs.Lists.{joined}
 use Rattle.rt_model.specs.Tree.{Types}
