@@ -1,12 +1,12 @@
 -- The edits of a unit so far carry numbers that may come, at each machine while its work is served.
-use Rattle.std.proofs.Common.{ℕ, zero, suc, ◌≤◌, ◌<◌, true, List, ◌≡◌, inl, inr, sym, ap, ◌∙◌, arith, length}
+use Rattle.std.proofs.Common.{ℕ, zero, suc, ◌≤◌, ◌<◌, true, List, ◌≡◌, inl, inr, refl, sym, ap, ◌∙◌, arith, length}
 use Rattle.std.specs.Prelude.{Option, Some, None, nat_lt}
 use Rattle.rt_model.specs.Lists.{at}
 use Rattle.rt_model.specs.Tree.{Types}
 use Rattle.rt_model.specs.World.{Application}
 use Rattle.rt_model.specs.Laws.{IsLawful}
 use Rattle.rt_model.specs.State.{SideName, Scope, State, Item, side_of, is_live}
-use Rattle.rt_model.specs.Replay.{Rerun}
+use Rattle.rt_model.specs.Replay.{Entry, Build, Taken, Heard, Rerun, Poll, Effects, Made, Fed, Kept, Removed}
 use Rattle.rt_model.specs.Document.{Edit}
 use Rattle.rt_model.specs.View.{view}
 use Rattle.rt_model.specs.Caused.{Way, way_to, written_within, caused_until}
@@ -87,3 +87,18 @@ module _ {K : Types} (app : Application K) (first v : State K) (f : Settled firs
   pub until_may_come : (s : ℕ) → is_live first s ≡ true → (refused : Option (Item K)) → AllMayCome earlier first (caused_until app first v refused (Rerun s))
   until_may_come s live None = tt
   until_may_come s live (Some item) = let z = found_live (at first.scopes s) live in way_may_come (way_to v (Some item)) s z.0 z.1
+
+module _ {K : Types} (app : Application K) (xs : List ℕ) (w v : State K) where
+  -- of the units that a fault cuts only reruns wrote something
+  pub by_rerun : (e : Entry) (refused : Option (Item K)) → ((s : ℕ) → e ≡ Rerun s → AllMayCome xs w (caused_until app w v refused (Rerun s))) → AllMayCome xs w (caused_until app w v refused e)
+  by_rerun e None h = tt
+  by_rerun (Rerun s) (Some item) h = h s refl
+  by_rerun Build (Some item) h = tt
+  by_rerun (Taken k) (Some item) h = tt
+  by_rerun (Heard s) (Some item) h = tt
+  by_rerun (Poll t) (Some item) h = tt
+  by_rerun (Effects s) (Some item) h = tt
+  by_rerun (Made s) (Some item) h = tt
+  by_rerun (Fed s) (Some item) h = tt
+  by_rerun (Kept s) (Some item) h = tt
+  by_rerun (Removed s) (Some item) h = tt

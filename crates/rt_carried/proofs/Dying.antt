@@ -22,7 +22,7 @@ use Rattle.rt_headline.proofs.Begins.{idle, unit_begins}
 use Rattle.rt_carried.proofs.Drawn.{Below}
 use Rattle.rt_carried.proofs.Midway.{Midway}
 use Rattle.rt_carried.proofs.Faults.{OneMore, CutMore, same_more, removed_cut, outcome_cut}
-use Rattle.rt_carried.proofs.Cut.{until_may_come}
+use Rattle.rt_carried.proofs.Cut.{until_may_come, by_rerun}
 use Rattle.rt_carried.proofs.Open.{OpenUnit}
 use Rattle.rt_carried.proofs.Running.{Serving, live, before, begins_serving, goes_serving, serving_midway, ready_here, open_serving}
 
@@ -35,7 +35,7 @@ not_none a h = cc
 not_bare : {A P : Type 0} (x : A) (xs : List A) → x ∷ xs ≡ [] → P
 not_bare x xs h = cc
 
-pub not_true : {P : Type 0} → false ≡ true → P
+not_true : {P : Type 0} → false ≡ true → P
 not_true h = cc
 
 module _ {K : Types} where
@@ -213,24 +213,16 @@ module _ {K : Types} (app : Application K) (lawful : IsLawful K app) (props : K.
       (u v : Machine K) (e : Entry) (moves : List Move) (fault : Fault) (serves : serves_item e ≡ true) (logged : IsLogged app limits m e u) (leads : Leads app limits u moves v) (bare : entries moves ≡ [])
       (dead : v.dead ≡ Some fault) where
     pub open_dies : (refused : Option (Item K)) → AllMayCome xs w (caused_until app w v.state refused first)
-    open_dies refused = subst (λ (x : State K). AllMayCome xs x (caused_until app x v.state refused first)) (sym o.before_is) (by_entry first refused o.logged)
+    open_dies refused =
+        subst (λ (x : State K). AllMayCome xs x (caused_until app x v.state refused first)) (sym o.before_is)
+        (by_rerun app xs (o.from).state v.state first refused (λ s same. rerun_dies s (subst (λ (d : Entry). IsLogged app limits o.from d o.begun) same o.logged)))
       where
-        by_entry : (d : Entry) (r : Option (Item K)) → IsLogged app limits o.from d o.begun → AllMayCome xs (o.from).state (caused_until app (o.from).state v.state r d)
-        by_entry d None begins = tt
-        by_entry (Rerun s) (Some item) begins =
+        rerun_dies : (s : ℕ) → IsLogged app limits o.from (Rerun s) o.begun → AllMayCome xs (o.from).state (caused_until app (o.from).state v.state refused (Rerun s))
+        rerun_dies s begins =
             let serving = open_serving app lawful props inputs limits xs w first m o here s begins in
             let ready : ReadyAt app lawful m = ready_here app lawful props inputs limits xs w first m o here in
             let mid : Midway app (o.from).state v.state =
             after_move o.from s o.reached o.alive o.unit begins.due_is v fault dead m u (Logged e) moves u.dead refl serving.1 ready serving.0 logged (serves, tt) leads bare
             (dies o.from s o.reached o.alive o.unit begins.due_is v fault dead u moves) in
             until_may_come app (o.from).state v.state (before app lawful props inputs limits o.from s o.reached o.alive o.unit begins.due_is) mid xs o.low s
-            (live app lawful props inputs limits o.from s o.reached o.alive o.unit begins.due_is) (Some item)
-        by_entry Build (Some item) begins = tt
-        by_entry (Taken k) (Some item) begins = tt
-        by_entry (Heard t) (Some item) begins = tt
-        by_entry (Poll t) (Some item) begins = tt
-        by_entry (Effects t) (Some item) begins = tt
-        by_entry (Made t) (Some item) begins = tt
-        by_entry (Fed t) (Some item) begins = tt
-        by_entry (Kept t) (Some item) begins = tt
-        by_entry (Removed t) (Some item) begins = tt
+            (live app lawful props inputs limits o.from s o.reached o.alive o.unit begins.due_is) refused

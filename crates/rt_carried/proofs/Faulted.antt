@@ -23,7 +23,8 @@ use Rattle.rt_moves.proofs.Tellings.{told_where, told_machine}
 use Rattle.rt_headline.proofs.Begins.{idle_settled, work_open, matches_serves, reached_on, idle, matches_entry, entry_aside}
 use Rattle.rt_carried.proofs.Rests.{Begins, begins, no_moves}
 use Rattle.rt_carried.proofs.Open.{serves_opens_none, OpenUnit, in_work}
-use Rattle.rt_carried.proofs.Dying.{not_some, not_true, dead_stays, rerun_come, open_dies}
+use Rattle.rt_carried.proofs.Cut.{by_rerun}
+use Rattle.rt_carried.proofs.Dying.{not_some, dead_stays, rerun_come, open_dies}
 use Rattle.rt_carried.proofs.Entries.{Between, within, told_due}
 
 module _ {K : Types} where
@@ -144,32 +145,14 @@ module _ {K : Types} (app : Application K) (lawful : IsLawful K app) (props : K.
 
     -- the entry begins a unit
     opening : opens e ≡ true → m.unit ≡ false → Faulted before t u
-    opening q rest = faulted_by before t u anew v refl (told_as true q) (by_entry e v.refused refl q b.logged)
-      where
-        by_entry : (d : Entry) (r : Option (Item K)) → v.refused ≡ r → opens d ≡ true → IsLogged app limits m d b.middle → AllMayCome xs m.state (caused_until app m.state v.state v.refused d)
-        by_entry (Rerun s) r is h logged =
-            rerun_come app lawful props inputs limits m s so.reached so.alive rest logged.due_is b.middle v b.rest fault xs logged b.leads b.none dead so.low
-        by_entry Build r is h logged = subst (λ (z : Option (Item K)). AllMayCome xs m.state (caused_until app m.state v.state z Build)) (sym is) (by_item r)
-          where
-            by_item : (z : Option (Item K)) → AllMayCome xs m.state (caused_until app m.state v.state z Build)
-            by_item None = tt
-            by_item (Some item) = tt
-        by_entry (Poll p) r is h logged = subst (λ (z : Option (Item K)). AllMayCome xs m.state (caused_until app m.state v.state z (Poll p))) (sym is) (by_item r)
-          where
-            by_item : (z : Option (Item K)) → AllMayCome xs m.state (caused_until app m.state v.state z (Poll p))
-            by_item None = tt
-            by_item (Some item) = tt
-        by_entry (Effects s) r is h logged = subst (λ (z : Option (Item K)). AllMayCome xs m.state (caused_until app m.state v.state z (Effects s))) (sym is) (by_item r)
-          where
-            by_item : (z : Option (Item K)) → AllMayCome xs m.state (caused_until app m.state v.state z (Effects s))
-            by_item None = tt
-            by_item (Some item) = tt
-        by_entry (Taken k) r is h logged = not_true h
-        by_entry (Heard s) r is h logged = not_true h
-        by_entry (Made s) r is h logged = not_true h
-        by_entry (Fed s) r is h logged = not_true h
-        by_entry (Kept s) r is h logged = not_true h
-        by_entry (Removed s) r is h logged = not_true h
+    opening q rest =
+        faulted_by before t u anew v refl (told_as true q)
+        (by_rerun app xs m.state v.state e v.refused
+        (
+        λ s is.
+        let logged : IsLogged app limits m (Rerun s) b.middle = subst (λ (d : Entry). IsLogged app limits m d b.middle) is b.logged in
+        rerun_come app lawful props inputs limits m s so.reached so.alive rest logged.due_is b.middle v b.rest fault xs logged b.leads b.none dead so.low
+        ))
 
     -- no unit is open, and none begins
     aside : opens e ≡ false → m.unit ≡ false → Faulted before t u

@@ -8,7 +8,7 @@ use Rattle.rt_model.specs.Laws.{IsLawful}
 use Rattle.rt_model.specs.State.{State, Fault, Item, Outcome, Done, Cut, is_live}
 use Rattle.rt_model.specs.Next.{at_rest}
 use Rattle.rt_model.specs.Run.{run}
-use Rattle.rt_model.specs.Replay.{Entry, Build, Taken, Heard, Rerun, Poll, Effects, Made, Fed, Kept, Removed, Input, Machine, ended_by, one_more_unit, rested, due_item, due, change_by, names_live, if_live}
+use Rattle.rt_model.specs.Replay.{Entry, Build, Rerun, Input, Machine, ended_by, one_more_unit, rested, due_item, due, change_by, names_live, if_live}
 use Rattle.rt_model.specs.Causes.{Limits}
 use Rattle.rt_model.specs.Caused.{caused_until}
 use Rattle.rt_model.specs.Sentences.{AllMayCome}
@@ -26,7 +26,7 @@ use Rattle.rt_rerun.proofs.Units.{begun_since}
 use Rattle.rt_headline.proofs.Begins.{idle}
 use Rattle.rt_carried.proofs.Open.{OpenUnit}
 use Rattle.rt_carried.proofs.Midway.{Midway}
-use Rattle.rt_carried.proofs.Cut.{since_midway, until_may_come}
+use Rattle.rt_carried.proofs.Cut.{since_midway, until_may_come, by_rerun}
 
 module _ {K : Types} (app : Application K) where
   -- an entry of a rerun is due once the build has begun, and its scope is live
@@ -115,19 +115,12 @@ module _ {K : Types} (app : Application K) (lawful : IsLawful K app) (props : K.
         (begins_serving o.from s o.reached o.alive o.unit logged.due_is o.begun logged begun)
 
     pub open_come : (refused : Option (Item K)) → AllMayCome xs w (caused_until app w m.state refused first)
-    open_come refused = subst (λ (x : State K). AllMayCome xs x (caused_until app x m.state refused first)) (sym o.before_is) (by_entry first refused o.logged)
-      where
-        by_entry : (e : Entry) (r : Option (Item K)) → IsLogged app limits o.from e o.begun → AllMayCome xs (o.from).state (caused_until app (o.from).state m.state r e)
-        by_entry e None logged = tt
-        by_entry (Rerun s) (Some item) logged =
-            until_may_come app (o.from).state m.state (before o.from s o.reached o.alive o.unit logged.due_is)
-            (serving_midway o.from s o.reached o.alive o.unit logged.due_is m ready_here here (open_serving s logged).0) xs o.low s (live o.from s o.reached o.alive o.unit logged.due_is) (Some item)
-        by_entry Build (Some item) logged = tt
-        by_entry (Taken k) (Some item) logged = tt
-        by_entry (Heard s) (Some item) logged = tt
-        by_entry (Poll t) (Some item) logged = tt
-        by_entry (Effects s) (Some item) logged = tt
-        by_entry (Made s) (Some item) logged = tt
-        by_entry (Fed s) (Some item) logged = tt
-        by_entry (Kept s) (Some item) logged = tt
-        by_entry (Removed s) (Some item) logged = tt
+    open_come refused =
+        subst (λ (x : State K). AllMayCome xs x (caused_until app x m.state refused first)) (sym o.before_is)
+        (by_rerun app xs (o.from).state m.state first refused
+        (
+        λ s same.
+        let logged : IsLogged app limits o.from (Rerun s) o.begun = subst (λ (d : Entry). IsLogged app limits o.from d o.begun) same o.logged in
+        until_may_come app (o.from).state m.state (before o.from s o.reached o.alive o.unit logged.due_is)
+        (serving_midway o.from s o.reached o.alive o.unit logged.due_is m ready_here here (open_serving s logged).0) xs o.low s (live o.from s o.reached o.alive o.unit logged.due_is) refused
+        ))
