@@ -7,8 +7,6 @@ mod inputs;
 mod keys;
 mod operands;
 mod sources;
-#[cfg(test)]
-mod tests;
 mod views;
 
 pub use sources::refusal;

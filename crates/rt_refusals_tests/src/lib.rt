@@ -1,0 +1,7 @@
+//! Wrong sources, each with its line.
+#![tactic(auto)]
+
+#[cfg(test)]
+mod rows;
+#[cfg(test)]
+mod tests;
