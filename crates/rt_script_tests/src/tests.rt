@@ -1,13 +1,12 @@
-//! Calls of scripts in a world with no scope and no cell.
+//! Bodies of scripts in a world with no scope and no cell.
 
-use rt_calls::{App, Cx, Firsts, InBody, Plain, Rows, TaskStep, TurnParts, World, no_calls};
-use rt_nodes::{DynamicNode, Element, VNode};
-use rt_parts::{Event, RenderError};
+use rt_calls::{App, Cx, Firsts, InBody, Rows, TurnParts, World, no_calls};
+use rt_nodes::{DynamicNode, Element};
+use rt_parts::RenderError;
 use rt_script::Script;
-use rt_script_values::{Content, Doing, Standing, Value};
 use rt_sources::read_source;
 use rt_tracked::Cells;
-use rt_values::{List, ScopeId, Task};
+use rt_values::ScopeId;
 use std::alloc::Global;
 use std::test::Fail;
 
@@ -20,14 +19,22 @@ const FIRSTS: Firsts = Firsts {
     errors: 1,
 };
 
-/// The script of a source.
-fn script(alloc: Global, source: &str) -> Result<Script, Fail> {
-    let source = read_source(alloc, source.as_bytes())?.ok_or("refused")?;
-    Ok(Script::new(alloc, source)?.ok_or("a hook stands in an action")?)
+/// A component with these statements and one text, a task without statements, and an action.
+fn source_of(alloc: Global, statements: &str, expression: &str) -> Result<String, Fail> {
+    let mut source = String::from_str(alloc, r#"{"components":{"App":{"do":["#)?;
+    source.push_str(statements)?;
+    source.push_str(r#"],"view":[{"text":"#)?;
+    source.push_str(expression)?;
+    source.push_str(
+        r#"}]}},"tasks":{"T":{"steps":[[]]}},"actions":{"A":{"do":[]}},"root":"App"}"#,
+    )?;
+    Ok(source)
 }
 
-/// What the body of the first component leaves.
-fn body(alloc: Global, script: &Script) -> Result<TurnParts<Script, Element<Script>>, Fail> {
+/// What the body of that component leaves.
+fn body(alloc: Global, source: &str) -> Result<TurnParts<Script, Element<Script>>, Fail> {
+    let source = read_source(alloc, source.as_bytes())?.ok_or("refused")?;
+    let script = Script::new(alloc, source)?.ok_or("a hook stands in an action")?;
     let rows = Rows::new(alloc);
     let cells = Cells::new(alloc, 1, 1);
     let world = World {
@@ -43,183 +50,82 @@ fn body(alloc: Global, script: &Script) -> Result<TurnParts<Script, Element<Scri
     Ok(script.render(alloc, &0, &props, cx)?.parts())
 }
 
-/// The text in the first slot of the first component.
-fn shown(alloc: Global, script: &Script) -> Result<String, Fail> {
-    let parts = body(alloc, script)?;
-    match &parts.answer {
-        Ok(tree) => text_in(alloc, tree),
-        Err(_error) => Err(Fail::from("no tree")),
-    }
-}
-
-/// The text in the first slot of a tree.
-fn text_in(alloc: Global, tree: &VNode<Script>) -> Result<String, Fail> {
-    match tree.dynamic_nodes.get(0) {
-        Some(DynamicNode::Text(text)) => Ok(String::from_str(alloc, text.as_str())?),
-        _ => Err(Fail::from("no text")),
-    }
-}
-
-/// A word for an answer, with the error's text or the task's number.
+/// The text in the tree of an answer, or the error's, or the number of the task.
 fn told(alloc: Global, answer: &Element<Script>) -> Result<String, Fail> {
     let mut told = String::new(alloc);
     match answer {
-        Ok(_tree) => told.push_str("tree")?,
-        Err(error) => match error {
-            RenderError::Error(error) => {
-                told.push_str("error ")?;
-                told.push_str(error.text.as_str())?;
+        Ok(tree) => {
+            if let Some(DynamicNode::Text(text)) = tree.dynamic_nodes.get(0) {
+                told.push_str(text.as_str())?;
             }
-            RenderError::Suspended(future) => {
-                told.push_str("task ")?;
-                told.write(future.task.0)?;
-            }
-        },
+        }
+        Err(RenderError::Error(error)) => told.push_str(error.text.as_str())?,
+        Err(RenderError::Suspended(future)) => told.write(future.task.0)?,
     }
     Ok(told)
 }
 
+/// What stands before a text, the text, and what it shows.
+static EXPRESSIONS: [(&'static str, &'static str); 10] = [
+    (r#"{"cat":[1,"a",-2,{"payload":0}]}"#, "1a-2"),
+    (r#"{"add":[9223372036854775807,1]}"#, "9223372036854775807"),
+    (r#"{"add":["a",1]}"#, ""),
+    (r#"{"eq":[1,"1"]}"#, "0"),
+    (r#"{"not":-1}"#, "0"),
+    (r#"{"none":{"parse":"+1"}}"#, "1"),
+    (r#"{"if":[{"read":"c"},"y","n"]}"#, "y"),
+    (r#"{"cat":[{"get":"c"},{"get":"t"}]}"#, "11"),
+    (r#"{"context":"k"}"#, "v"),
+    (
+        r#"{"cat":[{"scope":0},{"generation":0},{"error":0},{"me":0}]}"#,
+        "30",
+    ),
+];
+
 #[test]
 fn an_expression_has_its_value(rt: HostRuntime) -> Result<(), Fail> {
     let alloc = rt.alloc();
-    let cases = [
-        (r#"{"cat":[1,"a",-2,{"payload":0}]}"#, "1a-2"),
-        (r#"{"add":[9223372036854775807,1]}"#, "9223372036854775807"),
-        (
-            r#"{"mul":[-9223372036854775808,2]}"#,
-            "-9223372036854775808",
-        ),
-        (r#"{"add":["a",1]}"#, ""),
-        (r#"{"eq":["a","a"]}"#, "1"),
-        (r#"{"eq":[1,"1"]}"#, "0"),
-        (r#"{"lt":[-1,0]}"#, "1"),
-        (r#"{"not":-1}"#, "0"),
-        (r#"{"not":"a"}"#, "1"),
-        (r#"{"none":{"parse":"+1"}}"#, "1"),
-        (
-            r#"{"parse":"-9223372036854775808"}"#,
-            "-9223372036854775808",
-        ),
-        (r#"{"parse":"9223372036854775808"}"#, ""),
-        (r#"{"parse":"-"}"#, ""),
-        (r#"{"if":[{"read":"c"},"y","n"]}"#, "y"),
-        (r#"{"cat":[{"get":"c"},{"get":"t"}]}"#, "11"),
-        (r#"{"context":"k"}"#, "v"),
-        (
-            r#"{"cat":[{"scope":0},{"generation":0},{"error":0},{"me":0}]}"#,
-            "30",
-        ),
-    ];
-    for (expression, wanted) in cases {
-        let mut source = String::new(alloc);
-        source.push_str(
-            r#"{"components":{"App":{"do":[{"cell":"c","init":7},{"provide":"k","be":"v"},"#,
-        )?;
-        source.push_str(r#"{"spawn":"t","task":"T","args":[]}],"view":[{"text":"#)?;
-        source.push_str(expression)?;
-        source.push_str(r#"}]}},"tasks":{"T":{"steps":[[]]}},"root":"App"}"#)?;
-        let script = script(alloc, source.as_str())?;
-        assert_eq!(rt; shown(alloc, &script)?.as_str(), wanted, "{expression}");
+    let statements = r#"{"cell":"c","init":7},{"provide":"k","be":"v"},
+{"spawn":"t","task":"T","args":[]}"#;
+    for (expression, wanted) in &EXPRESSIONS {
+        let source = source_of(alloc, statements, *expression)?;
+        let parts = body(alloc, source.as_str())?;
+        let shown = told(alloc, &parts.answer)?;
+        assert_eq!(rt; shown.as_str(), *wanted, "{expression}");
     }
     Ok(())
 }
+
+/// Statements, how many commands they ask for, and what they come to.
+static STATEMENTS: [(&'static str, u64, &'static str); 5] = [
+    (r#"{"cell":"c","init":1},{"write":"c","be":2}"#, 3, "7"),
+    (
+        r#"{"let":"x","be":1},{"when":0,"do":[{"mark":3}]},{"when":1,"do":[{"mark":{"get":"x"}}]}"#,
+        1,
+        "7",
+    ),
+    (r#"{"fail":"no"},{"mark":3}"#, 0, "no"),
+    (
+        r#"{"spawn":"t","task":"T","args":[]},{"suspend":"t"}"#,
+        2,
+        "1",
+    ),
+    (
+        r#"{"let":"t","be":1},{"suspend":"t"},{"drop":"A","args":[]},{"after":"A","args":[]}"#,
+        2,
+        "7",
+    ),
+];
 
 #[test]
 fn a_body_asks_for_what_its_statements_say(rt: HostRuntime) -> Result<(), Fail> {
     let alloc = rt.alloc();
-    let cases: [(&str, u64, &str); 6] = [
-        (r#"[]"#, 0, "tree"),
-        (r#"[{"cell":"c","init":1},{"write":"c","be":2}]"#, 3, "tree"),
-        (
-            r#"[{"let":"x","be":1},{"when":0,"do":[{"mark":3}]},{"when":1,"do":[{"mark":{"get":"x"}}]}]"#,
-            1,
-            "tree",
-        ),
-        (r#"[{"fail":"no"},{"mark":3}]"#, 0, "error no"),
-        (
-            r#"[{"spawn":"t","task":"T","args":[]},{"suspend":"t"}]"#,
-            2,
-            "task 1",
-        ),
-        (
-            r#"[{"let":"t","be":1},{"suspend":"t"},{"drop":"A","args":[]},{"after":"A","args":[]}]"#,
-            2,
-            "tree",
-        ),
-    ];
-    for (statements, commands, wanted) in cases {
-        let mut source = String::new(alloc);
-        source.push_str(r#"{"components":{"App":{"do":"#)?;
-        source.push_str(statements)?;
-        source.push_str(
-            r#","view":[]}},"tasks":{"T":{"steps":[[]]}},"actions":{"A":{"do":[]}},"root":"App"}"#,
-        )?;
-        let parts = body(alloc, &script(alloc, source.as_str())?)?;
-        assert_eq!(rt; parts.commands.len() as u64, commands, "{statements}");
-        let answer = told(alloc, &parts.answer)?;
-        assert_eq!(rt; answer.as_str(), wanted, "{statements}");
-    }
-    Ok(())
-}
-
-#[test]
-fn a_task_goes_on_unless_it_stays(rt: HostRuntime) -> Result<(), Fail> {
-    let alloc = rt.alloc();
-    let script = script(
-        alloc,
-        r#"{"components":{"App":{"view":[]}},"root":"App","tasks":{"None":{"steps":[]},"Two":{"steps":[[],[{"when":1,"do":[{"stay":0}]}]]}}}"#,
-    )?;
-    let cases = [(0, 0, None), (1, 0, Some(1)), (1, 1, Some(1)), (1, 2, None)];
-    for (task, step, wanted) in cases {
-        let rows = Rows::new(alloc);
-        let cells = Cells::new(alloc, 1, 1);
-        let world = World {
-            rows: &rows,
-            cells: &cells,
-            next: FIRSTS,
-            task: Some(Task(5)),
-            rendering: false,
-        };
-        let mut calls = no_calls();
-        let cx = <Cx<'_, Script, Plain>>::enter(alloc, &mut calls, &world, ScopeId(3));
-        let state = Standing::new(task, List::new(alloc)).at(step);
-        let answer = script.poll(alloc, state, cx)?.parts().answer;
-        let next = match answer {
-            TaskStep::Pending(state) => Some(state.step()),
-            TaskStep::Ready => None,
-        };
-        assert!(rt; next == wanted, "step {step} of task {task}");
-    }
-    Ok(())
-}
-
-#[test]
-fn a_listener_may_stop_its_event(rt: HostRuntime) -> Result<(), Fail> {
-    let alloc = rt.alloc();
-    let script = script(
-        alloc,
-        r#"{"components":{"App":{"view":[]}},"root":"App","actions":{"Go":{"do":[]},"Halt":{"params":["c"],"do":[{"write":"c","be":{"payload":0}},{"prevent":0},{"stop":0}]}}}"#,
-    )?;
-    for (action, is_halted) in [(0, false), (1, true)] {
-        let rows = Rows::new(alloc);
-        let cells = Cells::new(alloc, 1, 1);
-        let world = World {
-            rows: &rows,
-            cells: &cells,
-            next: FIRSTS,
-            task: None,
-            rendering: false,
-        };
-        let mut calls = no_calls();
-        let cx = <Cx<'_, Script, Plain>>::enter(alloc, &mut calls, &world, ScopeId(3));
-        let mut arguments = List::new(alloc);
-        arguments.push(Value::cell(9))?;
-        let handler = Doing::new(action, arguments);
-        let mut event = Event::new(Value::new(Content::Number(4)), true);
-        let parts = script.handle(alloc, &handler, &mut event, cx)?.parts();
-        assert_eq!(rt; event.propagates(), !is_halted, "{action}");
-        assert_eq!(rt; event.default_action_enabled(), !is_halted, "{action}");
-        assert_eq!(rt; parts.commands.is_empty(), !is_halted, "{action}");
+    for (statements, commands, wanted) in &STATEMENTS {
+        let source = source_of(alloc, *statements, "7")?;
+        let parts = body(alloc, source.as_str())?;
+        assert_eq!(rt; parts.commands.len() as u64, *commands, "{statements}");
+        let comes = told(alloc, &parts.answer)?;
+        assert_eq!(rt; comes.as_str(), *wanted, "{statements}");
     }
     Ok(())
 }
