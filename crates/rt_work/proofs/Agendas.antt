@@ -31,7 +31,7 @@ nil-right (x ∷ xs) = ap (λ ys. x ∷ ys) (nil-right xs)
 
 -- a loop over a list that puts what each item gives after what was given so far
 
-next_drop : {A : Type 0} (xs : List A) (i : ℕ) (x : A) → i < length xs → x ≡ get_or xs i x → drop i xs ≡ x ∷ drop (i + 1) xs
+pub next_drop : {A : Type 0} (xs : List A) (i : ℕ) (x : A) → i < length xs → x ≡ get_or xs i x → drop i xs ≡ x ∷ drop (i + 1) xs
 next_drop xs i x low is =
     let e : drop i xs ≡ get_or xs i x ∷ drop (i + 1) xs = rw (add-one, drop-cons xs i x) refl in
     e ∙ ap (λ y. y ∷ drop (i + 1) xs) (sym is)

@@ -2,3 +2,4 @@ pub mod Components
 pub mod Founds
 pub mod Agendas
 pub mod Likes
+pub mod Orders

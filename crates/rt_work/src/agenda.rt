@@ -7,9 +7,12 @@ ghost use Rattle.rt_mirror.specs.Sealed.{component_of};
 ghost use Rattle.rt_places.specs.Places.{kind_of, place_of, side_name_of};
 ghost use Rattle.rt_work.specs.Items.{item_of, work_of};
 ghost use Rattle.rt_work.specs.Agenda.{Drops, DropsOne, Serves, ServesOne};
+ghost use Rattle.rt_work.specs.Order.{InOrder};
 
-use crate::found::{child_at, has_node, stays_there, was_there};
+use crate::found::child_at;
 use crate::item::Item;
+use crate::near::{has_node_near, stays_near, was_near};
+use crate::order::{Listed, in_order};
 use rt_nodes::VComponent;
 use rt_parts::Parts;
 use rt_places::{Child, Kind, Place, SideName, Spot};
@@ -28,9 +31,11 @@ pub fn serves<P: Parts>(
 ) -> Result<List<Item<P>>, OutOfMemory>
     ensures { IfOk result (λ work. Serves work scope side old.now new.now) }
 {
+    let was = in_order(old);
+    let mut at = 0;
     let mut work = List::new(alloc);
     for spot in new {
-        serve_spot(alloc, scope, side, old, spot, &mut work)?;
+        serve_spot(alloc, scope, side, &was, &mut at, spot, &mut work)?;
     }
     Ok(work)
 }
@@ -40,21 +45,24 @@ fn serve_spot<P: Parts>(
     alloc: Global,
     scope: u64,
     side: SideName,
-    old: &[Spot<P>],
+    old: &Listed<'_, P>,
+    at: &mut usize,
     spot: &Spot<P>,
     work: &mut List<Item<P>>,
 ) -> Result<(), OutOfMemory>
-    ensures { OnOk result (ServesOne work.old work.new scope side old.now spot.now) }
+    requires { InOrder old.now }
+    ensures { OnOk result
+        (ServesOne work.old work.new scope side old.now.spots.now spot.now) }
 {
     match spot {
         Spot::Node { place, kind } => {
-            if has_node(old, place.as_slice(), *kind) {
+            if has_node_near(old, at, place.as_slice(), *kind) {
                 return Ok(());
             }
             work.push(draw_at(scope, side, place.copy(alloc)?, *kind))
         }
         Spot::Component { place, component } => {
-            let fed = was_there(old, place.as_slice(), component);
+            let fed = was_near(old, at, place.as_slice(), component);
             let (place, component) = both(place.copy(alloc), component.copy(alloc))?;
             work.push(serve_at(fed, scope, side, place, component))
         }
@@ -116,9 +124,11 @@ pub fn drops_of<P: Parts>(
     ensures { IfOk result (λ work.
         Drops work scope side new.now children.now old.now) }
 {
+    let is = in_order(new);
+    let mut at = 0;
     let mut work = List::new(alloc);
     for spot in old {
-        drop_spot(scope, side, new, children, spot, &mut work)?;
+        drop_spot(scope, side, &is, &mut at, children, spot, &mut work)?;
     }
     Ok(work)
 }
@@ -127,18 +137,20 @@ pub fn drops_of<P: Parts>(
 fn drop_spot<P: Parts>(
     scope: u64,
     side: SideName,
-    new: &[Spot<P>],
+    new: &Listed<'_, P>,
+    at: &mut usize,
     children: &[Child],
     spot: &Spot<P>,
     work: &mut List<Item<P>>,
 ) -> Result<(), OutOfMemory>
+    requires { InOrder new.now }
     ensures { OnOk result
-        (DropsOne work.old work.new scope side new.now children.now spot.now) }
+        (DropsOne work.old work.new scope side new.now.spots.now children.now spot.now) }
 {
     match spot {
         Spot::Node { .. } => Ok(()),
         Spot::Component { place, component } => {
-            if stays_there(new, place.as_slice(), component) {
+            if stays_near(new, at, place.as_slice(), component) {
                 return Ok(());
             }
             push_drop(scope, side, child_at(children, place.as_slice()), work)

@@ -7,6 +7,8 @@ mod found;
 mod item;
 mod kept;
 mod like;
+mod near;
+mod order;
 
 pub use agenda::{drops_of, serves};
 pub use component::is_same_component;

@@ -1,5 +1,5 @@
 -- One more spot of the old tree is dropped or stays, whatever the application.
-use Rattle.std.proofs.Common.{refl}
+use Rattle.std.proofs.Common.{◌++◌, refl, ap, ◌∙◌}
 use Rattle.rt_work.specs.Items.{work_of}
 use Rattle.rt_work.specs.Agenda.{spot_drops, all_drops}
 use Rattle.rt_work.proofs.Agendas.{one_more, all_done}
@@ -11,7 +11,8 @@ loop-spot-preserved g c app tests =
     (work_of c.loop-spot.work) (work_of c.drop_spot.new.work)
     (spot_drops app c.args.scope c.args.side c.args.new.now c.args.children.now c.spot-item.result)
     (all_drops app c.args.scope c.args.side c.args.new.now c.args.children.now c.args.old.now)
-    c.loop-spot-test.true c.spot-item.is refl (c.loop-spot.invariant app tests) (c.in_ok-drop_spot.ensures app tests)
+    c.loop-spot-test.true c.spot-item.is refl (c.loop-spot.invariant app tests) (c.in_ok-drop_spot.ensures app tests ∙
+    ap (λ xs. work_of c.loop-spot.work ++ spot_drops app c.args.scope c.args.side xs c.args.children.now c.spot-item.result) c.in_order-is.ensures.spots)
 
 pub returns : goal.returns
 returns g c app tests =
