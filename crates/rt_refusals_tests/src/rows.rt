@@ -164,6 +164,10 @@ pub static TABLES: [Table; 4] = [
                 "actions.Go.do[0].cell: wanted a statement that stands in actions",
             ),
             (
+                r#""tasks":{"T":{"steps":[{"stay":0}]}}"#,
+                "tasks.T.steps[0]: wanted a list of statements",
+            ),
+            (
                 r#""tasks":{"T":{"steps":[[],[{"stay":1}]]}}"#,
                 "tasks.T.steps[1][0].stay: wanted 0",
             ),
