@@ -10,7 +10,8 @@ use rt_edits::Edit;
 use rt_nodes::VNode;
 use rt_parts::{Attribute, Parts, Template, TemplateAttribute};
 use rt_places::{Kind, Numbered, Piece, Place, pieces_of, place_inside};
-use rt_values::{List, OutOfMemory, Part};
+use rt_shared::Shared;
+use rt_values::{List, OutOfMemory};
 use rt_work::number_at;
 use std::alloc::Global;
 
@@ -27,7 +28,7 @@ pub(crate) enum Pass {
 #[derive(Drop)]
 pub(crate) struct Entries {
     pub number: u64,
-    pub entries: List<TemplateAttribute>,
+    pub entries: Shared<TemplateAttribute>,
 }
 
 /// What the attribute slots of a tree at a place write, where the old tree had the same template:
@@ -100,7 +101,7 @@ fn add_element(
         Piece::Element { path, attrs } => {
             let place = place_inside(alloc, above, template, path)?;
             let number = number_at(numbers, place.as_slice(), Kind::Element);
-            let entries = attrs.copy(alloc)?;
+            let entries = attrs.share()?;
             elements.push(Entries { number, entries })
         }
         Piece::Text { path: _ } => Ok(()),

@@ -1,3 +1,4 @@
+pub mod Places
 pub mod Failures
 pub mod Rows
 pub mod Next

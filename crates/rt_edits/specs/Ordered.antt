@@ -1,10 +1,10 @@
 -- The attributes and the listeners of an element, kept in order.
-use Rattle.std.specs.Prelude.{ℕ, List, Option, Some, None, unwrap_or, length, slice_set}
+use Rattle.std.specs.Prelude.{ℕ, suc, List, [], ◌∷◌, Option, Some, None}
 use Rattle.std.specs.declared.cmp.Ordering.{Ordering}
 use Rattle.std.specs.declared.cmp.Ordering.TheVariants.{Less, Equal, Greater}
-use Rattle.std.specs.Ordering.{nat_cmp, is_eq, is_lt, ordering_then}
+use Rattle.std.specs.Ordering.{nat_cmp, is_eq, ordering_then}
 use Rattle.std.specs.Cmp.Lexicographic.{slice_cmp}
-use Rattle.std.specs.List.{position, insert, remove}
+use Rattle.std.specs.List.{position, remove}
 use Rattle.rt_edits.specs.declared.doc_node.DocAttr.{DocAttr}
 
 -- the order of texts, by bytes
@@ -26,22 +26,27 @@ attribute_order name namespace attr = ordering_then (namespace_order namespace a
 abbrev pub place_of : {A : Type 0} → (A → Ordering) → List A → Option ℕ
 place_of order items = position (λ item. is_eq (order item)) items
 
--- the index of the first item that comes after it
-abbrev pub first_after : {A : Type 0} → (A → Ordering) → List A → Option ℕ
-first_after order items = position (λ item. is_lt (order item)) items
+-- where it belongs, by how it stands to the first item and where it belongs among the later ones
+abbrev pub place_by : Ordering → ℕ → ℕ
+place_by Less later = 0
+place_by Equal later = 0
+place_by Greater later = suc later
 
--- the index at which it belongs: before the first item that comes after it, or at the end
+-- the index of the first item that it equals or comes before, or else their number
 abbrev pub place_for : {A : Type 0} → (A → Ordering) → List A → ℕ
-place_for order items = unwrap_or (first_after order items) (length items)
+place_for order [] = 0
+place_for order (first ∷ rest) = place_by (order first) (place_for order rest)
 
--- items with another one over the one at an index, or else inserted at the other index
-abbrev pub put_at : {A : Type 0} → Option ℕ → ℕ → A → List A → List A
-put_at (Some at) belongs item items = slice_set items at item
-put_at None belongs item items = insert items belongs item
+-- an item before the first one, over it, or among the later ones, by how it stands to the first
+abbrev pub put_by : {A : Type 0} → Ordering → A → A → List A → List A → List A
+put_by Less item first rest later = item ∷ first ∷ rest
+put_by Equal item first rest later = item ∷ rest
+put_by Greater item first rest later = first ∷ later
 
--- items with another one: in the place of the one that it equals, or else where it belongs
+-- items with another one: over the first one that it equals, unless it comes before an earlier one
 abbrev pub put_in : {A : Type 0} → (A → Ordering) → A → List A → List A
-put_in order item items = put_at (place_of order items) (place_for order items) item items
+put_in order item [] = item ∷ []
+put_in order item (first ∷ rest) = put_by (order first) item first rest (put_in order item rest)
 
 -- items without the one at an index
 abbrev pub without : {A : Type 0} → Option ℕ → List A → List A

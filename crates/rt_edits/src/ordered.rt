@@ -1,6 +1,6 @@
 //! The attributes and the listeners of an element, kept in order.
-ghost use Rattle.std.specs.Prelude.{◌≡◌, ◌≤◌, ◌<◌, length, IfSome, OnOk, OnErr};
-ghost use Rattle.rt_edits.specs.Ordered.{text_order, namespace_order, attribute_order, place_of, first_after, place_for, put_in, taken_out};
+ghost use Rattle.std.specs.Prelude.{◌≡◌, OnOk, OnErr};
+ghost use Rattle.rt_edits.specs.Ordered.{text_order, namespace_order, attribute_order, place_of, place_for, put_in, taken_out};
 
 use crate::doc_node::DocAttr;
 use rt_values::{OutOfMemory, Text};
@@ -45,25 +45,16 @@ fn place_of_attribute(attrs: &[DocAttr], name: &Text, namespace: &Option<Text>) 
         .position(|attr| order_of_attribute(name, namespace, attr).is_eq())
 }
 
-/// The index of the first attribute that comes after this name and namespace.
-fn first_after_attribute(attrs: &[DocAttr], name: &Text, namespace: &Option<Text>) -> Option<usize>
-    ensures place { result ≡ first_after (attribute_order name.now namespace.now) attrs.now }
-    ensures within { IfSome result (λ at. at < length attrs.now) }
+/// The index of the first attribute that this one equals or comes before, or else their number.
+fn place_for_attribute(attrs: &[DocAttr], attr: &DocAttr) -> usize
+    ensures place { result ≡ place_for (attribute_order attr.now.name attr.now.namespace) attrs.now }
 {
-    attrs
-        .iter()
-        .position(|attr| order_of_attribute(name, namespace, attr).is_lt())
-}
-
-/// The index at which an attribute of this name and namespace belongs.
-fn place_for_attribute(attrs: &[DocAttr], name: &Text, namespace: &Option<Text>) -> usize
-    ensures place { result ≡ place_for (attribute_order name.now namespace.now) attrs.now }
-    ensures within { result ≤ length attrs.now }
-{
-    match first_after_attribute(attrs, name, namespace) {
-        Some(at) => at,
-        None => attrs.len(),
+    for at in 0..attrs.len() {
+        if order_of_attribute(&attr.name, &attr.namespace, &attrs[at]).is_le() {
+            return at;
+        }
     }
+    attrs.len()
 }
 
 /// The index of the listener of this name.
@@ -75,25 +66,16 @@ pub fn place_of_listener(listeners: &[Text], name: &Text) -> Option<usize>
         .position(|other| order_of_texts(name, other).is_eq())
 }
 
-/// The index of the first listener that comes after this name.
-fn first_after_listener(listeners: &[Text], name: &Text) -> Option<usize>
-    ensures place { result ≡ first_after (text_order name.now) listeners.now }
-    ensures within { IfSome result (λ at. at < length listeners.now) }
-{
-    listeners
-        .iter()
-        .position(|other| order_of_texts(name, other).is_lt())
-}
-
-/// The index at which a listener of this name belongs.
+/// The index of the first listener that this name equals or comes before, or else their number.
 fn place_for_listener(listeners: &[Text], name: &Text) -> usize
     ensures place { result ≡ place_for (text_order name.now) listeners.now }
-    ensures within { result ≤ length listeners.now }
 {
-    match first_after_listener(listeners, name) {
-        Some(at) => at,
-        None => listeners.len(),
+    for at in 0..listeners.len() {
+        if order_of_texts(name, &listeners[at]).is_le() {
+            return at;
+        }
     }
+    listeners.len()
 }
 
 /// Puts an attribute in its place, over the one of its name and namespace.
@@ -102,13 +84,12 @@ pub fn put_attribute(attrs: &mut Vec<DocAttr>, attr: DocAttr) -> Result<(), OutO
         put_in (attribute_order attr.name attr.namespace) attr attrs.old.items) }
     ensures err { OnErr result (attrs.new.items ≡ attrs.old.items) }
 {
-    match place_of_attribute(attrs, &attr.name, &attr.namespace) {
-        Some(at) => attrs[at] = attr,
-        None => {
-            let at = place_for_attribute(attrs, &attr.name, &attr.namespace);
-            attrs.insert(at, attr)?;
-        }
+    let at = place_for_attribute(attrs.as_slice(), &attr);
+    if at < attrs.len() && order_of_attribute(&attr.name, &attr.namespace, &attrs[at]).is_eq() {
+        attrs[at] = attr;
+        return Ok(());
     }
+    attrs.insert(at, attr)?;
     Ok(())
 }
 
@@ -128,13 +109,12 @@ pub fn put_listener(listeners: &mut Vec<Text>, name: Text) -> Result<(), OutOfMe
         put_in (text_order name) name listeners.old.items) }
     ensures err { OnErr result (listeners.new.items ≡ listeners.old.items) }
 {
-    match place_of_listener(listeners, &name) {
-        Some(at) => listeners[at] = name,
-        None => {
-            let at = place_for_listener(listeners, &name);
-            listeners.insert(at, name)?;
-        }
+    let at = place_for_listener(listeners.as_slice(), &name);
+    if at < listeners.len() && order_of_texts(&name, &listeners[at]).is_eq() {
+        listeners[at] = name;
+        return Ok(());
     }
+    listeners.insert(at, name)?;
     Ok(())
 }
 

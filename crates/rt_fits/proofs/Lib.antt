@@ -1,1 +1,4 @@
+mod BlockLemmas
+pub mod NamesLemmas
+pub mod WalkLemmas
 pub mod NodeTestLemmas

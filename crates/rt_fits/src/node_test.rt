@@ -6,10 +6,10 @@ ghost use Rattle.rt_parts.specs.BlockTest.{block_fits};
 ghost use Rattle.rt_nodes.specs.NodeTest.{component_fits_within, element_fits_within, fits, fits_within, node_fits_within};
 ghost use Rattle.rt_nodes.specs.Places.{HasPlacesApart};
 
+use crate::block::block_fits;
 use rt_nodes::{DynamicNode, Element, VComponent, VNode};
 use rt_parts::Parts;
 use rt_values::List;
-use rt_walk::block_fits;
 
 /// How many levels a tree may have, from its roots down through what its slots hold.
 const LEVELS: usize = 128;

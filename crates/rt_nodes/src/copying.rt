@@ -1,4 +1,4 @@
-//! Copies of trees and of what stands in their slots.
+//! Copies of trees and of what stands in their slots. A tree and its copies share what they hold.
 
 ghost use Rattle.std.specs.Prelude.{◌≡◌, IfOk};
 
@@ -7,18 +7,16 @@ use crate::{
     VNode,
 };
 use rt_parts::Parts;
-use rt_values::{Boxed, List, OutOfMemory, Part, both};
+use rt_values::{Boxed, OutOfMemory, Part, both};
 use std::alloc::Global;
 
 impl<P: Parts> VNode<P> {
     /// An equal tree.
-    #[cycle(copy)]
     pub fn copy(&self, alloc: Global) -> Result<VNode<P>, OutOfMemory>
         ensures { IfOk result (λ copied. copied ≡ self.now) }
     {
-        let nodes = copy_values(alloc, self.dynamic_nodes.as_slice());
-        let block = both(self.template.copy(alloc), self.dynamic_attrs.copy(alloc));
-        let (dynamic_nodes, (template, dynamic_attrs)) = both(nodes, block)?;
+        let slots = both(self.dynamic_nodes.share(), self.dynamic_attrs.share());
+        let (template, (dynamic_nodes, dynamic_attrs)) = both(self.template.copy(alloc), slots)?;
         Ok(VNode {
             template,
             dynamic_nodes,
@@ -27,24 +25,8 @@ impl<P: Parts> VNode<P> {
     }
 }
 
-// A copy of the value of each slot, in order.
-#[cycle(copy)]
-fn copy_values<P: Parts>(
-    alloc: Global,
-    values: &[DynamicNode<P>],
-) -> Result<List<DynamicNode<P>>, OutOfMemory>
-    ensures { IfOk result (λ copied. copied ≡ values.now) }
-{
-    let mut copied = List::new(alloc);
-    for value in values {
-        copied.push(value.copy(alloc)?)?;
-    }
-    Ok(copied)
-}
-
 impl<P: Parts> DynamicNode<P> {
     /// An equal value of a slot.
-    #[cycle(copy)]
     pub fn copy(&self, alloc: Global) -> Result<DynamicNode<P>, OutOfMemory>
         ensures { IfOk result (λ copied. copied ≡ self.now) }
     {
@@ -54,28 +36,13 @@ impl<P: Parts> DynamicNode<P> {
             DynamicNode::Component(component) => {
                 Ok(DynamicNode::Component(component.copy(alloc)?))
             }
-            DynamicNode::Fragment(trees) => {
-                Ok(DynamicNode::Fragment(copy_trees(alloc, trees.as_slice())?))
-            }
+            DynamicNode::Fragment(trees) => Ok(DynamicNode::Fragment(trees.share()?)),
         }
     }
 }
 
-// A copy of each item of a fragment, in order.
-#[cycle(copy)]
-fn copy_trees<P: Parts>(alloc: Global, trees: &[VNode<P>]) -> Result<List<VNode<P>>, OutOfMemory>
-    ensures { IfOk result (λ copied. copied ≡ trees.now) }
-{
-    let mut copied = List::new(alloc);
-    for tree in trees {
-        copied.push(tree.copy(alloc)?)?;
-    }
-    Ok(copied)
-}
-
 impl<P: Parts> VComponent<P> {
     /// An equal component with equal props.
-    #[cycle(copy)]
     pub fn copy(&self, alloc: Global) -> Result<VComponent<P>, OutOfMemory>
         ensures { IfOk result (λ copied. copied ≡ self.now) }
     {
@@ -96,7 +63,6 @@ impl<P: Parts> VComponent<P> {
 
 impl<P: Parts> FragmentProps<P> {
     /// Equal props.
-    #[cycle(copy)]
     pub fn copy(&self, alloc: Global) -> Result<FragmentProps<P>, OutOfMemory>
         ensures { IfOk result (λ copied. copied ≡ self.now) }
     {
@@ -108,7 +74,6 @@ impl<P: Parts> FragmentProps<P> {
 
 impl<P: Parts> ErrorBoundaryProps<P> {
     /// Equal props.
-    #[cycle(copy)]
     pub fn copy(&self, alloc: Global) -> Result<ErrorBoundaryProps<P>, OutOfMemory>
         ensures { IfOk result (λ copied. copied ≡ self.now) }
     {
@@ -123,7 +88,6 @@ impl<P: Parts> ErrorBoundaryProps<P> {
 
 impl<P: Parts> SuspenseBoundaryProps<P> {
     /// Equal props.
-    #[cycle(copy)]
     pub fn copy(&self, alloc: Global) -> Result<SuspenseBoundaryProps<P>, OutOfMemory>
         ensures { IfOk result (λ copied. copied ≡ self.now) }
     {
@@ -134,7 +98,6 @@ impl<P: Parts> SuspenseBoundaryProps<P> {
 }
 
 // A copy of the children of a built-in component: of a tree, or of the error in its place.
-#[cycle(copy)]
 fn copy_children<P: Parts>(
     alloc: Global,
     children: &Boxed<Element<P>>,

@@ -6,6 +6,7 @@ ghost use Rattle.rt_nodes.specs.Places.{InTemplate, APlaceholder, node_places, s
 ghost use Rattle.rt_nodes.specs.Shown.{placeholder_tree};
 
 use rt_parts::{Attribute, Parts, RenderError, Template, TemplateNode};
+use rt_shared::Shared;
 use rt_values::{Boxed, List, OutOfMemory, Part, Text, both};
 use std::alloc::Global;
 
@@ -18,9 +19,9 @@ pub type Element<P> = Result<VNode<P>, RenderError>;
 pub struct VNode<P: Parts> {
     pub template: Template,
     /// The value of each node slot, by number.
-    pub dynamic_nodes: List<DynamicNode<P>>,
+    pub dynamic_nodes: Shared<DynamicNode<P>>,
     /// The attributes of each attribute slot, by number.
-    pub dynamic_attrs: List<List<Attribute<P>>>,
+    pub dynamic_attrs: Shared<List<Attribute<P>>>,
 }
 
 /// The value of a node slot.
@@ -30,7 +31,7 @@ pub enum DynamicNode<P: Parts> {
     Text(Text),
     Placeholder,
     Component(VComponent<P>),
-    Fragment(List<VNode<P>>),
+    Fragment(Shared<VNode<P>>),
 }
 
 /// A component with its props: one of the application, or one that is built in.
@@ -105,20 +106,21 @@ impl<P: Parts> VNode<P> {
             (InTemplate tree.template (0 ∷ []) ∷ [], APlaceholder) ∷ []) }
         ensures slots { IfOk result (λ tree. slot_places tree ≡ []) }
     {
-        let mut roots = List::new(alloc);
-        roots.push(TemplateNode::Dynamic { id: 0 })?;
-        let mut node_paths = List::new(alloc);
-        node_paths.push(List::from_slice(alloc, &[0])?)?;
-        let mut dynamic_nodes = List::new(alloc);
-        dynamic_nodes.push(DynamicNode::Placeholder)?;
+        let path = List::from_slice(alloc, &[0])?;
+        let roots = Shared::one(alloc, TemplateNode::Dynamic { id: 0 });
+        let slots = both(
+            Shared::one(alloc, path),
+            Shared::one(alloc, DynamicNode::Placeholder),
+        );
+        let (roots, (node_paths, dynamic_nodes)) = both(roots, slots)?;
         Ok(VNode {
             template: Template {
                 roots,
                 node_paths,
-                attr_paths: List::new(alloc),
+                attr_paths: Shared::empty(),
             },
             dynamic_nodes,
-            dynamic_attrs: List::new(alloc),
+            dynamic_attrs: Shared::empty(),
         })
     }
 

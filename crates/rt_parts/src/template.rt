@@ -2,6 +2,7 @@
 
 ghost use Rattle.std.specs.Prelude.{◌≡◌, ◌↔◌, IsTrue, IfOk};
 
+use rt_shared::Shared;
 use rt_values::{List, OutOfMemory, Part, Text, both};
 use std::alloc::Global;
 
@@ -9,12 +10,12 @@ use std::alloc::Global;
 /// its attributes, its children.
 #[derive(Drop)]
 pub struct Template {
-    pub roots: List<TemplateNode>,
+    pub roots: Shared<TemplateNode>,
     /// The path of each node slot. A path begins with the root's index, and goes on with the index
     /// of a child at each level below.
-    pub node_paths: List<List<u8>>,
+    pub node_paths: Shared<List<u8>>,
     /// The path of the element of each attribute slot.
-    pub attr_paths: List<List<u8>>,
+    pub attr_paths: Shared<List<u8>>,
 }
 
 /// A node of a template.
@@ -23,8 +24,8 @@ pub enum TemplateNode {
     Element {
         tag: Text,
         namespace: Option<Text>,
-        attrs: List<TemplateAttribute>,
-        children: List<TemplateNode>,
+        attrs: Shared<TemplateAttribute>,
+        children: Shared<TemplateNode>,
     },
     Text {
         text: Text,
@@ -59,15 +60,12 @@ impl Template {
             && self.attr_paths.same(&other.attr_paths)
     }
 
-    /// An equal template.
-    pub fn copy(&self, alloc: Global) -> Result<Template, OutOfMemory>
+    /// The same template once more.
+    pub fn copy(&self, _alloc: Global) -> Result<Template, OutOfMemory>
         ensures { IfOk result (λ copied. copied ≡ self.now) }
     {
-        let paths = both(self.node_paths.copy(alloc), self.attr_paths.copy(alloc));
-        let (roots, (node_paths, attr_paths)) = both(
-            copy_nodes(alloc, self.roots.as_slice()),
-            paths,
-        )?;
+        let paths = both(self.node_paths.share(), self.attr_paths.share());
+        let (roots, (node_paths, attr_paths)) = both(self.roots.share(), paths)?;
         Ok(Template {
             roots,
             node_paths,
@@ -90,18 +88,6 @@ fn same_nodes(left: &[TemplateNode], right: &[TemplateNode]) -> bool
         }
     }
     true
-}
-
-/// A copy of each node, in order.
-#[cycle(copy)]
-fn copy_nodes(alloc: Global, nodes: &[TemplateNode]) -> Result<List<TemplateNode>, OutOfMemory>
-    ensures { IfOk result (λ copied. copied ≡ nodes.now) }
-{
-    let mut copied = List::new(alloc);
-    for node in nodes {
-        copied.push(node.copy(alloc)?)?;
-    }
-    Ok(copied)
 }
 
 impl TemplateNode {
@@ -142,7 +128,6 @@ impl TemplateNode {
     }
 
     /// An equal node, children included.
-    #[cycle(copy)]
     pub fn copy(&self, alloc: Global) -> Result<TemplateNode, OutOfMemory>
         ensures { IfOk result (λ copied. copied ≡ self.now) }
     {
@@ -154,7 +139,7 @@ impl TemplateNode {
                 children,
             } => {
                 let names = both(tag.copy(alloc), namespace.copy(alloc));
-                let lists = both(attrs.copy(alloc), copy_nodes(alloc, children.as_slice()));
+                let lists = both(attrs.share(), children.share());
                 let ((tag, namespace), (attrs, children)) = both(names, lists)?;
                 Ok(TemplateNode::Element {
                     tag,

@@ -5,6 +5,7 @@ ghost use Rattle.rt_mirror.specs.Mirror.{attribute_in};
 ghost use Rattle.rt_places.specs.Pieces.{met_element, node_met, piece_of, row_met};
 
 use rt_parts::{TemplateAttribute, TemplateNode};
+use rt_shared::Shared;
 use rt_values::{List, OutOfMemory, Part, both};
 use std::alloc::Global;
 
@@ -13,22 +14,22 @@ use std::alloc::Global;
 pub enum Piece {
     /// An element, with its attributes.
     Element {
-        path: List<u64>,
-        attrs: List<TemplateAttribute>,
+        path: Shared<u64>,
+        attrs: Shared<TemplateAttribute>,
     },
     /// A text.
     Text {
-        path: List<u64>,
+        path: Shared<u64>,
     },
     /// The node slot with this number.
     Slot {
         id: u64,
-        path: List<u64>,
+        path: Shared<u64>,
     },
 }
 
 /// What is met in a template with these roots.
-pub fn pieces_of(alloc: Global, roots: &List<TemplateNode>) -> Result<List<Piece>, OutOfMemory>
+pub fn pieces_of(alloc: Global, roots: &Shared<TemplateNode>) -> Result<List<Piece>, OutOfMemory>
     ensures { IfOk result (λ pieces. map piece_of pieces ≡ row_met [] 0 roots.now) }
 {
     let mut pieces = List::new(alloc);
@@ -85,22 +86,22 @@ fn add_node(
 #[tactic(auto, using(crate::proofs::Walks::walks))]
 fn push_element(
     alloc: Global,
-    path: &List<u64>,
-    attrs: &List<TemplateAttribute>,
+    path: &Shared<u64>,
+    attrs: &Shared<TemplateAttribute>,
     pieces: &mut List<Piece>,
 ) -> Result<(), OutOfMemory>
     ensures { OnOk result (map piece_of pieces.new
         ≡ map piece_of pieces.old ++ met_element path.now (map attribute_in attrs.now) ∷ []) }
 {
-    let (path, attrs) = both(path.copy(alloc), attrs.copy(alloc))?;
+    let (path, attrs) = both(path.share(), attrs.share())?;
     pieces.push(Piece::Element { path, attrs })
 }
 
 /// The path of the child with an index, below the node with the path `up`.
-pub fn path_below(alloc: Global, up: &[u64], index: u64) -> Result<List<u64>, OutOfMemory>
+pub fn path_below(alloc: Global, up: &[u64], index: u64) -> Result<Shared<u64>, OutOfMemory>
     ensures { IfOk result (λ path. path ≡ up.now ++ index ∷ []) }
 {
     let mut path = List::from_slice(alloc, up)?;
     path.push(index)?;
-    Ok(path)
+    Shared::from_list(alloc, path)
 }

@@ -6,7 +6,8 @@ ghost use Rattle.rt_mirror.specs.Sealed.{template_of};
 ghost use Rattle.rt_places.specs.Places.{at_path, kind_of, place_of};
 
 use rt_parts::Template;
-use rt_values::{List, OutOfMemory, Part, both, same_slice};
+use rt_shared::Shared;
+use rt_values::{List, OutOfMemory, Part, both, copy_slice, same_slice};
 use std::alloc::Global;
 
 /// What kind of document node stands at a place.
@@ -28,13 +29,18 @@ pub enum Kind {
 #[derive(Drop)]
 pub enum Step {
     /// A template with the path of a node in it.
-    Inside { template: Template, path: List<u64> },
+    Inside {
+        template: Template,
+        path: Shared<u64>,
+    },
     /// An item of a fragment, by its position from 0.
-    Item { position: u64 },
+    Item {
+        position: u64,
+    },
 }
 
 /// Where something stands in a scope's tree, from the root's step down.
-pub type Place = List<Step>;
+pub type Place = Shared<Step>;
 
 impl Part for Step {
     fn same(&self, other: &Step) -> bool {
@@ -59,7 +65,7 @@ impl Part for Step {
     fn copy(&self, alloc: Global) -> Result<Step, OutOfMemory> {
         match self {
             Step::Inside { template, path } => {
-                let (template, path) = both(template.copy(alloc), path.copy(alloc))?;
+                let (template, path) = both(template.copy(alloc), path.share())?;
                 Ok(Step::Inside { template, path })
             }
             Step::Item { position } => Ok(Step::Item {
@@ -95,15 +101,13 @@ pub fn place_inside(
     alloc: Global,
     above: &Place,
     template: &Template,
-    path: &List<u64>,
+    path: &Shared<u64>,
 ) -> Result<Place, OutOfMemory>
     ensures { IfOk result (λ place.
         place_of place ≡ at_path (template_of template.now) (place_of above.now) path.now) }
 {
-    let step = both(template.copy(alloc), path.copy(alloc));
-    let (mut place, (template, path)) = both(above.copy(alloc), step)?;
-    place.push(Step::Inside { template, path })?;
-    Ok(place)
+    let (template, path) = both(template.copy(alloc), path.share())?;
+    below(alloc, above, Step::Inside { template, path })
 }
 
 /// The place of the item with a position in the fragment at a place.
@@ -111,7 +115,15 @@ pub fn place_inside(
 pub fn place_of_item(alloc: Global, above: &Place, position: u64) -> Result<Place, OutOfMemory>
     ensures { IfOk result (λ place. place_of place ≡ place_of above.now ++ item position ∷ []) }
 {
-    let mut place = above.copy(alloc)?;
-    place.push(Step::Item { position })?;
-    Ok(place)
+    below(alloc, above, Step::Item { position })
+}
+
+// The place one step below another.
+#[tactic(auto, using(crate::proofs::Stands::appended))]
+fn below(alloc: Global, above: &Place, step: Step) -> Result<Place, OutOfMemory>
+    ensures { IfOk result (λ place. place ≡ above.now ++ step ∷ []) }
+{
+    let mut steps = List::from_vec(copy_slice(alloc, above.as_slice())?);
+    steps.push(step)?;
+    Shared::from_list(alloc, steps)
 }

@@ -10,6 +10,7 @@ use crate::piece::{Piece, pieces_of};
 use crate::place::{Kind, Place, place_inside, place_of_item};
 use rt_nodes::{DynamicNode, VComponent, VNode};
 use rt_parts::Parts;
+use rt_shared::Shared;
 use rt_values::{List, OutOfMemory};
 use std::alloc::Global;
 
@@ -31,7 +32,7 @@ pub fn spots<P: Parts>(alloc: Global, tree: &VNode<P>) -> Result<List<Spot<P>>, 
     ensures { IfOk result (λ found. map spot_of found ≡ tree_spots [] tree.now) }
 {
     let mut found = List::new(alloc);
-    add_spots(alloc, &List::new(alloc), tree, &mut found)?;
+    add_spots(alloc, &Shared::empty(), tree, &mut found)?;
     Ok(found)
 }
 

@@ -2,6 +2,7 @@
 use Rattle.std.proofs.Common.{ℕ, zero, suc, ◌+◌, ◌-◌, List, [], ◌∷◌, ◌++◌, ◌≡◌, ◌≢◌, refl, sym, ap, ◌∙◌, map, nat_eq, arith}
 use Rattle.std.specs.Prelude.{Option, Some, None, slice_get, if◌then◌else◌}
 use Rattle.std.specs.List.{slice_index_or}
+use Rattle.rt_model.specs.Lists.{first_of}
 use Rattle.rt_parts.specs.declared.attribute.Attribute.{Attribute}
 use Rattle.rt_parts.specs.declared.template.TemplateAttribute.{TemplateAttribute}
 use Rattle.rt_parts.specs.declared.template.TemplateAttribute.TheVariants as entries
@@ -17,7 +18,7 @@ use Rattle.rt_model.specs.OneLog.{types}
 use Rattle.rt_model.specs.Tree as model
 use Rattle.rt_model.specs.Tree.{TemplateNodes, no_nodes, Template, Place, Kind, item, fragment_slot, an_element, a_static_text, a_text, a_placeholder, an_empty_fragment}
 use Rattle.rt_model.specs.Heard as heard
-use Rattle.rt_model.specs.Heard.{Climb, or_later, below_element, slots_on, leaf_climb, find_nodes, find_child, find_tree, find_slots, find_slot, find_side}
+use Rattle.rt_model.specs.Heard.{Climb, below_element, slots_on, leaf_climb, find_nodes, find_child, find_tree, find_slots, find_slot, find_side}
 use Rattle.rt_mirror.specs.Mirror.{attribute_in, attribute_of, all_before, before_step, slots_from, trees_from}
 use Rattle.rt_mirror.specs.Sealed.{node_before, nodes_of, template_of, tree_of, slot_of}
 use Rattle.rt_mirror.proofs.SealedNodes.{below, before_out, before_Element, before_Text, before_Dynamic}
@@ -31,7 +32,7 @@ use Rattle.rt_shown.specs.Look.{look_shown}
 use Rattle.rt_shown.specs.Climbs.{slots_of, entry_slots, entries_slots, climb_on, climb_within, scope_climb, side_climb, child_climb, tree_climb, value_climb, items_climb, node_climb, row_climb}
 
 module _ {K : model.Types} where
-  or-none : (found : Option (Climb K)) → or_later found None ≡ found
+  or-none : (found : Option (Climb K)) → first_of found None ≡ found
   or-none None = refl
   or-none (Some climb) = refl
 
@@ -39,14 +40,14 @@ module _ {K : model.Types} where
   level_found : (numbers : List (Place × Kind × ℕ)) (number : ℕ) (whole : Template) (above : Place) (given : List (List (model.Attribute K))) (slot : ℕ → Place → Option (Climb K))
       (y : TemplateNode-F (TemplateNodes → TemplateNodes)) (up : List ℕ) (i : ℕ) (rest : TemplateNodes)
       → find_nodes numbers number whole above given slot up i (before_step y rest)
-      ≡ or_later (find_nodes numbers number whole above given slot up i (before_step y no_nodes)) (find_nodes numbers number whole above given slot up (i + 1) rest)
+      ≡ first_of (find_nodes numbers number whole above given slot up i (before_step y no_nodes)) (find_nodes numbers number whole above given slot up (i + 1) rest)
   level_found numbers number whole above given slot (TemplateNode-F.Element tag namespace attrs children) up i rest =
-      ap (λ f. or_later f (find_nodes numbers number whole above given slot up (i + 1) rest))
+      ap (λ f. first_of f (find_nodes numbers number whole above given slot up (i + 1) rest))
       (sym (or-none (if nat_eq (heard.number_at numbers (model.place_in whole above up i) an_element) number then Some (slots_on given (map attribute_in attrs) ∷ []) else below_element (slots_on given (map attribute_in attrs)) (find_nodes numbers number whole above given slot (up ++ i ∷ []) 0 (all_before children no_nodes)))))
   level_found numbers number whole above given slot (TemplateNode-F.Text text) up i rest =
-      ap (λ f. or_later f (find_nodes numbers number whole above given slot up (i + 1) rest)) (sym (or-none (leaf_climb number (heard.number_at numbers (model.place_in whole above up i) a_static_text))))
+      ap (λ f. first_of f (find_nodes numbers number whole above given slot up (i + 1) rest)) (sym (or-none (leaf_climb number (heard.number_at numbers (model.place_in whole above up i) a_static_text))))
   level_found numbers number whole above given slot (TemplateNode-F.Dynamic id) up i rest =
-      ap (λ f. or_later f (find_nodes numbers number whole above given slot up (i + 1) rest)) (sym (or-none (slot id (model.place_in whole above up i))))
+      ap (λ f. first_of f (find_nodes numbers number whole above given slot up (i + 1) rest)) (sym (or-none (slot id (model.place_in whole above up i))))
 
 module _ {P C Q V H T E L : Type 0} where
   pub slots-append : (a b : List (List (Attribute P C Q V H T E L))) → slots_of (a ++ b) ≡ slots_of a ++ slots_of b
@@ -132,7 +133,7 @@ module _ {P C Q V H T E L : Type 0} where
   unfolding tree_climb
   items_are look number n side i place [] = refl
   items_are look number n side i place (tree ∷ trees) =
-      ap (λ f. or_later (tree_climb look number n side tree (place ++ item i ∷ [])) f) (items_are look number n side (i + 1) place trees)
+      ap (λ f. first_of (tree_climb look number n side tree (place ++ item i ∷ [])) f) (items_are look number n side (i + 1) place trees)
 
   pub value_some : (look : Look P C Q V H T E L) (number n : ℕ) (side : Side P C Q V H T E L) (trees : List (VNode P C Q V H T E L)) (place : Place) → trees ≢ []
       → value_climb look number n side (values.Fragment trees) place ≡ items_climb look number n side 0 place trees
@@ -151,18 +152,18 @@ module _ {P C Q V H T E L : Type 0} where
       find_nodes (map number_of side.numbers) number (template_of tree.template) above (slots_of tree.dynamic_attrs) (λ k place. slot_in look number n side tree k place) up i ns
 
   first_found : (look : Look P C Q V H T E L) (number n : ℕ) (side : Side P C Q V H T E L) (tree : VNode P C Q V H T E L) (above : Place) (up : List ℕ) (i : ℕ) (node : TemplateNode) (rest : TemplateNodes)
-      → nodes_in look number n side tree above up i (node_before node rest) ≡ or_later (node_climb look number n side tree above up i node) (nodes_in look number n side tree above up (i + 1) rest)
+      → nodes_in look number n side tree above up i (node_before node rest) ≡ first_of (node_climb look number n side tree above up i node) (nodes_in look number n side tree above up (i + 1) rest)
   unfolding node_climb
   first_found look number n side tree above up i node rest =
       ap (λ ns. nodes_in look number n side tree above up i ns) (before_out node rest) ∙
       level_found (map number_of side.numbers) number (template_of tree.template) above (slots_of tree.dynamic_attrs) (λ k place. slot_in look number n side tree k place) (below (out-TemplateNode node)) up i rest ∙
-      ap (λ ns. or_later (nodes_in look number n side tree above up i ns) (nodes_in look number n side tree above up (i + 1) rest)) (sym (before_out node no_nodes))
+      ap (λ ns. first_of (nodes_in look number n side tree above up i ns) (nodes_in look number n side tree above up (i + 1) rest)) (sym (before_out node no_nodes))
 
   row_is : (look : Look P C Q V H T E L) (number n : ℕ) (side : Side P C Q V H T E L) (tree : VNode P C Q V H T E L) (above : Place) (up : List ℕ) (i : ℕ) (row : List TemplateNode)
       → row_climb look number n side tree above up i row ≡ nodes_in look number n side tree above up i (nodes_of row)
   row_is look number n side tree above up i [] = refl
   row_is look number n side tree above up i (node ∷ row) =
-      ap (λ f. or_later (node_climb look number n side tree above up i node) f) (row_is look number n side tree above up (i + 1) row) ∙
+      ap (λ f. first_of (node_climb look number n side tree above up i node) f) (row_is look number n side tree above up (i + 1) row) ∙
       sym (first_found look number n side tree above up i node (nodes_of row))
 
   pub tree_row : (look : Look P C Q V H T E L) (number n : ℕ) (side : Side P C Q V H T E L) (tree : VNode P C Q V H T E L) (above : Place)

@@ -1,6 +1,6 @@
 -- The listeners that an event calls, attribute by attribute, and that they are those of the definitions.
 use Rattle.std.proofs.Common.{ℕ, suc, ◌+◌, ◌<◌, ◌≤◌, Bool, true, false, ◌&&◌, List, [], ◌∷◌, ◌++◌, ◌≡◌, refl, sym, ap, ◌∙◌, map, length, get_or, take, drop, arith}
-use Rattle.std.specs.Prelude.{Some, if◌then◌else◌}
+use Rattle.std.specs.Prelude.{Some, if◌then◌else◌, flat_map}
 use Rattle.std.proofs.Math.ListN.{drop_of_length-le}
 use Rattle.std.proofs.lemmas.List.{append_assoc}
 use Rattle.rt_parts.specs.declared.attribute.Attribute.{Attribute}
@@ -8,14 +8,14 @@ use Rattle.rt_parts.specs.declared.attribute.AttributeValue.{AttributeValue}
 use Rattle.rt_parts.specs.declared.attribute.AttributeValue.TheVariants as values
 use Rattle.rt_parts.specs.declared.attribute.ListenerCallback.{ListenerCallback}
 use Rattle.rt_model.specs.OneLog.{types}
-use Rattle.rt_model.specs.Lists.{Text}
+use Rattle.rt_model.specs.Lists.{Text, backwards}
 use Rattle.rt_model.specs.Heard as hears
 use Rattle.rt_model.specs.Heard.{matches}
 use Rattle.rt_mirror.specs.Mirror.{attribute_of, value_of}
 use Rattle.rt_attributes.proofs.Orders.{text-tested}
 use Rattle.rt_shown.specs.declared.hearing.Listener.{Listener}
 use Rattle.rt_shown.specs.Climbs.{slots_of, climb_of}
-use Rattle.rt_shown.specs.Hearing.{backwards, forwards, listener_in, listeners_of, value_heard, value_listens, attribute_heard, first_heard, first_listening, slot_heard, slots_heard, slots_in_order, climb_heard, event_heard}
+use Rattle.rt_shown.specs.Hearing.{listener_in, listeners_of, value_heard, value_listens, attribute_heard, first_heard, first_listening, slot_heard, slots_heard, slots_in_order, climb_heard, event_heard}
 use Rattle.rt_shown.proofs.OneByOne.{nil-right, next_drop, take-more}
 
 -- a name
@@ -41,14 +41,14 @@ back_more one xs i j x before after whole next low is so_far this =
 
 -- one more item is done, from the beginning
 pub next_more : {A B : Type 0} (one : A → List B) (xs : List A) (i : ℕ) (x : A) (before after whole : List B)
-    → i < length xs → x ≡ get_or xs i x → before ++ forwards one (drop i xs) ≡ whole → after ≡ before ++ one x → after ++ forwards one (drop (i + 1) xs) ≡ whole
+    → i < length xs → x ≡ get_or xs i x → before ++ flat_map one (drop i xs) ≡ whole → after ≡ before ++ one x → after ++ flat_map one (drop (i + 1) xs) ≡ whole
 next_more one xs i x before after whole low is so_far this =
-    ap (λ ys. ys ++ forwards one (drop (i + 1) xs)) this ∙ append_assoc before (one x) (forwards one (drop (i + 1) xs)) ∙
-    ap (λ ys. before ++ ys) (ap (λ ys. forwards one ys) (sym (next_drop xs i x low is))) ∙ so_far
+    ap (λ ys. ys ++ flat_map one (drop (i + 1) xs)) this ∙ append_assoc before (one x) (flat_map one (drop (i + 1) xs)) ∙
+    ap (λ ys. before ++ ys) (ap (λ ys. flat_map one ys) (sym (next_drop xs i x low is))) ∙ so_far
 
 -- all items are done, from the beginning
-pub next_done : {A B : Type 0} (one : A → List B) (xs : List A) (i : ℕ) (all whole : List B) → length xs ≤ i → all ++ forwards one (drop i xs) ≡ whole → all ≡ whole
-next_done one xs i all whole end so_far = sym (nil-right all) ∙ ap (λ ys. all ++ forwards one ys) (sym (drop_of_length-le xs end)) ∙ so_far
+pub next_done : {A B : Type 0} (one : A → List B) (xs : List A) (i : ℕ) (all whole : List B) → length xs ≤ i → all ++ flat_map one (drop i xs) ≡ whole → all ≡ whole
+next_done one xs i all whole end so_far = sym (nil-right all) ∙ ap (λ ys. all ++ flat_map one ys) (sym (drop_of_length-le xs end)) ∙ so_far
 
 module _ {P C Q V H T E L : Type 0} where
   pub listeners-append : (a b : List (Listener P C Q V H T E L)) → listeners_of (a ++ b) ≡ listeners_of a ++ listeners_of b
@@ -130,11 +130,11 @@ module _ {P C Q V H T E L : Type 0} where
   listening_is event (a ∷ rest) =
       ap (λ xs. if matches a.name event && hears.is_listener (value_of a.value) then hears.listener_of (value_of a.value) else xs) (listening_is event rest)
 
-  slots_are : (event : Text) (slots : List (List (Attribute P C Q V H T E L))) → slots_heard event false slots ≡ hears.slots_backwards (λ a. hears.all_matching event a) (slots_of slots)
+  slots_are : (event : Text) (slots : List (List (Attribute P C Q V H T E L))) → slots_heard event false slots ≡ backwards (λ a. hears.all_matching event a) (slots_of slots)
   slots_are event [] = refl
   slots_are event (slot ∷ slots) = (λ i. slots_are event slots i ++ slot_is event slot i)
 
-  firsts_are : (event : Text) (slots : List (List (Attribute P C Q V H T E L))) → slots_heard event true slots ≡ hears.slots_backwards (λ a. hears.first_matching event a) (slots_of slots)
+  firsts_are : (event : Text) (slots : List (List (Attribute P C Q V H T E L))) → slots_heard event true slots ≡ backwards (λ a. hears.first_matching event a) (slots_of slots)
   firsts_are event [] = refl
   firsts_are event (slot ∷ slots) = (λ i. firsts_are event slots i ++ first_is event slot i)
 

@@ -1,6 +1,9 @@
 -- What the items of a fragment write, one after another.
 use Rattle.std.proofs.Common.{ℕ, zero, suc, Bool, false, ◌+◌, ◌-◌, ◌<◌, ◌≤◌, ◌||◌, List, [], ◌∷◌, ◌++◌, ◌≡◌, ◌≢◌, refl, sym, ap, ◌∙◌, map, length, get_or, take, drop, arith}
-use Rattle.std.specs.Prelude.{Option, if◌then◌else◌}
+use Rattle.std.specs.Prelude.{Option, None, Some, is_some, if◌then◌else◌}
+use Rattle.std.specs.Borrow.{Bor}
+use Rattle.std.proofs.lemmas.Bool.{true≢false}
+use Rattle.rt_places.specs.declared.place.Step.{Step}
 use Rattle.std.proofs.Math.ListN.{drop_of_length-le}
 use Rattle.rt_nodes.specs.declared.vnode.VNode.{VNode}
 use Rattle.rt_model.specs.OneLog.{types}
@@ -11,7 +14,8 @@ use Rattle.rt_model.specs.Document.{Forest}
 use Rattle.rt_model.specs.Document as doc
 use Rattle.rt_model.specs.Caused as caused
 use Rattle.rt_model.specs.Caused.{Written, writes, halts, then_on}
-use Rattle.rt_mirror.specs.Mirror.{trees_from}
+use Rattle.rt_edits.specs.declared.doc_node.DocNode.{DocNode}
+use Rattle.rt_mirror.specs.Mirror.{trees_from, forest_of}
 use Rattle.rt_mirror.specs.Sealed.{tree_of}
 use Rattle.rt_places.specs.Places.{side_of}
 use Rattle.rt_shown.specs.declared.sides.Sides.{Sides}
@@ -31,6 +35,48 @@ around_more place at_item i end stop whole low so_far at_place apart =
     let e : end - i ≡ suc (end - (i + 1)) = omega arith in
     sym (ap (λ b. b || around_from place (i + 1) stop (end - (i + 1))) (ap (λ p. caused.is_around p stop) (sym at_place) ∙ apart)) ∙
     sym (ap (λ n. around_from place i stop n) e) ∙ so_far
+
+-- nothing is around no place
+pub around_none : (place : Place) (i n : ℕ) → around_from place i None n ≡ false
+around_none place i zero = refl
+around_none place i (suc n) = around_none place (i + 1) n
+
+pub around_unless : (stop : Option (Bor (List Step))) (place : Place) (i n : ℕ) → is_some stop ≡ false → false ≡ around_from place i (place_found stop) n
+around_unless None place i n none = sym (around_none place i n)
+around_unless (Some step) place i n none = absurd (true≢false none)
+
+module _ {P C Q V H T E L : Type 0} where
+  -- the last node of items, one item after another
+
+  last_more : (shown : Shown P C Q V H T E L) (place : Place) (j last : ℕ) (xs : List (VNode P C Q V H T E L)) (y : VNode P C Q V H T E L)
+      → last_among shown place j last (xs ++ y ∷ []) ≡ caused.last_of (last_among shown place j last xs) (tree_in shown y (place ++ item (j + length xs) ∷ []))
+  last_more shown place j last [] y = ap (λ m. caused.last_of last (tree_in shown y (place ++ item m ∷ []))) (let e : j ≡ j + 0 = omega arith in e)
+  last_more shown place j last (x ∷ xs) y =
+      let before : ℕ = caused.last_of last (tree_in shown x (place ++ item j ∷ [])) in
+      last_more shown place (j + 1) before xs y ∙
+      ap (λ m. caused.last_of (last_among shown place (j + 1) before xs) (tree_in shown y (place ++ item m ∷ []))) (let e : j + 1 + length xs ≡ j + suc (length xs) = omega arith in e)
+
+  last_next : (shown : Shown P C Q V H T E L) (place : Place) (new : List (VNode P C Q V H T E L)) (i : ℕ) (y : VNode P C Q V H T E L) → i < length new → y ≡ get_or new i y
+      → caused.last_of (last_among shown place 0 0 (take i new)) (tree_in shown y (place ++ item i ∷ [])) ≡ last_among shown place 0 0 (take (i + 1) new)
+  last_next shown place new i y low is =
+      ap (λ m. caused.last_of (last_among shown place 0 0 (take i new)) (tree_in shown y (place ++ item m ∷ []))) (sym (length-taken new i (omega arith)) ∙ (let e : length (take i new) ≡ 0 + length (take i new) = omega arith in e)) ∙
+      sym (last_more shown place 0 0 (take i new) y) ∙ ap (λ xs. last_among shown place 0 0 xs) (sym (take-more new i y low is)) ∙
+      ap (λ n. last_among shown place 0 0 (take n new)) (let e : suc i ≡ i + 1 = omega arith in e)
+
+  -- from behind: an item that shows a node has the last one
+  pub last_here : (shown : Shown P C Q V H T E L) (place : Place) (new : List (VNode P C Q V H T E L)) (i : ℕ) (y : VNode P C Q V H T E L) (row : List DocNode)
+      → i < length new → y ≡ get_or new i y → forest_of row ≡ tree_in shown y (place ++ item i ∷ []) → row ≢ []
+      → caused.last_of 0 (forest_of row) ≡ last_among shown place 0 0 (take (i + 1) new)
+  last_here shown place new i y [] low is seen some = absurd (some refl)
+  last_here shown place new i y (x ∷ xs) low is seen some =
+      ap (λ f. caused.last_of (last_among shown place 0 0 (take i new)) f) seen ∙ last_next shown place new i y low is
+
+  -- an item that shows none leaves it to those before it
+  pub last_passed : (shown : Shown P C Q V H T E L) (place : Place) (new : List (VNode P C Q V H T E L)) (i : ℕ) (y : VNode P C Q V H T E L) (row : List DocNode)
+      → i < length new → y ≡ get_or new i y → forest_of row ≡ tree_in shown y (place ++ item i ∷ []) → row ≡ []
+      → last_among shown place 0 0 (take (i + 1) new) ≡ last_among shown place 0 0 (take i new)
+  last_passed shown place new i y row low is seen none =
+      sym (last_next shown place new i y low is) ∙ ap (λ f. caused.last_of (last_among shown place 0 0 (take i new)) f) (sym seen ∙ ap forest_of none)
 
 module _ {P C Q V H T E L : Type 0} (app : Application (types C Q V H T E L)) where
   -- items
@@ -66,21 +112,6 @@ module _ {P C Q V H T E L : Type 0} (app : Application (types C Q V H T E L)) wh
   items_step b place i last y x ys xs = refl
 
   -- one after another
-
-  last_more : (shown : Shown P C Q V H T E L) (place : Place) (j last : ℕ) (xs : List (VNode P C Q V H T E L)) (y : VNode P C Q V H T E L)
-      → last_among shown place j last (xs ++ y ∷ []) ≡ caused.last_of (last_among shown place j last xs) (tree_in shown y (place ++ item (j + length xs) ∷ []))
-  last_more shown place j last [] y = ap (λ m. caused.last_of last (tree_in shown y (place ++ item m ∷ []))) (let e : j ≡ j + 0 = omega arith in e)
-  last_more shown place j last (x ∷ xs) y =
-      let before : ℕ = caused.last_of last (tree_in shown x (place ++ item j ∷ [])) in
-      last_more shown place (j + 1) before xs y ∙
-      ap (λ m. caused.last_of (last_among shown place (j + 1) before xs) (tree_in shown y (place ++ item m ∷ []))) (let e : j + 1 + length xs ≡ j + suc (length xs) = omega arith in e)
-
-  last_next : (shown : Shown P C Q V H T E L) (place : Place) (new : List (VNode P C Q V H T E L)) (i : ℕ) (y : VNode P C Q V H T E L) → i < length new → y ≡ get_or new i y
-      → caused.last_of (last_among shown place 0 0 (take i new)) (tree_in shown y (place ++ item i ∷ [])) ≡ last_among shown place 0 0 (take (i + 1) new)
-  last_next shown place new i y low is =
-      ap (λ m. caused.last_of (last_among shown place 0 0 (take i new)) (tree_in shown y (place ++ item m ∷ []))) (sym (length-taken new i (omega arith)) ∙ (let e : length (take i new) ≡ 0 + length (take i new) = omega arith in e)) ∙
-      sym (last_more shown place 0 0 (take i new) y) ∙ ap (λ xs. last_among shown place 0 0 xs) (sym (take-more new i y low is)) ∙
-      ap (λ n. last_among shown place 0 0 (take n new)) (let e : suc i ≡ i + 1 = omega arith in e)
 
   -- one more pair is written
   pub items_more : (b : Sides P C Q V H T E L) (place : Place) (new old : List (VNode P C Q V H T E L)) (i : ℕ) (y x : VNode P C Q V H T E L) (before this after whole : Written)

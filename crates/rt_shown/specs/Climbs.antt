@@ -1,5 +1,6 @@
 -- The climb from a number, as a look finds it, part by part.
 use Rattle.std.specs.Prelude.{ℕ, zero, suc, ◌+◌, List, [], ◌∷◌, ◌++◌, map, Option, Some, None, option_map}
+use Rattle.rt_model.specs.Lists.{first_of}
 use Rattle.rt_parts.specs.declared.attribute.Attribute.{Attribute}
 use Rattle.rt_parts.specs.declared.template.TemplateAttribute.{TemplateAttribute}
 use Rattle.rt_parts.specs.declared.template.TemplateNode.{TemplateNode}
@@ -8,7 +9,7 @@ use Rattle.rt_nodes.specs.declared.vnode.DynamicNode.{DynamicNode}
 use Rattle.rt_model.specs.OneLog.{types}
 use Rattle.rt_model.specs.Tree as model
 use Rattle.rt_model.specs.Tree.{Place, no_nodes, item}
-use Rattle.rt_model.specs.Heard.{Climb, or_later, slots_on, find_nodes, find_child, find_tree, find_slots, find_slot, find_side}
+use Rattle.rt_model.specs.Heard.{Climb, slots_on, find_nodes, find_child, find_tree, find_slots, find_slot, find_side}
 use Rattle.rt_mirror.specs.Mirror.{attribute_in, attribute_of, slots_from}
 use Rattle.rt_mirror.specs.Sealed.{node_before, template_of, tree_of, slot_of}
 use Rattle.rt_places.specs.declared.side.Side.{Side}
@@ -81,7 +82,7 @@ module _ {P C Q V H T E L : Type 0} where
       → Option (Climb (types C Q V H T E L))
   items_climb look number n side i place [] = None
   items_climb look number n side i place (tree ∷ trees) =
-      or_later (tree_climb look number n side tree (place ++ item i ∷ [])) (items_climb look number n side (i + 1) place trees)
+      first_of (tree_climb look number n side tree (place ++ item i ∷ [])) (items_climb look number n side (i + 1) place trees)
 
   -- the climb in a node of a tree's template
   unfoldable pub node_climb : Look P C Q V H T E L → ℕ → ℕ → Side P C Q V H T E L → VNode P C Q V H T E L → Place → List ℕ → ℕ
@@ -97,7 +98,7 @@ module _ {P C Q V H T E L : Type 0} where
       → List TemplateNode → Option (Climb (types C Q V H T E L))
   row_climb look number n side tree above up i [] = None
   row_climb look number n side tree above up i (node ∷ nodes) =
-      or_later (node_climb look number n side tree above up i node) (row_climb look number n side tree above up (i + 1) nodes)
+      first_of (node_climb look number n side tree above up i node) (row_climb look number n side tree above up (i + 1) nodes)
 
   -- in a tree of a shown side
   abbrev pub tree_climb_in : Shown P C Q V H T E L → ℕ → VNode P C Q V H T E L → Place → Option (Climb (types C Q V H T E L))

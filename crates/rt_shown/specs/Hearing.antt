@@ -1,23 +1,13 @@
 -- The listeners that an event calls, found attribute by attribute and slot by slot.
-use Rattle.std.specs.Prelude.{Bool, true, false, ◌&&◌, List, [], ◌∷◌, ◌++◌, map, if◌then◌else◌}
+use Rattle.std.specs.Prelude.{Bool, true, false, ◌&&◌, List, [], ◌∷◌, ◌++◌, map, flat_map, if◌then◌else◌}
 use Rattle.rt_parts.specs.declared.attribute.Attribute.{Attribute}
 use Rattle.rt_parts.specs.declared.attribute.AttributeValue.{AttributeValue}
 use Rattle.rt_model.specs.OneLog.{types}
-use Rattle.rt_model.specs.Lists.{Text}
+use Rattle.rt_model.specs.Lists.{Text, backwards}
 use Rattle.rt_model.specs.Heard as heard
 use Rattle.rt_model.specs.Heard.{matches}
 use Rattle.rt_mirror.specs.Mirror.{value_of}
 use Rattle.rt_shown.specs.declared.hearing.Listener.{Listener}
-
--- what each item gives, the last item first
-abbrev pub backwards : {A B : Type 0} → (A → List B) → List A → List B
-backwards one [] = []
-backwards one (x ∷ xs) = backwards one xs ++ one x
-
--- what each item gives, in order
-abbrev pub forwards : {A B : Type 0} → (A → List B) → List A → List B
-forwards one [] = []
-forwards one (x ∷ xs) = one x ++ forwards one xs
 
 module _ {P C Q V H T E L : Type 0} where
   -- a listener
@@ -65,11 +55,11 @@ module _ {P C Q V H T E L : Type 0} where
 
   -- the first listener of each slot, in order
   abbrev pub slots_in_order : Text → List (List (Attribute P C Q V H T E L)) → List (heard.Listener (types C Q V H T E L))
-  slots_in_order event slots = forwards (λ slot. first_listening event slot) slots
+  slots_in_order event slots = flat_map (λ slot. first_listening event slot) slots
 
   -- the listeners of the elements further out
   abbrev pub climb_heard : Text → List (List (List (Attribute P C Q V H T E L))) → List (heard.Listener (types C Q V H T E L))
-  climb_heard event climb = forwards (λ slots. slots_heard event false slots) climb
+  climb_heard event climb = flat_map (λ slots. slots_heard event false slots) climb
 
   -- the listeners of an event that bubbles
   abbrev pub bubbling_heard : Text → List (List (List (Attribute P C Q V H T E L))) → List (heard.Listener (types C Q V H T E L))

@@ -14,6 +14,7 @@ use rt_attributes::attributes_in;
 use rt_nodes::{DynamicNode, VNode};
 use rt_parts::{Attribute, Parts, TemplateAttribute, TemplateNode};
 use rt_places::{Kind, Place, path_below, place_inside, place_of_item};
+use rt_shared::Shared;
 use rt_values::{List, OutOfMemory, Part};
 use rt_work::{child_at, number_at};
 use std::alloc::Global;
@@ -81,7 +82,7 @@ fn find_side<P: Parts>(
 {
     let levels = down(levels)?;
     match &shown.side.output {
-        Some(tree) => find_tree(alloc, shown, number, tree, &List::new(alloc), levels),
+        Some(tree) => find_tree(alloc, shown, number, tree, &Shared::empty(), levels),
         None => Ok(None),
     }
 }
@@ -309,7 +310,7 @@ fn below_element<P: Parts>(
 #[tactic(auto, using(crate::proofs::Climbing::climbing))]
 fn slots_on<P: Parts>(
     alloc: Global,
-    given: &List<List<Attribute<P>>>,
+    given: &Shared<List<Attribute<P>>>,
     attributes: &[TemplateAttribute],
 ) -> Result<Slots<P>, OutOfMemory>
     ensures { IfOk result (λ slots. slots_of slots ≡ entries_slots given.now attributes.now) }
@@ -324,7 +325,7 @@ fn slots_on<P: Parts>(
 #[tactic(auto, using(crate::proofs::Climbing::climbing))]
 fn add_slot<P: Parts>(
     alloc: Global,
-    given: &List<List<Attribute<P>>>,
+    given: &Shared<List<Attribute<P>>>,
     attribute: &TemplateAttribute,
     slots: &mut Slots<P>,
 ) -> Result<(), OutOfMemory>

@@ -18,6 +18,7 @@ use rt_attributes::attributes_written;
 use rt_nodes::{DynamicNode, VComponent, VNode};
 use rt_parts::Parts;
 use rt_places::{Piece, Place, SideName, pieces_of, place_inside, place_of_item};
+use rt_shared::Shared;
 use rt_values::{List, OutOfMemory, Part};
 use rt_work::{child_at, is_same_component};
 use std::alloc::Global;
@@ -132,7 +133,7 @@ fn outputs_written<P: Parts>(
     let levels = down(levels)?;
     match &sides.new.side.output {
         Some(new) => match &sides.old.side.output {
-            Some(old) => tree_written(alloc, sides, &List::new(alloc), new, old, levels),
+            Some(old) => tree_written(alloc, sides, &Shared::empty(), new, old, levels),
             None => Ok(nothing(alloc)),
         },
         None => Ok(nothing(alloc)),
@@ -299,7 +300,7 @@ fn fragment_written<P: Parts>(
     alloc: Global,
     sides: &Sides<'_, P>,
     place: &Place,
-    trees: &List<VNode<P>>,
+    trees: &Shared<VNode<P>>,
     new: &DynamicNode<P>,
     old: &DynamicNode<P>,
     levels: u64,

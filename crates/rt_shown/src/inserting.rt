@@ -67,6 +67,9 @@ fn any_around(
     ensures { IfOk result (λ answer. answer
         ≡ around_from (place_of place.now) first (place_found stop.entry) (end - first)) }
 {
+    if stop.is_none() {
+        return Ok(false);
+    }
     for position in first..end {
         let item = place_of_item(alloc, place, position)?;
         if is_around(&item, stop) {
@@ -76,7 +79,8 @@ fn any_around(
     Ok(false)
 }
 
-// The number of the last node of these items, 0 where they show none.
+// The number of the last node of these items, 0 where they show none. It is looked for from behind,
+// up to an item that shows a node.
 fn last_before<P: Parts>(
     alloc: Global,
     sides: &Sides<'_, P>,
@@ -86,13 +90,15 @@ fn last_before<P: Parts>(
     ensures { IfOk result (λ last. last
         ≡ last_among sides.now.new.now (place_of place.now) 0 0 trees.now) }
 {
-    let mut last = 0;
-    for position in 0..trees.len() {
+    for back in 0..trees.len() {
+        let position = trees.len() - 1 - back;
         let above = place_of_item(alloc, place, position as u64)?;
         let row = tree_view(alloc, sides.new, &trees[position], &above, LEVELS)?;
-        last = last_of(last, row.as_slice());
+        if !row.is_empty() {
+            return Ok(last_of(0, row.as_slice()));
+        }
     }
-    Ok(last)
+    Ok(0)
 }
 
 // The number of a row's last node, or the one that came before the row.

@@ -16,6 +16,7 @@ use rt_edits::{DocKind, DocNode};
 use rt_nodes::{DynamicNode, VNode};
 use rt_parts::{Attribute, Parts, TemplateAttribute, TemplateNode};
 use rt_places::{Kind, Place, Side, path_below, place_inside, place_of_item};
+use rt_shared::Shared;
 use rt_values::{ElementId, List, OutOfMemory, Part, Text, both};
 use rt_work::{child_at, number_at};
 use std::alloc::Global;
@@ -108,7 +109,7 @@ fn side_view<P: Parts>(
 {
     let levels = down(levels)?;
     match &shown.side.output {
-        Some(tree) => tree_view(alloc, shown, tree, &List::new(alloc), levels),
+        Some(tree) => tree_view(alloc, shown, tree, &Shared::empty(), levels),
         None => Ok(List::new(alloc)),
     }
 }

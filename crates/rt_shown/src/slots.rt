@@ -11,6 +11,7 @@ use rt_edits::Edit;
 use rt_nodes::{DynamicNode, VNode};
 use rt_parts::Parts;
 use rt_places::{Kind, Place};
+use rt_shared::Shared;
 use rt_values::{ElementId, List, OutOfMemory, Part, Text};
 use rt_work::number_at;
 use std::alloc::Global;
@@ -77,7 +78,7 @@ pub(crate) fn no_items_written<P: Parts>(
     alloc: Global,
     sides: &Sides<'_, P>,
     place: &Place,
-    were: &List<VNode<P>>,
+    were: &Shared<VNode<P>>,
     new: &DynamicNode<P>,
     old: &DynamicNode<P>,
 ) -> Result<Edited, OutOfMemory>

@@ -55,3 +55,7 @@ module _ {A : Type 0} where
           own = tt;
           absent = first-end rows n (length rows) (omega arith) (first-before rows n (length rows) (omega arith) other);
         }
+
+    -- a row that has the number is the first that has it
+    pub first-own : (i : ℕ) → i < length rows → ((row : ℕ × A) → (get_or rows i row).0 ≡ n) → IsFirst rows n i
+    first-own i within own = first-before rows n i (omega arith) (λ k e below same. omega (arith, up k i e below within, own e))

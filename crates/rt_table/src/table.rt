@@ -1,5 +1,5 @@
 //! A table of numbered values, in the order in which they came.
-ghost use Rattle.std.specs.Prelude.{◌≡◌, ℕ, [], ◌∷◌, ◌++◌, ◌<◌, length, get_or, remove, slice_set, Option, Some, None, IfSome, IfNone, OnOk, OnErr};
+ghost use Rattle.std.specs.Prelude.{◌≡◌, ℕ, [], ◌∷◌, ◌++◌, ◌<◌, length, get_or, remove, slice_set, Option, Some, None, true, IfSome, IfNone, OnOk, OnErr};
 ghost use Rattle.std.specs.Option.{option_copied};
 ghost use Rattle.std.specs.Fn.{FnOnceReturnsAtMut};
 ghost use Rattle.rt_model.specs.Lists.{at, put, without};
@@ -70,7 +70,7 @@ impl<T> Table<T> {
     {
         let rows = self.rows.as_slice();
         if self.rising {
-            search(rows, number)
+            near(rows, number)
         } else {
             walk(rows, number)
         }
@@ -182,6 +182,34 @@ impl<T: Drop> Table<T> {
     {
         change(&mut self.rows[index].1)
     }
+}
+
+// The index of the row of a number, among numbers that rise. It is looked for where it stands while no
+// row went, and then by halves.
+fn near<T>(rows: &[(u64, T)], number: u64) -> Option<usize>
+    requires ascending { Ascends rows.now }
+    ensures within { IfSome result (λ index. index < length rows.now) }
+    ensures first { IfSome result (λ index. IsFirst rows.now number index) }
+    ensures own { IfSome result (λ index.
+        (row : ℕ × T) → (get_or rows.now index row).0 ≡ number) }
+    ensures absent { IfNone result (at rows.now number ≡ None) }
+{
+    let guess = number as usize;
+    if stands_at(rows, guess, number) {
+        Some(guess)
+    } else {
+        search(rows, number)
+    }
+}
+
+// Whether the row at an index has a number.
+fn stands_at<T>(rows: &[(u64, T)], index: usize, number: u64) -> bool
+    requires ascending { Ascends rows.now }
+    ensures within { result ≡ true → index < length rows.now }
+    ensures first { result ≡ true → IsFirst rows.now number index }
+    ensures own { result ≡ true → (row : ℕ × T) → (get_or rows.now index row).0 ≡ number }
+{
+    index < rows.len() && rows[index].0 == number
 }
 
 // The index of the row of a number, among numbers that rise.

@@ -11,3 +11,10 @@ pub use Rattle.rt_edits.specs.Ordered
 pub use Rattle.rt_edits.specs.Document
 pub use Rattle.rt_edits.specs.Laws
 pub use Rattle.rt_edits.specs.Sinks
+pub use Rattle.rt_patch.specs.Building
+pub use Rattle.rt_patch.specs.Steps
+pub use Rattle.rt_patch.specs.Told
+pub use Rattle.rt_patch.specs.Counts
+pub use Rattle.rt_patch.specs.Left
+pub use Rattle.rt_patch.specs.Order
+pub use Rattle.rt_patch.specs.Mounted

@@ -81,7 +81,7 @@ items_written-returns g t c =
 pub outputs_written-returns-in-Some-output : goal.outputs_written-returns-in-Some-output
 outputs_written-returns-in-Some-output g t c =
     IfOk-weaker c.tree_written-in-Some-output.result _ _
-    (λ written is app tests. is app tests ∙ ap (λ p. tree_writes app c.args.sides.now (place_of p) c.in-Some.new c.in-Some-output.old) c.new.ensures.empty ∙
+    (λ written is app tests. is app tests ∙ ap (λ p. tree_writes app c.args.sides.now (place_of p) c.in-Some.new c.in-Some-output.old) c.empty.ensures.empty ∙
     sym (output_both app c.args.sides.now c.in-Some.new c.in-Some-output.old c.in-Some.is c.in-Some-output.is))
     c.tree_written-in-Some-output.ensures
 

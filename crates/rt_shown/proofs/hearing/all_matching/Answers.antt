@@ -1,6 +1,7 @@
 -- One more is heard, from the end.
 use Rattle.std.proofs.Common.{◌≡◌, ◌+◌, ◌-◌, ◌<◌, ◌++◌, arith, length}
-use Rattle.rt_shown.specs.Hearing.{attribute_heard, backwards, listeners_of}
+use Rattle.rt_model.specs.Lists.{backwards}
+use Rattle.rt_shown.specs.Hearing.{attribute_heard, listeners_of}
 use Rattle.rt_shown.proofs.Hearings.{back_more}
 use Rattle.rt_shown.proofs.hearing.all_matching.Goals as goal
 

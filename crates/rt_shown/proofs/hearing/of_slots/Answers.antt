@@ -1,6 +1,7 @@
 -- One more slot is heard, from the end.
 use Rattle.std.proofs.Common.{◌≡◌, ◌+◌, ◌-◌, ◌<◌, ◌++◌, ◌∙◌, ap, arith, length}
-use Rattle.rt_shown.specs.Hearing.{backwards, listeners_of, slot_given}
+use Rattle.rt_model.specs.Lists.{backwards}
+use Rattle.rt_shown.specs.Hearing.{listeners_of, slot_given}
 use Rattle.rt_shown.proofs.Hearings.{back_more}
 use Rattle.rt_shown.proofs.hearing.of_slots.Goals as goal
 

@@ -1,1 +1,0 @@
-pub use Rattle.rt_parts.specs.Texts

@@ -1,3 +1,0 @@
-mod BlockLemmas
-pub mod NamesLemmas
-pub mod WalkLemmas
