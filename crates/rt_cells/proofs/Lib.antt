@@ -1,0 +1,16 @@
+pub mod Sorted
+pub mod Exact
+pub mod Untied
+pub mod Scan
+pub mod Pairs
+pub mod NumbersOf
+pub mod Searched
+pub mod Indexed
+pub mod LinkSteps
+pub mod Linked
+pub mod InOrder
+pub mod ReadersOf
+pub mod ContextsOf
+pub mod DroppedContexts
+pub mod Members
+pub mod Lasting

@@ -2,10 +2,21 @@
 //! values that all crates above are made of.
 #![tactic(auto)]
 
-pub use rt_tracked::{Cells, CellsFault, ReactiveContext, Reader, Source, Subscribers, Target};
+mod cells;
+mod contexts;
+mod faults;
+mod links;
+mod numbered;
+mod places;
+mod reads;
+mod sources;
+mod subscribers;
+
+pub use cells::Cells;
+pub use contexts::ReactiveContext;
+pub use faults::CellsFault;
 pub use rt_values::{
     Boxed, List, OutOfMemory, Part, ScopeId, Serials, Task, Text, copy_slice, same_slice,
 };
-
-#[cfg(test)]
-mod tests;
+pub use sources::{Reader, Source, Target};
+pub use subscribers::Subscribers;

@@ -18,6 +18,3 @@ pub use message::{Drained, Msg, Post, Refused};
 pub use notifier::Notifier;
 pub use owner::Owner;
 pub use taken::{Taken, finish};
-
-#[cfg(test)]
-mod tests;

@@ -1,0 +1,11 @@
+pub mod BatchLemmas
+pub mod InOrder
+pub mod KeptLemmas
+pub mod Least
+pub mod LineLemmas
+pub mod PendingLemmas
+pub mod PlaceLemmas
+pub mod Renumbered
+pub mod RollLemmas
+pub mod Seats
+pub mod Waits

@@ -1,7 +1,18 @@
 //! What runs next: marked scopes and woken tasks by height and number, effects last.
 #![tactic(auto)]
 
-pub use rt_queues::{DirtyTasks, Effect, Queues, ScopeOrder, Work};
+mod dirty;
+mod effects;
+mod line;
+mod order;
+mod place;
+mod queues;
+mod roll;
+mod tree;
+mod work;
 
-#[cfg(test)]
-mod tests;
+pub use dirty::DirtyTasks;
+pub use effects::Effect;
+pub use order::ScopeOrder;
+pub use queues::Queues;
+pub use work::Work;

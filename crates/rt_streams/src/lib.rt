@@ -10,8 +10,6 @@ mod schedule;
 mod source;
 mod standard_in;
 mod standard_out;
-#[cfg(test)]
-mod tests;
 
 pub use memory_out::{BytesOut, SureOut};
 pub use memory_source::{BytesSource, SureSource};

@@ -37,7 +37,7 @@ impl From<OutOfMemory> for OutError {
 }
 
 /// A place that takes bytes in order.
-pub trait Out {
+pub trait Out: Drop {
     /// The bytes that were written, where the out tells them.
     ghost written: { Self → Option (List ℕ) };
 

@@ -7,7 +7,7 @@ ghost use Rattle.rt_streams.specs.Reads.{Moved, Ended};
 pub struct ReadFailed;
 
 /// Bytes that are read piece by piece.
-pub trait Source {
+pub trait Source: Drop {
     /// The bytes that are left to read, where the source tells them.
     ghost left: { Self → Option (List ℕ) };
 

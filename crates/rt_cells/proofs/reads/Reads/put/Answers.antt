@@ -1,0 +1,52 @@
+-- The links are tied to the sources again on each way out.
+use Rattle.std.proofs.Common.{◌≡◌, ◌∙◌, sym, ap, refl, ◌&&◌, not, [], inr, Bool, true, false}
+use Rattle.std.specs.Option.{unwrap_or}
+use Rattle.rt_cells.specs.Links.{is_let_go}
+use Rattle.rt_cells.proofs.Linked.{put_linked, undone_linked, kept_sorted, none_sorted, in_table}
+use Rattle.rt_cells.proofs.reads.Reads.put.Goals as goal
+
+and-true : (b : Bool) → b ≡ (b && true)
+and-true true = refl
+and-true false = refl
+
+pub leave-requires : goal.leave-requires
+leave-requires c = record { ascending = rw c.kept_of.ensures.kept (kept_sorted c.self.invariant c.args.reader) }
+
+pub leave-requires-in-Err-insert : goal.leave-requires-in-Err-insert
+leave-requires-in-Err-insert c = record { ascending = none_sorted }
+
+pub invariant_of-self : goal.invariant_of-self
+invariant_of-self c =
+    undone_linked c.self.invariant c.args.reader c.args.sources c.enter.new.links.keys c.leave.new.links.keys
+    (λ link. rw c.as_slice.ensures.items at (c.in-Err.ensures.err link))
+    (λ link. c.leave.ensures.left link
+    ∙ (λ i. in_table c.enter.new.links.keys link && not (is_let_go c.args.reader (c.kept_of.ensures.kept i) (c.as_slice-in-Err.ensures.items i) link)))
+
+pub invariant_of-self-in-Some : goal.invariant_of-self-in-Some
+invariant_of-self-in-Some c =
+    put_linked c.self.invariant c.args.reader c.args.sources c.insert.new.self.entries c.enter.new.links.keys c.leave-in-Some.new.links.keys c.requires.ascending
+    c.in-Ok.ensures.updates.0 c.insert.ensures.ordered
+    (λ link. rw c.as_slice.ensures.items at (c.in_default.ensures.ok link))
+    (λ link. c.leave-in-Some.ensures.left link
+    ∙ (λ i. in_table c.enter.new.links.keys link && not (is_let_go c.args.reader
+    ((c.kept_of-in-Some.ensures.kept ∙ ap (λ found. unwrap_or found []) c.in-Ok.ensures.updates.1) i)
+    ((c.as_slice-in-Some.ensures.items ∙ ap (λ found. unwrap_or found []) (sym c.in-Some.is ∙ c.in-Ok.ensures.old)) i) link)))
+
+pub invariant_of-self-in-Ok : goal.invariant_of-self-in-Ok
+invariant_of-self-in-Ok c =
+    put_linked c.self.invariant c.args.reader c.args.sources c.insert.new.self.entries c.enter.new.links.keys c.enter.new.links.keys c.requires.ascending
+    c.in-Ok.ensures.updates.0 c.insert.ensures.ordered
+    (λ link. rw c.as_slice.ensures.items at (c.in_default.ensures.ok link))
+    (λ link. and-true (in_table c.enter.new.links.keys link)
+    ∙ ap (λ former. in_table c.enter.new.links.keys link && not (is_let_go c.args.reader c.args.sources former link))
+    (ap (λ found. unwrap_or found []) (sym c.in-None.is ∙ c.in-Ok.ensures.old)))
+
+pub invariant_of-self-in-Err-insert : goal.invariant_of-self-in-Err-insert
+invariant_of-self-in-Err-insert c =
+    rw c.in-Err-insert.ensures.err
+    (undone_linked c.self.invariant c.args.reader c.args.sources c.enter.new.links.keys c.leave-in-Err-insert.new.links.keys
+    (λ link. inr (rw c.as_slice.ensures.items at (c.in_default.ensures.ok link)))
+    (λ link. c.leave-in-Err-insert.ensures.left link
+    ∙ (λ i. in_table c.enter.new.links.keys link && not (is_let_go c.args.reader
+    (ap (λ found. unwrap_or found []) (sym c.in-Err-insert.ensures.absent) i)
+    ((c.as_slice-in-Err-insert.ensures.items ∙ ap (λ pair. pair.1) c.in-Err-insert.ensures.value_returned) i) link))))

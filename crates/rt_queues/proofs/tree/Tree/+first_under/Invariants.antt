@@ -1,5 +1,0 @@
-use Rattle.std.proofs.Common.{length}
-use Rattle.rt_queues.proofs.tree.Tree.+first_under.Given as goal
-
-abbrev pub decreases-first_under : goal.decreases-first_under
-decreases-first_under l = length l.self.now

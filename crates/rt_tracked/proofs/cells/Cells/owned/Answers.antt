@@ -1,8 +1,0 @@
--- The scope's cells are those of its numbers.
-use Rattle.rt_tracked.proofs.cells.Cells.owned.Goals as goal
-
-pub returns : goal.returns
-returns g c = record {
-  owned = rw (← c.self.view_is) c.numbers_of.ensures.numbers;
-  ascending = c.numbers_of.ensures.ascending;
-}
