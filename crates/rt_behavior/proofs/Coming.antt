@@ -10,7 +10,7 @@ use Rattle.rt_model.proofs.Maps.{by_test, pick_true, pick_false}
 use Rattle.rt_behavior.specs.Comes.{IsFirst, task_before, ComesToRerun, ComesToEffects, ComesInTurn, emptied, NothingLeft, NextInTurn, NoneIsLeft}
 use Rattle.rt_behavior.proofs.Firsts.{IsOrder, scopes_order, order_by, first_of_least, none_least, all_first, all_map, shorter}
 
-no_number : (xs : List ℕ) → length xs ≤ 0 → xs ≡ []
+pub no_number : (xs : List ℕ) → length xs ≤ 0 → xs ≡ []
 no_number [] h = refl
 no_number (x ∷ xs) h = absurd (omega (arith, h))
 
@@ -125,7 +125,7 @@ module _ {K : Types} where
       (λ q. let absurdity : None ≡ Some t = sym (pick_true None (Some u) q) ∙ h in cc)
       (λ q. let same : Some u ≡ Some t = sym (pick_false None (Some u) q) ∙ h in cc)
 
-  paused_none : (w : State K) → w.queued ≡ [] → (o : Option Work) → found w ≡ o → paused w o ≡ None
+  pub paused_none : (w : State K) → w.queued ≡ [] → (o : Option Work) → found w ≡ o → paused w o ≡ None
   paused_none w e None h = refl
   paused_none w e (Some (RerunScope s)) h = refl
   paused_none w e (Some (RunEffects s)) h = refl
@@ -137,7 +137,7 @@ module _ {K : Types} where
       nobody [] back g = cc
       nobody (x ∷ front) back g = cc
 
-  drops_done : (qs : List ℕ) (w : State K) → length w.queued ≤ length qs → paused (drops qs w) (found (drops qs w)) ≡ None
+  pub drops_done : (qs : List ℕ) (w : State K) → length w.queued ≤ length qs → paused (drops qs w) (found (drops qs w)) ≡ None
   drops_done [] w h = paused_none w (no_number w.queued h) (found w) refl
   drops_done (q ∷ qs) w h = on (λ v g. drops_done qs v g) (paused w (found w)) refl
     where

@@ -8,3 +8,19 @@ pub mod Readers
 mod Cleaning
 mod Unshown
 mod Others
+mod Stays
+mod Looking
+mod Running
+mod MovesOwe
+mod Taking
+mod Waking
+mod Steadfast
+mod Held
+mod Reading
+mod Unlooked
+mod Lines
+mod Since
+mod Orders
+mod NoneAgain
+mod Entries
+pub mod Renders

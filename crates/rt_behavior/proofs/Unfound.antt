@@ -1,11 +1,11 @@
 -- A number that doesn't show isn't found among what shows, so nobody hears an event there.
 use Rattle.std.proofs.Common.{ℕ, zero, suc, ◌+◌, Bool, true, false, ◌||◌, List, [], ◌∷◌, ◌++◌, length, ◌≡◌, refl, ap, ◌∙◌, nat_eq}
 use Rattle.std.specs.Prelude.{Option, Some, None, if◌then◌else◌}
-use Rattle.rt_model.specs.Lists.{Text, at}
+use Rattle.rt_model.specs.Lists.{Text, at, first_of}
 use Rattle.rt_model.specs.Tree.{Types, TemplateNodes, no_nodes, element_node, text_node, slot_node, Template, Attribute, Tree, block, Slots, no_slots, more_slots, Slot, text_slot, placeholder_slot, component_slot, fragment_slot, Trees, no_trees, more_trees, item, Place, Kind, an_element, a_static_text, a_text, a_placeholder, an_empty_fragment, place_in}
 use Rattle.rt_model.specs.State.{SideName, Side, Scope, State, side_of}
 use Rattle.rt_model.specs.Run.{child_at}
-use Rattle.rt_model.specs.Heard.{number_at, Climb, or_later, below_element, slots_on, leaf_climb, find_nodes, find_child, find_tree, find_slots, find_slot, find_items, find_side, find_output, find_within, heard_on, heard}
+use Rattle.rt_model.specs.Heard.{number_at, Climb, below_element, slots_on, leaf_climb, find_nodes, find_child, find_tree, find_slots, find_slot, find_items, find_side, find_output, find_within, heard_on, heard}
 use Rattle.rt_model.specs.Document.{Forest, Empty, Node, join_rows, is_in}
 use Rattle.rt_model.specs.View.{child_view, nodes_view, tree_view, slots_view, slot_view, items_view, side_view, scope_view, view_within, view}
 use Rattle.rt_model.proofs.Maps.{pick_false}
@@ -27,8 +27,8 @@ joined_in i (Node id content children rest) g h =
     )
 
 module _ {K : Types} where
-  none_later : (a b : Option (Climb K)) → a ≡ None → b ≡ None → or_later a b ≡ None
-  none_later a b f g = ap (λ (o : Option (Climb K)). or_later o b) f ∙ g
+  none_later : (a b : Option (Climb K)) → a ≡ None → b ≡ None → first_of a b ≡ None
+  none_later a b f g = ap (λ (o : Option (Climb K)). first_of o b) f ∙ g
 
   no_leaf : (number n : ℕ) → nat_eq n number ≡ false → leaf_climb {K = K} number n ≡ None
   no_leaf number n h = pick_false (Some ([] ∷ [])) None h

@@ -7,3 +7,9 @@ pub mod CleanUps
 pub mod Hidden
 pub mod Batches
 pub mod Only
+pub mod Owed
+pub mod Looks
+pub mod Wakes
+pub mod Keeping
+pub mod Holding
+pub mod Once

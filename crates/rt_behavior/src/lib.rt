@@ -1,16 +1,28 @@
 //! Laws on how a runtime behaves, for those who call it: what comes next, what changes nothing,
-//! where errors and look-ups go, who is marked, and what a removal calls.
+//! where errors and look-ups go, who is marked, what a removal calls; what is owed is done, what
+//! lasts of a scope, and that no body runs twice in a render.
 //!
 //! The functions have empty bodies: what each claims of the definitions is its contract.
 #![tactic(auto)]
 
 mod ending;
 mod hiding;
+mod lasting;
+mod once;
+mod owing;
 mod reaching;
 mod turns;
 
 pub use ending::{children_go_first, clean_ups_in_turn, effects_in_turn};
 pub use hiding::{effects_are_mounted, hidden_writes_nothing, shown_are_mounted};
+pub use lasting::{
+    ends_release, first_error_stays, holders_stay, hooks_stay, runs_keep_reads, suspensions_hold,
+};
+pub use once::no_body_twice;
+pub use owing::{
+    logged_marks_are_run, logged_wakes_are_polled, looks_take_all, marks_are_run, wakes_are_polled,
+    wakes_are_posted,
+};
 pub use reaching::{
     nearest_is_found, nearest_provides, provides_post_readers, throws_fill_once, ways_are_short,
     writes_post_only_readers, writes_post_readers,

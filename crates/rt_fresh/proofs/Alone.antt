@@ -9,7 +9,7 @@ use Rattle.rt_model.specs.State.{SideName, MainSide, ChildrenSide, FallbackSide,
 use Rattle.rt_model.specs.Run.{with_last_call}
 use Rattle.rt_model.specs.Boundary.{drop_items}
 use Rattle.rt_model.proofs.Maps.{at_put_other, at_without_other}
-use Rattle.rt_ready.proofs.Lists.{IsServe, IsDrop}
+use Rattle.rt_moves.proofs.Lists.{IsServe, IsDrop}
 use Rattle.rt_moves.specs.Heeds.{HasMark, leavings, Marked, SameOf}
 use Rattle.rt_fresh.proofs.Told.{put_by, CalmO}
 use Rattle.rt_fresh.proofs.Calm.{error_of, context_of, holders_of, held_stays, holders_stay, Unique, unique_put, listed_same, Pending, Calm}

@@ -11,7 +11,7 @@ use Rattle.rt_model.specs.Run.{fault_of, with_next, called_once, called_where, i
 use Rattle.rt_model.specs.Boundary.{tree_or_placeholder, children_of, counts_render, counted_render, fallback_answered, row_step, boundary_step, called_back}
 use Rattle.rt_model.proofs.Maps.{eq_same, at_put_here}
 use Rattle.rt_model.proofs.RunFrames.{body_numbered}
-use Rattle.rt_ready.proofs.Lists.{serves_are, drops_are}
+use Rattle.rt_moves.proofs.Lists.{serves_are, drops_are}
 use Rattle.rt_moves.specs.Heeds.{Marked}
 use Rattle.rt_fresh.proofs.Told.{put_by, change_quiet, CalmO, onward_calm, from_calm, calm_o_to, calm_o_if}
 use Rattle.rt_fresh.proofs.Calm.{error_of, context_of, there_of, Pending, pending_on, Calm, calm_then, calm_to, calm_refl, quiet_calm, quiet_rest, no_fall}

@@ -14,13 +14,13 @@ use Rattle.rt_model.proofs.Maps.{by_test, pick_true, pick_false}
 use Rattle.rt_model.proofs.SamePlaces.{same_place-true}
 use Rattle.rt_model.proofs.NumbersStand.{child_among}
 use Rattle.rt_model.proofs.Stands.{Stands}
-use Rattle.rt_ready.proofs.Twigs.{twig, twig_side, kids, slots, SameTwigs, side_by, same_framed, side_found, by_scope}
-use Rattle.rt_ready.proofs.Woven.{owner, Stack, kids_same, slots_same}
-use Rattle.rt_ready.proofs.Lists.{some_number, every_join}
-use Rattle.rt_ready.proofs.Patched.{by_side, Turns, IsRow, Aside, Idle, aside_row}
-use Rattle.rt_ready.proofs.Made.{at_child, part, side_else, side_child, kids_here, slots_else, is_new}
-use Rattle.rt_ready.proofs.Opens.{OwnRows}
-use Rattle.rt_ready.proofs.Weaves.{put_side, put_turns}
+use Rattle.rt_moves.proofs.Twigs.{twig, twig_side, kids, slots, SameTwigs, side_by, same_framed, side_found, by_scope}
+use Rattle.rt_moves.proofs.Woven.{owner, Stack, kids_same, slots_same}
+use Rattle.rt_moves.proofs.Lists.{some_number, every_join}
+use Rattle.rt_moves.proofs.Patched.{by_side, Turns, IsRow, Aside, Idle, aside_row}
+use Rattle.rt_moves.proofs.Made.{at_child, part, side_else, side_child, kids_here, slots_else, is_new}
+use Rattle.rt_moves.proofs.Opens.{OwnRows}
+use Rattle.rt_moves.proofs.Weaves.{put_side, put_turns}
 use Rattle.rt_moves.specs.Heeds.{Leavings, leavings}
 
 -- a child that was found after one more joined the end was there, or is that one, at its place

@@ -11,8 +11,8 @@ use Rattle.rt_model.specs.Next.{next}
 use Rattle.rt_model.specs.Run.{with_next}
 use Rattle.rt_model.specs.Replay.{numbered, with_child, with_new_scope}
 use Rattle.rt_model.proofs.Maps.{by_test, pick_false, eq_same, at_here, at_append_none, at_put_none, at_there}
-use Rattle.rt_ready.proofs.Woven.{owner, After, Stack}
-use Rattle.rt_ready.proofs.Made.{at_child, part}
+use Rattle.rt_moves.proofs.Woven.{owner, After, Stack}
+use Rattle.rt_moves.proofs.Made.{at_child, part}
 use Rattle.rt_moves.specs.Heeds.{leavings, SameOf}
 use Rattle.rt_fresh.proofs.Told.{change_quiet}
 use Rattle.rt_fresh.proofs.Calm.{standing, error_of, context_of, holders_of, Unique, unique_put, Quiet, quiet_then}

@@ -1,5 +1,5 @@
 -- What comes next names what is live.
-use Rattle.std.proofs.Common.{ℕ, ◌+◌, Bool, true, false, List, [], ◌∷◌, ◌≡◌, refl, sym, ap, ◌∙◌, subst, nat_eq}
+use Rattle.std.proofs.Common.{inl, inr, ℕ, ◌+◌, Bool, true, false, List, [], ◌∷◌, ◌≡◌, refl, sym, ap, ◌∙◌, subst, nat_eq}
 use Rattle.std.specs.Prelude.{Option, Some, None, is_some, if◌then◌else◌}
 use Rattle.rt_model.specs.Lists.{at, kept_by, has, drop_number, join}
 use Rattle.rt_model.specs.Tree.{Types}
@@ -14,7 +14,7 @@ use Rattle.rt_model.proofs.Maps.{by_test, pick_true, eq_same, at_here, at_there}
 use Rattle.rt_moves.specs.Moves.{is_silent}
 use Rattle.rt_moves.specs.Reached.{Reached}
 use Rattle.rt_moves.proofs.Insides.{live_due}
-use Rattle.rt_ready.proofs.Served.{due_is_served}
+use Rattle.rt_moves.proofs.Served.{due_is_served}
 use Rattle.rt_fresh.specs.Due.{DueIsAny}
 use Rattle.rt_fresh.proofs.Marks.{clash, or_left, or_right, by_either}
 use Rattle.rt_fresh.proofs.Calm.{leavings_by, live_by, quiet_calm}
@@ -166,15 +166,15 @@ module _ {K : Types} where
 
 module _ {K : Types} (app : Application K) (lawful : IsLawful K app) where
   -- what is owed, where what is seen is live and what is queued is there
-  module _ (m : Machine K) (h : Scheduled app lawful ⊥ m.state) where
+  module _ (m : Machine K) (h : Scheduled app lawful (Unit {0}) m.state) where
     abbrev w : State K
     w = m.state
 
     abbrev r : State K
     r = at_rest m.state
 
-    rested : Scheduled app lawful ⊥ r
-    rested = calm_scheduled app lawful ⊥ w.next.cells w r (quiet_calm None w.next.cells w r (rest_quiet w)) h
+    rested : Scheduled app lawful (Unit {0}) r
+    rested = calm_scheduled app lawful (Unit {0}) w.next.cells w r (quiet_calm None w.next.cells w r (rest_quiet w)) h
 
     live_before : (s : ℕ) → is_live r s ≡ true → is_live w s ≡ true
     live_before s live = live_by (at w.scopes s) (at r.scopes s) (sym (leavings_by (at r.scopes s) (at w.scopes s) ((rest_quiet w).stand s))) live
@@ -216,7 +216,7 @@ module _ {K : Types} (app : Application K) (lawful : IsLawful K app) (limits : L
 
   work_or_rest : (work : List (Item K)) (e : Entry) → m.dead ≡ None → m.built ≡ true → m.work ≡ work → due_any app m ≡ Some e → due_item app m work ≡ Some e → names_live m.state e ≡ true
   work_or_rest [] e alive built none is here =
-      let h : Holding app lawful ⊥ m.state m.work = reached_holds app lawful ⊥ limits props inputs m reached built alive in
+      let h : Holding app lawful (Unit {0}) m.state m.work = reached_holds app lawful (Unit {0}) limits props inputs m reached (inr tt) built alive in
       heard_named app lawful m h.scheduled (waiting m) e refl here
   work_or_rest (item ∷ rest) e alive built first is here = open_named item rest (is_silent item) e alive first refl is here
 

@@ -15,11 +15,11 @@ use Rattle.rt_model.proofs.Conjunctions.{and-left, and-right}
 use Rattle.rt_model.proofs.SameTrees.{option_tests, element_tests}
 use Rattle.rt_model.proofs.Places.{spots_distinct}
 use Rattle.rt_model.proofs.NumbersStand.{child_among}
-use Rattle.rt_ready.proofs.Twigs.{kids, slots, SameTwigs, live_by, side_found, found_live}
-use Rattle.rt_ready.proofs.Lists.{every_join, component_is, fed_at, kept_at, kept_fed, serves_every, drops_every}
-use Rattle.rt_ready.proofs.Patched.{Turns, Idle}
-use Rattle.rt_ready.proofs.Opens.{Opens}
-use Rattle.rt_ready.proofs.Weaves.{put_turns, idle_same}
+use Rattle.rt_moves.proofs.Twigs.{kids, slots, SameTwigs, live_by, side_found, found_live}
+use Rattle.rt_moves.proofs.Lists.{every_join, component_is, fed_at, kept_at, kept_fed, serves_every, drops_every}
+use Rattle.rt_moves.proofs.Patched.{Turns, Idle}
+use Rattle.rt_moves.proofs.Opens.{Opens}
+use Rattle.rt_moves.proofs.Weaves.{put_turns, idle_same}
 use Rattle.rt_fresh.proofs.Owed.{Alike}
 use Rattle.rt_fresh.proofs.Alone.{Then}
 use Rattle.rt_fresh.proofs.Called.{new_side, with_tree, agenda_of, agenda_is}

@@ -14,11 +14,11 @@ use Rattle.rt_model.specs.Replay.{Machine, ended_by, keeps, with_props, handed, 
 use Rattle.rt_model.specs.Lasting.{IsRooted}
 use Rattle.rt_model.proofs.Maps.{eq_same, at_put_here}
 use Rattle.rt_model.proofs.Stands.{Stands}
-use Rattle.rt_ready.proofs.Twigs.{found_live, up_height}
-use Rattle.rt_ready.proofs.Woven.{Woven}
-use Rattle.rt_ready.proofs.Patched.{Idle}
-use Rattle.rt_ready.proofs.Weaves.{knows_of, idle_same, props_twigs}
-use Rattle.rt_ready.proofs.Everywhere.{feeds_idle, fed_kid}
+use Rattle.rt_moves.proofs.Twigs.{found_live, up_height}
+use Rattle.rt_moves.proofs.Woven.{Woven}
+use Rattle.rt_moves.proofs.Patched.{Idle}
+use Rattle.rt_moves.proofs.Weaves.{knows_of, idle_same, props_twigs}
+use Rattle.rt_moves.proofs.Everywhere.{feeds_idle, fed_kid}
 use Rattle.rt_fresh.proofs.Calm.{Pending, Calm}
 use Rattle.rt_fresh.proofs.RunStages.{Stage}
 use Rattle.rt_fresh.proofs.Owed.{still_at, rows_of, Alike, Called, called_again, BodyCurrent, StageHolds, OwesAs}

@@ -22,7 +22,7 @@ mod Children
 mod Moving
 mod Handed
 mod Moved
-mod Settled
+pub mod Settled
 pub mod Reported
 mod Due
 pub mod Limited

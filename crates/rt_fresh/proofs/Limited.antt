@@ -2,12 +2,13 @@
 use Rattle.std.proofs.Common.{ℕ, ◌+◌, ◌≤◌, ◌<◌, Bool, true, false, ◌&&◌, List, [], ◌∷◌, ◌≡◌, refl, sym, ap, ◌∙◌, arith, nat_eq}
 use Rattle.std.specs.Prelude.{Option, Some, None, if◌then◌else◌, nat_lt}
 use Rattle.std.proofs.lemmas.Bool.{eqb-true}
+use Rattle.rt_model.specs.Lists.{first_of}
 use Rattle.rt_model.specs.Tree.{Types}
 use Rattle.rt_model.specs.World.{Application}
 use Rattle.rt_model.specs.State.{Fault, OutOfTurns}
 use Rattle.rt_model.specs.Next.{owes}
 use Rattle.rt_model.specs.Replay.{Entry, Build, Machine, if_live, due_item, due, is_due, is_quiet, step, accepts, replay_on}
-use Rattle.rt_model.specs.Causes.{Limits, first_of, depth_refused, next_height, turns_refused, refusal, accepts_within, replay_within}
+use Rattle.rt_model.specs.Causes.{Limits, depth_refused, next_height, turns_refused, refusal, accepts_within, replay_within}
 use Rattle.rt_model.proofs.Maps.{by_test}
 
 module _ {K : Types} (app : Application K) where

@@ -1,13 +1,13 @@
 -- Numbers that rise, marks that go, holders, looks, mounted scopes and inputs: calm changes.
 use Rattle.std.proofs.Common.{ℕ, ◌+◌, Bool, true, false, List, [], ◌∷◌, ◌++◌, ◌≡◌, ◌≤◌, ◌⊎◌, ◌||◌, refl, sym, ap, ◌∙◌, subst, nat_eq, arith, inl, inr}
 use Rattle.std.proofs.lemmas.Bool.{eqb-true}
-use Rattle.std.specs.Prelude.{Option, Some, None, if◌then◌else◌, is_some}
+use Rattle.std.specs.Prelude.{Option, Some, None, if◌then◌else◌, is_some, flat_map}
 use Rattle.std.specs.List.{AllByRecursion}
 use Rattle.rt_model.specs.Lists.{at, put, drop_number, has, join}
 use Rattle.rt_model.specs.Tree.{Types}
 use Rattle.rt_model.specs.World.{Source, Cell, Error, Context, Renders, Firsts, at_end, Command, NewCell}
 use Rattle.rt_model.specs.Laws as laws
-use Rattle.rt_model.specs.Laws.{CountUp, drawn, IsNumbered}
+use Rattle.rt_model.specs.Laws.{CountUp, IsNumbered}
 use Rattle.rt_model.specs.State.{SideName, MainSide, ChildrenSide, FallbackSide, Posted, Mark, Woken, SuspendedTask, IdsExhausted, Scope, LastCall, TaskRow, State, Done, Cut, is_live, change, changed_scope, location, holds, is_held, renders_of, is_shown}
 use Rattle.rt_model.specs.Commands.{post}
 use Rattle.rt_model.specs.Next.{Work, look_on, look, found, paused, drop_then, drops, looked, at_rest}
@@ -30,7 +30,7 @@ all_join P (x ∷ xs) y h p = (h.0, all_join P xs y h.1 p)
 
 module _ {K : Types} where
   -- the new cells of a call are at least the world's next one
-  from_first : (first k n : ℕ) (cs : List (Command K)) → n ≤ first → CountUp first (drawn laws.new_cell cs) k → AllFrom n cs
+  from_first : (first k n : ℕ) (cs : List (Command K)) → n ≤ first → CountUp first (flat_map laws.new_cell cs) k → AllFrom n cs
   from_first first k n [] low h = tt
   from_first first k n (NewCell m v ∷ cs) low h =
       let here : n ≤ m = omega (arith, low, h.0) in
@@ -219,7 +219,7 @@ module _ {K : Types} where
   quiet_where w x true f = f refl
   quiet_where w x false f = quiet_refl w
 
-  look_on_quiet : (ps : List Posted) (w : State K) → Quiet w (look_on ps w)
+  pub look_on_quiet : (ps : List Posted) (w : State K) → Quiet w (look_on ps w)
   look_on_quiet [] w = quiet_refl w
   look_on_quiet (Mark s ∷ ps) w =
       let v : State K = if is_live w s then record w { seen = join w.seen s } else w in

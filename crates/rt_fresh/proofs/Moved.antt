@@ -7,13 +7,13 @@ use Rattle.rt_model.specs.Lists.{at}
 use Rattle.rt_model.specs.Tree.{Types, Place, Root}
 use Rattle.rt_model.specs.World.{Application}
 use Rattle.rt_model.specs.Laws.{IsLawful}
-use Rattle.rt_model.specs.State.{SideName, MainSide, ChildrenSide, FallbackSide, Fault, Side, Scope, State, Item, Draw, Row, Feed, Make, Drop, Outcome, Done, Cut, side_of, empty_side, new_scope, change, is_live}
-use Rattle.rt_model.specs.Next.{Work, RerunScope, PollTask, RunEffects, at_rest, next}
+use Rattle.rt_model.specs.State.{Mark, SideName, MainSide, ChildrenSide, FallbackSide, Fault, Side, Scope, State, Item, Draw, Row, Feed, Make, Drop, Outcome, Done, Cut, side_of, empty_side, new_scope, change, is_live, effects_of}
+use Rattle.rt_model.specs.Next.{Work, RerunScope, PollTask, RunEffects, look, drops, at_rest, next}
 use Rattle.rt_model.specs.Run.{child_at, run}
 use Rattle.rt_model.specs.Commands.{unqueued}
 use Rattle.rt_model.specs.Removal.{next_removed}
 use Rattle.rt_model.specs.Heard.{Listener}
-use Rattle.rt_model.specs.Replay.{Entry, Build, Taken, Heard, Rerun, Poll, Effects, Removed, Input, Machine, mounted_state, if_live, waiting, take_next, one_more_unit, fed_child, keeps, due_item, due_heard, due_work, due, polled, effects_of, effects_run, heard_event, heard_first, rested, change_by, first_state, ones, start}
+use Rattle.rt_model.specs.Replay.{Entry, Build, Taken, Heard, Rerun, Poll, Effects, Removed, Input, Machine, mounted_state, if_live, waiting, take_next, one_more_unit, fed_child, keeps, due_item, due_heard, due_work, due, polled, effects_run, heard_event, heard_first, rested, change_by, first_state, ones, start}
 use Rattle.rt_model.specs.Causes.{Limits}
 use Rattle.rt_model.specs.Lasting.{IsRooted}
 use Rattle.rt_model.proofs.Maps.{by_test, eq_same, at_here, at_there}
@@ -25,19 +25,25 @@ use Rattle.rt_model.proofs.Stands.{Stands}
 use Rattle.rt_model.proofs.NumbersRun.{Idle as IdleO, polled_idle}
 use Rattle.rt_model.proofs.Begun.{take_next_calm}
 use Rattle.rt_moves.specs.Moves.{Move, Silent, Closed, Logged, IsSettled, AtWork, Moves, Leads}
-use Rattle.rt_moves.specs.Reached.{Reached}
+use Rattle.rt_moves.specs.Reached.{Part, ByMoves, ByAside, NonePassed, Comes, Reached}
+use Rattle.rt_model.specs.Rendering.{polling_rest, nothing_resolved}
+use Rattle.rt_fresh.proofs.Passed.{rendering_holds, polling_holds}
+use Rattle.rt_model.specs.Asides.{Aside, Asked, Marked, AllMarked, Looked, Thinned, Rested, Raised, Passed, Polling, Answered, PassesNone, Allowed, aside_state}
+use Rattle.rt_moves.specs.Asides.{IsAside}
+use Rattle.rt_moves.proofs.Asides.{aside_stay, aside_later, asks, Beside, beside}
+use Rattle.rt_model.specs.Sentences.{marked_now, all_marked_now}
 use Rattle.rt_moves.proofs.OneMoveOnly.{unsettled}
 use Rattle.rt_moves.proofs.Items.{due_at_work}
 use Rattle.rt_moves.proofs.Insides.{alive_before, live_due, made_due, fed_due, fed_change}
 use Rattle.rt_moves.proofs.Always.{take_work, heard_work}
-use Rattle.rt_ready.proofs.Twigs.{twig, twig_side, side_found, kids}
-use Rattle.rt_ready.proofs.Woven.{Woven}
-use Rattle.rt_ready.proofs.Opens.{calm_twigs}
-use Rattle.rt_ready.proofs.Everywhere.{WovenOn, batch_quiet, heard_stays, ReadyAt, work_state, move_ready, start_ready}
+use Rattle.rt_moves.proofs.Twigs.{twig, twig_side, side_found, kids}
+use Rattle.rt_moves.proofs.Woven.{Woven}
+use Rattle.rt_moves.proofs.Opens.{calm_twigs}
+use Rattle.rt_moves.proofs.Everywhere.{WovenOn, batch_quiet, heard_stays, ReadyAt, work_state, move_ready, moves_ready, aside_ready, start_ready}
 use Rattle.rt_fresh.proofs.Told.{CalmO}
-use Rattle.rt_fresh.proofs.Calm.{holders_of, Orderly, Calm, quiet_calm}
-use Rattle.rt_fresh.proofs.Looks.{rest_quiet, mounted_quiet, take_calm}
-use Rattle.rt_fresh.proofs.Ran.{polled_calm, effects_calm, heard_calm}
+use Rattle.rt_fresh.proofs.Calm.{holders_of, Orderly, Calm, calm_refl, Quiet, quiet_refl, quiet_rest, quiet_then, quiet_calm, no_fall}
+use Rattle.rt_fresh.proofs.Looks.{look_on_quiet, look_quiet, drops_quiet, rest_quiet, mounted_quiet, take_calm}
+use Rattle.rt_fresh.proofs.Ran.{called_calm, polled_calm, effects_calm, heard_calm}
 use Rattle.rt_fresh.proofs.ChildKinds.{Kinds}
 use Rattle.rt_fresh.proofs.Moving.{Scheduled, Holding, HoldingOn, HoldingO, ended, level, calm_holding, run_holding, run_alone, silent_holds, make_holds, drop_holds}
 use Rattle.rt_fresh.proofs.Handed.{feed_holds}
@@ -74,7 +80,7 @@ module _ {K : Types} (app : Application K) (lawful : IsLawful K app) (Q : Type 0
       subst (λ (x : Entry). HoldingOn app lawful Q (change_by app m [] x)) (sym found.0)
       (ended app lawful Q (one_more_unit (rested app m)) None [] (effects_run app v s)
       (calm_o_holding v (effects_run app v s) (effects_calm app lawful v.next.cells v s (level app lawful Q v)) (effects_stay app lawful v s) (effects_later app lawful v s)
-      (batch_quiet app lawful (change v s (λ x. record x { effects = [] })) s (effects_of app v s)) (rest_holding m.state h)))
+      (batch_quiet app lawful (change v s (λ x. record x { effects = [] })) s (effects_of v s)) (rest_holding m.state h)))
   owed_holds m None [] e none h more due_is = cc
   owed_holds m None (input ∷ inputs) e none h more due_is =
       let found = live_due app m.state (Taken (m.taken + 1)) e due_is in
@@ -238,10 +244,97 @@ module _ {K : Types} (app : Application K) (lawful : IsLawful K app) (Q : Type 0
     from_start limits inputs v [] leads = inl leads
     from_start limits inputs v (move ∷ moves) leads = inr (begun_holds limits inputs v move moves leads)
 
-  -- once the build has begun it holds wherever moves lead, until a fault ends the run
-  pub reached_holds : (limits : Limits) (props : K.Props) (inputs : List (Input K)) (m : Machine K) → Reached app limits props inputs m → m.built ≡ true → m.dead ≡ None → Holding app lawful Q m.state m.work
-  reached_holds limits props inputs m reached built alive =
-      elim (from_start props limits inputs m reached.moves reached.leads) [
+  all_marked_quiet : (es : List (ℕ × Scope K)) (w : State K) → Quiet w (all_marked_now es w)
+  all_marked_quiet [] w = quiet_refl w
+  all_marked_quiet (e ∷ es) w = let v : State K = marked_now w e.0 in quiet_then w v (all_marked_now es v) (look_on_quiet (Mark e.0 ∷ []) w) (all_marked_quiet es v)
+
+  -- a call that logs no entry heeds all scopes
+  aside_calm : (w : State K) (a : Aside K) → PassesNone a → Allowed w a → Calm None w.next.cells w (aside_state app w a)
+  aside_calm w (Asked s next cs) p h = called_calm app lawful w.next.cells w s None (asks app s (Asked s next cs)) (no_fall w) h
+  aside_calm w (Marked s) p h = quiet_calm None w.next.cells w (marked_now w s) (look_on_quiet (Mark s ∷ []) w)
+  aside_calm w AllMarked p h = quiet_calm None w.next.cells w (all_marked_now w.scopes w) (all_marked_quiet w.scopes w)
+  aside_calm w Looked p h = quiet_calm None w.next.cells w (look w) (look_quiet w)
+  aside_calm w Thinned p h = quiet_calm None w.next.cells w (drops w.queued w) (drops_quiet w.queued w)
+  aside_calm w Rested p h = quiet_calm None w.next.cells w (at_rest w) (rest_quiet w)
+  aside_calm w (Raised name payload element bubbles) p h = calm_refl None w.next.cells w
+  aside_calm w Passed p h = absurd p
+  aside_calm w Polling p h = absurd p
+  aside_calm w Answered p h = quiet_calm None w.next.cells w (nothing_resolved w) (quiet_rest w (nothing_resolved w) refl refl refl refl refl refl refl refl (no_fall w))
+
+  calm_holds : (w : State K) (work : List (Item K)) (a : Aside K) → PassesNone a → Allowed w a → Holding app lawful Q w work → Holding app lawful Q (aside_state app w a) work
+  calm_holds w work a p h held =
+      calm_holding app lawful Q w (aside_state app w a) work (aside_calm w a p h) (calm_twigs w (aside_state app w a) (aside_stay app lawful w a h) (aside_later app lawful w a h)) held
+
+  state_holds : (w : State K) (work : List (Item K)) (a : Aside K) → PassesNone a ⊎ Q → Allowed w a → Holding app lawful Q w work → Holding app lawful Q (aside_state app w a) work
+  state_holds w work (Asked s next cs) k h held = calm_holds w work (Asked s next cs) tt h held
+  state_holds w work (Marked s) k h held = calm_holds w work (Marked s) tt h held
+  state_holds w work AllMarked k h held = calm_holds w work AllMarked tt h held
+  state_holds w work Looked k h held = calm_holds w work Looked tt h held
+  state_holds w work Thinned k h held = calm_holds w work Thinned tt h held
+  state_holds w work Rested k h held = calm_holds w work Rested tt h held
+  state_holds w work (Raised name payload element bubbles) k h held = calm_holds w work (Raised name payload element bubbles) tt h held
+  state_holds w work Passed (inl none) h held = absurd none
+  state_holds w work Passed (inr known) h held = rendering_holds app lawful Q known w work held
+  state_holds w work Polling (inl none) h held = absurd none
+  state_holds w work Polling (inr known) h held = polling_holds app lawful Q known w work held
+  state_holds w work Answered k h held = calm_holds w work Answered tt h held
+
+  aside_holds : (m u : Machine K) (a : Aside K) → PassesNone a ⊎ Q → IsAside app m a u → HoldingOn app lawful Q m → HoldingOn app lawful Q u
+  aside_holds m u a k h held =
+      let w : State K = m.state in
+      let v : State K = aside_state app w a in
+      let b : Beside app lawful m u v = beside app lawful m u a h in
+      λ alive.
+      subst (λ (xs : List (Item K)). Holding app lawful Q u.state xs) (sym b.work)
+      (subst (λ (x : State K). Holding app lawful Q x m.work) (sym b.state)
+      (state_holds w m.work a k h.allowed (held (sym b.dead ∙ alive))))
+
+  -- on a program's way: nothing has happened yet, or it holds
+  record OnWay (props : K.Props) (inputs : List (Input K)) (m : Machine K) : Type 0 where
+    ready : ReadyAt app lawful m
+    holds : (m ≡ start app props inputs) ⊎ HoldingOn app lawful Q m
+
+  moved_way : (limits : Limits) (props : K.Props) (inputs : List (Input K)) (m v : Machine K) (moves : List Move) → Leads app limits m moves v → OnWay props inputs m → OnWay props inputs v
+  moved_way limits props inputs m v moves leads h =
+      record {
+        ready = moves_ready app lawful limits m v moves leads h.ready;
+        holds =
+            elim h.holds [
+              | inl same ↦ from_start props limits inputs v moves (subst (λ (x : Machine K). Leads app limits x moves v) same leads)
+              | inr held ↦ inr (moves_hold limits m v moves leads h.ready held)
+            ];
+      }
+
+  aside_way : (props : K.Props) (inputs : List (Input K)) (m v : Machine K) (a : Aside K) → PassesNone a ⊎ Q → IsAside app m a v → OnWay props inputs m → OnWay props inputs v
+  aside_way props inputs m v a k is h =
+      record {
+        ready = aside_ready app lawful m v a is h.ready;
+        holds =
+            elim h.holds [
+              | inl same ↦ let absurdity : false ≡ true = sym (ap (λ (x : Machine K). x.built) same) ∙ is.built in cc
+              | inr held ↦ inr (aside_holds m v a k is held)
+            ];
+      }
+
+  this_one : (a : Aside K) (parts : List (Part K)) → NonePassed (ByAside a ∷ parts) ⊎ Q → (PassesNone a ⊎ Q) × (NonePassed parts ⊎ Q)
+  this_one a parts (inl none) = (inl none.0, inl none.1)
+  this_one a parts (inr known) = (inr known, inr known)
+
+  parts_hold : (limits : Limits) (props : K.Props) (inputs : List (Input K)) (parts : List (Part K)) (m v : Machine K) → NonePassed parts ⊎ Q → Comes app limits m parts v → OnWay props inputs m → OnWay props inputs v
+  parts_hold limits props inputs [] m v k comes h = subst (λ (x : Machine K). OnWay props inputs x) (sym comes) h
+  parts_hold limits props inputs (ByMoves moves ∷ parts) m v k comes h =
+      parts_hold limits props inputs parts comes.0 v k comes.2 (moved_way limits props inputs m comes.0 moves comes.1 h)
+  parts_hold limits props inputs (ByAside a ∷ parts) m v k comes h =
+      let both = this_one a parts k in
+      parts_hold limits props inputs parts comes.0 v both.1 comes.2 (aside_way props inputs m comes.0 a both.0 comes.1 h)
+
+  -- once the build has begun it holds wherever moves lead, and calls that log no entry, until a fault ends the run
+  pub reached_holds : (limits : Limits) (props : K.Props) (inputs : List (Input K)) (m : Machine K) → (reached : Reached app limits props inputs m) → NonePassed reached.parts ⊎ Q → m.built ≡ true → m.dead ≡ None
+      → Holding app lawful Q m.state m.work
+  reached_holds limits props inputs m reached k built alive =
+      let h : OnWay props inputs m =
+      parts_hold limits props inputs reached.parts (start app props inputs) m k reached.comes (record { ready = start_ready app lawful props inputs; holds = inl refl }) in
+      elim h.holds [
         | inl same ↦ let absurdity : false ≡ true = sym (ap (λ (x : Machine K). x.built) same) ∙ built in cc
-        | inr h ↦ h alive
+        | inr held ↦ held alive
       ]

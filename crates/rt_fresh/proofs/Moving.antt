@@ -18,13 +18,13 @@ use Rattle.rt_model.proofs.Maps.{by_test, pick_true, pick_false}
 use Rattle.rt_model.proofs.Stands.{Stands}
 use Rattle.rt_model.proofs.TakesOne.{removal_takes_one}
 use Rattle.rt_moves.specs.Moves.{is_silent}
-use Rattle.rt_ready.proofs.Twigs.{SameTwigs, by_scope, found_live, live_found}
-use Rattle.rt_ready.proofs.Woven.{Woven, woven_whole}
-use Rattle.rt_ready.proofs.Patched.{Idle}
-use Rattle.rt_ready.proofs.Made.{at_child, made_idle}
-use Rattle.rt_ready.proofs.Opens.{Opens, run_opens, row_opens}
-use Rattle.rt_ready.proofs.Weaves.{put_side, numbered_twigs}
-use Rattle.rt_ready.proofs.Everywhere.{WovenOn, steps_idle}
+use Rattle.rt_moves.proofs.Twigs.{SameTwigs, by_scope, found_live, live_found}
+use Rattle.rt_moves.proofs.Woven.{Woven, woven_whole}
+use Rattle.rt_moves.proofs.Patched.{Idle}
+use Rattle.rt_moves.proofs.Made.{at_child, made_idle}
+use Rattle.rt_moves.proofs.Opens.{Opens, run_opens, row_opens}
+use Rattle.rt_moves.proofs.Weaves.{put_side, numbered_twigs}
+use Rattle.rt_moves.proofs.Everywhere.{WovenOn, steps_idle}
 use Rattle.rt_moves.specs.Heeds.{is_past}
 use Rattle.rt_fresh.proofs.Told.{CalmO}
 use Rattle.rt_fresh.proofs.Calm.{live_by, Orderly, Calm, quiet_calm}

@@ -7,8 +7,8 @@ use Rattle.rt_model.specs.Tree.{Types, is_suspense_boundary}
 use Rattle.rt_model.specs.World.{Firsts, Source, Cell, Error, Context, Application}
 use Rattle.rt_model.specs.Laws.{IsLawful}
 use Rattle.rt_model.specs.State.{RowStep, Scope, LastCall, TaskRow, State, Item}
-use Rattle.rt_model.specs.Next.{Work, RerunScope, PollTask, RunEffects, look, found}
-use Rattle.rt_model.specs.Rendering.{may_poll, may_rerun, pass_over, passes, rendering_rest}
+use Rattle.rt_model.specs.Next.{Work, RerunScope, PollTask, RunEffects, look, first_seen, found}
+use Rattle.rt_model.specs.Rendering.{may_poll, may_rerun, pass_over, passes, rendering_rest, tasks_passed, polling_rest}
 use Rattle.rt_model.specs.Lasting.{Rises}
 use Rattle.rt_model.proofs.Maps.{by_test}
 use Rattle.rt_model.proofs.Frames.{shape}
@@ -16,8 +16,8 @@ use Rattle.rt_model.proofs.RunFrames.{rises_refl, Later, later_trans, later_same
 use Rattle.rt_model.proofs.SideFrames.{Stay, stay_trans, stay_rest}
 use Rattle.rt_model.proofs.SideRuns.{look_stay}
 use Rattle.rt_model.proofs.StepFrames.{look_same}
-use Rattle.rt_ready.proofs.Twigs.{SameTwigs}
-use Rattle.rt_ready.proofs.Opens.{calm_twigs}
+use Rattle.rt_moves.proofs.Twigs.{SameTwigs}
+use Rattle.rt_moves.proofs.Opens.{calm_twigs}
 use Rattle.rt_moves.specs.Heeds.{SameOf}
 use Rattle.rt_fresh.proofs.Marks.{number_left, number_stays, join_keeps, join_has}
 use Rattle.rt_fresh.proofs.Calm.{Pending, quiet_calm}
@@ -105,9 +105,10 @@ module _ {K : Types} where
   skip_alike w s (Error t) = refl
   skip_alike w s (Context k t) = refl
 
-module _ {K : Types} (app : Application K) (lawful : IsLawful K app) where
+-- Q is known, since a scope may be passed over
+module _ {K : Types} (app : Application K) (lawful : IsLawful K app) (Q : Type 0) (known : Q) where
   abbrev Holds : State K → List (Item K) → Type 0
-  Holds w work = Holding app lawful (Unit {0}) w work
+  Holds w work = Holding app lawful Q w work
 
   skip_called : (w : State K) (s : ℕ) (x : Scope K) (last : LastCall K) → Called app w x last → Called app (skip w s) x last
   skip_called w s x last c = called_put app w (skip w s) x x last c refl refl refl (λ i. skip_alike w s i)
@@ -143,7 +144,7 @@ module _ {K : Types} (app : Application K) (lawful : IsLawful K app) where
         owes = λ t x e. skip_owes w s t x (rows_of t work) (is_suspense_boundary x.component) (h.owes t x e);
         kinds = kinds_same w (skip w s) same (λ t. kind_of (at w.scopes t)) work h.kinds;
         orderly = record { holders = h.orderly.holders; unique = h.orderly.unique };
-        scheduled = record { seen = λ t q. h.scheduled.seen t (number_left w.seen s t q).0; queued = h.scheduled.queued; passed = λ t q. tt };
+        scheduled = record { seen = λ t q. h.scheduled.seen t (number_left w.seen s t q).0; queued = h.scheduled.queued; passed = λ t q. known };
       }
     where
       passing : Passing w (skip w s)
@@ -154,7 +155,7 @@ module _ {K : Types} (app : Application K) (lawful : IsLawful K app) where
 
   unqueue_holds : (w : State K) (t : ℕ) (work : List (Item K)) → Holds w work → Holds (unqueued_task w t) work
   unqueue_holds w t work h =
-      calm_holding app lawful (Unit {0}) w (unqueued_task w t) work (quiet_calm None w.next.cells w (unqueued_task w t) (unqueue w t))
+      calm_holding app lawful Q w (unqueued_task w t) work (quiet_calm None w.next.cells w (unqueued_task w t) (unqueue w t))
       (calm_twigs w (unqueued_task w t) (passing_stay w (unqueued_task w t) passing) (passing_later w (unqueued_task w t) passing)) h
     where
       passing : Passing w (unqueued_task w t)
@@ -179,4 +180,20 @@ module _ {K : Types} (app : Application K) (lawful : IsLawful K app) where
   rendering_holds w work h =
       let v : State K = look w in
       passes_holds (length v.seen + length v.queued) v work
-      (calm_holding app lawful (Unit {0}) w v work (quiet_calm None w.next.cells w v (look_quiet w)) (calm_twigs w v (look_stay w) (later_same w v (look_same w.next.tasks w))) h)
+      (calm_holding app lawful Q w v work (quiet_calm None w.next.cells w v (look_quiet w)) (calm_twigs w v (look_stay w) (later_same w v (look_same w.next.tasks w))) h)
+
+  seen_or_holds : (go : State K → State K) (w : State K) (o : Option ℕ) (work : List (Item K)) → ((v : State K) → Holds v work → Holds (go v) work) → Holds w work
+      → Holds (elim o as (λ z. State K) [ None ↦ pass_over go w (found w) | Some s ↦ w ]) work
+  seen_or_holds go w None work f h = over_holds go w (found w) work f h
+  seen_or_holds go w (Some s) work f h = h
+
+  tasks_holds : (n : ℕ) (w : State K) (work : List (Item K)) → Holds w work → Holds (tasks_passed n w) work
+  tasks_holds zero w work h = h
+  tasks_holds (suc n) w work h = seen_or_holds (λ v. tasks_passed n v) w (first_seen w) work (λ v g. tasks_holds n v work g) h
+
+  -- after a look, and the tasks that are passed over
+  pub polling_holds : (w : State K) (work : List (Item K)) → Holds w work → Holds (polling_rest w) work
+  polling_holds w work h =
+      let v : State K = look w in
+      tasks_holds (length v.queued) v work
+      (calm_holding app lawful Q w v work (quiet_calm None w.next.cells w v (look_quiet w)) (calm_twigs w v (look_stay w) (later_same w v (look_same w.next.tasks w))) h)

@@ -6,12 +6,12 @@ use Rattle.rt_model.specs.Tree.{Types, Element, rendered, failed, suspended}
 use Rattle.rt_model.specs.World.{after_render_kind, CallFault, Hook, HookValue, HookEffect, Event, Meaning, Nothing, TaskStep, pending, ready, World, Application}
 use Rattle.rt_model.specs.Laws as laws
 use Rattle.rt_model.specs.Laws.{IsNumbered, IsLawful}
-use Rattle.rt_model.specs.State.{Woken, TaskRow, State, Outcome, Done, Cut, onward, is_live, change, hooks_of, world_of}
+use Rattle.rt_model.specs.State.{Woken, TaskRow, State, Outcome, Done, Cut, onward, is_live, change, hooks_of, world_of, effects_of}
 use Rattle.rt_model.specs.Commands.{unqueued, end, commands}
 use Rattle.rt_model.specs.Next.{look}
 use Rattle.rt_model.specs.Run.{fault_of, with_next, called_once, is_kind, acted, hook_called, hooks_called, after_hooks, settled_answer}
 use Rattle.rt_model.specs.Boundary.{counted_render, called_back}
-use Rattle.rt_model.specs.Replay.{Machine, then_looked, left_by_poll, polled_to, polled_at, polled, batch, effects_of, effects_run, further, heard_event}
+use Rattle.rt_model.specs.Replay.{Machine, then_looked, left_by_poll, polled_to, polled_at, polled, batch, effects_run, further, heard_event}
 use Rattle.rt_model.specs.Heard.{Listener}
 use Rattle.rt_fresh.proofs.Marks.{number_left, mark_stays}
 use Rattle.rt_fresh.proofs.Told.{change_quiet, CalmO, onward_calm, from_calm, calm_o_if}
@@ -133,7 +133,7 @@ module _ {K : Types} (app : Application K) (lawful : IsLawful K app) where
       let f : Quiet w v = change_quiet w s (λ x. record x { effects = [] }) (λ x. refl) in
       let rises = f.rises in
       let more : n ≤ v.next.cells = omega (arith, low, rises) in
-      from_calm None n w v (effects_run app w s) (quiet_calm None n w v f) (batch_calm n v s (effects_of app w s) more)
+      from_calm None n w v (effects_run app w s) (quiet_calm None n w v f) (batch_calm n v s (effects_of w s) more)
 
   heard_at : (n : ℕ) (m : Machine K) (l : Listener K) (ls : List (Listener K)) (meaning : Meaning K (Event K)) (o : Option CallFault) → n ≤ m.state.next.cells → IsNumbered m.state.next meaning.commands meaning.next
       → Calm None n m.state (elim o as (λ z. Machine K) [

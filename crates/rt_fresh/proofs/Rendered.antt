@@ -1,5 +1,5 @@
 -- Renders while suspended among entries: what holds between them.
-use Rattle.std.proofs.Common.{ℕ, Bool, true, false, ◌&&◌, List, [], ◌∷◌, ◌≡◌, ◌≤◌, inl, refl, sym, ap, ◌∙◌, subst, arith}
+use Rattle.std.proofs.Common.{inr, ℕ, Bool, true, false, ◌&&◌, List, [], ◌∷◌, ◌≡◌, ◌≤◌, inl, refl, sym, ap, ◌∙◌, subst, arith}
 use Rattle.std.specs.Prelude.{Option, Some, None, if◌then◌else◌}
 use Rattle.rt_model.specs.Lists.{at}
 use Rattle.rt_model.specs.Tree.{Types}
@@ -26,14 +26,15 @@ use Rattle.rt_model.proofs.StepFrames.{follows_later}
 use Rattle.rt_model.proofs.Turns.{stay_stands}
 use Rattle.rt_moves.specs.Moves.{Move, Silent, Closed, Logged, entries, IsSettled, IsLogged, Leads}
 use Rattle.rt_moves.specs.Reached.{Reached}
+use Rattle.rt_moves.proofs.Ways.{start_reached, reached_moved}
 use Rattle.rt_moves.proofs.Fuel.{fuel_suffices}
 use Rattle.rt_moves.proofs.Insides.{alive_before}
 use Rattle.rt_moves.proofs.Logs.{Silently, settles, logs_are_moves}
-use Rattle.rt_ready.proofs.Twigs.{SameTwigs}
-use Rattle.rt_ready.proofs.Woven.{Whole, Woven, idle_whole, woven_same}
-use Rattle.rt_ready.proofs.Weaves.{Knows, knows_of, run_whole}
-use Rattle.rt_ready.proofs.Opens.{calm_twigs}
-use Rattle.rt_ready.proofs.Everywhere.{WovenOn, calm_whole, begun_on, rested_whole, rested_knows, ReadyAt, move_ready, moves_ready, reached_ready}
+use Rattle.rt_moves.proofs.Twigs.{SameTwigs}
+use Rattle.rt_moves.proofs.Woven.{Whole, Woven, idle_whole, woven_same}
+use Rattle.rt_moves.proofs.Weaves.{Knows, knows_of, run_whole}
+use Rattle.rt_moves.proofs.Opens.{calm_twigs}
+use Rattle.rt_moves.proofs.Everywhere.{WovenOn, calm_whole, begun_on, rested_whole, rested_knows, ReadyAt, move_ready, moves_ready, reached_ready}
 use Rattle.rt_fresh.specs.Rendered.{Stretch, Ordinary, Suspended, Stretches, RenderedAreCurrentOrOwed, AllRenderedAreCurrentOrOwed}
 use Rattle.rt_fresh.proofs.Limited.{limits_here, some_limits}
 use Rattle.rt_fresh.proofs.Ran.{polled_calm}
@@ -128,7 +129,7 @@ module _ {K : Types} (app : Application K) (lawful : IsLawful K app) where
               idle = λ alive. record { holds = tt; idle = λ q. ((b.ready).idle alive).idle q };
               woven = λ alive. woven_same m.state w same m.work ((b.ready).woven alive);
             };
-        holds = λ alive. rendering_holds app lawful m.state m.work (b.holds alive);
+        holds = λ alive. rendering_holds app lawful (Unit {0}) tt m.state m.work (b.holds alive);
         built = b.built;
         settled = b.settled;
       }
@@ -265,10 +266,10 @@ module _ {K : Types} (app : Application K) (lawful : IsLawful K app) where
       let found = some_limits app log (start app props inputs) m accepted in
       let limits : Limits = found.0 in
       let moves = logs_are_moves app limits (start app props inputs) m log refl found.1 in
-      let reached : Reached app limits props inputs m = record { moves = moves.0; leads = moves.1 } in
+      let reached : Reached app limits props inputs m = reached_moved app limits props inputs (start app props inputs) m moves.0 (start_reached app limits props inputs) moves.1 in
       record {
         ready = reached_ready app lawful limits props inputs m reached;
-        holds = λ alive. reached_holds app lawful (Unit {0}) limits props inputs m reached built alive;
+        holds = λ alive. reached_holds app lawful (Unit {0}) limits props inputs m reached (inr tt) built alive;
         built = λ alive. built;
         settled = log_settled log (start app props inputs) m refl accepted;
       }

@@ -11,7 +11,8 @@ use Rattle.rt_model.specs.Replay.{Entry, Build, Taken, Input, Machine, start}
 use Rattle.rt_model.specs.Causes.{Limits, accepts_within, replay_within}
 use Rattle.rt_model.specs.Told.{Told, telling, tell_reports, is_settled}
 use Rattle.rt_model.specs.Current.{AllCurrent}
-use Rattle.rt_model.specs.Headline.{OpensWith, InputsFrom, OneEach, CutFrom, OneEachThen, logs_of, last_machine, AllHeldShown}
+use Rattle.rt_model.specs.Reports.{OpensWith, InputsFrom, OneEach, CutFrom, OneEachThen, logs_of}
+use Rattle.rt_model.specs.Headline.{last_machine, AllHeldShown}
 use Rattle.rt_model.proofs.ToldReplayed.{First, first-of, log-replays, within-replays}
 use Rattle.rt_moves.specs.Moves.{Move, entries, Leads}
 use Rattle.rt_moves.proofs.Joins.{logs_join}
@@ -122,11 +123,11 @@ pub ran_is_current : {K : Types} (app : Application K) → RanIsCurrent app
 ran_is_current {K = K} app lawful props inputs limits taken reports ran =
     let logs : List (List Entry) = logs_of reports in
     let m : Machine K = start app props inputs in
-    let within : replay_within app limits (Some m) (joined logs ++ []) ≡ Some (last_machine m ran.told) = ap (λ (es : List Entry). replay_within app limits (Some m) es) (append-nil (joined logs)) ∙ ran.within in
-    each_is app lawful ran.told (told_hold app lawful limits props inputs logs [] [] m (last_machine m ran.told) ran.told refl ran.accepted within (each_filled inputs logs ran.one_each)) ran.settled
+    let within : replay_within app limits (Some m) (joined logs ++ []) ≡ Some (last_machine m ran.told) = ap (λ (es : List Entry). replay_within app limits (Some m) es) (append-nil (joined logs)) ∙ (ran.done).within in
+    each_is app lawful ran.told (told_hold app lawful limits props inputs logs [] [] m (last_machine m ran.told) ran.told refl (ran.recorded).accepted within (each_filled inputs logs (ran.done).one_each)) (ran.recorded).settled
 
 pub ran_to_is_current : {K : Types} (app : Application K) → RanToIsCurrent app
 ran_to_is_current {K = K} app lawful props inputs limits taken reports fault ran =
     let logs : List (List Entry) = logs_of reports in
     let m : Machine K = start app props inputs in
-    each_is app lawful ran.told (told_hold app lawful limits props inputs logs [] ran.log m ran.last.machine ran.told refl ran.accepted ran.within (then_filled inputs logs ran.log ran.one_each)) ran.settled
+    each_is app lawful ran.told (told_hold app lawful limits props inputs logs [] (ran.stopped).log m ((ran.stopped).last).machine ran.told refl (ran.recorded).accepted (ran.stopped).within (then_filled inputs logs (ran.stopped).log (ran.stopped).one_each)) (ran.recorded).settled

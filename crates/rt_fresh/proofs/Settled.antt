@@ -263,21 +263,21 @@ module _ {K : Types} (app : Application K) (lawful : IsLawful K app) where
       each_entry (λ (e : ℕ × Scope K). HeldIsShown m.state e.1) m.state.scopes h.orderly.unique (λ s x live. held_each m settled h s x live)
 
 pub settled_are_current : {K : Types} (app : Application K) → SettledAreCurrent app
-settled_are_current app lawful limits props inputs m reached built settled =
-    holding_current app lawful m settled (reached_holds app lawful ⊥ limits props inputs m reached built (settled_dead app lawful m settled))
+settled_are_current app lawful limits props inputs m reached none built settled =
+    holding_current app lawful m settled (reached_holds app lawful ⊥ limits props inputs m reached (inl none) built (settled_dead app lawful m settled))
 
 pub settled_show_held : {K : Types} (app : Application K) → SettledShowHeld app
-settled_show_held app lawful limits props inputs m reached built settled =
-    holding_shown app lawful m settled (reached_holds app lawful ⊥ limits props inputs m reached built (settled_dead app lawful m settled))
+settled_show_held app lawful limits props inputs m reached none built settled =
+    holding_shown app lawful m settled (reached_holds app lawful ⊥ limits props inputs m reached (inl none) built (settled_dead app lawful m settled))
 
 pub others_are_current_or_owed : {K : Types} (app : Application K) → OthersAreCurrentOrOwed app
 others_are_current_or_owed {K = K} app lawful limits props inputs m reached built alive =
-    let h : Holding app lawful ⊥ m.state m.work = reached_holds app lawful ⊥ limits props inputs m reached built alive in
+    let h : Holding app lawful (Unit {0}) m.state m.work = reached_holds app lawful (Unit {0}) limits props inputs m reached (inr tt) built alive in
     each_entry (λ (e : ℕ × Scope K). is_open m.state e.0 m.work ≡ false → CurrentOrOwed app m.state e.0 e.1) m.state.scopes h.orderly.unique
     (λ s x live closed. current_or_owed app lawful m.state m.work h.owes s x live (closed_rows m.state s m.work closed))
 
 pub all_are_current_or_owed : {K : Types} (app : Application K) → AllAreCurrentOrOwed app
 all_are_current_or_owed {K = K} app lawful limits props inputs m reached built alive idle =
-    let h : Holding app lawful ⊥ m.state m.work = reached_holds app lawful ⊥ limits props inputs m reached built alive in
+    let h : Holding app lawful (Unit {0}) m.state m.work = reached_holds app lawful (Unit {0}) limits props inputs m reached (inr tt) built alive in
     each_entry (λ (e : ℕ × Scope K). CurrentOrOwed app m.state e.0 e.1) m.state.scopes h.orderly.unique
     (λ s x live. current_or_owed app lawful m.state m.work h.owes s x live (ap (λ (work : List (Item K)). rows_of s work) idle))

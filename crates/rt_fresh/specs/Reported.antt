@@ -7,7 +7,8 @@ use Rattle.rt_model.specs.State.{Fault}
 use Rattle.rt_model.specs.Replay.{Input}
 use Rattle.rt_model.specs.Causes.{Limits}
 use Rattle.rt_model.specs.Document.{Edit}
-use Rattle.rt_model.specs.Headline.{Report, Ran, RanTo}
+use Rattle.rt_model.specs.Reports.{Report}
+use Rattle.rt_model.specs.Ran.{Ran, RanTo}
 use Rattle.rt_moves.specs.Current.{EachIsCurrent}
 
 module _ {K : Types} (app : Application K) where

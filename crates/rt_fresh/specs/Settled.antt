@@ -9,7 +9,7 @@ use Rattle.rt_model.specs.Told.{is_settled}
 use Rattle.rt_model.specs.Current.{AllCurrent}
 use Rattle.rt_model.specs.Headline.{AllHeldShown}
 use Rattle.rt_model.specs.Sentences.{AllCurrentOrOwed, OthersCurrentOrOwed}
-use Rattle.rt_moves.specs.Reached.{Reached}
+use Rattle.rt_moves.specs.Reached.{NonePassed, Reached}
 
 module _ {K : Types} (app : Application K) where
   -- of a lawful application it holds of each machine that moves reach, once the build has begun
@@ -29,10 +29,20 @@ module _ {K : Types} (app : Application K) where
   abbrev pub AllAreCurrentOrOwed : Type 0
   AllAreCurrentOrOwed = OnceBuilt (λ m. m.dead ≡ None → m.work ≡ [] → AllCurrentOrOwed app m.state)
 
+  -- the same where no scope was passed over on the way
+  abbrev pub OnceBuiltWhole : (Machine K → Type 0) → Type 0
+  OnceBuiltWhole holds =
+      IsLawful K app
+      → (limits : Limits) (props : K.Props) (inputs : List (Input K)) (m : Machine K)
+      → (reached : Reached app limits props inputs m)
+      → NonePassed reached.parts
+      → m.built ≡ true
+      → holds m
+
   -- and where nothing is at work or owed every kept output is current
   abbrev pub SettledAreCurrent : Type 0
-  SettledAreCurrent = OnceBuilt (λ m. is_settled m ≡ true → AllCurrent app m.state)
+  SettledAreCurrent = OnceBuiltWhole (λ m. is_settled m ≡ true → AllCurrent app m.state)
 
   -- there a boundary shows its fallback just while live tasks hold it
   abbrev pub SettledShowHeld : Type 0
-  SettledShowHeld = OnceBuilt (λ m. is_settled m ≡ true → AllHeldShown m.state)
+  SettledShowHeld = OnceBuiltWhole (λ m. is_settled m ≡ true → AllHeldShown m.state)

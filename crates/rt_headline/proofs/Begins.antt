@@ -16,13 +16,17 @@ use Rattle.rt_model.proofs.Begun.{Good}
 use Rattle.rt_model.proofs.NumbersStand.{Matches, due_match, change_good, Sound}
 use Rattle.rt_moves.specs.Moves.{Move, Silent, Closed, Logged, serves_item, moves_alone, IsSettled, AtWork, IsLogged, Leads}
 use Rattle.rt_moves.specs.Reached.{Reached}
+use Rattle.rt_model.specs.Asides.{Aside}
+use Rattle.rt_moves.specs.Asides.{IsAside}
+use Rattle.rt_moves.proofs.Asides.{beside}
+use Rattle.rt_moves.proofs.Ways.{start_reached, reached_moved, reached_keep}
 use Rattle.rt_moves.proofs.Acceptance.{same_as_itself}
 use Rattle.rt_moves.proofs.Always.{Steady, Outlasts, moves_last}
 use Rattle.rt_moves.proofs.Insides.{alive_before}
 use Rattle.rt_moves.proofs.Joins.{Leads-append}
-use Rattle.rt_moves.proofs.Woods.{move_sound, reached_sound}
-use Rattle.rt_frame.proofs.Commanded.{Level, level_trans, level_refl}
-use Rattle.rt_frame.proofs.Called.{rest_level}
+use Rattle.rt_moves.proofs.Woods.{move_sound, moves_sound, aside_sound, reached_sound}
+use Rattle.rt_moves.proofs.Commanded.{Level, level_trans, level_refl}
+use Rattle.rt_moves.proofs.Called.{rest_level}
 use Rattle.rt_headline.specs.Calm.{is_calm}
 use Rattle.rt_headline.proofs.Levels.{take_level, take_unit, ended_level, ended_idle, polled_rests, effects_rest, heard_level, heard_unit}
 
@@ -187,7 +191,7 @@ module _ {K : Types} (app : Application K) (lawful : IsLawful K app) (limits : L
 
   -- moves go on from there
   pub reached_on : (m u : Machine K) (moves : List Move) → IsReached m → Leads app limits m moves u → IsReached u
-  reached_on m u moves r leads = record { moves = r.moves ++ moves; leads = Leads-append app limits r.moves moves (start app props inputs) m u r.leads leads }
+  reached_on m u moves r leads = reached_moved app limits props inputs m u moves r leads
 
   -- a fact that says nothing
   abbrev Nothing : State K → List (Item K) → Type 0
@@ -214,8 +218,11 @@ module _ {K : Types} (app : Application K) (lawful : IsLawful K app) (limits : L
   -- where no unit is at work no work is open
   pub idle : (m : Machine K) → IsReached m → m.dead ≡ None → m.unit ≡ false → m.work ≡ []
   idle m r alive unit =
-      let from : Steady Nothing (start app props inputs) = record { holds = tt; idle = λ q. refl } in
-      let steady : Steady Nothing m = moves_last app Nothing nothing_lasts limits (start app props inputs) m r.moves r.leads alive from in
+      let steady : Steady Nothing m =
+      reached_keep app limits props inputs (λ (x : Machine K). x.dead ≡ None → Steady Nothing x)
+      (λ u v moves leads s lives. moves_last app Nothing nothing_lasts limits u v moves leads lives (s (alive_before app limits u v moves u.dead refl leads lives)))
+      (λ u v a is s lives. record { holds = tt; idle = λ q. (beside app lawful u v a is).work ∙ (is.rest).idle })
+      (λ lives. record { holds = tt; idle = λ q. refl }) m r alive in
       steady.idle (and_false m.built m.unit unit)
 
   pub sound : (m : Machine K) → IsReached m → Sound app lawful m
@@ -242,7 +249,7 @@ module _ {K : Types} (app : Application K) (lawful : IsLawful K app) (limits : L
   pub matches_entry : (m u : Machine K) (e : Entry) → IsReached m → IsLogged app limits m e u → Matches m.work e
   matches_entry m u e r h = (fits_entry m u e (sound m r) h).matches
 
-  built_on : (m v : Machine K) (moves : List Move) → Sound app lawful m → m.built ≡ true → Leads app limits m moves v → v.dead ≡ None → v.built ≡ true
+  pub built_on : (m v : Machine K) (moves : List Move) → Sound app lawful m → m.built ≡ true → Leads app limits m moves v → v.dead ≡ None → v.built ≡ true
   built_on m v [] s built leads alive = ap (λ (x : Machine K). x.built) leads ∙ built
   built_on m v (Silent ∷ moves) s built leads alive =
       let h = leads.1 in
@@ -257,20 +264,47 @@ module _ {K : Types} (app : Application K) (lawful : IsLawful K app) (limits : L
       let here : (leads.0).dead ≡ None = alive_before app limits leads.0 v moves (leads.0).dead refl leads.2 alive in
       built_on leads.0 v moves (move_sound app lawful limits m leads.0 (Logged e) h s) ((fits_entry m leads.0 e s h).built here) leads.2 alive
 
+  record OnWay (m : Machine K) : Type 0 where
+    stands : Sound app lawful m
+    is : (m ≡ start app props inputs) ⊎ (m.dead ≡ None → m.built ≡ true)
+
+  by_moves : (m : Machine K) (moves : List Move) → Leads app limits (start app props inputs) moves m → (m ≡ start app props inputs) ⊎ (m.dead ≡ None → m.built ≡ true)
+  by_moves m [] leads = inl leads
+  by_moves m (Silent ∷ moves) leads = let h = leads.1 in let absurdity : [] ≡ h.item ∷ h.later = h.next in cc
+  by_moves m (Closed ∷ moves) leads = let h = leads.1 in let absurdity : false ≡ true = h.at_work in cc
+  by_moves m (Logged e ∷ moves) leads =
+      let h = leads.1 in
+      let from : Machine K = start app props inputs in
+      let s : Sound app lawful from = sound from (start_reached app limits props inputs) in
+      inr
+      (
+      λ alive.
+      let here : (leads.0).dead ≡ None = alive_before app limits leads.0 m moves (leads.0).dead refl leads.2 alive in
+      built_on leads.0 m moves (move_sound app lawful limits from leads.0 (Logged e) h s) ((fits_entry from leads.0 e s h).built here) leads.2 alive
+      )
+
+  moved_way : (m v : Machine K) (moves : List Move) → Leads app limits m moves v → OnWay m → OnWay v
+  moved_way m v moves leads h =
+      record {
+        stands = moves_sound app lawful limits m v moves leads h.stands;
+        is =
+            elim h.is [
+              | inl same ↦ by_moves v moves (subst (λ (x : Machine K). Leads app limits x moves v) same leads)
+              | inr built ↦ inr (λ alive. built_on m v moves h.stands (built (alive_before app limits m v moves m.dead refl leads alive)) leads alive)
+            ];
+      }
+
+  aside_way : (m v : Machine K) (a : Aside K) → IsAside app m a v → OnWay m → OnWay v
+  aside_way m v a is h =
+      record { stands = aside_sound app lawful m v a is h.stands; is = inr (λ alive. (beside app lawful m v a is).built ∙ is.built) }
+
   -- before the build nothing has happened
   pub start_or_built : (m : Machine K) → IsReached m → m.dead ≡ None → (m ≡ start app props inputs) ⊎ (m.built ≡ true)
-  start_or_built m r alive = by_moves r.moves r.leads
-    where
-      by_moves : (moves : List Move) → Leads app limits (start app props inputs) moves m → (m ≡ start app props inputs) ⊎ (m.built ≡ true)
-      by_moves [] leads = inl leads
-      by_moves (Silent ∷ moves) leads = let h = leads.1 in let absurdity : [] ≡ h.item ∷ h.later = h.next in cc
-      by_moves (Closed ∷ moves) leads = let h = leads.1 in let absurdity : false ≡ true = h.at_work in cc
-      by_moves (Logged e ∷ moves) leads =
-          let h = leads.1 in
-          let from : Machine K = start app props inputs in
-          let s : Sound app lawful from = sound from (record { moves = []; leads = refl }) in
-          let here : (leads.0).dead ≡ None = alive_before app limits leads.0 m moves (leads.0).dead refl leads.2 alive in
-          inr (built_on leads.0 m moves (move_sound app lawful limits from leads.0 (Logged e) h s) ((fits_entry from leads.0 e s h).built here) leads.2 alive)
+  start_or_built m r alive =
+      let h : OnWay m =
+      reached_keep app limits props inputs (λ (x : Machine K). OnWay x) (λ u v moves leads s. moved_way u v moves leads s) (λ u v a is s. aside_way u v a is s)
+      (record { stands = sound (start app props inputs) (start_reached app limits props inputs); is = inl refl }) m r in
+      elim h.is [ inl same ↦ inl same | inr built ↦ inr (built alive) ]
 
   -- the first entry of the build or of a unit
   pub unit_begins : (m u : Machine K) (e : Entry) → IsReached m → m.work ≡ [] → opens e ≡ true → IsLogged app limits m e u → u.dead ≡ None → AtWork u × Stays app e m u

@@ -5,14 +5,14 @@ use Rattle.std.proofs.lemmas.List.{append-nil}
 use Rattle.rt_model.specs.Lists.{at, put}
 use Rattle.rt_model.specs.Tree.{Types}
 use Rattle.rt_model.specs.World.{CallFault, Event, Meaning, TaskStep, pending, ready, Application}
-use Rattle.rt_model.specs.State.{Mark, Woken, Scope, TaskRow, State, Outcome, Done, Cut, onward, change, world_of}
+use Rattle.rt_model.specs.State.{Mark, Woken, Scope, TaskRow, State, Outcome, Done, Cut, onward, change, world_of, effects_of}
 use Rattle.rt_model.specs.Commands.{post, unqueued, end, commands}
 use Rattle.rt_model.specs.Next.{look}
 use Rattle.rt_model.specs.Run.{fault_of, with_next, called_once, acted}
 use Rattle.rt_model.specs.Heard.{Listener}
-use Rattle.rt_model.specs.Replay.{Post, MarkScope, WakeTask, AllDirty, Message, Input, EventAt, WakeOf, WriteOf, MarkOf, Drain, Machine, ended_by, waiting, post_all, post_message, post_messages, looked_where_quiet, then_looked, taken_in, take_next, polled_to, polled_by, polled_at, polled, batch_then, effects_of, effects_run, further, heard_event, heard_first}
-use Rattle.rt_frame.proofs.Commanded.{Level, level_trans, level_refl, level_rest, change_level, post_level, write_level, end_level, commands_level}
-use Rattle.rt_frame.proofs.Called.{LevelO, look_level, next_level, once_level, called_level, acted_level}
+use Rattle.rt_model.specs.Replay.{Post, MarkScope, WakeTask, AllDirty, Message, Input, EventAt, WakeOf, WriteOf, MarkOf, Drain, Machine, ended_by, waiting, post_all, post_message, post_messages, looked_where_quiet, then_looked, taken_in, take_next, polled_to, polled_by, polled_at, polled, batch_then, effects_run, further, heard_event, heard_first}
+use Rattle.rt_moves.proofs.Commanded.{Level, level_trans, level_refl, level_rest, change_level, post_level, write_level, end_level, commands_level}
+use Rattle.rt_moves.proofs.Called.{LevelO, look_level, next_level, once_level, called_level, acted_level}
 
 module _ {K : Types} where
   -- a change that shows nothing, and opens no work
@@ -120,7 +120,7 @@ module _ {K : Types} (app : Application K) where
   pub effects_rest : (w : State K) (s : ℕ) → Rests w (effects_run app w s)
   effects_rest w s =
       let v : State K = change w s (λ x. record x { effects = [] }) in
-      from_rests w v (effects_run app w s) (change_level w s (λ x. record x { effects = [] }) (λ x. refl)) (batch_rests (effects_of app w s) v s)
+      from_rests w v (effects_run app w s) (change_level w s (λ x. record x { effects = [] }) (λ x. refl)) (batch_rests (effects_of w s) v s)
 
   -- a listener is called
   heard_fault : (m : Machine K) (quiet : Machine K) (faulted : CallFault → Machine K) (o : Option CallFault) → Level m.state quiet.state → ((f : CallFault) → Level m.state (faulted f).state)

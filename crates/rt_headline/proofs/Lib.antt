@@ -3,3 +3,20 @@ pub mod Levels
 pub mod Begins
 pub mod Units
 pub mod Reports
+pub mod Carries
+pub mod Down
+pub mod Drawn
+pub mod StandIns
+pub mod Unshown
+pub mod Midway
+pub mod Cut
+pub mod Shown
+mod Rests
+mod Faults
+mod Open
+mod Running
+mod Dying
+mod Wrote
+mod Entries
+mod Faulted
+mod FromTheStart

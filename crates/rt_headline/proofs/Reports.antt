@@ -14,18 +14,20 @@ use Rattle.rt_model.specs.Document.{Forest, Empty, DocFault, document_after}
 use Rattle.rt_model.specs.View.{view}
 use Rattle.rt_model.specs.Causes.{Limits, accepts_within, refusal, replay_within}
 use Rattle.rt_model.specs.Told.{Told, Telling, telling, told_by, tell_log, tell_reports, is_settled}
-use Rattle.rt_model.specs.Headline.{logs_of, DocumentIs, last_machine}
+use Rattle.rt_model.specs.Reports.{logs_of}
+use Rattle.rt_model.specs.Headline.{DocumentIs, last_machine}
 use Rattle.rt_model.proofs.Conjunctions.{and-left, and-right}
 use Rattle.rt_model.proofs.FaultsOnce.{open_gate}
 use Rattle.rt_model.proofs.ToldReplayed.{First, first-of, log-replays, within-replays}
 use Rattle.rt_moves.specs.Moves.{entries, moves_alone, IsSettled}
 use Rattle.rt_moves.specs.Reached.{Reached}
+use Rattle.rt_moves.proofs.Ways.{start_reached}
 use Rattle.rt_moves.proofs.Fuel.{fuel_suffices}
 use Rattle.rt_moves.proofs.Logs.{logs_are_moves}
 use Rattle.rt_moves.specs.Trees.{IsUnfolded}
 use Rattle.rt_moves.specs.Current.{EachIsCurrent}
 use Rattle.rt_fresh.proofs.Reported.{IsFilled, told_hold, each_is, ran_is_current, ran_to_is_current}
-use Rattle.rt_standing.proofs.Settled.{reached_unfold}
+use Rattle.rt_rerun.proofs.Settled.{reached_unfold}
 use Rattle.rt_rerun.proofs.Reruns.{reruns_bring}
 use Rattle.rt_headline.specs.Sessions.{RanShows, RanToShows, RanIsHeadline, RanToIsCameTo, FinishedHold}
 use Rattle.rt_headline.proofs.Begins.{reached_on}
@@ -36,10 +38,10 @@ alive_of None h = refl
 alive_of (Some fault) h = cc
 
 module _ {K : Types} where
-  one_machine : (u v : Machine K) → Some u ≡ Some v → u ≡ v
+  pub one_machine : (u v : Machine K) → Some u ≡ Some v → u ≡ v
   one_machine u v h = cc
 
-  one_telling : (t u : Telling K) → Some t ≡ Some u → t ≡ u
+  pub one_telling : (t u : Telling K) → Some t ≡ Some u → t ≡ u
   one_telling t u h = cc
 
   none_told : (told : List (Told K)) → Some [] ≡ Some told → [] ≡ told
@@ -60,13 +62,13 @@ module _ {K : Types} where
       idle_of m.work (and-right (not (is_some m.dead)) (no_work m.work) (and-left (not (is_some m.dead) && no_work m.work) (no_listener (waiting m)) quiet))
 
   -- a machine that needs an entry, and has no work, is in no unit
-  unit_over : (m : Machine K) → m.dead ≡ None → m.work ≡ [] → IsSettled m → m.unit ≡ false
+  pub unit_over : (m : Machine K) → m.dead ≡ None → m.work ≡ [] → IsSettled m → m.unit ≡ false
   unit_over m alive idle settled =
       sym (ap (λ (o : Option Fault). moves_alone o m.work m.unit) alive ∙ ap (λ (xs : List (Item K)). moves_alone None xs m.unit) idle) ∙ settled
 
 module _ {K : Types} (app : Application K) where
   -- after each accepted entry the machine needs another one
-  settled_after : (limits : Limits) (log : List Entry) (m v : Machine K) → IsSettled m → replay_within app limits (Some m) log ≡ Some v → IsSettled v
+  pub settled_after : (limits : Limits) (log : List Entry) (m v : Machine K) → IsSettled m → replay_within app limits (Some m) log ≡ Some v → IsSettled v
   settled_after limits [] m v s h = subst (λ (x : Machine K). IsSettled x) (one_machine m v h) s
   settled_after limits (e ∷ log) m v s h =
       let u : Machine K = change_by app m m.work e in
@@ -124,7 +126,7 @@ module _ {K : Types} (app : Application K) (lawful : IsLawful K app) (limits : L
       )
 
   from_start : Between (start app props inputs)
-  from_start = record { reached = record { moves = []; leads = refl }; alive = refl; unit = refl; settled = refl }
+  from_start = record { reached = start_reached app limits props inputs; alive = refl; unit = refl; settled = refl }
 
   all_show : (logs : List (List Entry)) (more : List Entry) (last : Machine K) (told : List (Told K))
       → tell_reports app (start app props inputs) logs ≡ Some told
@@ -137,14 +139,14 @@ module _ {K : Types} (app : Application K) where
   pub ran_shows : RanShows app
   ran_shows lawful props inputs limits taken reports ran =
       all_show app lawful limits props inputs (reached_unfold app lawful limits props inputs) (reruns_bring app lawful limits props inputs)
-      (logs_of reports) [] (last_machine (start app props inputs) ran.told) ran.told ran.accepted
-      (ap (λ (es : List Entry). replay_within app limits (Some (start app props inputs)) es) (append-nil (joined (logs_of reports))) ∙ ran.within)
-      ran.settled
+      (logs_of reports) [] (last_machine (start app props inputs) ran.told) ran.told (ran.recorded).accepted
+      (ap (λ (es : List Entry). replay_within app limits (Some (start app props inputs)) es) (append-nil (joined (logs_of reports))) ∙ (ran.done).within)
+      (ran.recorded).settled
 
   pub ran_to_shows : RanToShows app
   ran_to_shows lawful props inputs limits taken reports fault ran =
       all_show app lawful limits props inputs (reached_unfold app lawful limits props inputs) (reruns_bring app lawful limits props inputs)
-      (logs_of reports) ran.log ran.last.machine ran.told ran.accepted ran.within ran.settled
+      (logs_of reports) (ran.stopped).log ((ran.stopped).last).machine ran.told (ran.recorded).accepted (ran.stopped).within (ran.recorded).settled
 
 pub ran_is_headline : {K : Types} (app : Application K) → RanIsHeadline app
 ran_is_headline app lawful props inputs limits taken reports ran =
@@ -153,15 +155,12 @@ ran_is_headline app lawful props inputs limits taken reports ran =
       told = ran.told;
       holds =
           record {
-            accepted = ran.accepted;
-            counted = ran.counted;
-            nothing_owed = ran.settled;
+            recorded = ran.recorded;
             shown = ran_shows app lawful props inputs limits taken reports ran;
             current = each.current;
             held = each.held;
           };
-      one_each = ran.one_each;
-      edits = ran.edits;
+      done = ran.done;
     }
 
 pub ran_to_is_came_to : {K : Types} (app : Application K) → RanToIsCameTo app
@@ -171,20 +170,12 @@ ran_to_is_came_to app lawful props inputs limits taken reports fault ran =
       told = ran.told;
       holds =
           record {
-            accepted = ran.accepted;
-            counted = ran.counted;
-            nothing_owed = ran.settled;
+            recorded = ran.recorded;
             shown = ran_to_shows app lawful props inputs limits taken reports fault ran;
             current = each.current;
             held = each.held;
           };
-      log = ran.log;
-      one_each = ran.one_each;
-      last = ran.last;
-      goes_on = ran.goes_on;
-      within = ran.within;
-      cause = ran.cause;
-      edits = ran.edits;
+      stopped = ran.stopped;
     }
 
 filled : (log : List Entry) → log ≢ [] → IsFilled log
@@ -196,17 +187,15 @@ all_filled [] h = tt
 all_filled (log ∷ logs) h = (filled log h.0, all_filled logs h.1)
 
 pub finished_hold : {K : Types} (app : Application K) → FinishedHold app
-finished_hold app lawful props inputs limits reports told more last opened accepted within counted settled =
+finished_hold app lawful props inputs limits reports told more last opened recorded within =
     let logs : List (List Entry) = logs_of reports in
-    let holding = told_hold app lawful limits props inputs logs [] more (start app props inputs) last told refl accepted within (all_filled logs opened) in
-    let each : EachIsCurrent app told = each_is app lawful told holding settled in
+    let holding = told_hold app lawful limits props inputs logs [] more (start app props inputs) last told refl recorded.accepted within (all_filled logs opened) in
+    let each : EachIsCurrent app told = each_is app lawful told holding recorded.settled in
     record {
-      accepted = accepted;
-      counted = counted;
-      nothing_owed = settled;
+      recorded = recorded;
       shown =
           all_show app lawful limits props inputs (reached_unfold app lawful limits props inputs) (reruns_bring app lawful limits props inputs)
-          logs more last told accepted within settled;
+          logs more last told recorded.accepted within recorded.settled;
       current = each.current;
       held = each.held;
     }

@@ -28,9 +28,9 @@ use Rattle.rt_moves.proofs.Settling.{settled_stays}
 use Rattle.rt_moves.proofs.Tellings.{told_where, entry_told, unit_is_told}
 use Rattle.rt_moves.specs.Trees.{IsUnfolded}
 use Rattle.rt_moves.specs.Reruns.{Reruns}
-use Rattle.rt_written.proofs.Standing.{comes_in, one_list_on}
-use Rattle.rt_frame.proofs.Commanded.{Level, level_trans}
-use Rattle.rt_frame.proofs.Called.{mounted_level}
+use Rattle.rt_rerun.proofs.InRows.{comes_in, one_list_on}
+use Rattle.rt_moves.proofs.Commanded.{Level, level_trans}
+use Rattle.rt_moves.proofs.Called.{mounted_level}
 use Rattle.rt_headline.proofs.Views.{level_views}
 use Rattle.rt_headline.proofs.Begins.{idle_settled, work_open, matches_serves, Stays, stays_on, build_first, reached_on, idle, sound, matches_entry, start_or_built, unit_begins, entry_aside}
 

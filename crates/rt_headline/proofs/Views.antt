@@ -8,7 +8,7 @@ use Rattle.rt_model.specs.Document.{Forest, Empty}
 use Rattle.rt_model.specs.View.{side_view, scope_view, view_within, nodes_of, view}
 use Rattle.rt_moves.specs.Trees.{IsUnfolded}
 use Rattle.rt_moves.specs.Frames.{Shown, shown}
-use Rattle.rt_frame.proofs.Commanded.{Level}
+use Rattle.rt_moves.proofs.Commanded.{Level}
 
 module _ {K : Types} where
   abbrev side_shown : Shown K → SideName → Side K

@@ -1,5 +1,5 @@
 -- Of every lawful application: what code proves of a session's reports is the headline.
-use Rattle.std.specs.Prelude.{true, List, [], ◌++◌, Option, Some, Ok, ◌≡◌, ◌≢◌}
+use Rattle.std.specs.Prelude.{List, [], ◌++◌, Option, Some, Ok, ◌≡◌, ◌≢◌}
 use Rattle.std.specs.List.{AllByRecursion}
 use Rattle.rt_model.specs.Lists.{joined}
 use Rattle.rt_model.specs.Tree.{Types}
@@ -9,8 +9,10 @@ use Rattle.rt_model.specs.State.{Fault}
 use Rattle.rt_model.specs.Replay.{Entry, Input, Machine, start}
 use Rattle.rt_model.specs.Causes.{Limits, replay_within}
 use Rattle.rt_model.specs.Document.{Empty, Edit}
-use Rattle.rt_model.specs.Told.{Told, tell_reports, is_settled}
-use Rattle.rt_model.specs.Headline.{Report, logs_of, AllCount, DocumentIs, Holds, Ran, RanTo, Headline, CameTo}
+use Rattle.rt_model.specs.Told.{Told}
+use Rattle.rt_model.specs.Reports.{Report, logs_of}
+use Rattle.rt_model.specs.Headline.{DocumentIs, Recorded, Holds, Headline, CameTo}
+use Rattle.rt_model.specs.Ran.{Ran, RanTo}
 
 module _ {K : Types} (app : Application K) where
   -- of a session that finished: its edits, run from an empty document, never fault, and after each report give what shows
@@ -35,7 +37,7 @@ module _ {K : Types} (app : Application K) where
       IsLawful K app
       → (props : K.Props) (inputs : List (Input K)) (limits : Limits) (taken : Option (List Edit)) (reports : List Report)
       → Ran app props inputs limits taken reports
-      → Headline app props inputs taken reports
+      → Headline app props inputs limits taken reports
 
   -- a session that came to a fault keeps it of its finished reports, and came to that fault
   abbrev pub RanToIsCameTo : Type 0
@@ -45,16 +47,13 @@ module _ {K : Types} (app : Application K) where
       → RanTo app props inputs limits taken reports fault
       → CameTo app props inputs limits taken reports fault
 
-  -- reports that were finished keep it, whatever came after them: where each log has entries, replay accepts them and goes on,
-  -- the counts are right, and after each report nothing is at work or owed
+  -- reports that were finished keep it, whatever came after them: where each log has entries, and replay goes on from there
   abbrev pub FinishedHold : Type 0
   FinishedHold =
       IsLawful K app
       → (props : K.Props) (inputs : List (Input K)) (limits : Limits) (reports : List Report) (told : List (Told K))
       → (more : List Entry) (last : Machine K)
       → AllByRecursion (λ (log : List Entry). log ≢ []) (logs_of reports)
-      → tell_reports app (start app props inputs) (logs_of reports) ≡ Some told
+      → Recorded app props inputs reports told
       → replay_within app limits (Some (start app props inputs)) (joined (logs_of reports) ++ more) ≡ Some last
-      → AllCount reports told
-      → AllByRecursion (λ (r : Told K). is_settled r.machine ≡ true) told
       → Holds app props inputs reports told

@@ -6,7 +6,7 @@ use Rattle.std.specs.List.{AllByRecursion}
 use Rattle.rt_model.specs.Lists.{joined}
 use Rattle.rt_model.specs.Document.{Edit, AppendChildren, ReplaceNodeWith, InsertNodesAfter, RemoveNode, SetNodeText, SetAttribute, CreateEventListener, RemoveEventListener}
 use Rattle.rt_model.specs.State.{Fault, OutOfTurns, TooDeep, IdsExhausted, HookChanged, NoSuchTask, BadNode}
-use Rattle.rt_model.specs.Headline.{Report}
+use Rattle.rt_model.specs.Reports.{Report}
 use Rattle.rt_language.specs.Lines.{line, edit_text, edit_lines, report_line, report_lines, fault_text, taken_text, text_of, fault_text_of}
 use Rattle.rt_lines.specs.Told.{IsSmall}
 use Rattle.rt_lines.specs.Plain.{IsPlainEdit, IsSmallFault}

@@ -2,7 +2,7 @@
 use Rattle.std.proofs.Common.{◌≡◌, ◌∙◌, ℕ, ◌^◌, ◌<◌, List, [], ◌∷◌, ◌++◌, ap, refl, map, sym, append_assoc}
 use Rattle.std.proofs.lemmas.List.{append_cancel_left}
 use Rattle.std.specs.Prelude.{decimal, codes}
-use Rattle.rt_model.specs.Headline.{Report}
+use Rattle.rt_model.specs.Reports.{Report}
 use Rattle.rt_language.specs.Lines.{entry_text, spaced, counts_text, report_line}
 use Rattle.rt_lines.specs.Told.{IsSmall, Alike}
 use Rattle.rt_lines.proofs.Names.{Ends, numbers_told}

@@ -5,7 +5,7 @@ use Rattle.rt_model.specs.Lists.{Text, joined}
 use Rattle.rt_model.specs.Document.{Edit}
 use Rattle.rt_model.specs.State.{Fault}
 use Rattle.rt_model.specs.Replay.{Message}
-use Rattle.rt_model.specs.Headline.{Report}
+use Rattle.rt_model.specs.Reports.{Report}
 use Rattle.rt_language.specs.Lines.{line, edit_text, report_line, fault_text, taken_text, text_of, fault_text_of}
 use Rattle.rt_lines.specs.Told.{IsSmall, Alike}
 use Rattle.rt_lines.specs.Plain.{IsPlainEdit, IsSmallFault, IsSmallMessage}

@@ -2,7 +2,7 @@
 use Rattle.std.specs.Prelude.{ℕ, ◌^◌, ◌<◌, ◌≡◌}
 use Rattle.std.specs.List.{AllByRecursion}
 use Rattle.rt_model.specs.Replay.{Entry, Build, Taken, Heard, Rerun, Poll, Effects, Made, Fed, Kept, Removed}
-use Rattle.rt_model.specs.Headline.{Report}
+use Rattle.rt_model.specs.Reports.{Report}
 use Rattle.rt_language.specs.Lines.{report_line}
 
 -- the number that an entry names

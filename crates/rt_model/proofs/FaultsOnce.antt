@@ -7,7 +7,7 @@ use Rattle.rt_model.specs.World.{Application}
 use Rattle.rt_model.specs.State.{Fault}
 use Rattle.rt_model.specs.Replay.{Entry, Machine, due, step, is_due, start}
 use Rattle.rt_model.specs.Causes.{Limits, refusal, replay_within}
-use Rattle.rt_model.specs.Headline.{logs_of}
+use Rattle.rt_model.specs.Reports.{logs_of}
 use Rattle.rt_model.specs.Finished.{FaultIsInvalid, OneFault}
 use Rattle.rt_model.proofs.OneLogOnly.{is_due-same}
 
@@ -53,14 +53,14 @@ module _ {K : Types} (app : Application K) (limits : Limits) where
 module _ {K : Types} (app : Application K) where
   pub fault_is_invalid : FaultIsInvalid app
   fault_is_invalid props inputs limits taken reports fault came valid =
-      let n : refusal limits came.last.machine ≡ None = valid (joined (logs_of reports) ++ came.log) came.last.machine came.within in
-      let s : refusal limits came.last.machine ≡ Some fault = came.cause in
+      let n : refusal limits (came.stopped).last.machine ≡ None = valid (joined (logs_of reports) ++ (came.stopped).log) (came.stopped).last.machine (came.stopped).within in
+      let s : refusal limits (came.stopped).last.machine ≡ Some fault = (came.stopped).cause in
       cc
 
   pub one_fault : OneFault app
   one_fault props inputs limits taken also reports others fault other came later =
-      two app limits (start app props inputs) came.last.machine later.last.machine (joined (logs_of reports) ++ came.log) (joined (logs_of others) ++ later.log) fault other
-      came.within
-      later.within
-      came.cause
-      later.cause
+      two app limits (start app props inputs) (came.stopped).last.machine (later.stopped).last.machine (joined (logs_of reports) ++ (came.stopped).log) (joined (logs_of others) ++ (later.stopped).log) fault other
+      (came.stopped).within
+      (later.stopped).within
+      (came.stopped).cause
+      (later.stopped).cause

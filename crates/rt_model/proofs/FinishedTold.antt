@@ -13,7 +13,9 @@ use Rattle.rt_model.specs.View.{view}
 use Rattle.rt_model.specs.Told.{Told, tell_reports, telling, count_entries, is_settled, is_document, document_or, all_shown}
 use Rattle.rt_model.specs.Current.{AllCurrent, all_current}
 use Rattle.rt_model.specs.Causes.{replay_within}
-use Rattle.rt_model.specs.Headline.{logs_of, is_opening, OpensWith, InputsFrom, OneEach, CutFrom, OneEachThen, opens_with, inputs_from, one_each, cut_from, one_each_then, AllCount, DocumentIs, HeldIsShown, AllHeldShown, last_machine, Holds}
+use Rattle.rt_model.specs.Reports.{logs_of, is_opening, OpensWith, InputsFrom, OneEach, CutFrom, OneEachThen, AllCount}
+use Rattle.rt_model.specs.Headline.{DocumentIs, HeldIsShown, AllHeldShown, last_machine, Holds}
+use Rattle.rt_model.specs.Openings.{opens_with, inputs_from, one_each, cut_from, one_each_then}
 use Rattle.rt_model.specs.Finished.{same_truth, reports_of, live_holders, held_is_shown, held_among, each_held, each_current, is_finished, TestsDecide, FinishedIsHeadline, FinishedComesTo}
 use Rattle.rt_model.proofs.Conjunctions.{and-left, and-right}
 use Rattle.rt_model.proofs.OneLogOnly.{same_entry-true}
@@ -140,22 +142,16 @@ module _ {K : Types} (app : Application K) where
         let front : all_shown Empty told && each_current app told ≡ true = and-left _ (each_held told) h in
         let shows = settled-and-shown Empty told (and-left _ (each_current app told) front) in
         record {
-          accepted = ap (λ (l : List (List Entry)). tell_reports app m l) (logs-are m logs told e) ∙ e;
-          counted = count-all m logs told e;
-          nothing_owed = shows.0;
+          recorded =
+              record {
+                accepted = ap (λ (l : List (List Entry)). tell_reports app m l) (logs-are m logs told e) ∙ e;
+                counted = count-all m logs told e;
+                settled = shows.0;
+              };
           shown = shows.1;
           current = current-all told (and-right (all_shown Empty told) _ front);
           held = held-all told (and-right (all_shown Empty told && each_current app told) _ h);
         }
-
-  pub finished_is_headline : FinishedIsHeadline app
-  finished_is_headline tests props inputs logs told e each h =
-      record {
-        told = told;
-        holds = holds tests props inputs logs told e h;
-        one_each = subst (λ (l : List (List Entry)). OneEach inputs l) (sym (logs-are (start app props inputs) logs told e)) (each-true inputs logs each);
-        edits = refl;
-      }
 
   some-in : (o : Option (Machine K)) → is_some o ≡ true → (v : Machine K) × (o ≡ Some v)
   some-in None h = cc
@@ -163,6 +159,24 @@ module _ {K : Types} (app : Application K) where
 
   same-some : (v u : Machine K) (o : Option (Machine K)) → o ≡ Some v → o ≡ Some u → Some v ≡ Some u
   same-some v u o p q = sym p ∙ q
+
+  pub finished_is_headline : FinishedIsHeadline app
+  finished_is_headline tests props inputs limits logs told e each h within =
+      let m = start app props inputs in
+      let logs_is : logs_of (reports_of logs told) ≡ logs = logs-are m logs told e in
+      let v = some-in (replay_within app limits (Some m) (joined logs)) within in
+      let end : Some v.0 ≡ Some (last_machine m told) =
+      same-some v.0 (last_machine m told) (replay_on app (Some m) (joined logs)) (within-replays app limits (joined logs) m v.0 v.1) (reports-replay app m logs told e) in
+      record {
+        told = told;
+        holds = holds tests props inputs logs told e h;
+        done =
+            record {
+              one_each = subst (λ (l : List (List Entry)). OneEach inputs l) (sym logs_is) (each-true inputs logs each);
+              within = ap (λ (l : List (List Entry)). replay_within app limits (Some m) (joined l)) logs_is ∙ v.1 ∙ end;
+              edits = refl;
+            };
+      }
 
   pub finished_comes_to : FinishedComesTo app
   finished_comes_to tests props inputs limits logs log told last fault e each h on within cause =
@@ -177,11 +191,14 @@ module _ {K : Types} (app : Application K) where
       record {
         told = told;
         holds = holds tests props inputs logs told e h;
-        log = log;
-        one_each = subst (λ (l : List (List Entry)). OneEachThen inputs l log) (sym logs_is) (then-true inputs logs log each);
-        last = last;
-        goes_on = on;
-        within = ap (λ (l : List (List Entry)). replay_within app limits (Some m) (joined l ++ log)) logs_is ∙ v.1 ∙ end;
-        cause = cause;
-        edits = refl;
+        stopped =
+            record {
+              log = log;
+              one_each = subst (λ (l : List (List Entry)). OneEachThen inputs l log) (sym logs_is) (then-true inputs logs log each);
+              last = last;
+              goes_on = on;
+              within = ap (λ (l : List (List Entry)). replay_within app limits (Some m) (joined l ++ log)) logs_is ∙ v.1 ∙ end;
+              cause = cause;
+              edits = refl;
+            };
       }

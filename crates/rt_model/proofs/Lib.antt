@@ -17,6 +17,8 @@ pub mod ViewCounts
 pub mod ViewOnce
 pub mod Conjunctions
 pub mod FaultsOnce
+pub mod ValidOnce
+pub mod InputsLeft
 pub mod Among
 pub mod SideFrames
 pub mod SideRuns

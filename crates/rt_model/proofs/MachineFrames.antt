@@ -6,14 +6,14 @@ use Rattle.rt_model.specs.Lists.{at, put}
 use Rattle.rt_model.specs.Tree.{Types, VComponent, Place, Kind}
 use Rattle.rt_model.specs.World.{Scopes, Elements, Firsts, at_end, CallFault, Event, Meaning, TaskStep, pending, ready, Application}
 use Rattle.rt_model.specs.Laws.{IsNumbered, IsLawful}
-use Rattle.rt_model.specs.State.{SideName, MainSide, ChildrenSide, FallbackSide, Posted, Mark, Woken, Fault, IdsExhausted, Side, Scope, TaskRow, State, Item, Draw, Row, Feed, Make, Drop, Outcome, Done, Cut, side_of, with_side, new_scope, change, is_shown, world_of}
+use Rattle.rt_model.specs.State.{SideName, MainSide, ChildrenSide, FallbackSide, Posted, Mark, Woken, Fault, IdsExhausted, Side, Scope, TaskRow, State, Item, Draw, Row, Feed, Make, Drop, Outcome, Done, Cut, side_of, with_side, new_scope, change, is_shown, world_of, effects_of}
 use Rattle.rt_model.specs.Commands.{post, write_cell, unqueued, end, commands}
 use Rattle.rt_model.specs.Next.{look, at_rest}
 use Rattle.rt_model.specs.Run.{fault_of, with_next, acted, run, called_once}
 use Rattle.rt_model.specs.Boundary.{boundary_step}
 use Rattle.rt_model.specs.Removal.{removed}
 use Rattle.rt_model.specs.Heard.{Listener}
-use Rattle.rt_model.specs.Replay.{Entry, Build, Taken, Heard, Rerun, Poll, Effects, Made, Fed, Kept, Removed, Post, MarkScope, WakeTask, AllDirty, Message, Input, EventAt, WakeOf, WriteOf, MarkOf, Drain, Machine, ended_by, numbered, draws, rows_left, mounted, mounted_state, closed_at, closed, waiting, post_all, post_message, post_messages, looked_where_quiet, then_looked, taken_in, take_next, one_more_unit, with_child, with_new_scope, row_first, row_next, served, settled, made_in, made, with_props, polled_to, polled_at, polled, batch, effects_of, effects_run, further, heard_event, heard_first, rested, rerun, change_by, step, drawn_on, fed_child, keeps, handed}
+use Rattle.rt_model.specs.Replay.{Entry, Build, Taken, Heard, Rerun, Poll, Effects, Made, Fed, Kept, Removed, Post, MarkScope, WakeTask, AllDirty, Message, Input, EventAt, WakeOf, WriteOf, MarkOf, Drain, Machine, ended_by, numbered, draws, rows_left, mounted, mounted_state, closed_at, closed, waiting, post_all, post_message, post_messages, looked_where_quiet, then_looked, taken_in, take_next, one_more_unit, with_child, with_new_scope, row_first, row_next, served, settled, made_in, made, with_props, polled_to, polled_at, polled, batch, effects_run, further, heard_event, heard_first, rested, rerun, change_by, step, drawn_on, fed_child, keeps, handed}
 use Rattle.rt_model.specs.Lasting.{Rises, IsRooted}
 use Rattle.rt_model.proofs.Maps.{by_test, eq_same, none_some, at_here, at_there, at_append_none, at_append_here, at_put_here}
 use Rattle.rt_model.proofs.Frames.{shape, same_rest, with_put, change_same, post_same, end_same, write_same, task_same}
@@ -328,7 +328,7 @@ module _ {K : Types} (app : Application K) (lawful : IsLawful K app) where
   pub effects_later : (w : State K) (s : ℕ) → LaterO w (effects_run app w s)
   effects_later w s =
       let v : State K = change w s (λ x. record x { effects = [] }) in
-      later_trans w v (state_of (batch app v s (effects_of app w s))) (change_later w s (λ x. record x { effects = [] }) (λ x. refl)) (batch_later v s (effects_of app w s))
+      later_trans w v (state_of (batch app v s (effects_of w s))) (change_later w s (λ x. record x { effects = [] }) (λ x. refl)) (batch_later v s (effects_of w s))
 
   heard_at_later : (m : Machine K) (l : Listener K) (ls : List (Listener K)) (meaning : Meaning K (Event K)) (o : Option CallFault) → IsNumbered m.state.next meaning.commands meaning.next
       → Later m.state (elim o as (λ z. Machine K) [

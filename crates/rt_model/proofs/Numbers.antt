@@ -1,12 +1,12 @@
 -- New numbers of a program are its world's next ones.
 use Rattle.std.proofs.Common.{ℕ, zero, suc, Bool, true, false, List, [], ◌∷◌, ◌++◌, ◌+◌, ◌≤◌, ◌≡◌, refl, subst, sym, arith, nat_lt, nat_eq}
-use Rattle.std.specs.Prelude.{Option, Some, None, if◌then◌else◌, length}
+use Rattle.std.specs.Prelude.{Option, Some, None, if◌then◌else◌, length, flat_map}
 use Rattle.rt_model.specs.Lists.{at, nth}
 use Rattle.rt_model.specs.Tree.{Types}
 use Rattle.rt_model.specs.World.{Source, Cell, Error, Context, Firsts, at_end, Contexts, Cells, Tasks, Errors, CounterAtEnd, OtherHook, Hook, HookValue, HookEffect, Command, KeepHook, NewCell, Write, DropCell, NewContext, Reset, ReadInto, Spawn, RemoveFuture, Wake, SetActive, QueueEffect, Provide, Update, Throw, ClearErrors, Resolved, Freeze, World, Meaning}
 use Rattle.rt_model.specs.Program.{Program, done, current_scope, parent_scope, current_task, rendering, generation, read, error, consume_context, has_context, new_context, run_in, reset_and_run_in, leave, new_cell, write, drop_cell, spawn, remove_future, wake, set_active, queue_effect, after_suspense_resolved, freeze, provide, needs_update, captured, throw, clear_errors, hook_is_new, use_hook, use_effect, Call, noted_at, noted, value_in, parent_in, nearest_boundary, error_in, noted_error, own_context, Found, found_at, no_further, further_up, looked_up, look_up, look_here, own_scope_or, faults, past_hook, kind_of, hook_value, hook_stands, hooked, drew_cell, drew_context, drew_task, drew_error, exec, begun, body_means, call_means}
 use Rattle.rt_model.specs.Laws as laws
-use Rattle.rt_model.specs.Laws.{CountUp, drawn, IsNumbered, Numbered}
+use Rattle.rt_model.specs.Laws.{CountUp, IsNumbered, Numbered}
 
 -- what may follow a list of numbers may follow it where it goes on
 over : (xs ys zs : List ℕ) (n k l : ℕ) → ((j : ℕ) → CountUp j ys k → CountUp j zs l) → CountUp n (xs ++ ys) k → CountUp n (xs ++ zs) l
@@ -15,9 +15,9 @@ over (x ∷ xs) ys zs n k l f h = (h.0, over xs ys zs (n + 1) k l f h.1)
 
 module _ {K : Types} where
   -- one more command
-  after : (of : Command K → List ℕ) (cs : List (Command K)) (m : Command K) (n k l : ℕ) → CountUp n (drawn of cs) k → CountUp k (of m ++ []) l → CountUp n (drawn of (cs ++ m ∷ [])) l
+  after : (of : Command K → List ℕ) (cs : List (Command K)) (m : Command K) (n k l : ℕ) → CountUp n (flat_map of cs) k → CountUp k (of m ++ []) l → CountUp n (flat_map of (cs ++ m ∷ [])) l
   after of [] m n k l h e = subst (λ (j : ℕ). CountUp j (of m ++ []) l) (sym h) e
-  after of (c ∷ cs) m n k l h e = over (of c) (drawn of cs) (drawn of (cs ++ m ∷ [])) n k l (λ j q. after of cs m j k l q e) h
+  after of (c ∷ cs) m n k l h e = over (of c) (flat_map of cs) (flat_map of (cs ++ m ∷ [])) n k l (λ j q. after of cs m j k l q e) h
 
   abbrev Fine : Firsts → Call K → Type 0
   Fine first c = IsNumbered first c.commands c.next

@@ -5,12 +5,12 @@ use Rattle.rt_model.specs.Lists.{at, without, drop_number}
 use Rattle.rt_model.specs.Tree.{Types, placeholder_tree, VComponent, Own, Root, Fragment, ErrorBoundary, SuspenseBoundary, Element, rendered, failed, suspended}
 use Rattle.rt_model.specs.World.{before_render_kind, CallFault, Command, World, Meaning, Nothing, TaskStep, Application}
 use Rattle.rt_model.specs.Laws.{IsNumbered, IsLawful}
-use Rattle.rt_model.specs.State.{MainSide, ChildrenSide, FallbackSide, BadNode, RowStep, PatchChildren, MadeChildren, RunFallback, ShowFallback, ShowChildren, DropFallback, Resolve, Scope, TaskRow, State, Item, Draw, Outcome, Done, Cut, onward, is_live, change, is_held, hooks_of, world_of}
+use Rattle.rt_model.specs.State.{MainSide, ChildrenSide, FallbackSide, BadNode, RowStep, PatchChildren, MadeChildren, RunFallback, ShowFallback, ShowChildren, DropFallback, Resolve, Scope, TaskRow, State, Item, Draw, Outcome, Done, Cut, onward, is_live, change, is_held, hooks_of, world_of, effects_of}
 use Rattle.rt_model.specs.Commands.{unqueued, commands}
 use Rattle.rt_model.specs.Run.{fault_of, with_next, answer_fits, kept_call, unmarked, has_output, row_of, runs_fallback, row_items, body_of, acted, hooks_called, after_hooks, call_body, start_agenda, settled_answer, new_output, after_answer, boundary_run, run_as, run, called_once, called_where, is_own, answered_with}
 use Rattle.rt_model.specs.Boundary.{tree_or_placeholder, children_of, counts_render, side_scopes, drop_items, counted_render, fallback_answered, called_back, row_step, boundary_step}
 use Rattle.rt_model.specs.Removal.{clean_ups, stopped, cleaned, removed}
-use Rattle.rt_model.specs.Replay.{polled_to, polled_at, polled, batch, effects_of, effects_run}
+use Rattle.rt_model.specs.Replay.{polled_to, polled_at, polled, batch, effects_run}
 use Rattle.rt_model.proofs.Among.{among_right}
 use Rattle.rt_model.proofs.Parts.{answer_below, placeholder_fits, children_fit, ItemsFit, items_both, rows_fit, drop_items_fit}
 use Rattle.rt_model.proofs.Stands.{Stands}
@@ -219,4 +219,4 @@ module _ {K : Types} (app : Application K) (lawful : IsLawful K app) where
   -- effects
   pub effects_leads : (w : State K) (rest : List (Item K)) (s : ℕ) → Stands w rest → Leads rest (effects_run app w s)
   effects_leads w rest s h =
-      stay_leads w rest (effects_run app w s) (effects_stay app lawful w s) (batch_idle (change w s (λ x. record x { effects = [] })) s (effects_of app w s)) h
+      stay_leads w rest (effects_run app w s) (effects_stay app lawful w s) (batch_idle (change w s (λ x. record x { effects = [] })) s (effects_of w s)) h

@@ -1,11 +1,11 @@
 -- What a run and the steps of a boundary leave as it was.
 use Rattle.std.proofs.Common.{ℕ, Bool, true, false, List, [], ◌∷◌, ◌++◌, ◌≡◌, ◌≤◌, ◌<◌, ◌+◌, refl, sym, ◌∙◌, arith, subst}
-use Rattle.std.specs.Prelude.{Option, Some, None, if◌then◌else◌}
+use Rattle.std.specs.Prelude.{Option, Some, None, if◌then◌else◌, flat_map}
 use Rattle.rt_model.specs.Lists.{at, put, without, drop_number}
 use Rattle.rt_model.specs.Tree.{Types, CapturedError, Tree, placeholder_tree, VComponent, Own, Root, Fragment, ErrorBoundary, SuspenseBoundary, Element, rendered, failed, suspended, spots}
 use Rattle.rt_model.specs.World.{Source, Error, Renders, Firsts, at_end, before_render_kind, after_render_kind, CallFault, Hook, HookValue, HookEffect, Command, Spawn, World, Meaning, Nothing, Application}
 use Rattle.rt_model.specs.Laws as laws
-use Rattle.rt_model.specs.Laws.{CountUp, drawn, IsNumbered, IsLawful}
+use Rattle.rt_model.specs.Laws.{CountUp, IsNumbered, IsLawful}
 use Rattle.rt_model.specs.State.{SideName, MainSide, ChildrenSide, FallbackSide, Mark, SuspendedTask, IdsExhausted, BadNode, RowStep, PatchChildren, MadeChildren, RunFallback, ShowFallback, ShowChildren, DropFallback, Resolve, Side, Scope, TaskRow, State, Outcome, Done, Cut, onward, empty_side, side_of, with_side, is_live, change, location, is_held, holds, hooks_of, renders_of, world_of}
 use Rattle.rt_model.specs.Commands.{post, commands, throw_error}
 use Rattle.rt_model.specs.Run.{fault_of, plain, error_tree, root_tree, children_tree, with_next, answer_fits, kept_call, is_kind, spots_of, raised, joins, suspends_on, unmarked, has_output, row_of, runs_fallback, row_items, caught, body_of, acted, hook_called, hooks_called, after_hooks, call_body, patched, start_agenda, settled_answer, new_output, after_answer, boundary_run, run_as, run, called_once, called_where, is_own, answered_with}
@@ -40,9 +40,9 @@ module _ {K : Types} where
   numbered_rises f cs g n =
       let s : f.elements ≤ g.elements = omega (arith, n.elements) in
       record {
-        tasks = count_rises f.tasks (drawn laws.new_task cs) g.tasks n.tasks;
-        cells = count_rises f.cells (drawn laws.new_cell cs) g.cells n.cells;
-        contexts = count_rises f.contexts (drawn laws.new_context cs) g.contexts n.contexts;
+        tasks = count_rises f.tasks (flat_map laws.new_task cs) g.tasks n.tasks;
+        cells = count_rises f.cells (flat_map laws.new_cell cs) g.cells n.cells;
+        contexts = count_rises f.contexts (flat_map laws.new_context cs) g.contexts n.contexts;
         elements = s;
         errors = n.errors;
       }
@@ -144,7 +144,7 @@ module _ {K : Types} where
 
 module _ {K : Types} (app : Application K) (lawful : IsLawful K app) where
   -- new tasks of a call are at least the world's next one
-  pub fresh : (first k b : ℕ) (cs : List (Command K)) → b ≤ first → CountUp first (drawn laws.new_task cs) k → AllFresh app b cs
+  pub fresh : (first k b : ℕ) (cs : List (Command K)) → b ≤ first → CountUp first (flat_map laws.new_task cs) k → AllFresh app b cs
   fresh first k b [] l h = tt
   fresh first k b (Spawn t a x y ∷ cs) l h =
       let above : b ≤ t = omega (arith, l, h.0) in

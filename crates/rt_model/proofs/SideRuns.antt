@@ -5,13 +5,13 @@ use Rattle.rt_model.specs.Lists.{at, put, drop_number, join}
 use Rattle.rt_model.specs.Tree.{Types, Element, rendered, failed, suspended}
 use Rattle.rt_model.specs.World.{Source, Error, Renders, at_end, after_render_kind, CallFault, Hook, HookValue, HookEffect, Command, World, Meaning, Nothing, TaskStep, pending, ready, Application}
 use Rattle.rt_model.specs.Laws.{IsNumbered, IsLawful}
-use Rattle.rt_model.specs.State.{SideName, MainSide, ChildrenSide, FallbackSide, Posted, Mark, Woken, SuspendedTask, IdsExhausted, Scope, TaskRow, State, Outcome, Done, Cut, onward, is_live, change, is_shown, location, holds, hooks_of, renders_of, world_of}
+use Rattle.rt_model.specs.State.{SideName, MainSide, ChildrenSide, FallbackSide, Posted, Mark, Woken, SuspendedTask, IdsExhausted, Scope, TaskRow, State, Outcome, Done, Cut, onward, is_live, change, is_shown, location, holds, hooks_of, renders_of, world_of, effects_of}
 use Rattle.rt_model.specs.Commands.{post, tell, end, unqueued, commands}
 use Rattle.rt_model.specs.Next.{Work, look_on, look, found, paused, drop_then, drops, looked, at_rest}
 use Rattle.rt_model.specs.Run.{fault_of, with_next, kept_call, is_kind, raised, joins, suspends_on, unmarked, acted, hook_called, hooks_called, after_hooks, settled_answer, called_once}
 use Rattle.rt_model.specs.Boundary.{counted_render, called_back}
 use Rattle.rt_model.specs.Removal.{tasks_in, end_all, clean_ups, tell_all, cells_in, cell_sources, read_contexts, without_scope, gone, stopped, cleaned, removed}
-use Rattle.rt_model.specs.Replay.{mounted, mounted_state, polled_to, polled_at, polled, batch, effects_of, effects_run}
+use Rattle.rt_model.specs.Replay.{mounted, mounted_state, polled_to, polled_at, polled, batch, effects_run}
 use Rattle.rt_model.proofs.Maps.{by_test, none_some, at_here, at_there, at_without_here, at_without_other}
 use Rattle.rt_model.specs.Framed.{framed}
 use Rattle.rt_model.proofs.SideFrames.{Stay, stay_trans, stay_equal, stay_refl, stay_rest, stay_either, change_stay, post_stay, tell_stay, end_stay, throw_stay, commands_stay}
@@ -287,4 +287,4 @@ module _ {K : Types} (app : Application K) (lawful : IsLawful K app) where
   pub effects_stay : (w : State K) (s : ℕ) → StayO w (effects_run app w s)
   effects_stay w s =
       let v : State K = change w s (λ x. record x { effects = [] }) in
-      from_stay w v (batch app v s (effects_of app w s)) (change_stay w s (λ x. record x { effects = [] }) (λ x. refl)) (batch_stay v s (effects_of app w s))
+      from_stay w v (batch app v s (effects_of w s)) (change_stay w s (λ x. record x { effects = [] }) (λ x. refl)) (batch_stay v s (effects_of w s))

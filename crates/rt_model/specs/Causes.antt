@@ -1,5 +1,6 @@
 -- Where a run has to stop: the causes of faults, by cases; and which inputs run without one.
 use Rattle.std.specs.Prelude.{ℕ, ◌+◌, ◌&&◌, nat_eq, nat_lt, List, [], ◌∷◌, ◌++◌, Option, Some, None, if◌then◌else◌, ◌≡◌}
+use Rattle.rt_model.specs.Lists.{first_of}
 use Rattle.rt_model.specs.Tree.{Types}
 use Rattle.rt_model.specs.World.{Application}
 use Rattle.rt_model.specs.State.{Fault, OutOfTurns, TooDeep, State, Item, Draw, Row, Feed, Make, Drop, height_of}
@@ -15,15 +16,14 @@ pub record Limits : Type 0 where
   pub height : ℕ
   pub drain : ℕ
 
+-- the limits of a run that names none
+abbrev pub usual : Limits
+usual = record { units = 10000; height = 128; drain = 1024 }
+
 -- the next make is deeper than the limit
 abbrev pub depth_refused : Limits → Option ℕ → Option Fault
 depth_refused limits None = None
 depth_refused limits (Some height) = if nat_lt limits.height height then Some (TooDeep height) else None
-
--- the first cause that there is
-abbrev pub first_of : Option Fault → Option Fault → Option Fault
-first_of None later = later
-first_of (Some fault) later = Some fault
 
 module _ {K : Types} where
   -- the item that is served next

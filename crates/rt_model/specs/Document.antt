@@ -1,6 +1,6 @@
 -- A document as plain data, the eight edits, and the document after edits.
 use Rattle.std.specs.Prelude.{ℕ, ◌+◌, Bool, true, false, ◌&&◌, ◌||◌, nat_eq, nat_lt, List, [], ◌∷◌, Option, Some, None, Result, Ok, Err, if◌then◌else◌}
-use Rattle.rt_model.specs.Lists.{Text, same_numbers, earlier_text, same_option, same_list}
+use Rattle.rt_model.specs.Lists.{Text, first_of, same_numbers, earlier_text, same_option, same_list}
 
 -- an attribute of a document's element
 pub record DocAttribute : Type 0 where
@@ -106,16 +106,11 @@ changed i f (Node id content children rest) =
     then f id content children rest
     else (if is_in i children then Node id content (changed i f children) rest else Node id content children (changed i f rest))
 
--- what was found first
-abbrev pub either_content : Option Content → Option Content → Option Content
-either_content None other = other
-either_content (Some content) other = Some content
-
 -- what the node with this number is
 abbrev pub content_of : ℕ → Forest → Option Content
 content_of i Empty = None
 content_of i (Node id content children rest) =
-    if nat_eq id i then Some content else either_content (content_of i children) (content_of i rest)
+    if nat_eq id i then Some content else first_of (content_of i children) (content_of i rest)
 
 -- how often a number stands in the forest
 abbrev pub count_of : ℕ → Forest → ℕ

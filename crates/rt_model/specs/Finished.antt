@@ -7,10 +7,13 @@ use Rattle.rt_model.specs.Laws.{Tests}
 use Rattle.rt_model.specs.State.{FallbackSide, Fault, Scope, State, is_side, is_held}
 use Rattle.rt_model.specs.Document.{Edit, Empty}
 use Rattle.rt_model.specs.Replay.{Entry, Input, Machine, replay_on, start}
-use Rattle.rt_model.specs.Told.{Told, Telling, is_unit, is_body, count_entries, tell_reports, tell_log, telling, edits_of, all_shown}
+use Rattle.rt_model.specs.Told.{Told, Telling, is_unit, is_body, count_entries, is_settled, tell_reports, tell_log, telling, edits_of, all_shown}
 use Rattle.rt_model.specs.Current.{all_current}
 use Rattle.rt_model.specs.Causes.{Limits, IsValid, refusal, replay_within, edits_at_refusal}
-use Rattle.rt_model.specs.Headline.{Report, last_machine, one_each, one_each_then, Headline, CameTo}
+use Rattle.rt_model.specs.Reports.{Report}
+use Rattle.rt_model.specs.Headline.{last_machine, Headline, CameTo}
+use Rattle.rt_model.specs.Ran.{Ran}
+use Rattle.rt_model.specs.Openings.{one_each, one_each_then}
 
 -- equal truths
 abbrev pub same_truth : Bool → Bool → Bool
@@ -71,15 +74,16 @@ module _ {K : Types} (app : Application K) where
     pub props : Tests K.Props app.same_props
     pub handlers : Tests K.Handler app.same_handler
 
-  -- reports that pass the test keep the headline
+  -- reports that pass the test, of logs within the limits, keep the headline
   abbrev pub FinishedIsHeadline : Type 0
   FinishedIsHeadline =
       TestsDecide
-      → (props : K.Props) (inputs : List (Input K)) (logs : List (List Entry)) (told : List (Told K))
+      → (props : K.Props) (inputs : List (Input K)) (limits : Limits) (logs : List (List Entry)) (told : List (Told K))
       → tell_reports app (start app props inputs) logs ≡ Some told
       → one_each inputs logs ≡ true
       → is_finished told ≡ true
-      → Headline app props inputs (Some (joined (edits_of told))) (reports_of logs told)
+      → is_some (replay_within app limits (Some (start app props inputs)) (joined logs)) ≡ true
+      → Headline app props inputs limits (Some (joined (edits_of told))) (reports_of logs told)
 
   -- reports that pass the test, and a log from there on within the limits, come to the fault of the refusal
   abbrev pub FinishedComesTo : Type 0
@@ -110,6 +114,23 @@ module _ {K : Types} (app : Application K) where
       → CameTo app props inputs limits taken reports fault
       → IsValid app props inputs limits
       → ⊥
+
+  -- where a log goes on within the limits until nothing is at work, nothing is owed and no input is left, the inputs are valid
+  abbrev pub DoneIsValid : Type 0
+  DoneIsValid =
+      (props : K.Props) (inputs : List (Input K)) (limits : Limits) (log : List Entry) (m : Machine K)
+      → replay_within app limits (Some (start app props inputs)) log ≡ Some m
+      → m.built ≡ true
+      → is_settled m ≡ true
+      → m.inputs ≡ []
+      → IsValid app props inputs limits
+
+  -- the inputs of a session that finished are valid
+  abbrev pub RanIsValid : Type 0
+  RanIsValid =
+      (props : K.Props) (inputs : List (Input K)) (limits : Limits) (taken : Option (List Edit)) (reports : List Report)
+      → Ran app props inputs limits taken reports
+      → IsValid app props inputs limits
 
   -- a session comes to one fault at most
   abbrev pub OneFault : Type 0

@@ -1,6 +1,6 @@
 -- The listeners that an event calls: found by climbing the whole of what shows.
 use Rattle.std.specs.Prelude.{ℕ, zero, suc, ◌+◌, Bool, true, false, ◌&&◌, nat_eq, List, [], ◌∷◌, ◌++◌, length, Option, Some, None, if◌then◌else◌}
-use Rattle.rt_model.specs.Lists.{Text, at, same_numbers}
+use Rattle.rt_model.specs.Lists.{Text, at, first_of, backwards, same_numbers}
 use Rattle.rt_model.specs.Tree.{Types, TemplateAttribute, fixed, from_slot, TemplateNodes, no_nodes, element_node, text_node, slot_node, Template, AttributeValue, text_value, no_value, listener, Attribute, Tree, block, Slots, no_slots, more_slots, Slot, text_slot, placeholder_slot, component_slot, fragment_slot, Trees, no_trees, more_trees, item, Place, same_place, Kind, an_element, a_static_text, a_text, a_placeholder, an_empty_fragment, same_kind, place_in, attributes_in}
 use Rattle.rt_model.specs.State.{Side, Scope, State, side_of}
 use Rattle.rt_model.specs.Run.{child_at}
@@ -28,11 +28,6 @@ module _ (K : Types) where
   Climb = List (List (List (Attribute K)))
 
 module _ {K : Types} where
-  -- what was found first
-  abbrev pub or_later : Option (Climb K) → Option (Climb K) → Option (Climb K)
-  or_later None later = later
-  or_later (Some found) later = Some found
-
   -- the attribute slots of an element stand around what was found in it
   abbrev pub below_element : List (List (Attribute K)) → Option (Climb K) → Option (Climb K)
   below_element slots None = None
@@ -53,17 +48,17 @@ module _ {K : Types} where
       → List ℕ → ℕ → TemplateNodes → Option (Climb K)
   find_nodes numbers number whole above given slot up i no_nodes = None
   find_nodes numbers number whole above given slot up i (element_node tag namespace attributes children rest) =
-      or_later
+      first_of
       (if nat_eq (number_at numbers (place_in whole above up i) an_element) number
       then Some (slots_on given attributes ∷ [])
       else below_element (slots_on given attributes) (find_nodes numbers number whole above given slot (up ++ i ∷ []) 0 children))
       (find_nodes numbers number whole above given slot up (i + 1) rest)
   find_nodes numbers number whole above given slot up i (text_node text rest) =
-      or_later
+      first_of
       (leaf_climb number (number_at numbers (place_in whole above up i) a_static_text))
       (find_nodes numbers number whole above given slot up (i + 1) rest)
   find_nodes numbers number whole above given slot up i (slot_node k rest) =
-      or_later (slot k (place_in whole above up i)) (find_nodes numbers number whole above given slot up (i + 1) rest)
+      first_of (slot k (place_in whole above up i)) (find_nodes numbers number whole above given slot up (i + 1) rest)
 
   -- the climb from a number below a child scope
   abbrev pub find_child : (ℕ → Option (Climb K)) → Option ℕ → Option (Climb K)
@@ -94,7 +89,7 @@ module _ {K : Types} where
     pub find_items : Side K → ℕ → (ℕ → Option (Climb K)) → ℕ → Place → Trees K → Option (Climb K)
     find_items side number inner i place no_trees = None
     find_items side number inner i place (more_trees t ts) =
-        or_later (find_tree side number inner (place ++ item i ∷ []) t) (find_items side number inner (i + 1) place ts)
+        first_of (find_tree side number inner (place ++ item i ∷ []) t) (find_items side number inner (i + 1) place ts)
 
   -- the climb from a number on a side
   abbrev pub find_side : ℕ → (ℕ → Option (Climb K)) → Side K → Option (Climb K)
@@ -137,20 +132,15 @@ module _ {K : Types} where
   first_listener event [] = []
   first_listener event (a ∷ rest) = if matches a.name event && is_listener a.value then listener_of a.value else first_listener event rest
 
-  -- the slots of one element, last first
-  abbrev pub slots_backwards : (List (Attribute K) → List (Listener K)) → List (List (Attribute K)) → List (Listener K)
-  slots_backwards of [] = []
-  slots_backwards of (a ∷ slots) = slots_backwards of slots ++ of a
-
   -- the listeners of the elements further out, all that match
   abbrev pub climbing : Text → Climb K → List (Listener K)
   climbing event [] = []
-  climbing event (slots ∷ above) = slots_backwards (λ a. all_matching event a) slots ++ climbing event above
+  climbing event (slots ∷ above) = backwards (λ a. all_matching event a) slots ++ climbing event above
 
   -- the listeners of an event that bubbles, innermost first
   abbrev pub bubbling : Text → Climb K → List (Listener K)
   bubbling event [] = []
-  bubbling event (slots ∷ above) = slots_backwards (λ a. first_matching event a) slots ++ climbing event above
+  bubbling event (slots ∷ above) = backwards (λ a. first_matching event a) slots ++ climbing event above
 
   -- the first listener of each slot of an element, in the slots' order
   abbrev pub in_order : Text → List (List (Attribute K)) → List (Listener K)

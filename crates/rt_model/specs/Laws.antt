@@ -1,5 +1,5 @@
 -- The laws of an application: what its calls read decides what they mean, and new numbers are the world's next ones.
-use Rattle.std.specs.Prelude.{ℕ, ◌+◌, Bool, true, false, nat_eq, List, [], ◌∷◌, ◌++◌, Option, Some, None, ◌≡◌, ◌≤◌, ◌<◌}
+use Rattle.std.specs.Prelude.{ℕ, ◌+◌, Bool, true, false, nat_eq, List, [], ◌∷◌, flat_map, Option, Some, None, ◌≡◌, ◌≤◌, ◌<◌}
 use Rattle.rt_model.specs.Lists.{nth}
 use Rattle.std.specs.List.{AllByRecursion}
 use Rattle.rt_model.specs.Tree.{Types}
@@ -46,16 +46,11 @@ module _ {K : Types} where
   new_task (Spawn n a f i) = n ∷ []
   new_task _ = []
 
-  -- such numbers of a list of commands, in order
-  abbrev pub drawn : (Command K → List ℕ) → List (Command K) → List ℕ
-  drawn of [] = []
-  drawn of (c ∷ cs) = of c ++ drawn of cs
-
   -- the commands of a call number its new cells, contexts and tasks from the first numbers on, and leave the next ones; it draws no element
   pub record IsNumbered (first : Firsts) (commands : List (Command K)) (next : Firsts) : Type 0 where
-    pub cells : CountUp first.cells (drawn new_cell commands) next.cells
-    pub contexts : CountUp first.contexts (drawn new_context commands) next.contexts
-    pub tasks : CountUp first.tasks (drawn new_task commands) next.tasks
+    pub cells : CountUp first.cells (flat_map new_cell commands) next.cells
+    pub contexts : CountUp first.contexts (flat_map new_context commands) next.contexts
+    pub tasks : CountUp first.tasks (flat_map new_task commands) next.tasks
     -- no call draws the number of a node
     pub elements : next.elements ≡ first.elements
     -- serial numbers of errors may be drawn for errors that no command names

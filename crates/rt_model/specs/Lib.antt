@@ -14,7 +14,6 @@ pub mod Removal
 pub mod Framed
 pub mod Heard
 pub mod Replay
-pub mod Rendering
 pub mod Document
 pub mod View
 pub mod Caused
@@ -22,10 +21,17 @@ pub mod Told
 pub mod Current
 pub mod CurrentTest
 pub mod Causes
+pub mod Rendering
+pub mod Queries
 pub mod Merge
+pub mod Reports
 pub mod Headline
+pub mod Ran
+pub mod Openings
 pub mod Finished
 pub mod Sentences
+pub mod Bodies
+pub mod Asides
 pub mod Small
 pub mod Pieces
 pub mod AttributeRows

@@ -32,6 +32,16 @@ abbrev pub or_else : {A : Type 0} → A → Option A → A
 or_else a None = a
 or_else a (Some b) = b
 
+-- the first of two, where there is one, else the second
+abbrev pub first_of : {A : Type 0} → Option A → Option A → Option A
+first_of None later = later
+first_of (Some found) later = Some found
+
+-- what each item gives, the last item's first
+abbrev pub backwards : {A B : Type 0} → (A → List B) → List A → List B
+backwards of [] = []
+backwards of (x ∷ xs) = backwards of xs ++ of x
+
 -- the items that a test lets through, in order
 abbrev pub kept_by : {A : Type 0} → (A → Bool) → List A → List A
 kept_by test [] = []

@@ -20,6 +20,16 @@ abbrev pub least : (ℕ → ℕ → Bool) → List ℕ → Option ℕ
 least earlier [] = None
 least earlier (s ∷ ss) = Some (least_from earlier s ss)
 
+-- one more in a list by such a test; of equal ones the one that joined first comes first
+abbrev pub insert_by : (ℕ → ℕ → Bool) → ℕ → List ℕ → List ℕ
+insert_by earlier s [] = s ∷ []
+insert_by earlier s (t ∷ ts) = if earlier t s then t ∷ insert_by earlier s ts else s ∷ t ∷ ts
+
+-- a list by such a test
+abbrev pub sorted_by : (ℕ → ℕ → Bool) → List ℕ → List ℕ
+sorted_by earlier [] = []
+sorted_by earlier (s ∷ ss) = insert_by earlier s (sorted_by earlier ss)
+
 module _ {K : Types} where
   -- what was posted is taken one by one; marks and wakes of what is gone are passed over
   abbrev pub look_on : List Posted → State K → State K
@@ -51,6 +61,10 @@ module _ {K : Types} where
   -- the seen scope of the least order
   abbrev pub first_seen : State K → Option ℕ
   first_seen w = least (λ s t. is_before w.scopes s t) w.seen
+
+  -- the seen scopes in their order
+  abbrev pub seen_in_order : State K → List ℕ
+  seen_in_order w = sorted_by (λ s t. is_before w.scopes s t) w.seen
 
   -- the lesser of the two, the task on equal order
   abbrev pub chosen : State K → Option ℕ → Option ℕ → Option Work

@@ -4,9 +4,9 @@ use Rattle.rt_model.specs.Lists.{Text, at, put, kept_by}
 use Rattle.rt_model.specs.Tree.{Types, VComponent, Root, Place, Kind}
 use Rattle.rt_model.specs.World.{Scopes, Elements, at_end, Firsts, Event, Meaning, TaskStep, pending, ready, Application}
 use Rattle.rt_model.specs.Values.{keeps_output}
-use Rattle.rt_model.specs.State.{SideName, MainSide, Mark, Woken, Fault, IdsExhausted, RowStep, MadeChildren, Scope, TaskRow, State, Item, Draw, Row, Feed, Make, Drop, Outcome, Done, Cut, onward, side_of, with_side, new_scope, is_live, change, is_shown, world_of}
-use Rattle.rt_model.specs.Commands.{post, write_cell, unqueued, end, commands}
-use Rattle.rt_model.specs.Next.{Work, RerunScope, PollTask, RunEffects, look, at_rest, next_at_rest}
+use Rattle.rt_model.specs.State.{SideName, MainSide, Mark, Woken, Fault, IdsExhausted, RowStep, MadeChildren, Scope, TaskRow, State, Item, Draw, Row, Feed, Make, Drop, Outcome, Done, Cut, onward, side_of, with_side, new_scope, is_live, change, is_shown, effects_of, world_of}
+use Rattle.rt_model.specs.Commands.{post, write_cell, unqueued, end, provide_context, commands}
+use Rattle.rt_model.specs.Next.{Work, RerunScope, PollTask, RunEffects, look, is_active, at_rest, next_at_rest}
 use Rattle.rt_model.specs.Run.{child_at, fault_of, with_next, acted, run, called_once}
 use Rattle.rt_model.specs.Boundary.{boundary_step}
 use Rattle.rt_model.specs.Removal.{next_removed, removed}
@@ -383,6 +383,45 @@ module _ {K : Types} (app : Application K) where
   abbrev pub polled : State K → ℕ → Outcome K
   polled w t = polled_at (unqueued w t) t (at w.tasks t)
 
+  -- the same without the look: a poll that no unit counts
+  abbrev pub polled_apart_by : State K → ℕ → TaskRow K → Meaning K (TaskStep K) → Outcome K
+  polled_apart_by w t x m =
+      elim m.fault [
+        | None ↦ Done (left_by_poll (with_next w m.next) t x m m.answer) []
+        | Some f ↦ Cut (with_next w m.next) (fault_of f)
+      ]
+
+  -- what the state of a task that was found means at a poll
+  abbrev pub poll_meant : State K → ℕ → TaskRow K → Meaning K (TaskStep K)
+  poll_meant w t x = app.poll x.state (world_of w x.scope (Some t) false)
+
+  -- the poll without the look of a task that was found
+  abbrev pub polled_apart_at : State K → ℕ → Option (TaskRow K) → Outcome K
+  polled_apart_at w t None = Done w []
+  polled_apart_at w t (Some x) = polled_apart_by (called_once w) t x (poll_meant w t x)
+
+  -- a task is polled without the look: its wakes are spent
+  abbrev pub polled_apart : State K → ℕ → Outcome K
+  polled_apart w t = polled_apart_at (unqueued w t) t (at w.tasks t)
+
+  -- a program polls a task at once: nothing is done where it is paused or isn't live
+  abbrev pub polled_now : State K → ℕ → Outcome K
+  polled_now w t = if is_active w t then polled_apart w t else Done w []
+
+  -- the task has ended with this step
+  abbrev pub is_ready : TaskStep K → Bool
+  is_ready ready = true
+  is_ready (pending a) = false
+
+  -- what that poll tells of a task: a paused one isn't ready, one that isn't live is
+  abbrev pub ready_at : State K → ℕ → Option (TaskRow K) → Bool
+  ready_at w t None = true
+  ready_at w t (Some x) = x.active && is_ready (poll_meant w t x).answer
+
+  -- what such a poll tells: the task is ready
+  abbrev pub ready_now : State K → ℕ → Bool
+  ready_now w t = ready_at (unqueued w t) t (at w.tasks t)
+
   -- the effects of a batch, each one's commands done before the next; then what follows the last one
   abbrev pub batch_then : (State K → State K) → State K → ℕ → List K.Effect → Outcome K
   batch_then last w s [] = Done (last w) []
@@ -392,13 +431,13 @@ module _ {K : Types} (app : Application K) where
   abbrev pub batch : State K → ℕ → List K.Effect → Outcome K
   batch w s es = batch_then look w s es
 
-  -- the effects that a scope has queued
-  abbrev pub effects_of : State K → ℕ → List K.Effect
-  effects_of w s = elim (at w.scopes s) [ None ↦ [] | Some x ↦ x.effects ]
-
   -- the effects of a scope are taken, all that stood, and done in order
   abbrev pub effects_run : State K → ℕ → Outcome K
   effects_run w s = batch (change w s (λ x. record x { effects = [] })) s (effects_of w s)
+
+  -- the same without the look
+  abbrev pub effects_apart : State K → ℕ → Outcome K
+  effects_apart w s = batch_then (λ v. v) (change w s (λ x. record x { effects = [] })) s (effects_of w s)
 
   -- one listener: the event is as it leaves it; where a bubbling event was stopped no further listener waits
   abbrev pub further : Machine K → Event K → List (Listener K) → List (Listener K)
@@ -519,6 +558,16 @@ module _ {K : Types} (app : Application K) where
   -- a replay at its start
   abbrev pub start : K.Props → List (Input K) → Machine K
   start props inputs = start_from props ones inputs
+
+  -- values that scope 0 provides, by kind, one after another
+  abbrev pub provided_all : State K → List (ℕ × K.Value) → State K
+  provided_all w [] = w
+  provided_all w (e ∷ es) = provided_all (provide_context app w 0 e.0 e.1) es
+
+  -- a replay at its start, whose numbers begin at these, and whose root provides these values
+  abbrev pub start_with : K.Props → Firsts → List (ℕ × K.Value) → List (Input K) → Machine K
+  start_with props firsts provided inputs =
+      let m = start_from props firsts inputs in record m { state = provided_all m.state provided }
 
   -- the state after a log: each entry accepted in turn, the agenda empty, no listener waiting
   abbrev pub replay : K.Props → List (Input K) → List Entry → Option (Machine K)

@@ -6,6 +6,7 @@ use Rattle.rt_model.specs.Program.{Program, application_of}
 use Rattle.rt_model.specs.Replay.{Entry, Input}
 use Rattle.rt_model.specs.Document.{Edit}
 use Rattle.rt_model.specs.Told.{Told, edits_of}
+use Rattle.rt_model.specs.Causes.{usual}
 use Rattle.rt_model.specs.Headline.{Headline}
 use Rattle.rt_model.specs.Finished.{reports_of}
 use Rattle.rt_model.specs.Small.{Val, Name, Job, R, Body, app_of, RowOf}
@@ -23,6 +24,7 @@ pub record RowHolds
       (application_of (record (app_of body) { poll = poll }))
       props
       inputs
+      usual
       (Some (joined (edits_of told)))
       (reports_of logs told)
 

@@ -1,7 +1,7 @@
 -- Sentences beside the headline: between units and entries, of the numbers that edits carry, of the ends of single calls.
 use Rattle.std.specs.Prelude.{ℕ, ◌≤◌, Bool, true, false, ◌&&◌, ◌||◌, not, nat_eq, List, [], ◌∷◌, ◌++◌, Option, Some, None, ◌≡◌, ◌⊎◌, if◌then◌else◌, is_some, Contains}
 use Rattle.std.specs.List.{AllByRecursion, list_any}
-use Rattle.rt_model.specs.Lists.{at, has, join}
+use Rattle.rt_model.specs.Lists.{at, has, join, first_of}
 use Rattle.rt_model.specs.Tree.{Types, Place, Kind}
 use Rattle.rt_model.specs.World.{Application}
 use Rattle.rt_model.specs.State.{SideName, Mark, Fault, OutOfTurns, Scope, State, Item, Draw, Row, Feed, Make, Drop, side_of, is_live}
@@ -12,7 +12,7 @@ use Rattle.rt_model.specs.Document.{Forest, Empty, Node, Edit, AppendChildren, R
 use Rattle.rt_model.specs.View.{view}
 use Rattle.rt_model.specs.Told.{opens, count_entries}
 use Rattle.rt_model.specs.Current.{IsCurrent}
-use Rattle.rt_model.specs.Causes.{Limits, depth_refused, next_height, first_of}
+use Rattle.rt_model.specs.Causes.{Limits, depth_refused, next_height}
 
 -- the numbers of nodes, each before those of its children
 abbrev pub numbers_in : Forest → List ℕ

@@ -1,14 +1,15 @@
 -- Small applications for worked rows: values, tasks and actions, and short ways to write programs and trees.
-use Rattle.std.specs.Prelude.{ℕ, zero, suc, ◌+◌, Bool, true, false, ◌&&◌, nat_eq, List, [], ◌∷◌, ◌++◌, Option, Some, None, ◌≡◌, if◌then◌else◌}
-use Rattle.rt_model.specs.Lists.{Text, same_numbers, same_list}
-use Rattle.rt_model.specs.Tree.{Types, TemplateNodes, no_nodes, text_node, template_with, Tree, block, Slots, no_slots, more_slots, Slot, component_slot, Own, placeholder_tree, Element, rendered, suspended}
+use Rattle.std.specs.Prelude.{ℕ, zero, suc, ◌+◌, Bool, true, false, ◌&&◌, nat_eq, List, [], ◌∷◌, ◌++◌, Option, Some, None, ◌≡◌, if◌then◌else◌, is_some}
+use Rattle.rt_model.specs.Lists.{Text, joined, same_numbers, same_list}
+use Rattle.rt_model.specs.Tree.{Types, TemplateNodes, no_nodes, text_node, template_with, Tree, block, no_slots, Slot, component_slot, Own, placeholder_tree, Element, rendered, suspended}
 use Rattle.rt_model.specs.World.{TaskStep, pending, ready, Nothing, nothing, Application}
 use Rattle.rt_model.specs.Program.{Program, done, current_scope, read, new_cell, write, spawn, wake, clear_errors, provide, hook_is_new, use_hook, Programs, application_of}
 use Rattle.rt_model.specs.Laws.{IsLawful}
 use Rattle.rt_model.specs.Replay.{Entry, Input, start}
 use Rattle.rt_model.specs.Document.{Edit}
 use Rattle.rt_model.specs.Told.{Told, tell_reports, edits_of, same_edits}
-use Rattle.rt_model.specs.Headline.{one_each}
+use Rattle.rt_model.specs.Openings.{one_each}
+use Rattle.rt_model.specs.Causes.{usual, replay_within}
 use Rattle.rt_model.specs.Finished.{is_finished}
 
 -- a number or a text
@@ -179,11 +180,6 @@ only nodes = block (template_with nodes) [] no_slots
 abbrev pub words : Text → Tree R
 words text = only (text_node text no_nodes)
 
--- these slots, numbered in order
-abbrev pub slots : List (Slot R) → Slots R
-slots [] = no_slots
-slots (v ∷ vs) = more_slots v (slots vs)
-
 -- a component of the application as a slot
 abbrev pub use_of : Name → List Val → Slot R
 use_of name props = component_slot (Own name props)
@@ -193,10 +189,15 @@ abbrev pub told_with : Application R → List (List Edit) → Option (List (Told
 told_with app edits None = false
 told_with app edits (Some told) = same_edits (edits_of told) edits && is_finished app told
 
--- the logs are one for the build and one for each input, replay accepts them, the edits are these, and all is as the headline says
+-- the logs are one for the build and one for each input, no refusal comes before an entry of theirs
+abbrev pub is_within : Programs R → List Val → List (Input R) → List (List Entry) → Bool
+is_within a props inputs logs =
+    one_each inputs logs && is_some (replay_within (application_of a) usual (Some (start (application_of a) props inputs)) (joined logs))
+
+-- besides, replay accepts them, the edits are these, and all is as the headline says
 abbrev pub RowOf : Programs R → List Val → List (Input R) → List (List Entry) → List (List Edit) → Type 0
 RowOf a props inputs logs edits =
-    one_each inputs logs
+    is_within a props inputs logs
     &&
     told_with (application_of a) edits (tell_reports (application_of a) (start (application_of a) props inputs) logs)
     ≡

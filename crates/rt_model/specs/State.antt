@@ -303,6 +303,10 @@ module _ {K : Types} where
   abbrev pub hooks_of : State K → ℕ → List (Hook K)
   hooks_of w s = elim (at w.scopes s) [ None ↦ [] | Some x ↦ x.hooks ]
 
+  -- the effects that a scope has queued, in order
+  abbrev pub effects_of : State K → ℕ → List K.Effect
+  effects_of w s = elim (at w.scopes s) [ None ↦ [] | Some x ↦ x.effects ]
+
   -- how often a scope's body has answered a tree
   abbrev pub renders_of : State K → ℕ → ℕ
   renders_of w s = elim (at w.scopes s) [ None ↦ 0 | Some x ↦ x.renders ]

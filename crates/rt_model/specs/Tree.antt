@@ -186,12 +186,6 @@ module _ {K : Types} where
   rest_slots no_slots = no_slots
   rest_slots (more_slots v rest) = rest
 
-  -- the slot with this number
-  abbrev pub slot_with : Slots K → ℕ → Slot K
-  slot_with no_slots k = placeholder_slot
-  slot_with (more_slots v rest) zero = v
-  slot_with (more_slots v rest) (suc k) = slot_with rest k
-
   -- what the attribute slot with this number gives
   abbrev pub attributes_in : List (List (Attribute K)) → ℕ → List (Attribute K)
   attributes_in [] k = []

@@ -8,7 +8,7 @@ ghost use Rattle.rt_model.specs.Framed.{RemovalTakesOne};
 ghost use Rattle.rt_model.specs.Unchanged.{SameCausesNothing, RestCausesNothing};
 ghost use Rattle.rt_model.specs.Once.{ShownOnce};
 ghost use Rattle.rt_model.specs.CurrentTest.{TestDecidesCurrent};
-ghost use Rattle.rt_model.specs.Finished.{FaultIsInvalid, OneFault, FinishedIsHeadline, FinishedComesTo, ToldIsReplayed};
+ghost use Rattle.rt_model.specs.Finished.{DoneIsValid, FaultIsInvalid, OneFault, FinishedIsHeadline, FinishedComesTo, RanIsValid, ToldIsReplayed};
 
 /// For one list of inputs at most one log of each length is accepted.
 pub fn one_log<C, P, V, H, T, E, L>()
@@ -69,6 +69,16 @@ pub fn finished_comes_to<C, P, V, H, T, E, L>()
 /// A session that comes to a fault has no valid inputs.
 pub fn fault_is_invalid<C, P, V, H, T, E, L>()
     ensures { (app : Application (types C P V H T E L)) → FaultIsInvalid app }
+{}
+
+/// Where a log goes on within the limits until nothing is owed and no input is left, the inputs are valid.
+pub fn done_is_valid<C, P, V, H, T, E, L>()
+    ensures { (app : Application (types C P V H T E L)) → DoneIsValid app }
+{}
+
+/// The inputs of a session that finished are valid.
+pub fn ran_is_valid<C, P, V, H, T, E, L>()
+    ensures { (app : Application (types C P V H T E L)) → RanIsValid app }
 {}
 
 /// A session comes to one fault at most.

@@ -7,9 +7,9 @@ mod general_laws;
 mod rows;
 
 pub use general_laws::{
-    fault_is_invalid, finished_comes_to, finished_is_headline, lawful_logs_last, one_fault,
-    one_log, programs_are_lawful, removal_takes_one, rest_causes_nothing, same_causes_nothing,
-    shown_once, test_decides_current, told_is_replayed,
+    done_is_valid, fault_is_invalid, finished_comes_to, finished_is_headline, lawful_logs_last,
+    one_fault, one_log, programs_are_lawful, ran_is_valid, removal_takes_one, rest_causes_nothing,
+    same_causes_nothing, shown_once, test_decides_current, told_is_replayed,
 };
 pub use rows::{
     attributes_move, context_wakes_task, rows_hold, small_are_lawful, suspended_renders,

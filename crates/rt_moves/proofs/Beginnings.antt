@@ -1,7 +1,7 @@
 -- An entry of a machine at which nothing is at work: the build, a unit, an input, a listener.
 use Rattle.std.proofs.Common.{ℕ, ◌+◌, Bool, true, false, ◌&&◌, not, List, [], ◌∷◌, ◌≡◌, refl, sym, ap, ◌∙◌, nat_eq}
 use Rattle.std.specs.Prelude.{Option, Some, None, is_some, if◌then◌else◌}
-use Rattle.rt_model.specs.Lists.{at, kept_by}
+use Rattle.rt_model.specs.Lists.{at, kept_by, first_of}
 use Rattle.rt_model.specs.Tree.{Types}
 use Rattle.rt_model.specs.World.{Application}
 use Rattle.rt_model.specs.State.{Fault, OutOfTurns, Item, is_live}
@@ -9,7 +9,7 @@ use Rattle.rt_model.specs.Next.{Work, RerunScope, PollTask, RunEffects, next, ow
 use Rattle.rt_model.specs.Run.{run}
 use Rattle.rt_model.specs.Heard.{Listener}
 use Rattle.rt_model.specs.Replay.{Entry, Build, Taken, Heard, Rerun, Poll, Effects, Input, Machine, ended_by, names_live, if_live, waiting, no_listener, no_work, is_quiet, due_item, due_heard, due_work, polled, effects_run, heard_first, heard_event, rested, rerun, one_more_unit, take_next, change_by}
-use Rattle.rt_model.specs.Causes.{Limits, depth_refused, first_of, height_at, next_height, turns_refused, refusal}
+use Rattle.rt_model.specs.Causes.{Limits, depth_refused, height_at, next_height, turns_refused, refusal}
 use Rattle.rt_model.proofs.Maps.{by_test, pick_true, pick_false}
 use Rattle.rt_moves.specs.Moves.{moves_alone, IsSettled, AtRest, IsLogged}
 

@@ -1,12 +1,13 @@
 -- Serving one item is one move: what a caller has to know.
 use Rattle.std.proofs.Common.{ℕ, Bool, true, false, List, [], ◌∷◌, ◌++◌, ◌≡◌, refl, sym, ap, ◌∙◌, subst, nat_eq}
 use Rattle.std.specs.Prelude.{Option, Some, None, if◌then◌else◌}
+use Rattle.rt_model.specs.Lists.{first_of}
 use Rattle.rt_model.specs.Tree.{Types, Place, VComponent}
 use Rattle.rt_model.specs.World.{Application}
 use Rattle.rt_model.specs.State.{SideName, Fault, State, Item, Draw, Row, Feed, Make, Drop, Outcome, Cut, is_live}
 use Rattle.rt_model.specs.Removal.{next_removed, removed}
 use Rattle.rt_model.specs.Replay.{Entry, Build, Made, Fed, Kept, Removed, Machine, ended_by, names_live, if_live, fed_child, keeps, due_feed, due_item, due, outcome_of, entry_of, dropped, change_by}
-use Rattle.rt_model.specs.Causes.{Limits, depth_refused, first_of, height_at, refusal}
+use Rattle.rt_model.specs.Causes.{Limits, depth_refused, height_at, refusal}
 use Rattle.rt_model.proofs.Maps.{pick_true, pick_false}
 use Rattle.rt_moves.specs.Moves.{Move, Silent, Logged, entries, serves_item, Inside, is_silent, busy, IsSettled, AtWork, IsSilent, IsLogged, Moves}
 use Rattle.rt_moves.specs.Words.{Word, Served, Stopped, Short, Does, Goes, Stops, Says, Enters}

@@ -2,13 +2,14 @@
 use Rattle.std.proofs.Common.{nat_eq, Bool, true, false, ◌&&◌, ◌||◌, not, List, [], ◌∷◌, ◌++◌, ◌≡◌, refl, sym, ap, ◌∙◌, subst}
 use Rattle.std.specs.Prelude.{Option, Some, None, is_some, if◌then◌else◌}
 use Rattle.std.proofs.lemmas.List.{append-nil}
+use Rattle.rt_model.specs.Lists.{first_of}
 use Rattle.rt_model.specs.Tree.{Types}
 use Rattle.rt_model.specs.World.{Application}
 use Rattle.rt_model.specs.State.{Fault, State, Item, Feed, Make, Drop, Outcome, Done, Cut}
 use Rattle.rt_model.specs.Removal.{removed}
 use Rattle.rt_model.specs.Replay.{Entry, Build, Taken, Heard, Rerun, Poll, Effects, Made, Fed, Kept, Removed, Machine, ended_by, mounted_state, no_listener, no_work, is_quiet, waiting, settled, if_live, due_item, due, outcome_of, change_by, accepts}
 use Rattle.rt_model.specs.Next.{owes}
-use Rattle.rt_model.specs.Causes.{Limits, depth_refused, first_of, first_item, next_height, turns_refused, refusal, replay_within, edits_at_depth, edits_at_refusal}
+use Rattle.rt_model.specs.Causes.{Limits, depth_refused, first_item, next_height, turns_refused, refusal, replay_within, edits_at_depth, edits_at_refusal}
 use Rattle.rt_model.specs.Caused.{caused, caused_until}
 use Rattle.rt_model.specs.Told.{Telling, opens, opened, closed_unit, told_entry, tell_log}
 use Rattle.rt_moves.specs.Moves.{Move, Silent, Closed, Logged, entries, serves_item, Inside, InOneUnit, busy, moves_alone, IsSettled, IsSilent, IsClosed, IsLogged, Moves, Leads}

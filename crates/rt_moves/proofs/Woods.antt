@@ -29,7 +29,12 @@ use Rattle.rt_model.proofs.Begun.{Good, ended_good, row_done}
 use Rattle.rt_model.proofs.NumbersStand.{Awaits, due_match, change_good, Sound, start_sound, child_among}
 use Rattle.rt_moves.specs.Moves.{Move, Silent, Closed, Logged, is_silent, Moves, Leads}
 use Rattle.rt_moves.specs.Removals.{children_at, Apart, Wooded}
+use Rattle.rt_model.specs.Asides.{Aside, aside_state}
+use Rattle.rt_moves.specs.Asides.{IsAside}
 use Rattle.rt_moves.specs.Reached.{Reached, ReachedAreWooded}
+use Rattle.rt_model.proofs.SideFrames.{Stay}
+use Rattle.rt_moves.proofs.Asides.{aside_stay, aside_later, Beside, beside}
+use Rattle.rt_moves.proofs.Ways.{reached_keep}
 use Rattle.rt_moves.proofs.Leaves.{all_joined}
 use Rattle.rt_moves.proofs.Acceptance.{same_as_itself}
 
@@ -287,13 +292,32 @@ module _ {K : Types} (app : Application K) (lawful : IsLawful K app) where
       subst (λ (x : Machine K). Sound app lawful x) (sym h.gives)
       (sound_of v ((change_follows app lawful m m.work e).rooted s.rooted) (change_good app lawful m m.work e fits.1 fits.2 s.rooted (s.stands fits.0) refl))
 
-  moves_sound : (limits : Limits) (m v : Machine K) (moves : List Move) → Leads app limits m moves v → Sound app lawful m → Sound app lawful v
+  pub moves_sound : (limits : Limits) (m v : Machine K) (moves : List Move) → Leads app limits m moves v → Sound app lawful m → Sound app lawful v
   moves_sound limits m v [] leads s = subst (λ (x : Machine K). Sound app lawful x) (sym leads) s
   moves_sound limits m v (move ∷ moves) leads s = moves_sound limits leads.0 v moves leads.2 (move_sound limits m leads.0 move leads.1 s)
 
-  -- what stands at the start stands wherever moves lead
+  -- what stands before a call that logs no entry stands after it
+  pub aside_sound : (m u : Machine K) (a : Aside K) → IsAside app m a u → Sound app lawful m → Sound app lawful u
+  aside_sound m u a h s =
+      let w : State K = m.state in
+      let v : State K = aside_state app w a in
+      let b : Beside app lawful m u v = beside app lawful m u a h in
+      let stay : Stay w v = aside_stay app lawful w a h.allowed in
+      let same : u.work ≡ m.work = b.work in
+      record {
+        rooted = subst (λ (x : State K). IsRooted x) (sym b.state) ((follows_later w v (aside_later app lawful w a h.allowed)).rooted s.rooted);
+        stands =
+            λ alive.
+            subst (λ (xs : List (Item K)). Stands u.state xs) (sym same)
+            (subst (λ (x : State K). Stands x m.work) (sym b.state) (stay_stands w v m.work stay (s.stands (sym b.dead ∙ alive))));
+        awaits = λ alive. inl (b.built ∙ h.built);
+      }
+
+  -- what stands at the start stands wherever moves lead, and calls that log no entry
   pub reached_sound : (limits : Limits) (props : K.Props) (inputs : List (Input K)) (m : Machine K) → Reached app limits props inputs m → Sound app lawful m
-  reached_sound limits props inputs m reached = moves_sound limits (start app props inputs) m reached.moves reached.leads (start_sound app lawful props inputs)
+  reached_sound limits props inputs m reached =
+      reached_keep app limits props inputs (λ (x : Machine K). Sound app lawful x) (λ u v moves leads s. moves_sound limits u v moves leads s) (λ u v a h s. aside_sound u v a h s)
+      (start_sound app lawful props inputs) m reached
 
 pub reached_are_wooded : {K : Types} (app : Application K) → ReachedAreWooded app
 reached_are_wooded app lawful limits props inputs m reached alive =

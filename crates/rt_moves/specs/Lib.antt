@@ -1,6 +1,7 @@
 pub mod Moves
 pub mod Words
 pub mod Removals
+pub mod Asides
 pub mod Reached
 pub mod Calls
 pub mod Laws
@@ -15,3 +16,5 @@ pub mod Meets
 pub mod Sweeps
 pub mod Reruns
 pub mod Current
+pub mod Frame
+pub mod Ready

@@ -1,5 +1,5 @@
--- What holds at each machine that moves reach from a replay's start.
-use Rattle.std.specs.Prelude.{List, None, ◌≡◌}
+-- What holds at each machine that moves reach from a replay's start, and calls that log no entry between them.
+use Rattle.std.specs.Prelude.{List, [], ◌∷◌, None, ◌≡◌}
 use Rattle.rt_model.specs.Tree.{Types}
 use Rattle.rt_model.specs.World.{Application}
 use Rattle.rt_model.specs.Laws.{IsLawful}
@@ -7,12 +7,32 @@ use Rattle.rt_model.specs.Replay.{Input, Machine, start}
 use Rattle.rt_model.specs.Causes.{Limits}
 use Rattle.rt_moves.specs.Moves.{Move, Leads}
 use Rattle.rt_moves.specs.Removals.{Wooded}
+use Rattle.rt_model.specs.Asides.{Aside, PassesNone}
+use Rattle.rt_moves.specs.Asides.{IsAside}
+
+-- a part of a program's way with a runtime
+pub data Part (K : Types) : Type 0 where
+  ByMoves : (moves : List Move) → Part K
+  ByAside : (aside : Aside K) → Part K
+
+module _ {K : Types} where
+  -- no scope was passed over
+  abbrev pub NonePassed : List (Part K) → Type 0
+  NonePassed [] = Unit {0}
+  NonePassed (ByMoves moves ∷ parts) = NonePassed parts
+  NonePassed (ByAside a ∷ parts) = PassesNone a × NonePassed parts
 
 module _ {K : Types} (app : Application K) where
-  -- moves lead to a machine from the start of a replay
+  -- the parts lead from a machine to another, one after another
+  abbrev pub Comes : Limits → Machine K → List (Part K) → Machine K → Type 0
+  Comes limits m [] v = v ≡ m
+  Comes limits m (ByMoves moves ∷ parts) v = (u : Machine K) × Leads app limits m moves u × Comes limits u parts v
+  Comes limits m (ByAside a ∷ parts) v = (u : Machine K) × IsAside app m a u × Comes limits u parts v
+
+  -- they lead to a machine from the start of a replay
   pub record Reached (limits : Limits) (props : K.Props) (inputs : List (Input K)) (m : Machine K) : Type 0 where
-    pub moves : List Move
-    pub leads : Leads app limits (start app props inputs) moves m
+    pub parts : List (Part K)
+    pub comes : Comes limits (start app props inputs) parts m
 
   -- of a lawful application the children of each scope stand one level below it, each once, until a fault ends the run
   abbrev pub ReachedAreWooded : Type 0

@@ -13,15 +13,15 @@ use Rattle.rt_model.specs.View.{child_view, tree_view, nodes_of, view}
 use Rattle.rt_model.proofs.Maps.{by_test}
 use Rattle.rt_model.proofs.Among.{Among}
 use Rattle.rt_model.proofs.NumbersStand.{child_among}
-use Rattle.rt_ready.proofs.Twigs.{up, side_found, found_live, live_found, up_found, below_found, height_found}
-use Rattle.rt_ready.proofs.Woven.{Climb, InSlot}
+use Rattle.rt_moves.proofs.Twigs.{up, side_found, found_live, live_found, up_found, below_found, height_found}
+use Rattle.rt_moves.proofs.Woven.{Climb, InSlot}
 use Rattle.rt_moves.specs.Frames.{stand}
 use Rattle.rt_moves.specs.Settings.{Alone, placed}
-use Rattle.rt_written.proofs.Heights.{height_low}
-use Rattle.rt_standing.proofs.Did.{same_scope}
-use Rattle.rt_standing.proofs.Trees.{Stood, stood}
+use Rattle.rt_rerun.proofs.Heights.{height_low}
+use Rattle.rt_rerun.proofs.Did.{same_scope}
+use Rattle.rt_rerun.proofs.Trees.{Stood, stood}
 use Rattle.rt_moves.specs.Trees.{HasChild}
-use Rattle.rt_standing.proofs.Nodes.{Shown, Settled, shown_of, view_of, kid_of}
+use Rattle.rt_rerun.proofs.Nodes.{Shown, Settled, shown_of, view_of, kid_of}
 use Rattle.rt_rerun.proofs.Climbs.{up_by, climb_on, parent_lives, climb_height, off_itself}
 use Rattle.rt_rerun.proofs.Since.{Out, Since}
 use Rattle.rt_rerun.proofs.Settings.{set_in, placed_in, InSetting, tree_same, tree_setting}

@@ -6,12 +6,12 @@ use Rattle.rt_model.specs.Tree.{Types, Place, VComponent}
 use Rattle.rt_model.specs.State.{SideName, MainSide, ChildrenSide, FallbackSide, Side, Scope, State, Item, Feed, is_live, height_of}
 use Rattle.rt_model.specs.Run.{child_at}
 use Rattle.rt_model.proofs.Among.{Among}
-use Rattle.rt_ready.proofs.Twigs.{twig, twig_up, twig_below, twig_side, up, below, kids, bare, up_height}
-use Rattle.rt_ready.proofs.Woven.{Fits, Stack, Climb}
-use Rattle.rt_ready.proofs.Lists.{some_number}
-use Rattle.rt_ready.proofs.Weaves.{knows_of}
+use Rattle.rt_moves.proofs.Twigs.{twig, twig_up, twig_below, twig_side, up, below, kids, bare, up_height}
+use Rattle.rt_moves.proofs.Woven.{Fits, Stack, Climb}
+use Rattle.rt_moves.proofs.Lists.{some_number}
+use Rattle.rt_moves.proofs.Weaves.{knows_of}
 use Rattle.rt_moves.specs.Frames.{Stand, Shown, stand, shown}
-use Rattle.rt_standing.proofs.Steps.{Ready}
+use Rattle.rt_rerun.proofs.Steps.{Ready}
 
 abbrev stand_up : Option Stand → Option ℕ
 stand_up None = None

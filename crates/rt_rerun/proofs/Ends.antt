@@ -11,14 +11,14 @@ use Rattle.rt_model.specs.Run.{child_at, spots_of}
 use Rattle.rt_model.proofs.Among.{Among}
 use Rattle.rt_model.proofs.Conjunctions.{and-left, and-right}
 use Rattle.rt_model.proofs.WellNumbered.{FitsBelow}
-use Rattle.rt_ready.proofs.Twigs.{height_found, live_found}
-use Rattle.rt_ready.proofs.Lists.{some_number}
+use Rattle.rt_moves.proofs.Twigs.{height_found, live_found}
+use Rattle.rt_moves.proofs.Lists.{some_number}
 use Rattle.rt_moves.specs.Meets.{ChildMeets}
 use Rattle.rt_moves.specs.Sweeps.{between, SideMeets, under, MeetsDown}
-use Rattle.rt_written.proofs.Heights.{height_low}
-use Rattle.rt_entries.specs.Fitting.{FittingBring}
+use Rattle.rt_rerun.proofs.Heights.{height_low}
+use Rattle.rt_rerun.specs.Fitting.{FittingBring}
 use Rattle.rt_moves.specs.Trees.{HasChild}
-use Rattle.rt_standing.proofs.Nodes.{Shown, Settled, shown_of, kid_of, has_node, rows_of_side}
+use Rattle.rt_rerun.proofs.Nodes.{Shown, Settled, shown_of, kid_of, has_node, rows_of_side}
 use Rattle.rt_rerun.proofs.Meets.{tree_meets}
 use Rattle.rt_rerun.proofs.Sides.{Link}
 use Rattle.rt_rerun.proofs.Since.{Since}

@@ -11,15 +11,15 @@ use Rattle.rt_model.specs.View.{child_view, tree_view, nodes_of}
 use Rattle.rt_model.proofs.Among.{Among, among_contained}
 use Rattle.rt_model.proofs.SamePlaces.{number_stands}
 use Rattle.rt_model.proofs.ViewCounts.{one_if, passes}
-use Rattle.rt_ready.proofs.Twigs.{up, below, live_found}
-use Rattle.rt_ready.proofs.Woven.{Climb}
-use Rattle.rt_written.proofs.Heights.{height_low}
-use Rattle.rt_standing.proofs.Did.{same_scope}
+use Rattle.rt_moves.proofs.Twigs.{up, below, live_found}
+use Rattle.rt_moves.proofs.Woven.{Climb}
+use Rattle.rt_rerun.proofs.Heights.{height_low}
+use Rattle.rt_rerun.proofs.Did.{same_scope}
 use Rattle.rt_moves.specs.Trees.{HasChild}
-use Rattle.rt_standing.proofs.Nodes.{Shown, Settled, shown_of, view_of, kid_of}
+use Rattle.rt_rerun.proofs.Nodes.{Shown, Settled, shown_of, view_of, kid_of}
 use Rattle.rt_rerun.proofs.Climbs.{climb_on, climb_height, rises, no_cycle, parent_lives}
 use Rattle.rt_rerun.proofs.Above.{climb_one}
-use Rattle.rt_rerun.proofs.Claims.{Tag, Here, here_more, Known, tree_counted}
+use Rattle.rt_rerun.proofs.ClaimedOnce.{Tag, Here, here_more, Known, tree_counted}
 
 module _ {K : Types} (base : State K) (settled : Settled base) (i : ℕ) where
   -- the number stands at a place of a side of a scope

@@ -16,20 +16,20 @@ use Rattle.rt_model.proofs.NumbersStand.{child_among}
 use Rattle.rt_model.proofs.TakesOne.{removal_takes_one}
 use Rattle.rt_model.proofs.StepFrames.{Follows, removed_follows}
 use Rattle.rt_model.proofs.RunFrames.{state_of}
-use Rattle.rt_ready.proofs.Twigs.{twig, twig_side, up, below, kids, found_live}
-use Rattle.rt_ready.proofs.Woven.{owner, Climb}
-use Rattle.rt_ready.proofs.Lists.{every_among}
-use Rattle.rt_ready.proofs.Weaves.{knows_of}
-use Rattle.rt_ready.proofs.Taken.{LeafOf, leaf_found}
-use Rattle.rt_ready.proofs.Everywhere.{fed_kid}
+use Rattle.rt_moves.proofs.Twigs.{twig, twig_side, up, below, kids, found_live}
+use Rattle.rt_moves.proofs.Woven.{owner, Climb}
+use Rattle.rt_moves.proofs.Lists.{every_among}
+use Rattle.rt_moves.proofs.Weaves.{knows_of}
+use Rattle.rt_moves.proofs.Taken.{LeafOf, leaf_found}
+use Rattle.rt_moves.proofs.Everywhere.{fed_kid}
 use Rattle.rt_moves.specs.Frames.{stand, shown, Keeps}
-use Rattle.rt_frame.proofs.Served.{removal_leaves}
-use Rattle.rt_standing.proofs.Steps.{Ready}
-use Rattle.rt_standing.proofs.Did.{same_scope, alike}
-use Rattle.rt_standing.proofs.Lines.{Ahead, Line, owner_lives}
-use Rattle.rt_standing.proofs.Trees.{keeps_of, apart_has}
-use Rattle.rt_standing.proofs.Clothed.{feed_none}
-use Rattle.rt_standing.proofs.Nodes.{Settled}
+use Rattle.rt_moves.proofs.Untouched.{removal_leaves}
+use Rattle.rt_rerun.proofs.Steps.{Ready}
+use Rattle.rt_rerun.proofs.Did.{same_scope, alike}
+use Rattle.rt_rerun.proofs.Lines.{Ahead, Line, owner_lives}
+use Rattle.rt_rerun.proofs.Trees.{keeps_of, apart_has}
+use Rattle.rt_rerun.proofs.Clothed.{feed_none}
+use Rattle.rt_rerun.proofs.Nodes.{Settled}
 use Rattle.rt_rerun.proofs.Sides.{Link}
 use Rattle.rt_rerun.proofs.Climbs.{up_by, below_by, live_by, kids_by, climb_by, climb_on, lives_below, parent_lives, climb_height, off_itself}
 use Rattle.rt_rerun.proofs.Since.{Awaits, Out, out_not, Untouched, Since, since_rest, Like, awaits_like, untouched_like, like_since}

@@ -12,19 +12,19 @@ use Rattle.rt_model.specs.Replay.{with_child, with_new_scope, made_in, outcome_o
 use Rattle.rt_model.proofs.Maps.{by_test, none_some, eq_same, at_put_other, at_append_none}
 use Rattle.rt_model.proofs.Among.{Among, among_push}
 use Rattle.rt_moves.specs.Calls.{IsReady}
-use Rattle.rt_ready.proofs.Twigs.{up, below, kids, found_live, up_found, below_found}
-use Rattle.rt_ready.proofs.Woven.{owner, Climb}
-use Rattle.rt_ready.proofs.Lists.{some_number}
-use Rattle.rt_ready.proofs.Made.{kid_stays, at_parent, at_child, is_new, part, kids_here, side_else}
-use Rattle.rt_ready.proofs.Patched.{by_side}
+use Rattle.rt_moves.proofs.Twigs.{up, below, kids, found_live, up_found, below_found}
+use Rattle.rt_moves.proofs.Woven.{owner, Climb}
+use Rattle.rt_moves.proofs.Lists.{some_number}
+use Rattle.rt_moves.proofs.Made.{kid_stays, at_parent, at_child, is_new, part, kids_here, side_else}
+use Rattle.rt_moves.proofs.Patched.{by_side}
 use Rattle.rt_moves.specs.Frames.{stand}
-use Rattle.rt_standing.proofs.Steps.{Ready, Lasts}
-use Rattle.rt_standing.proofs.Did.{same_scope, that_side, other_side}
-use Rattle.rt_standing.proofs.Lines.{Line, owner_lives}
-use Rattle.rt_standing.proofs.Dressed.{NoneOf}
-use Rattle.rt_standing.proofs.Clothed.{Clothed, clothed_lasts, made_is}
+use Rattle.rt_rerun.proofs.Steps.{Ready, Lasts}
+use Rattle.rt_rerun.proofs.Did.{same_scope, that_side, other_side}
+use Rattle.rt_rerun.proofs.Lines.{Line, owner_lives}
+use Rattle.rt_rerun.proofs.Dressed.{NoneOf}
+use Rattle.rt_rerun.proofs.Clothed.{Clothed, clothed_lasts, made_is}
 use Rattle.rt_moves.specs.Trees.{HasChild}
-use Rattle.rt_standing.proofs.Nodes.{Settled, kid_of}
+use Rattle.rt_rerun.proofs.Nodes.{Settled, kid_of}
 use Rattle.rt_rerun.proofs.Sides.{Link, link_child}
 use Rattle.rt_rerun.proofs.Climbs.{up_by, below_by, live_by, parent_lives, feed_fits, off_itself}
 use Rattle.rt_rerun.proofs.Since.{turns, Awaits, Out, out_not, Untouched, Since, since_rest}

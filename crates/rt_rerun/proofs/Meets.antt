@@ -13,8 +13,8 @@ use Rattle.rt_model.proofs.Among.{Among, among_left, among_right}
 use Rattle.rt_model.proofs.SamePlaces.{template-true}
 use Rattle.rt_model.proofs.Conjunctions.{and-left, and-right}
 use Rattle.rt_moves.specs.Meets.{AttributesBring, NodesMeet, ChildMeets, TreeMeets, SlotsMeet, SlotMeets, ItemsMeet}
-use Rattle.rt_entries.specs.Fitting.{FittingBring}
-use Rattle.rt_standing.proofs.Nodes.{parts_of, Rows, tree_node, slot_node_is}
+use Rattle.rt_rerun.specs.Fitting.{FittingBring}
+use Rattle.rt_rerun.proofs.Nodes.{parts_of, Rows, tree_node, slot_node_is}
 
 and_three : (a b c : Bool) → a && b && c ≡ true → (a ≡ true) × (b ≡ true) × (c ≡ true)
 and_three true true true h = (refl, refl, refl)

@@ -11,10 +11,10 @@ use Rattle.rt_model.specs.Run.{spots_of, serves, drops_of, row_of, row_items}
 use Rattle.rt_model.specs.Boundary.{drop_items}
 use Rattle.rt_model.proofs.Among.{Among}
 use Rattle.rt_model.proofs.Agendas.{kept_among, kept_children_among}
-use Rattle.rt_ready.proofs.Lists.{every_among, every_join, serves_every, drops_every}
+use Rattle.rt_moves.proofs.Lists.{every_among, every_join, serves_every, drops_every}
 use Rattle.rt_moves.specs.Frames.{shown}
-use Rattle.rt_standing.proofs.Did.{Matches, after_of, that_side, other_side, agenda, renewed, Patch, RunDid, StepDid}
-use Rattle.rt_standing.proofs.Lines.{clash, NoStep}
+use Rattle.rt_rerun.proofs.Did.{Matches, after_of, that_side, other_side, agenda, renewed, Patch, RunDid, StepDid}
+use Rattle.rt_rerun.proofs.Lines.{clash, NoStep}
 use Rattle.rt_rerun.proofs.Sides.{Link, link_patch}
 use Rattle.rt_rerun.proofs.Since.{turns, item_side}
 

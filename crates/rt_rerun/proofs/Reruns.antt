@@ -12,24 +12,25 @@ use Rattle.rt_model.specs.Run.{run}
 use Rattle.rt_model.specs.Replay.{Entry, Build, Made, Fed, Kept, Rerun, Input, Machine, ended_by, mounted_state, one_more_unit, rested, keeps, fed_child, due_feed, due_item, due, change_by, names_live, if_live, start}
 use Rattle.rt_model.specs.Causes.{Limits}
 use Rattle.rt_model.proofs.Among.{among_contained}
-use Rattle.rt_ready.proofs.Twigs.{twig, twig_up, up, found_live}
+use Rattle.rt_moves.proofs.Twigs.{twig, twig_up, up, found_live}
 use Rattle.rt_moves.specs.Moves.{Move, Closed, Logged, Inside, IsLogged, IsClosed, AtWork, Leads}
 use Rattle.rt_moves.specs.Reached.{Reached}
+use Rattle.rt_moves.proofs.Ways.{reached_moved}
 use Rattle.rt_moves.proofs.Insides.{alive_before, live_due}
 use Rattle.rt_moves.proofs.Joins.{Leads-append}
-use Rattle.rt_ready.proofs.Everywhere.{ReadyAt, move_ready, reached_ready}
-use Rattle.rt_frame.proofs.Called.{rest_level, mounted_level}
-use Rattle.rt_entries.specs.Fitting.{FittingBring}
-use Rattle.rt_entries.proofs.Elements.{fitting_bring}
+use Rattle.rt_moves.proofs.Everywhere.{ReadyAt, move_ready, reached_ready}
+use Rattle.rt_moves.proofs.Called.{rest_level, mounted_level}
+use Rattle.rt_rerun.specs.Fitting.{FittingBring}
+use Rattle.rt_rerun.proofs.Elements.{fitting_bring}
 use Rattle.rt_moves.specs.Trees.{Outside}
 use Rattle.rt_moves.specs.Reruns.{Reruns}
 use Rattle.rt_rerun.specs.Rerun.{RerunsBring, RerunsClaimOnce, RerunsKeepNumbers, RerunsLeaveOthers, RerunsKeepSetting, RerunsHidden, RerunsMeet}
-use Rattle.rt_standing.proofs.Steps.{Ready, ready_of, rested_ready, served_keep}
-use Rattle.rt_standing.proofs.Clothed.{Clothed, clothed_lasts}
-use Rattle.rt_standing.proofs.Nodes.{Settled}
+use Rattle.rt_rerun.proofs.Steps.{Ready, ready_of, rested_ready, served_keep}
+use Rattle.rt_rerun.proofs.Clothed.{Clothed, clothed_lasts}
+use Rattle.rt_rerun.proofs.Nodes.{Settled}
 use Rattle.rt_rerun.proofs.Since.{Out, Since, like_since}
 use Rattle.rt_rerun.proofs.Making.{InUnit, unit_lasts}
-use Rattle.rt_standing.proofs.Settled.{contained, settled_of}
+use Rattle.rt_rerun.proofs.Settled.{contained, settled_of}
 use Rattle.rt_rerun.proofs.Units.{level_like, begun_since, unit_brings}
 use Rattle.rt_rerun.proofs.Settings.{InSetting}
 use Rattle.rt_rerun.proofs.Ends.{meets_down}
@@ -169,12 +170,8 @@ module _ {K : Types} (app : Application K) where
         -- the machine at the end is reached, and at rest
         reached_v : Reached app limits props inputs v
         reached_v =
-            record {
-              moves = reached.moves ++ (Logged (Rerun s) ∷ (moves ++ Closed ∷ []));
-              leads =
-                  Leads-append app limits reached.moves (Logged (Rerun s) ∷ (moves ++ Closed ∷ [])) (start app props inputs) m v reached.leads
-                  (begun, logged, Leads-append app limits moves (Closed ∷ []) begun served v leads (v, closed, refl));
-            }
+            reached_moved app limits props inputs m v (Logged (Rerun s) ∷ (moves ++ Closed ∷ [])) reached
+            (begun, logged, Leads-append app limits moves (Closed ∷ []) begun served v leads (v, closed, refl))
 
         after : Settled v.state
         after =

@@ -13,18 +13,18 @@ use Rattle.rt_model.specs.Replay.{numbered, draw_number}
 use Rattle.rt_model.proofs.Among.{Among, among_push}
 use Rattle.rt_model.proofs.RunFrames.{Later, LaterO, run_later, step_later}
 use Rattle.rt_model.proofs.MachineFrames.{numbered_later}
-use Rattle.rt_ready.proofs.Twigs.{up, kids, side_found, found_live}
-use Rattle.rt_ready.proofs.Woven.{owner, Climb}
-use Rattle.rt_ready.proofs.Lists.{every_among}
+use Rattle.rt_moves.proofs.Twigs.{up, kids, side_found, found_live}
+use Rattle.rt_moves.proofs.Woven.{owner, Climb}
+use Rattle.rt_moves.proofs.Lists.{every_among}
 use Rattle.rt_moves.specs.Frames.{Keeps}
-use Rattle.rt_frame.proofs.Served.{run_leaves, item_leaves}
-use Rattle.rt_standing.proofs.Steps.{Ready}
-use Rattle.rt_standing.proofs.Did.{change_there, same_scope, that_side, other_side, RunDid, run_did, StepDid, step_did}
-use Rattle.rt_standing.proofs.Lines.{clash, among_either, Ahead, Line, behind_step}
-use Rattle.rt_standing.proofs.Trees.{keeps_of}
-use Rattle.rt_standing.proofs.Dressed.{NoneOf}
-use Rattle.rt_standing.proofs.Clothed.{run_all, step_all, drawn_is}
-use Rattle.rt_standing.proofs.Nodes.{Settled}
+use Rattle.rt_moves.proofs.Untouched.{run_leaves, item_leaves}
+use Rattle.rt_rerun.proofs.Steps.{Ready}
+use Rattle.rt_rerun.proofs.Did.{change_there, same_scope, that_side, other_side, RunDid, run_did, StepDid, step_did}
+use Rattle.rt_rerun.proofs.Lines.{clash, among_either, Ahead, Line, behind_step}
+use Rattle.rt_rerun.proofs.Trees.{keeps_of}
+use Rattle.rt_rerun.proofs.Dressed.{NoneOf}
+use Rattle.rt_rerun.proofs.Clothed.{run_all, step_all, drawn_is}
+use Rattle.rt_rerun.proofs.Nodes.{Settled}
 use Rattle.rt_rerun.proofs.Sides.{Link, link_number}
 use Rattle.rt_rerun.proofs.Climbs.{live_by, off_itself}
 use Rattle.rt_rerun.proofs.Since.{turns, item_side, Awaits, Untouched, Since, since_rest, opened_since}

@@ -10,9 +10,9 @@ use Rattle.rt_model.specs.Document.{DocElement, DocText, Forest, Empty, Node, jo
 use Rattle.rt_model.specs.View.{element_attributes, element_listeners, child_view, nodes_view, tree_view, slots_view, slot_view, items_view}
 use Rattle.rt_model.proofs.Among.{Among, among_left, among_right}
 use Rattle.rt_model.proofs.Places.{place_of, Apart, Distinct, spots_distinct}
-use Rattle.rt_ready.proofs.Lists.{all_among}
+use Rattle.rt_moves.proofs.Lists.{all_among}
 use Rattle.rt_moves.specs.Settings.{Setting, Alone, After, Ahead, Within, placed}
-use Rattle.rt_standing.proofs.Lines.{among_either, every_of}
+use Rattle.rt_rerun.proofs.Lines.{among_either, every_of}
 
 -- a setting within another one
 abbrev pub set_in : Setting → Setting → Setting

@@ -14,9 +14,9 @@ use Rattle.rt_model.proofs.SamePlaces.{same_place-true, same_kind-true}
 use Rattle.rt_model.proofs.Conjunctions.{and-left, and-right}
 use Rattle.rt_model.proofs.Places.{Distinct, spots_distinct}
 use Rattle.rt_model.proofs.Agendas.{found_node}
-use Rattle.rt_ready.proofs.Lists.{component_is, kept_at, kept_fed}
-use Rattle.rt_ready.proofs.Made.{kid_stays}
-use Rattle.rt_standing.proofs.Did.{renewed}
+use Rattle.rt_moves.proofs.Lists.{component_is, kept_at, kept_fed}
+use Rattle.rt_moves.proofs.Made.{kid_stays}
+use Rattle.rt_rerun.proofs.Did.{renewed}
 
 module _ {K : Types} where
   -- a place that the new tree has keeps its number

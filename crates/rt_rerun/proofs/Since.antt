@@ -10,14 +10,14 @@ use Rattle.rt_model.specs.State.{SideName, ChildrenSide, FallbackSide, RowStep, 
 use Rattle.rt_model.specs.Run.{child_at}
 use Rattle.rt_model.proofs.Maps.{by_test, eq_same}
 use Rattle.rt_model.proofs.Among.{Among}
-use Rattle.rt_ready.proofs.Twigs.{up, below, kids, found_live}
-use Rattle.rt_ready.proofs.Woven.{owner, Climb}
-use Rattle.rt_ready.proofs.Lists.{every_among}
+use Rattle.rt_moves.proofs.Twigs.{up, below, kids, found_live}
+use Rattle.rt_moves.proofs.Woven.{owner, Climb}
+use Rattle.rt_moves.proofs.Lists.{every_among}
 use Rattle.rt_moves.specs.Frames.{stand, shown, Keeps}
-use Rattle.rt_standing.proofs.Steps.{Ready}
-use Rattle.rt_standing.proofs.Did.{alike}
-use Rattle.rt_standing.proofs.Lines.{among_either, AllOf}
-use Rattle.rt_standing.proofs.Trees.{apart_has}
+use Rattle.rt_rerun.proofs.Steps.{Ready}
+use Rattle.rt_rerun.proofs.Did.{alike}
+use Rattle.rt_rerun.proofs.Lines.{among_either, AllOf}
+use Rattle.rt_rerun.proofs.Trees.{apart_has}
 use Rattle.rt_rerun.proofs.Sides.{Link}
 use Rattle.rt_rerun.proofs.Climbs.{up_by, below_by, live_by, kids_by, climb_by, no_cycle, fed_stands, off_itself}
 

@@ -13,18 +13,18 @@ use Rattle.rt_model.specs.View.{child_view, nodes_of}
 use Rattle.rt_model.proofs.Maps.{by_test}
 use Rattle.rt_model.proofs.Among.{Among}
 use Rattle.rt_model.proofs.NumbersStand.{child_among}
-use Rattle.rt_ready.proofs.Twigs.{live_found, up_found, below_found}
-use Rattle.rt_ready.proofs.Lists.{some_number}
+use Rattle.rt_moves.proofs.Twigs.{live_found, up_found, below_found}
+use Rattle.rt_moves.proofs.Lists.{some_number}
 use Rattle.rt_moves.specs.Frames.{stand}
 use Rattle.rt_moves.specs.Meets.{child_claims, tree_claims}
 use Rattle.rt_moves.specs.Sweeps.{between, under, scope_claims}
 use Rattle.rt_moves.specs.Trees.{HasChild}
-use Rattle.rt_standing.proofs.Nodes.{Shown, Settled, shown_of, kid_of}
+use Rattle.rt_rerun.proofs.Nodes.{Shown, Settled, shown_of, kid_of}
 use Rattle.rt_rerun.proofs.Sides.{Link}
 use Rattle.rt_rerun.proofs.Climbs.{up_by, below_by, off_itself}
 use Rattle.rt_rerun.proofs.Since.{Since}
 use Rattle.rt_rerun.proofs.Ends.{side_is, side_itself}
-use Rattle.rt_rerun.proofs.Claims.{Here, here_none, here_more, here_sum, tree_here}
+use Rattle.rt_rerun.proofs.ClaimedOnce.{Here, here_none, here_more, here_sum, tree_here}
 use Rattle.rt_rerun.proofs.Homes.{Entry, Under, KidAt, HomeAt, kid_once, home_once, home_side, home_under, under_lives, spot_known, scope_under, scope_home}
 
 module _ {K : Types} (app : Application K) (lawful : IsLawful K app) (first v : State K) (root : ℕ) (f : Settled first) (g : Settled v) (h : Since app lawful first root v []) (i : ℕ) where

@@ -13,19 +13,19 @@ use Rattle.rt_model.specs.Document.{Forest, Edit, document_after}
 use Rattle.rt_model.specs.View.{nodes_of, view}
 use Rattle.rt_model.specs.Caused.{written_within, written}
 use Rattle.rt_model.proofs.SideRuns.{rest_stay}
-use Rattle.rt_ready.proofs.Twigs.{found_live}
+use Rattle.rt_moves.proofs.Twigs.{found_live}
 use Rattle.rt_moves.specs.Frames.{shown}
-use Rattle.rt_frame.proofs.Commanded.{Level}
-use Rattle.rt_frame.proofs.Called.{rest_level}
-use Rattle.rt_frame.proofs.Served.{stand_by}
+use Rattle.rt_moves.proofs.Commanded.{Level}
+use Rattle.rt_moves.proofs.Called.{rest_level}
+use Rattle.rt_moves.proofs.Untouched.{stand_by}
 use Rattle.rt_moves.specs.Sweeps.{scope_claims}
-use Rattle.rt_written.proofs.Unfolding.{tree_unfolds}
-use Rattle.rt_written.proofs.Descent.{written_brings}
-use Rattle.rt_entries.specs.Fitting.{FittingBring}
-use Rattle.rt_standing.proofs.Steps.{Ready}
-use Rattle.rt_standing.proofs.Did.{Alike, alike, same_scope}
-use Rattle.rt_standing.proofs.Nodes.{Settled}
-use Rattle.rt_standing.proofs.Settled.{settled_once}
+use Rattle.rt_rerun.proofs.Unfolding.{tree_unfolds}
+use Rattle.rt_rerun.proofs.Descent.{written_brings}
+use Rattle.rt_rerun.specs.Fitting.{FittingBring}
+use Rattle.rt_rerun.proofs.Steps.{Ready}
+use Rattle.rt_rerun.proofs.Did.{Alike, alike, same_scope}
+use Rattle.rt_rerun.proofs.Nodes.{Settled}
+use Rattle.rt_rerun.proofs.Settled.{settled_once}
 use Rattle.rt_rerun.proofs.Sides.{link_same}
 use Rattle.rt_rerun.proofs.Climbs.{kids_by}
 use Rattle.rt_rerun.proofs.Since.{Awaits, Since, Like, like_since}

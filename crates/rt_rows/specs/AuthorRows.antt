@@ -1,8 +1,9 @@
 -- Worked rows of what authors are told: a body that marks itself, a callback whose turn doesn't come, effects of hidden scopes, a row that is too long.
 use Rattle.std.specs.Prelude.{ℕ, zero, suc, [], ◌∷◌, ◌++◌, codes, None}
+use Rattle.rt_model.specs.Causes.{usual}
 use Rattle.rt_model.specs.Replay.{Taken, Heard, Rerun, Poll, Effects, Kept}
 use Rattle.rt_language.specs.Syntax.{Cat, EffectOf, Get, Hole, Let, LookUp, NoViews, OnResolved, ProvideAs, Read, SuspendOn, SuspenseBoundaryOf, TextOf, UseCell, View, SlotView, When, WriteTo, Source}
-use Rattle.rt_language.specs.Printed.{usual, Prints, FaultPrints}
+use Rattle.rt_language.specs.Printed.{Prints, FaultPrints}
 use Rattle.rt_language.specs.FaultRows.{five_units}
 use Rattle.rt_language.specs.Shorthand.{number, words, these, steps, slot, text_slot, element_with, text, component, of_components, with_actions, with_tasks, use_before, use_alone, spawns, on, event, write_number, built, builds, lines}
 

@@ -6,12 +6,12 @@ use Rattle.rt_model.specs.State.{State}
 use Rattle.rt_model.specs.Replay.{Entry, Machine, replay_on}
 use Rattle.rt_model.specs.Rendering.{at_state}
 use Rattle.rt_model.specs.Told.{Told, tell_reports, tell_log, telling}
-use Rattle.rt_model.specs.Causes.{replay_within}
+use Rattle.rt_model.specs.Causes.{replay_within, usual}
 use Rattle.rt_model.specs.Headline.{last_machine}
 use Rattle.rt_language.specs.Syntax.{Source}
 use Rattle.rt_language.specs.Expressions.{SourceTypes}
 use Rattle.rt_language.specs.Meaning.{meaning_of}
-use Rattle.rt_language.specs.Printed.{start_of, text_on, usual}
+use Rattle.rt_language.specs.Printed.{start_of, text_on}
 use Rattle.rt_language.specs.Shorthand.{built}
 
 -- a replay with its state changed

@@ -7,3 +7,7 @@ pub mod ListRows
 pub mod DocumentRows
 pub mod NamespaceRows
 pub mod AuthorRows
+pub mod FitRows
+pub mod PinRows
+pub mod ByCalls
+pub mod CallRows

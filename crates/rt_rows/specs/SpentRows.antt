@@ -4,12 +4,11 @@ use Rattle.rt_model.specs.Replay.{Taken, Rerun, Poll, Made, Machine, start, repl
 use Rattle.rt_model.specs.World.{Contexts, last_number}
 use Rattle.rt_model.specs.State.{Fault, IdsExhausted, change}
 use Rattle.rt_model.specs.Program.{application_of}
-use Rattle.rt_model.specs.Causes.{refusal}
+use Rattle.rt_model.specs.Causes.{refusal, usual}
 use Rattle.rt_model.specs.Rendering.{at_state}
 use Rattle.rt_model.specs.Small.{R}
 use Rattle.rt_model.specs.RenderRows.{memo}
 use Rattle.rt_language.specs.Syntax.{ErrorBoundaryOf, FailWith, Get, ListOf, MarkInput, NoViews, Read, SlotView, TextOf, UseCell, Source}
-use Rattle.rt_language.specs.Printed.{usual}
 use Rattle.rt_rows.specs.Begun.{begun, built_then, text_from}
 use Rattle.rt_language.specs.Shorthand.{number, words, text, slot, text_slot, use_before, component, of_components, with_tasks, use_alone, spawns, write_number, builds, built, lines}
 

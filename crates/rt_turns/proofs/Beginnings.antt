@@ -14,6 +14,7 @@ use Rattle.rt_model.specs.Document.{Edit}
 use Rattle.rt_model.specs.Caused.{caused_until}
 use Rattle.rt_model.specs.Causes.{Limits, refusal, replay_within, edits_at_refusal}
 use Rattle.rt_model.specs.Told.{Telling, opens, opened, closed_unit, telling, tell_log}
+use Rattle.rt_moves.proofs.Ways.{start_reached as way_start}
 use Rattle.rt_moves.specs.Moves.{Logged, moves_alone, IsSettled, AtWork, AtRest, IsLogged}
 use Rattle.rt_moves.specs.Reached.{Reached}
 use Rattle.rt_moves.specs.Units.{unit_told}
@@ -260,7 +261,7 @@ module _ {K : Types} (app : Application K) (limits : Limits) (props : K.Props) (
   start_rests = record { alive = refl; idle = refl; unit = refl }
 
   start_reached : Reached app limits props inputs first_machine
-  start_reached = record { moves = []; leads = refl }
+  start_reached = way_start app limits props inputs
 
   -- the build begins
   pub opens_build : (v : State K) (items : List (Item K))

@@ -19,8 +19,8 @@ use Rattle.rt_moves.specs.Units.{refused_item}
 use Rattle.rt_moves.proofs.Joins.{goes_one}
 use Rattle.rt_moves.proofs.Items.{is_end, due_at_work, item_did, too_deep, drop_logged}
 use Rattle.rt_moves.specs.Named.{Named}
-use Rattle.rt_ready.proofs.Everywhere.{reached_are_named}
-use Rattle.rt_ready.proofs.Served.{due_is_served}
+use Rattle.rt_moves.proofs.Everywhere.{reached_are_named}
+use Rattle.rt_moves.proofs.Served.{due_is_served}
 use Rattle.rt_turns.specs.Turn.{again, and_then, turn_of, entries_at}
 use Rattle.rt_turns.specs.Underway.{Works, Refused}
 use Rattle.rt_turns.proofs.Underway.{works_now, works_on, works_stop}

@@ -13,7 +13,10 @@ use Rattle.rt_model.specs.Replay.{Entry, Input, Machine, waiting, no_listener, i
 use Rattle.rt_model.specs.Document.{Edit}
 use Rattle.rt_model.specs.Causes.{Limits, replay_within, refusal}
 use Rattle.rt_model.specs.Told.{Told, Telling, is_settled, edits_of, telling, told_by, tell_log, tell_report, tell_on, one_more, tell_reports}
-use Rattle.rt_model.specs.Headline.{Report, logs_of, OneEach, OneEachThen, TookOf, Counts, AllCount, last_machine, Ran, RanTo}
+use Rattle.rt_model.specs.Reports.{Report, logs_of, OneEach, OneEachThen, Counts, AllCount}
+use Rattle.rt_model.specs.Headline.{TookOf, last_machine}
+use Rattle.rt_model.specs.Ran.{Ran, RanTo}
+use Rattle.rt_moves.proofs.Ways.{start_reached as way_start}
 use Rattle.rt_moves.specs.Moves.{AtRest}
 use Rattle.rt_moves.specs.Reports.{ToldSo}
 use Rattle.rt_moves.proofs.Joins.{logs_join}
@@ -111,7 +114,7 @@ module _ {K : Types} (app : Application K) (limits : Limits) (props : K.Props) (
         settled = tt;
         edits_are = refl;
         ends = refl;
-        reached = record { moves = []; leads = refl };
+        reached = way_start app limits props inputs;
       }
 
   -- what is told of a report that is done
@@ -159,12 +162,8 @@ module _ {K : Types} (app : Application K) (limits : Limits) (props : K.Props) (
   sofar_ran reports edits m s one_each =
       record {
         told = s.told;
-        accepted = s.accepted;
-        within = s.within ∙ ap Some (sym s.ends);
-        one_each = one_each;
-        counted = s.counted;
-        settled = s.settled;
-        edits = sym s.edits_are;
+        recorded = record { accepted = s.accepted; counted = s.counted; settled = s.settled };
+        done = record { one_each = one_each; within = s.within ∙ ap Some (sym s.ends); edits = sym s.edits_are };
       }
 
   -- a session that came to a fault
@@ -177,14 +176,15 @@ module _ {K : Types} (app : Application K) (limits : Limits) (props : K.Props) (
       let first : Machine K = start app props inputs in
       record {
         told = s.told;
-        accepted = s.accepted;
-        counted = s.counted;
-        settled = s.settled;
-        log = log;
-        one_each = one_each;
-        last = r.last;
-        goes_on = ap (λ (x : Machine K). tell_log app (Some (telling x)) log) s.ends ∙ r.so.told;
-        within = (logs_join app limits (joined (logs_of reports)) log).0 first from s.within ∙ r.so.accepted;
-        cause = r.cause;
-        edits = ap (λ (es : List Edit). es ++ more) (sym s.edits_are) ∙ ap (λ (es : List Edit). joined (edits_of s.told) ++ es) (sym r.edits_are);
+        recorded = record { accepted = s.accepted; counted = s.counted; settled = s.settled };
+        stopped =
+            record {
+              log = log;
+              one_each = one_each;
+              last = r.last;
+              goes_on = ap (λ (x : Machine K). tell_log app (Some (telling x)) log) s.ends ∙ r.so.told;
+              within = (logs_join app limits (joined (logs_of reports)) log).0 first from s.within ∙ r.so.accepted;
+              cause = r.cause;
+              edits = ap (λ (es : List Edit). es ++ more) (sym s.edits_are) ∙ ap (λ (es : List Edit). joined (edits_of s.told) ++ es) (sym r.edits_are);
+            };
       }

@@ -9,6 +9,7 @@ use Rattle.rt_model.specs.Document.{Edit}
 use Rattle.rt_model.specs.Caused.{caused, caused_until}
 use Rattle.rt_model.specs.Causes.{Limits, refusal, edits_at_refusal}
 use Rattle.rt_model.specs.Told.{Telling, opens}
+use Rattle.rt_moves.proofs.Ways.{reached_moved}
 use Rattle.rt_moves.specs.Moves.{Move, Silent, Closed, Logged, entries, Inside, busy, IsSettled, AtWork, AtRest, IsClosed, IsLogged, Moves, Leads}
 use Rattle.rt_moves.specs.Words.{Goes}
 use Rattle.rt_moves.specs.Reached.{Reached}
@@ -32,8 +33,7 @@ module _ {K : Types} (app : Application K) (limits : Limits) where
 module _ {K : Types} (app : Application K) (limits : Limits) (props : K.Props) (inputs : List (Input K)) where
   -- moves lead on
   pub reached_by : (m v : Machine K) (moves : List Move) → Reached app limits props inputs m → Leads app limits m moves v → Reached app limits props inputs v
-  reached_by m v moves r leads =
-      record { moves = r.moves ++ moves; leads = Leads-append app limits r.moves moves (start app props inputs) m v r.leads leads }
+  reached_by m v moves r leads = reached_moved app limits props inputs m v moves r leads
 
   -- by other names of the log and of what is told
   pub told_as : (from : Machine K) (log more : List Entry) (t u : Telling K) → ToldSo app limits from log t → log ≡ more → t ≡ u → ToldSo app limits from more u

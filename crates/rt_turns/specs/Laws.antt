@@ -8,7 +8,8 @@ use Rattle.rt_model.specs.Replay.{Entry, Input, Machine, waiting, start}
 use Rattle.rt_model.specs.Document.{Edit}
 use Rattle.rt_model.specs.Causes.{Limits}
 use Rattle.rt_model.specs.Told.{is_settled}
-use Rattle.rt_model.specs.Headline.{Report, logs_of, OneEach, OneEachThen, Counts, Ran, RanTo}
+use Rattle.rt_model.specs.Reports.{Report, logs_of, OneEach, OneEachThen, Counts}
+use Rattle.rt_model.specs.Ran.{Ran, RanTo}
 use Rattle.rt_moves.specs.Moves.{AtRest}
 use Rattle.rt_turns.specs.Sessions.{Sofar}
 use Rattle.rt_turns.specs.Underway.{Rests, Refused}

@@ -8,7 +8,8 @@ use Rattle.rt_model.specs.Replay.{Input, Machine, start}
 use Rattle.rt_model.specs.Document.{Edit}
 use Rattle.rt_model.specs.Causes.{Limits, replay_within}
 use Rattle.rt_model.specs.Told.{Told, is_settled, edits_of, tell_reports}
-use Rattle.rt_model.specs.Headline.{Report, logs_of, AllCount, last_machine}
+use Rattle.rt_model.specs.Reports.{Report, logs_of, AllCount}
+use Rattle.rt_model.specs.Headline.{last_machine}
 use Rattle.rt_moves.specs.Reached.{Reached}
 
 -- reports that are finished: what is told of them, their edits, and the machine after the last one

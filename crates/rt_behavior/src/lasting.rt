@@ -1,0 +1,36 @@
+//! What commands and runs leave of a scope.
+
+ghost use Rattle.rt_behavior.specs.Holding.{EndsRelease, HoldersStay, RunsKeepReads, SuspensionsHold};
+ghost use Rattle.rt_behavior.specs.Keeping.{FirstErrorStays, HooksStay};
+ghost use Rattle.rt_model.specs.OneLog.{types};
+ghost use Rattle.rt_model.specs.World.{Application};
+
+/// The error that a boundary keeps stays, whatever commands are done, unless one clears errors.
+pub fn first_error_stays<C, P, V, H, T, E, L>()
+    ensures { (app : Application (types C P V H T E L)) → FirstErrorStays app }
+{}
+
+/// A hook that a scope keeps at an index is never replaced, whatever commands are done.
+pub fn hooks_stay<C, P, V, H, T, E, L>()
+    ensures { (app : Application (types C P V H T E L)) → HooksStay app }
+{}
+
+/// After a run the sources of a scope are those that its body read in this run, and no others.
+pub fn runs_keep_reads<C, P, V, H, T, E, L>()
+    ensures { (app : Application (types C P V H T E L)) → RunsKeepReads app }
+{}
+
+/// A task on which a body suspends holds the boundary whose children the body is among.
+pub fn suspensions_hold<C, P, V, H, T, E, L>()
+    ensures { SuspensionsHold (types C P V H T E L) }
+{}
+
+/// A task goes on to hold a boundary, whatever commands are done, unless one ends the task.
+pub fn holders_stay<C, P, V, H, T, E, L>()
+    ensures { (app : Application (types C P V H T E L)) → HoldersStay app }
+{}
+
+/// The end of a task releases each boundary that it held, and marks it.
+pub fn ends_release<C, P, V, H, T, E, L>()
+    ensures { EndsRelease (types C P V H T E L) }
+{}

@@ -1,0 +1,2 @@
+pub mod Doms
+pub mod Loops

@@ -1,0 +1,5 @@
+use Rattle.rt_doms.proofs.Doms.{asides_lead}
+use Rattle.rt_doms.proofs.programs.asides_lead.Goals as goal
+
+pub returns : goal.returns
+returns g c = λ app limits props whole. asides_lead app limits props whole

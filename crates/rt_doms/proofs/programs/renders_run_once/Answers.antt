@@ -1,0 +1,5 @@
+use Rattle.rt_doms.proofs.Doms.{renders_run_once}
+use Rattle.rt_doms.proofs.programs.renders_run_once.Goals as goal
+
+pub returns : goal.returns
+returns g c = λ app. renders_run_once app

@@ -1,0 +1,201 @@
+-- A built runtime that a program keeps and calls: which state it stands for, and what a call that takes unit after unit does.
+use Rattle.std.specs.Prelude.{ℕ, Bool, true, false, ◌&&◌, nat_eq, List, [], ◌∷◌, ◌++◌, length, Option, Some, None, Ok, ◌≡◌, ◌⊎◌}
+use Rattle.rt_model.specs.Tree.{Types}
+use Rattle.rt_model.specs.World.{Application}
+use Rattle.rt_model.specs.Laws.{IsLawful}
+use Rattle.rt_model.specs.State.{Fault, State}
+use Rattle.rt_model.specs.Next.{Work, drops, at_rest, next, owes}
+use Rattle.rt_model.specs.Rendering.{rendering_rest, rendering_next}
+use Rattle.rt_model.specs.Replay.{Entry, Machine, accepts, replay_on, is_quiet, start}
+use Rattle.rt_model.specs.Document.{Empty, Edit, document_after}
+use Rattle.rt_model.specs.View.{view}
+use Rattle.rt_model.specs.Causes.{Limits, edits_at_refusal}
+use Rattle.rt_model.specs.Told.{Telling, opens}
+use Rattle.rt_model.specs.Current.{AllCurrent}
+use Rattle.rt_model.specs.Headline.{AllHeldShown}
+use Rattle.rt_model.specs.Sentences.{NoBodyTwice, AllCurrentOrOwed, EndsAt, CallComesTo, call_refusal, events_end, render_ends, settle_ends}
+use Rattle.rt_moves.specs.Moves.{AtRest}
+use Rattle.rt_moves.specs.Reached.{NonePassed, Reached}
+use Rattle.rt_moves.specs.Reports.{ToldSo}
+use Rattle.rt_model.specs.Asides.{Aside, Looked, Raised, PassesNone, Allowed, aside_state, set_aside, resting}
+use Rattle.rt_model.specs.Lists.{Text}
+use Rattle.rt_behavior.specs.Once.{PollsFirst}
+
+-- up to where a call takes unit after unit
+pub data Until : Type 0 where
+  -- up to the first state in which a scope is seen or nothing is owed
+  Events : Until
+  -- up to the first state in which nothing is seen or queued
+  Renders : Until
+  -- up to the first state that owes nothing
+  Settles : Until
+
+module _ {K : Types} where
+  -- the call ends here
+  abbrev pub ends_by : Until → State K → Bool
+  ends_by Events w = events_end w
+  ends_by Renders w = render_ends w
+  ends_by Settles w = settle_ends w
+
+  -- the state as the test for that left it
+  abbrev pub left_by : Until → State K → State K
+  left_by Events w = elim w.seen [ [] ↦ at_rest w | s ∷ ss ↦ w ]
+  left_by Renders w = drops w.queued w
+  left_by Settles w = at_rest w
+
+module _ {K : Types} (app : Application K) (limits : Limits) (props : K.Props) (whole : Bool) where
+  -- a program's calls have led to this state; on a whole way nothing was passed over
+  pub record LedTo (w : State K) : Type 0 where
+    pub reached : Reached app limits props [] (resting w)
+    pub known : NonePassed reached.parts ⊎ (whole ≡ false)
+
+  -- a call that logs no entry leads on
+  abbrev pub AsidesLead : Type 0
+  AsidesLead =
+      IsLawful K app
+      → (w : State K) (a : Aside K) → LedTo w → Allowed w a → PassesNone a ⊎ (whole ≡ false)
+      → LedTo (aside_state app w a)
+
+module _ {K : Types} (app : Application K) where
+  -- no unit of a log began where the test holds
+  abbrev pub Unended : (State K → Bool) → Machine K → List Entry → Type 0
+  Unended test m [] = Unit {0}
+  Unended test m (e ∷ log) =
+      (opens e ≡ true → test m.state ≡ false)
+      × ((u : Machine K) → accepts app m e ≡ Some u → Unended test u log)
+
+  module _ (limits : Limits) (until : Until) (w : State K) where
+    -- what code proves of a call that ended: its log and its edits, and the machine at its end
+    pub record CallRan (log : List Entry) (edits : List Edit) (v : Machine K) : Type 0 where
+      pub last : Telling K
+      pub so : ToldSo app limits (resting (aside_state app w Looked)) log last
+      pub edits_are : last.edits ≡ edits
+      pub machine : last.machine ≡ v
+      pub unended : Unended (λ (x : State K). ends_by until x) (resting (aside_state app w Looked)) log
+      pub quiet : is_quiet v ≡ true
+      pub ended : ends_by until v.state ≡ true
+
+    -- and of one that came to a fault
+    pub record CallStopped (log : List Entry) (edits : List Edit) (fault : Fault) : Type 0 where
+      pub last : Telling K
+      pub so : ToldSo app limits (resting (aside_state app w Looked)) log last
+      pub unended : Unended (λ (x : State K). ends_by until x) (resting (aside_state app w Looked)) log
+      pub cause : call_refusal limits (λ (x : State K). ends_by until x) last.machine ≡ Some fault
+      pub edits_are : edits_at_refusal app limits last ≡ edits
+
+  -- what such a call says, of a lawful application
+  pub record CallHolds
+      (limits : Limits) (props : K.Props) (whole : Bool) (until : Until) (w : State K)
+      (log : List Entry) (edits : List Edit) (v : Machine K) : Type 0 where
+    -- it begins with a look, takes what comes next, and ends at the first state in which its test holds
+    pub ends_at : EndsAt app (λ (x : State K). ends_by until x) (resting (aside_state app w Looked)) log v
+    -- the program has led to the state that is left
+    pub leads : LedTo app limits props whole (left_by until v.state)
+    -- the edits never fault, and make what shows after it of what showed before it
+    pub shows : document_after edits (view w) ≡ Ok (view (left_by until v.state))
+    -- each live scope is current, or owed a run
+    pub current : AllCurrentOrOwed app (left_by until v.state)
+
+  -- a call that ended holds all that
+  abbrev pub CallsHold : Type 0
+  CallsHold =
+      IsLawful K app
+      → (limits : Limits) (props : K.Props) (whole : Bool) (until : Until) (w : State K)
+      → (log : List Entry) (edits : List Edit) (v : Machine K)
+      → LedTo app limits props whole w
+      → CallRan limits until w log edits v
+      → CallHolds limits props whole until w log edits v
+
+  -- after a call that settles every output is current, and fallbacks show just while they are held
+  abbrev pub SettledHold : Type 0
+  SettledHold =
+      IsLawful K app
+      → (limits : Limits) (props : K.Props) (w : State K) (log : List Entry) (edits : List Edit) (v : Machine K)
+      → LedTo app limits props true w
+      → CallRan limits Settles w log edits v
+      → AllCurrent app v.state × AllHeldShown v.state
+
+  -- a render that polls no task after its first rerun runs no body twice
+  abbrev pub RendersRunOnce : Type 0
+  RendersRunOnce =
+      IsLawful K app
+      → (limits : Limits) (props : K.Props) (whole : Bool) (w : State K)
+      → (log : List Entry) (edits : List Edit) (v : Machine K)
+      → LedTo app limits props whole w
+      → CallRan limits Renders w log edits v
+      → PollsFirst log
+      → NoBodyTwice log
+
+  -- a call that stopped came to its fault
+  abbrev pub CallsComeTo : Type 0
+  CallsComeTo =
+      IsLawful K app
+      → (limits : Limits) (props : K.Props) (whole : Bool) (until : Until) (w : State K)
+      → (log : List Entry) (edits : List Edit) (fault : Fault)
+      → LedTo app limits props whole w
+      → CallStopped limits until w log edits fault
+      → CallComesTo app limits (λ (x : State K). ends_by until x) (resting (aside_state app w Looked)) log fault
+
+  -- what code proves of a build that ended: its log and its edits, and the machine at its end
+  pub record BuildRan (limits : Limits) (props : K.Props) (log : List Entry) (edits : List Edit) (v : Machine K) : Type 0 where
+    pub last : Telling K
+    pub so : ToldSo app limits (start app props []) log last
+    pub edits_are : last.edits ≡ edits
+    pub machine : last.machine ≡ v
+    pub built : v.built ≡ true
+    pub quiet : is_quiet v ≡ true
+
+  -- what it says: a program's calls begin there, and its edits make what shows of an empty document
+  pub record BuildHolds (limits : Limits) (props : K.Props) (edits : List Edit) (v : Machine K) : Type 0 where
+    pub leads : LedTo app limits props true v.state
+    pub shows : document_after edits Empty ≡ Ok (view v.state)
+    pub current : AllCurrentOrOwed app v.state
+
+  -- a build that ended holds all that
+  abbrev pub BuildsHold : Type 0
+  BuildsHold =
+      IsLawful K app
+      → (limits : Limits) (props : K.Props) (log : List Entry) (edits : List Edit) (v : Machine K)
+      → BuildRan limits props log edits v
+      → BuildHolds limits props edits v
+
+  -- what code proves of an event that was handled: from the machine at which it came to those that hear it, to where none waits
+  pub record HandleRan
+      (limits : Limits) (w : State K) (raised : Aside K) (log : List Entry) (edits : List Edit) (v : Machine K) : Type 0 where
+    pub last : Telling K
+    pub so : ToldSo app limits (set_aside app (resting w) raised) log last
+    pub edits_are : last.edits ≡ edits
+    pub machine : last.machine ≡ v
+    pub quiet : is_quiet v ≡ true
+
+  -- an event that was handled leads on, and its edits make what shows after it
+  abbrev pub HandlesLead : Type 0
+  HandlesLead =
+      IsLawful K app
+      → (limits : Limits) (props : K.Props) (whole : Bool) (w : State K)
+      → (name : Text) (payload : K.Payload) (element : ℕ) (bubbles : Bool)
+      → (log : List Entry) (edits : List Edit) (v : Machine K)
+      → LedTo app limits props whole w
+      → HandleRan limits w (Raised name payload element bubbles) log edits v
+      → LedTo app limits props whole v.state × (document_after edits (view w) ≡ Ok (view v.state))
+
+  -- one more entry: a unit's where the test fails
+  abbrev pub UnendedGrows : Type 0
+  UnendedGrows =
+      (test : State K → Bool) (m v : Machine K) (log : List Entry) (e : Entry)
+      → replay_on app (Some m) log ≡ Some v
+      → Unended test m log
+      → (opens e ≡ true → test v.state ≡ false)
+      → Unended test m (log ++ e ∷ [])
+
+-- where a call goes on, its test leaves a state at which the same comes next
+abbrev pub RestsAlike : Types → Type 0
+RestsAlike K =
+    (until : Until) (w : State K) → ends_by until w ≡ false
+    → (at_rest (left_by until w) ≡ at_rest w) × (owes w ≡ true)
+
+-- what a render while suspended takes next is what comes next, once the rest was passed over
+abbrev pub PassedComesNext : Types → Type 0
+PassedComesNext K =
+    (w : State K) (x : Work) → rendering_next w ≡ Some x
+    → (at_rest (rendering_rest w) ≡ rendering_rest w) × (next (rendering_rest w) ≡ Some x)

@@ -1,0 +1,11 @@
+//! What the calls of a program on a built runtime say, of every lawful application.
+//!
+//! The functions have empty bodies: what each claims of the definitions is its contract.
+#![tactic(auto)]
+
+mod programs;
+
+pub use programs::{
+    asides_lead, builds_hold, calls_come_to, calls_hold, handles_lead, passed_comes_next,
+    renders_run_once, rests_alike, settled_hold, unended_grows,
+};

@@ -1,0 +1,58 @@
+//! From what code proves of a call to what stands after it.
+
+ghost use Rattle.rt_doms.specs.Doms.{AsidesLead, BuildsHold, CallsComeTo, CallsHold, HandlesLead};
+ghost use Rattle.rt_doms.specs.Doms.{PassedComesNext, RendersRunOnce, RestsAlike, SettledHold, UnendedGrows};
+ghost use Rattle.rt_model.specs.OneLog.{types};
+ghost use Rattle.rt_model.specs.World.{Application};
+
+/// A call that logs no entry leads on.
+pub fn asides_lead<C, P, V, H, T, E, L>()
+    ensures { (app : Application (types C P V H T E L)) (limits : _) (props : _) (whole : _) →
+        AsidesLead app limits props whole }
+{}
+
+/// A call that takes unit after unit ends at the first state in which its test holds; its edits make
+/// what shows then, and each scope is current or owed a run.
+pub fn calls_hold<C, P, V, H, T, E, L>()
+    ensures { (app : Application (types C P V H T E L)) → CallsHold app }
+{}
+
+/// After a call that settles all is current.
+pub fn settled_hold<C, P, V, H, T, E, L>()
+    ensures { (app : Application (types C P V H T E L)) → SettledHold app }
+{}
+
+/// A render that polls no task after its first rerun runs no body twice.
+pub fn renders_run_once<C, P, V, H, T, E, L>()
+    ensures { (app : Application (types C P V H T E L)) → RendersRunOnce app }
+{}
+
+/// A call that stopped came to its fault.
+pub fn calls_come_to<C, P, V, H, T, E, L>()
+    ensures { (app : Application (types C P V H T E L)) → CallsComeTo app }
+{}
+
+/// One more entry, of a unit only where the test fails.
+pub fn unended_grows<C, P, V, H, T, E, L>()
+    ensures { (app : Application (types C P V H T E L)) → UnendedGrows app }
+{}
+
+/// The test of a call that goes on leaves a state at which the same comes next.
+pub fn rests_alike<C, P, V, H, T, E, L>()
+    ensures { RestsAlike (types C P V H T E L) }
+{}
+
+/// After a build its edits make what shows of an empty document, and a program's calls begin.
+pub fn builds_hold<C, P, V, H, T, E, L>()
+    ensures { (app : Application (types C P V H T E L)) → BuildsHold app }
+{}
+
+/// What a render while suspended takes next is what comes next, once the rest was passed over.
+pub fn passed_comes_next<C, P, V, H, T, E, L>()
+    ensures { PassedComesNext (types C P V H T E L) }
+{}
+
+/// An event that was handled, until no listener waits, leads on.
+pub fn handles_lead<C, P, V, H, T, E, L>()
+    ensures { (app : Application (types C P V H T E L)) → HandlesLead app }
+{}

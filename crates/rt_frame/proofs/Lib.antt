@@ -1,3 +1,0 @@
-pub mod Commanded
-pub mod Called
-pub mod Served

@@ -1,3 +1,0 @@
-mod Steadfast
-mod Held
-mod Reading

@@ -1,7 +1,0 @@
-mod Unlooked
-mod Lines
-mod Since
-mod Orders
-mod Moving
-mod Entries
-mod Renders

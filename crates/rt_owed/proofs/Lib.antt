@@ -1,6 +1,0 @@
-mod Stays
-mod Looking
-mod Running
-mod Moving
-mod Taking
-mod Waking

@@ -1,0 +1,10 @@
+pub mod Reads
+pub mod Contexts
+pub mod Sequence
+pub mod Came
+pub mod Cells
+pub mod Pages
+pub mod Shows
+pub mod Present
+pub mod Author
+pub mod Means

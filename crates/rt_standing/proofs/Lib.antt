@@ -1,9 +1,0 @@
-pub mod Calm
-pub mod Steps
-pub mod Did
-pub mod Lines
-pub mod Trees
-pub mod Dressed
-pub mod Clothed
-pub mod Nodes
-pub mod Settled

@@ -1,6 +1,0 @@
-pub mod Rules
-pub mod Entries
-pub mod Outputs
-pub mod Passes
-pub mod Trees
-pub mod Scopes
