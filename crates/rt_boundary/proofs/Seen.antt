@@ -1,17 +1,9 @@
 -- What is seen of a scope's row, at the mirror.
-use Rattle.std.proofs.Common.{◌≡◌, ℕ, Option, Some, None, option_map, refl, ap, sym}
-use Rattle.rt_nodes.specs.declared.vnode.VNode.{VNode}
-use Rattle.rt_mirror.specs.Sealed.{tree_of}
-use Rattle.rt_places.specs.Places.{output_of}
+use Rattle.std.proofs.Common.{◌≡◌, ℕ, Option, Some, None, ap, sym}
+use Rattle.rt_state.proofs.Outputs.{mapped-output}
 use Rattle.rt_model.specs.Lists.{at}
 use Rattle.rt_model.specs.Tree.{Types}
 use Rattle.rt_model.specs.State.{Scope, State, values_of}
-
-module _ {P C Q V H T E L : Type 0} where
-  -- a kept output
-  pub mapped-output : (output : Option (VNode P C Q V H T E L)) → option_map tree_of output ≡ output_of output
-  mapped-output None = refl
-  mapped-output (Some tree) = refl
 
 module _ {K : Types} where
   -- the present error of a scope that stands is the one of its row

@@ -4,26 +4,15 @@ use Rattle.rt_parts.specs.declared.error.RenderError.{RenderError}
 use Rattle.rt_nodes.specs.declared.vnode.VNode.{VNode}
 use Rattle.rt_nodes.specs.declared.vnode.FragmentProps.{FragmentProps}
 use Rattle.rt_nodes.specs.declared.vnode.DynamicNode.TheViews.{out-FragmentProps}
-use Rattle.rt_model.specs.OneLog.{types}
 use Rattle.rt_model.specs.Tree.{Types, Tree}
-use Rattle.rt_model.specs.State.{FallbackSide, Scope, is_held, is_side, side_of}
-use Rattle.rt_calls.specs.Kept.{scope_of}
-use Rattle.rt_boundary.specs.declared.scope_state.ScopeState.{ScopeState}
+use Rattle.rt_model.specs.State.{FallbackSide, Scope, is_held, is_side}
 
 module _ {P C Q V H T E L : Type 0} where
-  -- the scope of the definitions that is looked at
-  abbrev pub scope_seen : ScopeState P C Q V H T E L → Scope (types C Q V H T E L)
-  scope_seen s = scope_of s.scope.now
-
   -- the children of a fragment
   abbrev pub children_in : FragmentProps P C Q V H T E L → Result (VNode P C Q V H T E L) RenderError
   children_in props = (out-FragmentProps P C Q V H T E L props).children
 
 module _ {K : Types} where
-  -- the kept output of the side that shows
-  abbrev pub shown_output : Scope K → Option (Tree K)
-  shown_output x = elim x.shows [ None ↦ None | Some side ↦ (side_of x side).output ]
-
   -- the children's kept output while the fallback shows, so that they are hidden
   abbrev pub hidden_output : Scope K → Option (Tree K)
   hidden_output x = if is_side x.shows FallbackSide then (x.children_side).output else None

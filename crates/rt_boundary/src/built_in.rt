@@ -1,9 +1,18 @@
-//! The built-in component that shows its children and nothing else.
-ghost use Rattle.std.specs.Prelude.{◌≡◌};
+//! The built-in components: the body of a fragment, and the call of a built-in body in its scope.
+ghost use Rattle.std.specs.Prelude.{◌≡◌, IsSome, IfSome};
+ghost use Rattle.std.specs.Option.{option_copied};
+ghost use Rattle.rt_model.specs.Lists.{at};
+ghost use Rattle.rt_model.specs.Run.{call_body};
+ghost use Rattle.rt_mirror.specs.Sealed.{component_of};
+ghost use Rattle.rt_scopes.specs.Bodies.{Answers};
 ghost use Rattle.rt_boundary.specs.Seen.{children_in};
 
+use rt_calls::{App, Calls};
 use rt_nodes::{Element, FragmentProps};
 use rt_parts::Parts;
+use rt_scopes::Scopes;
+use rt_state::Stop;
+use rt_values::ScopeId;
 
 /// The body of a fragment, which answers its children.
 pub fn Fragment<P: Parts>(props: FragmentProps<P>) -> Element<P>
@@ -11,4 +20,26 @@ pub fn Fragment<P: Parts>(props: FragmentProps<P>) -> Element<P>
 {
     let FragmentProps { children } = props;
     children.into_inner()
+}
+
+/// Calls the body of a built-in component in its live scope, of a suspense boundary that of its
+/// fallback: what it read is kept, its tree is tested, what it asked for is done. The answer.
+pub fn answer<A: App>(
+    scopes: &mut Scopes<A>,
+    app: &A,
+    calls: &mut Calls,
+    scope: ScopeId,
+) -> Result<Element<A>, Stop>
+    requires live { IsSome (at scopes.old.state.rows.table scope.0) }
+    // Whatever follows the answer, it comes to that.
+    ensures answered { IfSome (at scopes.old.state.rows.table scope.0) (λ found.
+        Answers (λ w then_on. call_body (A.meaning app.now) w scope.0
+        (component_of found.rest.component) then_on)
+        scopes.old.state calls.old scopes.new.state calls.new result) }
+{
+    let Some(found) = scopes.state.scope(scope.0) else {
+        unreachable!()
+    };
+    let component = found.rest.component.copy(scopes.alloc)?;
+    scopes.call_component(app, calls, scope, &component)
 }

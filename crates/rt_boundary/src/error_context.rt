@@ -3,10 +3,10 @@ ghost use Rattle.std.specs.Prelude.{◌≡◌, option_map};
 ghost use Rattle.std.specs.Option.{option_copied};
 ghost use Rattle.rt_model.specs.State.{error_context, values_of};
 ghost use Rattle.rt_mirror.specs.Mirror.{error_of};
-ghost use Rattle.rt_scopes.specs.Mirror.{state_of};
+ghost use Rattle.rt_state.specs.Mirror.{state_of};
 
 use rt_parts::{CapturedError, Parts};
-use rt_scopes::State;
+use rt_state::State;
 use rt_values::ScopeId;
 
 /// An error boundary, which keeps the first error that was thrown below it.

@@ -6,12 +6,11 @@ mod built_in;
 mod error_context;
 mod fallbacks;
 mod parts;
-mod scope_state;
 mod steps;
 mod suspense_context;
 
-pub use built_in::Fragment;
+pub use built_in::{Fragment, answer};
 pub use error_context::ErrorContext;
-pub use scope_state::{NotBuilt, ScopeState, get_scope};
+pub use rt_state::{NotBuilt, ScopeState, get_scope};
 pub use steps::boundary_step;
 pub use suspense_context::SuspenseContext;

@@ -12,7 +12,7 @@ ghost use Rattle.rt_boundary.specs.Rows.{made_items};
 use rt_nodes::{Element, Fallback, VComponent, VNode};
 use rt_parts::Parts;
 use rt_places::SideName;
-use rt_runs::row_items;
+use rt_scopes::row_items;
 use rt_values::{List, OutOfMemory};
 use rt_work::{Item, RowStep};
 use std::alloc::Global;

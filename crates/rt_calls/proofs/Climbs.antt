@@ -5,7 +5,7 @@ use Rattle.rt_model.specs.Lists.{has}
 use Rattle.rt_model.specs.Program.{Call, Found, noted, found_at, no_further, further_up, own_context, looked_up, parent_in, boundary_above}
 use Rattle.rt_model.specs.Tree.{Types}
 use Rattle.rt_model.specs.World.{Context, Given, World}
-use Rattle.rt_calls.specs.Reads.{looked_at}
+use Rattle.rt_programs.specs.Reads.{looked_at}
 
 -- one step fewer is left
 fewer : (n i : ℕ) → i < n → n - i ≡ suc (n - (i + 1))

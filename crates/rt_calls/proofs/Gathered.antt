@@ -7,8 +7,8 @@ use Rattle.rt_model.specs.Tree.{Types}
 use Rattle.rt_model.specs.World as model
 use Rattle.rt_model.specs.Program as program
 use Rattle.rt_model.specs.Program.{left_behind, noted_at, noted}
-use Rattle.rt_tracked.specs.declared.contexts.ReactiveContext.{ReactiveContext}
-use Rattle.rt_tracked.specs.declared.sources.Source.{Source}
+use Rattle.rt_cells.specs.declared.contexts.ReactiveContext.{ReactiveContext}
+use Rattle.rt_cells.specs.declared.sources.Source.{Source}
 use Rattle.rt_calls.specs.Calls.{gathered, in_front, contexts_of, source_of, command_of, and_cell, and_provided, call_of}
 use Rattle.rt_calls.specs.Steps.{with_command, asked}
 use Rattle.rt_calls.specs.Turn.{Call}

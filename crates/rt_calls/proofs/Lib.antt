@@ -6,3 +6,4 @@ pub mod Climbs
 pub mod Lookups
 pub mod Hooked
 pub mod ProgramsGoOn
+pub mod Told

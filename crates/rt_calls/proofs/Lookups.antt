@@ -4,7 +4,7 @@ use Rattle.std.specs.Prelude.{Option, Some, None}
 use Rattle.rt_model.specs.Program.{Call, Found, looked_up, parent_in}
 use Rattle.rt_model.specs.Tree.{Types}
 use Rattle.rt_model.specs.World.{World}
-use Rattle.rt_calls.specs.Reads.{looked_at}
+use Rattle.rt_programs.specs.Reads.{looked_at}
 use Rattle.rt_calls.proofs.Climbs.{look-found, look-on}
 
 module _ {K : Types} (v w : World K) (k n i s from : ℕ) (c began d : Call K) (before : i < n) (same : v ≡ w)

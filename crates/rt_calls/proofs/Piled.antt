@@ -5,7 +5,7 @@ use Rattle.std.specs.Borrow.{Bor}
 use Rattle.std.specs.Option.{option_copied, option_or}
 use Rattle.std.specs.Prelude.{Option, Some, None}
 use Rattle.rt_calls.specs.Calls.{gathered}
-use Rattle.rt_calls.specs.Reads.{or_first}
+use Rattle.rt_model.specs.Lists.{first_of}
 use Rattle.rt_calls.proofs.Gathered.{gathered-more, gathered-none}
 
 -- one more item of a list
@@ -15,7 +15,7 @@ pile-step step xs i x within is =
     ap (λ t. gathered step t []) (take_more xs i x within ∙ ap (λ y. take i xs ++ y ∷ []) (sym is)) ∙ gathered-more step (take i xs) x []
 
 -- the first of two that is there, copied
-pub copied-or : {X : Type 0} (a b : Option (Bor X)) → option_copied (option_or a b) ≡ or_first (option_copied a) (option_copied b)
+pub copied-or : {X : Type 0} (a b : Option (Bor X)) → option_copied (option_or a b) ≡ first_of (option_copied a) (option_copied b)
 copied-or None b = refl
 copied-or (Some x) b = refl
 

@@ -1,17 +1,17 @@
 -- A program in data goes on as the calls do.
 use Rattle.std.proofs.Common.{Bool, true, false, ◌≡◌, [], refl, ap, cond}
-use Rattle.std.specs.Prelude.{◌≢◌, nat_lt, Option, Some, None}
-use Rattle.rt_model.specs.Lists.{at}
-use Rattle.rt_model.specs.Program.{Program, Call, exec, noted, value_in, first_fault, faults, drew_cell, drew_context, drew_task, drew_error}
+use Rattle.std.specs.Prelude.{◌≢◌, Option, Some, None}
+use Rattle.rt_model.specs.Program.{Program, Call, exec, first_fault, faults, drew_cell, drew_context, drew_task, drew_error}
 use Rattle.rt_model.specs.Tree.{Types}
 use Rattle.rt_model.specs.World as model
 use Rattle.rt_model.specs.World.{World, CounterAtEnd}
+use Rattle.rt_programs.proofs.ReadsGoOn.{read-goes-on}
 use Rattle.rt_calls.specs.Calls.{in_front, source_of, firsts_of, refusal_of, and_cell, and_provided, call_of}
 use Rattle.rt_calls.specs.GoesOn.{CallsStandFor, GivenGoesOn, ReadsGoOn, ContextsGoOn, CellsGoOn, TasksGoOn, ErrorsGoOn, HooksGoOn}
 use Rattle.rt_calls.specs.Steps.{first_refusal}
 use Rattle.rt_calls.specs.declared.faults.CxFault.{CxFault}
 use Rattle.rt_calls.specs.declared.faults.CxFault.TheVariants as refusals
-use Rattle.rt_tracked.specs.declared.contexts.ReactiveContext.{ReactiveContext}
+use Rattle.rt_cells.specs.declared.contexts.ReactiveContext.{ReactiveContext}
 use Rattle.rt_calls.proofs.Gathered.{gathered-none}
 
 -- the first refusal is the first fault
@@ -54,15 +54,10 @@ module _ {K : Types} {A : Type 0} where
         generation = λ w c f. refl;
       }
 
-  read-either : (w : World K) (b : Bool) (f : Option K.Value → Program K A) (v : Option K.Value) (c d : Call K)
-      → cond b (exec w (f v) d) (exec w (f None) c) ≡ exec w (f (cond b v None)) (cond b d c)
-  read-either w true f v c d = refl
-  read-either w false f v c d = refl
-
   pub reads-go-on : ReadsGoOn K A
   reads-go-on =
       record {
-        read = λ w c n f. read-either w (nat_lt n c.next.cells) f (value_in w (at c.cells n) n) c (noted c (model.Cell n));
+        read = read-goes-on;
         error = λ w c f. refl;
         consume_context = λ w c from k f. refl;
         has_context = λ w c k f. refl;

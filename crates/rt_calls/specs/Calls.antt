@@ -1,11 +1,11 @@
 -- What a call looks at, what it came to and what it leaves, as the model has it.
 use Rattle.std.specs.Prelude.{ℕ, List, [], ◌∷◌, map, Option, Some, None, option_map, option_and_then, if◌then◌else◌}
-use Rattle.rt_tracked.specs.Held.{value_at}
-use Rattle.rt_tracked.specs.declared.contexts.ReactiveContext.{ReactiveContext}
-use Rattle.rt_tracked.specs.declared.sources.Source.{Source}
-use Rattle.rt_tracked.specs.declared.sources.Source.TheVariants as sources
-use Rattle.rt_tracked.specs.declared.sources.Target.{Target}
-use Rattle.rt_tracked.specs.declared.sources.Target.TheVariants as targets
+use Rattle.rt_cells.specs.Held.{value_at}
+use Rattle.rt_cells.specs.declared.contexts.ReactiveContext.{ReactiveContext}
+use Rattle.rt_cells.specs.declared.sources.Source.{Source}
+use Rattle.rt_cells.specs.declared.sources.Source.TheVariants as sources
+use Rattle.rt_cells.specs.declared.sources.Target.{Target}
+use Rattle.rt_cells.specs.declared.sources.Target.TheVariants as targets
 use Rattle.rt_values.specs.declared.names.ScopeId.{ScopeId}
 use Rattle.rt_model.specs.Lists.{at}
 use Rattle.rt_model.specs.OneLog.{types}

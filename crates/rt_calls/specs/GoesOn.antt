@@ -7,8 +7,8 @@ use Rattle.rt_model.specs.Tree.{Types, CapturedError}
 use Rattle.rt_model.specs.World as model
 use Rattle.rt_model.specs.World.{World, Target, at_end, CounterAtEnd}
 use Rattle.rt_calls.specs.Calls.{firsts_of, refusal_of, call_of, meaning_of}
-use Rattle.rt_calls.specs.Contexts.{entered, left}
-use Rattle.rt_calls.specs.Reads.{read_value, read_call}
+use Rattle.rt_programs.specs.Contexts.{entered, left}
+use Rattle.rt_programs.specs.Reads.{read_value, read_call}
 use Rattle.rt_calls.specs.Steps.{refused}
 use Rattle.rt_calls.specs.Turn as turns
 use Rattle.rt_calls.specs.World.{CallWorld}

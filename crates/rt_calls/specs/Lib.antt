@@ -4,8 +4,8 @@ pub mod Enter
 pub mod Calls
 pub mod Answers
 pub mod Steps
-pub mod Reads
-pub mod Contexts
+pub use Rattle.rt_programs.specs.Reads
+pub use Rattle.rt_programs.specs.Contexts
 pub mod Hooks
 pub mod GoesOn
 pub mod Kept

@@ -1,6 +1,6 @@
 -- A command of a call, and its refusals.
-use Rattle.std.specs.Prelude.{◌≡◌, ◌⊎◌, [], ◌∷◌, ◌++◌, Option, Some, None}
-use Rattle.rt_tracked.specs.declared.sources.Source.{Source}
+use Rattle.std.specs.Prelude.{◌≡◌, ◌≢◌, ◌⊎◌, [], ◌∷◌, ◌++◌, Option, Some, None}
+use Rattle.rt_cells.specs.declared.sources.Source.{Source}
 use Rattle.rt_model.specs.OneLog.{types}
 use Rattle.rt_model.specs.Program as program
 use Rattle.rt_calls.specs.Calls.{command_of, and_cell, and_provided, call_of}
@@ -49,3 +49,7 @@ module _ {P C Q V H T E L : Type 0} where
   abbrev pub DrawsNone : Counter → Call P C Q V H T E L → Call P C Q V H T E L → CxFault → Type 0
   DrawsNone counter before after fault =
       ((fault ≡ OutOfMemory) ⊎ (fault ≡ IdsExhausted counter)) × (after ≡ refused before fault)
+
+  -- after a refusal for another cause than memory the call stands for this one, where no memory was wanted before
+  abbrev pub IsTold : program.Call (types C Q V H T E L) → Call P C Q V H T E L → Call P C Q V H T E L → CxFault → Type 0
+  IsTold told before after fault = fault ≢ OutOfMemory → before.fault ≢ Some OutOfMemory → call_of after ≡ told

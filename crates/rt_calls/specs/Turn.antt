@@ -2,8 +2,8 @@
 use Rattle.std.specs.Prelude.{◌≢◌, ℕ, Bool, List, [], Option, Some, None}
 use Rattle.rt_calls.specs.World.{CallWorld}
 use Rattle.rt_calls.specs.declared.world.Firsts.{Firsts}
-use Rattle.rt_tracked.specs.declared.contexts.ReactiveContext.{ReactiveContext}
-use Rattle.rt_tracked.specs.declared.sources.Source.{Source}
+use Rattle.rt_cells.specs.declared.contexts.ReactiveContext.{ReactiveContext}
+use Rattle.rt_cells.specs.declared.sources.Source.{Source}
 use Rattle.rt_calls.specs.declared.command.Command.{Command}
 use Rattle.rt_calls.specs.declared.faults.CxFault.{CxFault}
 use Rattle.rt_calls.specs.declared.faults.CxFault.TheVariants.{OutOfMemory}

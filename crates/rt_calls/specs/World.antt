@@ -1,6 +1,6 @@
 -- What a call of an application can look at, as the code holds it.
 use Rattle.std.specs.Prelude.{ℕ, Bool, List, [], ◌∷◌, Option, Some, None, nat_eq, if◌then◌else◌}
-use Rattle.rt_tracked.specs.declared.numbered.Held.{Held}
+use Rattle.rt_cells.specs.declared.numbered.Held.{Held}
 use Rattle.rt_model.specs.Tree.{is_error_boundary}
 use Rattle.rt_mirror.specs.Sealed.{component_of}
 use Rattle.rt_values.specs.declared.names.ScopeId.{ScopeId}

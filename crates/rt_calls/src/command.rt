@@ -1,8 +1,8 @@
 //! What a call of an application asks for.
 
 use crate::rows::Hook;
+use rt_cells::{ReactiveContext, Source, Target};
 use rt_parts::{CapturedError, Parts};
-use rt_tracked::{ReactiveContext, Source, Target};
 use rt_values::{ScopeId, Task};
 
 /// What a call asks for. It is done once the call has returned.

@@ -3,7 +3,7 @@ ghost use Rattle.std.specs.Prelude.{◌≡◌, ◌∷◌, [], MatchOption};
 ghost use Rattle.rt_model.specs.Program.{left_behind};
 ghost use Rattle.rt_calls.specs.Calls.{contexts_of};
 
-use rt_tracked::ReactiveContext;
+use rt_cells::ReactiveContext;
 use rt_values::List;
 
 /// The context that was entered last.

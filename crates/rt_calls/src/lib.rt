@@ -17,7 +17,7 @@ mod world;
 pub use application::{App, TaskStep};
 pub use calls::{Calls, no_calls};
 pub use command::Command;
-pub use cx::{BodyCx, Cx, InBody, Plain};
+pub use cx::{AFTER_RENDER, BEFORE_RENDER, BodyCx, CLEAN_UP, Cx, InBody, Plain};
 pub use faults::{Counter, CxFault};
 pub use programs::{
     calls_stand_for, cells_go_on, contexts_go_on, errors_go_on, given_goes_on, hooks_go_on,

@@ -1,10 +1,9 @@
 //! What a call has made and provided itself, as its commands tell.
 ghost use Rattle.std.specs.Prelude.{◌≡◌, ℕ, List, [], IfOk};
 ghost use Rattle.std.specs.Option.{option_copied};
-ghost use Rattle.rt_model.specs.Lists.{at};
+ghost use Rattle.rt_model.specs.Lists.{at, first_of};
 ghost use Rattle.rt_model.specs.Program.{own_context};
 ghost use Rattle.rt_calls.specs.Calls.{gathered, and_cell, and_provided};
-ghost use Rattle.rt_calls.specs.Reads.{or_first};
 
 use crate::command::Command;
 use rt_parts::Parts;
@@ -25,7 +24,7 @@ pub(crate) fn copied<V: Part>(alloc: Global, value: Option<&V>) -> Result<Option
 #[tactic(auto, using(crate::proofs::Piled::making))]
 fn first_value<P: Parts>(command: &Command<P>, cell: u64) -> Option<&P::Value>
     ensures { (before : List (ℕ × P.Value)) → at (and_cell command.now before) cell
-        ≡ or_first (option_copied result) (at before cell) }
+        ≡ first_of (option_copied result) (at before cell) }
 {
     match command {
         Command::NewCell { cell: made, value } if *made == cell => Some(value),
@@ -55,7 +54,7 @@ fn provided_value<P: Parts>(
 ) -> Option<&P::Value>
     ensures { (before : List (ℕ × ℕ × P.Value)) →
         own_context (and_provided caller.0 command.now before) kind scope.0
-        ≡ or_first (option_copied result) (own_context before kind scope.0) }
+        ≡ first_of (option_copied result) (own_context before kind scope.0) }
 {
     match command {
         Command::Provide {

@@ -4,10 +4,10 @@ ghost use Rattle.rt_model.specs.Tree.{is_error_boundary};
 ghost use Rattle.rt_mirror.specs.Sealed.{component_of};
 
 use crate::rows::ScopeRow;
+use rt_cells::Source;
 use rt_nodes::{FragmentProps, VComponent};
 use rt_parts::{CapturedError, Parts, RenderError};
 use rt_places::{Side, SideName};
-use rt_tracked::Source;
 use rt_values::{Boxed, List, OutOfMemory, Text};
 use std::alloc::Global;
 

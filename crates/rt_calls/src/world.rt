@@ -1,8 +1,8 @@
 //! What a call of an application can look at.
 
 use crate::rows::Rows;
+use rt_cells::Cells;
 use rt_parts::Parts;
-use rt_tracked::Cells;
 use rt_values::Task;
 
 /// The next number of each counter.

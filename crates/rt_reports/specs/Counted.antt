@@ -4,7 +4,7 @@ use Rattle.std.specs.List.{AllByRecursion}
 use Rattle.rt_model.specs.Tree.{Types}
 use Rattle.rt_model.specs.Replay as replay
 use Rattle.rt_model.specs.Told.{is_unit, is_body, count_entries}
-use Rattle.rt_model.specs.Headline.{OneEach}
+use Rattle.rt_model.specs.Reports.{OneEach}
 use Rattle.rt_reports.specs.Seen.{entry_of}
 use Rattle.rt_reports.specs.declared.report.Report.{Report}
 

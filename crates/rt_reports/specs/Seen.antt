@@ -3,7 +3,7 @@ use Rattle.std.specs.Prelude.{map, Option, Some, None}
 use Rattle.rt_calls.specs.Calls.{counter_of}
 use Rattle.rt_model.specs.State as state
 use Rattle.rt_model.specs.Replay as replay
-use Rattle.rt_model.specs.Headline as headline
+use Rattle.rt_model.specs.Reports as told
 use Rattle.rt_model.specs.Causes as causes
 use Rattle.rt_model.specs.OneLog.{types}
 use Rattle.rt_reports.specs.declared.entry.Entry.{Entry}
@@ -32,7 +32,7 @@ entry_of (entries.Kept s) = replay.Kept s.0
 entry_of (entries.Removed s) = replay.Removed s.0
 
 -- a report
-abbrev pub report_of : Report → headline.Report
+abbrev pub report_of : Report → told.Report
 report_of r =
     record { log = map entry_of r.log; units = r.units; bodies = r.bodies; edits = r.edits; default_enabled = r.default_enabled }
 

@@ -1,29 +1,23 @@
-//! The state of a runtime: scopes, cells, reactive contexts, tasks and what is owed; and all changes
-//! of it that call no application.
+//! Calls of an application and what they lead to: a run of a body up to its agenda, effects, polls,
+//! listeners, and the clean-ups of a removal. The names of scopes and calls are given out here.
 #![tactic(auto)]
 
-mod cells;
-mod climbs;
-mod commands;
-mod errors;
-mod held;
-mod looks;
-mod mounting;
-mod names;
-mod numbers;
-mod order;
-mod posting;
-mod provided;
+mod answers;
+mod bodies;
+mod effects;
+mod listeners;
+mod polls;
 mod removal;
+mod runs;
 mod scopes;
-mod sides;
-mod sources;
-mod state;
-mod tasks;
+mod trees;
 
-pub use names::{Fault, Posted, Stop, TaskKind, Work};
-pub use numbers::{drop_number, join};
-pub use removal::{CLEAN_UP_KIND, clean_ups};
-pub use scopes::{holds, is_held, is_suspense_boundary, new_scope, put_side, side_of};
-pub use sources::{is_same_source, names_source};
-pub use state::{ContextRow, State, TaskRow};
+pub use rt_calls::{
+    App, BodyCx, BodyTurn, Calls, Command, Counter, Cx, CxFault, Firsts, Hook, Provided, Rows,
+    ScopeRow, TaskStep, Turn, TurnParts, World,
+};
+pub use rt_reports::Fault;
+pub use rt_state::{NotBuilt, ScopeState, get_scope};
+pub use runs::row_items;
+pub use scopes::{Left, Scopes};
+pub use trees::placeholder_or;

@@ -1,212 +1,124 @@
-//! What a scope's record says.
-ghost use Rattle.std.specs.Prelude.{◌≡◌, ℕ, [], map, Option, Some, None, option_map, if◌then◌else◌};
-ghost use Rattle.rt_model.specs.State as model;
-ghost use Rattle.rt_model.specs.State.{new_scope, with_side, is_held, holds, parent_of, height_of, hooks_of, renders_of, is_boundary, MainSide};
-ghost use Rattle.rt_model.specs.Run.{has_output};
-ghost use Rattle.rt_model.specs.Tree as tree;
-ghost use Rattle.rt_calls.specs.Calls.{number_of, hook_of};
-ghost use Rattle.rt_mirror.specs.Sealed.{component_of};
-ghost use Rattle.rt_places.specs.Places.{side_name_of, side_of};
-ghost use Rattle.rt_calls.specs.Kept.{scope_of};
-ghost use Rattle.rt_scopes.specs.Mirror.{scopes_of, state_of};
+//! The state on which an application is run. Each call takes the application and the count of its
+//! calls, and keeps neither.
+ghost use Rattle.std.specs.Prelude.{◌≡◌, Some, None, map, IfOk, IfErr, OnOk};
+ghost use Rattle.rt_model.specs.Laws.{Tests};
+ghost use Rattle.rt_model.specs.OneLog.{types};
+ghost use Rattle.rt_model.specs.World.{Application};
+ghost use Rattle.rt_model.specs.Commands.{commands as done_by_all};
+ghost use Rattle.rt_calls.specs.Calls.{command_of};
+ghost use Rattle.rt_calls.specs.declared.faults.CxFault.{CxFault};
+ghost use Rattle.rt_state.specs.Mirror.{state_of};
+ghost use Rattle.rt_state.specs.Starts.{IsEmpty};
+ghost use Rattle.rt_scopes.specs.Outcomes.{stop_of};
 
-use crate::state::State;
-use rt_calls::{Hook, Rest, Scope, ScopeRow};
-use rt_nodes::VComponent;
+use rt_calls::{App, Calls, Command, CxFault, Firsts, TurnParts, no_calls};
 use rt_parts::Parts;
-use rt_places::{Side, SideName};
-use rt_values::{List, ScopeId};
+use rt_state::{Fault, State, Stop};
+use rt_values::{List, OutOfMemory, ScopeId};
 use std::alloc::Global;
 
-/// A scope at its making, not yet run.
-pub fn new_scope<P: Parts>(
-    alloc: Global,
-    component: VComponent<P>,
-    parent: Option<u64>,
-    height: u64,
-    below: SideName,
-) -> Scope<P>
-    ensures { scope_of result
-        ≡ new_scope (component_of component) parent height (side_name_of below) }
+/// All that is kept between two calls of an application.
+#[derive(Drop)]
+pub struct Scopes<A: App> {
+    pub alloc: Global,
+    pub state: State<A>,
+}
+
+/// What is left of a call once its answer was taken.
+#[derive(Drop)]
+pub struct Left<P: Parts> {
+    pub commands: List<Command<P>>,
+    pub next: Firsts,
+    pub fault: Option<CxFault>,
+}
+
+/// Takes the answer of a call that is no body.
+pub(crate) fn apart<P: Parts, T>(parts: TurnParts<P, T>) -> (T, Left<P>)
+    ensures answer { result.0 ≡ parts.answer }
+    ensures commands { result.1.commands ≡ parts.commands }
+    ensures next { result.1.next ≡ parts.next }
+    ensures fault { result.1.fault ≡ parts.fault }
 {
-    let shows = first_shown(&component);
-    let row = ScopeRow {
-        parent: scope_id(parent),
-        renders: 0,
-        hooks: List::new(alloc),
-        contexts: List::new(alloc),
-        error: None,
+    let TurnParts {
+        answer,
+        reads: _,
+        commands,
+        next,
+        fault,
+    } = parts;
+    let left = Left {
+        commands,
+        next,
+        fault,
     };
-    let rest = Rest {
-        component,
-        height,
-        below,
-        main_side: Side::empty(alloc),
-        children_side: Side::empty(alloc),
-        fallback_side: Side::empty(alloc),
-        reads: List::new(alloc),
-        mounted: false,
-        effects: List::new(alloc),
-        shows,
-        holders: List::new(alloc),
-        frozen: false,
-        callbacks: List::new(alloc),
-    };
-    Scope { row, rest }
+    (answer, left)
 }
 
-/// The side that a scope shows at its making.
-fn first_shown<P: Parts>(component: &VComponent<P>) -> Option<SideName>
-    ensures { option_map side_name_of result
-        ≡ (if tree.is_suspense_boundary (component_of component.now) then None else Some MainSide) }
+/// What a refusal of a call leads to.
+fn stop_of(refusal: CxFault) -> Stop
+    ensures { result ≡ stop_of refusal }
 {
-    if is_suspense_boundary(component) {
-        None
-    } else {
-        Some(SideName::Main)
+    match refusal {
+        CxFault::OutOfMemory => Stop::OutOfMemory,
+        CxFault::IdsExhausted { what } => Stop::Fault(Fault::IdsExhausted { what }),
+        CxFault::HookChanged {
+            scope,
+            index,
+            kept,
+            asked,
+        } => Stop::Fault(Fault::HookChanged {
+            scope: scope.0,
+            index,
+            kept,
+            asked,
+        }),
     }
 }
 
-/// A scope's name, by its number.
-fn scope_id(number: Option<u64>) -> Option<ScopeId>
-    ensures { number_of result ≡ number }
-{
-    match number {
-        Some(number) => Some(ScopeId(number)),
-        None => None,
-    }
-}
-
-/// A scope's number, by its name.
-fn scope_number(name: Option<ScopeId>) -> Option<u64>
-    ensures { result ≡ number_of name }
-{
-    match name {
-        Some(name) => Some(name.0),
-        None => None,
-    }
-}
-
-/// Whether a component is a suspense boundary.
-#[tactic(auto, using(crate::proofs::Components::components))]
-pub fn is_suspense_boundary<P: Parts>(component: &VComponent<P>) -> bool
-    ensures { result ≡ tree.is_suspense_boundary (component_of component.now) }
-{
-    match component {
-        VComponent::SuspenseBoundary(_) => true,
-        VComponent::App { .. } => false,
-        VComponent::Fragment(_) => false,
-        VComponent::ErrorBoundary(_) => false,
-        VComponent::Root(_) => false,
-    }
-}
-
-/// A side of a scope.
-pub fn side_of<P: Parts>(scope: &Scope<P>, side: SideName) -> &Side<P>
-    ensures { side_of result.now ≡ model.side_of (scope_of scope.now) (side_name_of side) }
-{
-    match side {
-        SideName::Main => &scope.rest.main_side,
-        SideName::Children => &scope.rest.children_side,
-        SideName::Fallback => &scope.rest.fallback_side,
-    }
-}
-
-/// Puts another side in the place of one of a scope.
-pub fn put_side<P: Parts>(scope: &mut Scope<P>, name: SideName, side: Side<P>)
-    ensures { scope_of scope.new
-        ≡ with_side (scope_of scope.old) (side_name_of name) (side_of side) }
-{
-    match name {
-        SideName::Main => scope.rest.main_side = side,
-        SideName::Children => scope.rest.children_side = side,
-        SideName::Fallback => scope.rest.fallback_side = side,
-    }
-}
-
-/// Whether some task holds a boundary.
-pub fn is_held<P: Parts>(scope: &Scope<P>) -> bool
-    ensures { result ≡ is_held (scope_of scope.now) }
-{
-    !scope.rest.holders.is_empty()
-}
-
-/// Whether this task holds a boundary.
-pub fn holds<P: Parts>(scope: &Scope<P>, task: u64) -> bool
-    ensures { result ≡ holds (scope_of scope.now) task }
-{
-    for holder in scope.rest.holders.as_slice() {
-        if holder.0 == task {
-            return true;
-        }
-    }
-    false
-}
-
-impl<P: Parts> State<P> {
-    /// The parent of a live scope. The root wrapper alone has none.
-    #[tactic(auto, using(crate::proofs::Each::eaches))]
-    pub fn parent_of(&self, scope: u64) -> Option<u64>
-        ensures { result ≡ parent_of (scopes_of self.now.rows.table) scope }
+impl<A: App> Scopes<A> {
+    /// No scope yet, and no call. The counters begin at these numbers.
+    pub fn new(alloc: Global, firsts: Firsts) -> Result<(Scopes<A>, Calls), OutOfMemory>
+        ensures empty { IfOk result (λ made. IsEmpty firsts made.0.state) }
+        ensures uncalled { IfOk result (λ made. made.1 ≡ 0) }
     {
-        match self.scope(scope) {
-            Some(found) => scope_number(found.row.parent),
-            None => None,
-        }
+        let scopes = Scopes {
+            alloc,
+            state: State::empty(alloc, firsts),
+        };
+        Ok((scopes, no_calls()))
     }
 
-    /// The number of scopes above a live scope.
-    #[tactic(auto, using(crate::proofs::Each::eaches))]
-    pub fn height_of(&self, scope: u64) -> u64
-        ensures { result ≡ height_of (scopes_of self.now.rows.table) scope }
+    /// Does what a call in a scope asked for, in order.
+    pub fn do_commands(
+        &mut self,
+        scope: ScopeId,
+        commands: List<Command<A>>,
+    ) -> Result<(), OutOfMemory>
+        ensures { (app : Application
+            (types A.Component A.Props A.Value A.Handler A.TaskState A.Effect A.Payload))
+            → Tests A.Value app.same_value → OnOk result ((g : _) →
+            state_of g self.new.state
+            ≡ done_by_all app (state_of g self.old.state) scope.0 None (map command_of commands)) }
     {
-        match self.scope(scope) {
-            Some(found) => found.rest.height,
-            None => 0,
-        }
+        self.state.do_commands(self.alloc, scope.0, None, commands)
     }
 
-    /// What a scope keeps, by index.
-    #[tactic(auto, using(crate::proofs::Each::eaches))]
-    pub fn hooks_of(&self, scope: u64) -> &[Hook<P>]
-        ensures { (g : _) → map hook_of result.now ≡ hooks_of (state_of g self.now) scope }
+    /// Takes on the numbers that a call left, and gives its commands where it met no refusal.
+    pub(crate) fn after_call(&mut self, left: Left<A>) -> Result<List<Command<A>>, Stop>
+        ensures next { self.new.state ≡ record self.old.state { next = left.next } }
+        ensures ok { IfOk result (λ commands. (commands ≡ left.commands) × (left.fault ≡ None)) }
+        ensures cut { IfErr result (λ stop.
+            (refusal : CxFault) × (left.fault ≡ Some refusal) × (stop ≡ stop_of refusal)) }
     {
-        match self.scope(scope) {
-            Some(found) => found.row.hooks.as_slice(),
-            None => &[],
-        }
-    }
-
-    /// How often a scope's body has answered a tree.
-    #[tactic(auto, using(crate::proofs::Each::eaches))]
-    pub fn renders_of(&self, scope: u64) -> u64
-        ensures { (g : _) → result ≡ renders_of (state_of g self.now) scope }
-    {
-        match self.scope(scope) {
-            Some(found) => found.row.renders,
-            None => 0,
-        }
-    }
-
-    /// Whether a scope has rendered something. One that is gone counts as having done so.
-    #[tactic(auto, using(crate::proofs::Each::mappeds))]
-    pub fn has_output(&self, scope: u64) -> bool
-        ensures { (g : _) → result ≡ has_output (state_of g self.now) scope }
-    {
-        match self.scope(scope) {
-            Some(found) => found.rest.main_side.output.is_some(),
-            None => true,
-        }
-    }
-
-    /// Whether a live scope is a suspense boundary.
-    #[tactic(auto, using(crate::proofs::Each::eaches))]
-    pub fn is_boundary(&self, scope: u64) -> bool
-        ensures { result ≡ is_boundary (scopes_of self.now.rows.table) scope }
-    {
-        match self.scope(scope) {
-            Some(found) => is_suspense_boundary(&found.rest.component),
-            None => false,
+        let Left {
+            commands,
+            next,
+            fault,
+        } = left;
+        self.state.next = next;
+        match fault {
+            Some(refusal) => Err(stop_of(refusal)),
+            None => Ok(commands),
         }
     }
 }

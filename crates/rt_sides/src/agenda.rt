@@ -8,7 +8,7 @@ ghost use Rattle.rt_model.specs.Run.{start_agenda as agenda_started};
 ghost use Rattle.rt_mirror.specs.Sealed.{tree_of};
 ghost use Rattle.rt_places.specs.Places.{side_name_of, side_of};
 ghost use Rattle.rt_work.specs.Items.{work_of};
-ghost use Rattle.rt_scopes.specs.Mirror.{state_of};
+ghost use Rattle.rt_state.specs.Mirror.{state_of};
 ghost use Rattle.rt_sides.specs.Agendas.{Patches};
 ghost use Rattle.rt_sides.specs.Sides.{side_put};
 
@@ -16,7 +16,7 @@ use rt_calls::Scope;
 use rt_nodes::VNode;
 use rt_parts::Parts;
 use rt_places::{Side, SideName, spots};
-use rt_scopes::{State, side_of};
+use rt_state::{State, side_of};
 use rt_values::{List, OutOfMemory};
 use rt_work::{Item, drops_of, kept_children, kept_numbers, serves, spots_of};
 use std::alloc::Global;

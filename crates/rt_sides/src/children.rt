@@ -6,13 +6,13 @@ ghost use Rattle.rt_model.specs.Boundary.{side_scopes as scopes_on, live_child};
 ghost use Rattle.rt_model.specs.Removal.{children_below as all_below, next_removed as first_removed};
 ghost use Rattle.rt_model.specs.Replay.{fed_child as child_fed};
 ghost use Rattle.rt_places.specs.Places.{place_of, side_name_of, side_of};
-ghost use Rattle.rt_scopes.specs.Mirror.{state_of};
+ghost use Rattle.rt_state.specs.Mirror.{state_of};
 ghost use Rattle.rt_sides.specs.Sides.{child_here, fallback_scopes_in};
 
 use rt_calls::Scope;
 use rt_parts::Parts;
 use rt_places::{Child, Side, SideName, Spot, Step};
-use rt_scopes::{State, side_of};
+use rt_state::{State, side_of};
 use rt_values::{List, OutOfMemory};
 use rt_work::{child_at, spots_of};
 use std::alloc::Global;
@@ -179,7 +179,11 @@ fn clear_fallback<P: Parts>(
               };
             }) }
         {
-            found.rest.fallback_side = Side::empty(alloc);
+            found.rest.fallback_side = Side {
+                output: None,
+                numbers: List::new(alloc),
+                children: List::new(alloc),
+            };
             Ok(())
         },
     )

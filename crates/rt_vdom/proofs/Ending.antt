@@ -9,7 +9,8 @@ use Rattle.rt_model.specs.State.{Fault}
 use Rattle.rt_model.specs.Replay.{Input}
 use Rattle.rt_model.specs.Document.{Edit}
 use Rattle.rt_model.specs.Causes.{Limits, IsValid}
-use Rattle.rt_model.specs.Headline.{Report, RanTo, logs_of}
+use Rattle.rt_model.specs.Reports.{Report, logs_of}
+use Rattle.rt_model.specs.Ran.{RanTo}
 
 pub never_some : {A : Type 0} (o : Option A) → ((a : A) → o ≡ Some a → ⊥) → o ≡ None
 never_some None never = refl
@@ -21,4 +22,4 @@ module _ {K : Types} (app : Application K) (props : K.Props) (inputs : List (Inp
       → RanTo app props inputs limits taken reports fault
       → ⊥
   never_refused taken reports fault valid ran =
-      none-some fault (sym (valid (joined (logs_of reports) ++ ran.log) ran.last.machine ran.within) ∙ ran.cause)
+      none-some fault (sym (valid (joined (logs_of reports) ++ (ran.stopped).log) ((ran.stopped).last).machine (ran.stopped).within) ∙ (ran.stopped).cause)

@@ -8,11 +8,11 @@ use Rattle.rt_model.specs.Laws.{IsLawful}
 use Rattle.rt_model.specs.Replay.{Entry, Build, Taken, Input}
 use Rattle.rt_model.specs.Document.{Edit}
 use Rattle.rt_model.specs.Causes.{Limits}
-use Rattle.rt_model.specs.Headline.{Report, logs_of, OneEach, OpensWith, InputsFrom}
+use Rattle.rt_model.specs.Reports.{Report, logs_of, OneEach, OpensWith, InputsFrom}
 use Rattle.rt_headline.specs.Sessions.{FinishedHold}
 use Rattle.rt_reports.specs.Counted.{BeginsOneEach}
-use Rattle.rt_vdom.specs.Sessions.{FinishedHeld}
-use Rattle.rt_vdom.specs.Short.{RanShort}
+use Rattle.rt_machine.specs.Sessions.{FinishedHeld}
+use Rattle.rt_machine.specs.Short.{RanShort}
 
 opened : (first : Entry) (log : List Entry) → OpensWith first log → log ≢ []
 opened first [] h = absurd h
@@ -40,5 +40,6 @@ module _ {K : Types} where
         told = r.told;
         holds =
             law lawful props inputs limits reports r.told (r.log ++ r.unit) r.last.machine
-            (each_opened inputs (logs_of reports) (r.begins).later (r.begins).one_each) r.accepted r.within r.counted r.settled;
+            (each_opened inputs (logs_of reports) (r.begins).later (r.begins).one_each)
+            (record { accepted = r.accepted; counted = r.counted; settled = r.settled }) r.within;
       }

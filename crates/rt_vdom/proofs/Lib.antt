@@ -1,21 +1,2 @@
-mod Openings
-mod Sinks
-mod Reports
-mod Framed
-mod Stacks
-mod Kept
-mod Arms
-mod Keeps
-mod Wrote
-mod Waiting
-mod Steps
-mod Turning
-mod Opening
-mod Running
-mod Hearings
-mod Short
-mod Breaking
-mod Quiet
-mod Reporting
 mod Ending
 pub mod Held

@@ -4,4 +4,4 @@ pub use rt_calls::{
     App, BodyCx, BodyTurn, Calls, Command, Cx, CxFault, Firsts, Hook, InBody, Plain, Provided,
     Rows, ScopeRow, TaskStep, Turn, TurnParts, World,
 };
-pub use rt_tracked::{Cells, Source};
+pub use rt_cells::{Cells, Source};

@@ -1,19 +1,19 @@
 //! Cells: read, and made, written and dropped once the call has returned.
 ghost use Rattle.std.specs.Prelude.{◌≡◌, ◌↔◌, IsTrue, IfOk, IfErr, OnOk, Err};
 ghost use Rattle.rt_model.specs.Lists.{at};
-ghost use Rattle.rt_model.specs.Program.{says, drew_cell, value_in};
+ghost use Rattle.rt_model.specs.Program.{faults, says, drew_cell, value_in};
 ghost use Rattle.rt_model.specs.World as model;
 ghost use Rattle.rt_model.specs.World.{at_end};
 ghost use Rattle.rt_calls.specs.Calls.{world_of, call_of};
-ghost use Rattle.rt_calls.specs.Reads.{read_value, read_call};
-ghost use Rattle.rt_calls.specs.Steps.{WantedMemory, LostMemory, DrawsNone};
+ghost use Rattle.rt_programs.specs.Reads.{read_value, read_call};
+ghost use Rattle.rt_calls.specs.Steps.{WantedMemory, LostMemory, DrawsNone, IsTold};
 
 use crate::command::Command;
 use crate::cx::Cx;
 use crate::faults::{Counter, CxFault};
 use crate::made::{copied, made_cell};
+use rt_cells::Source;
 use rt_parts::Parts;
-use rt_tracked::Source;
 use rt_values::{OutOfMemory, Part};
 use std::alloc::Global;
 
@@ -24,6 +24,7 @@ impl<'a, P: Parts, K> Cx<'a, P, K> {
         ensures value { IfOk result (λ value.
             value ≡ read_value (world_of self.old.world) (call_of self.old) cell) }
         ensures call { OnOk result (call_of self.new ≡ read_call (call_of self.old) cell) }
+        ensures fault { OnOk result (self.new.fault ≡ self.old.fault) }
         ensures err { IfErr result (LostMemory self.old self.new) }
         ensures world { self.new.world ≡ self.old.world }
     {
@@ -52,12 +53,16 @@ impl<'a, P: Parts, K> Cx<'a, P, K> {
     }
 
     /// Makes a cell of the caller's scope, and answers its number.
+    #[tactic(auto, using(crate::proofs::Told::telling))]
     pub fn new_cell(&mut self, value: P::Value) -> Result<u64, CxFault>
         ensures value { IfOk result (λ cell. cell ≡ self.old.next.cells) }
         ensures call { OnOk result (call_of self.new ≡ drew_cell (call_of self.old) value) }
         ensures at_end { (result ≡ Err (CxFault.IdsExhausted Counter.Cells))
             ↔ IsTrue (at_end self.old.next.cells) }
+        ensures fault { OnOk result (self.new.fault ≡ self.old.fault) }
         ensures err { IfErr result (DrawsNone Counter.Cells self.old self.new) }
+        ensures told { IfErr result (IsTold
+            (faults (call_of self.old) (model.CounterAtEnd model.Cells)) self.old self.new) }
         ensures world { self.new.world ≡ self.old.world }
     {
         let cell = self.next.cells;
@@ -75,6 +80,7 @@ impl<'a, P: Parts, K> Cx<'a, P, K> {
     pub fn write(&mut self, cell: u64, value: P::Value) -> Result<(), CxFault>
         ensures call { OnOk result
             (call_of self.new ≡ says (call_of self.old) (model.Write cell value)) }
+        ensures fault { OnOk result (self.new.fault ≡ self.old.fault) }
         ensures err { IfErr result (WantedMemory self.old self.new) }
         ensures world { self.new.world ≡ self.old.world }
     {
@@ -85,6 +91,7 @@ impl<'a, P: Parts, K> Cx<'a, P, K> {
     pub fn drop_cell(&mut self, cell: u64) -> Result<(), CxFault>
         ensures call { OnOk result
             (call_of self.new ≡ says (call_of self.old) (model.DropCell cell)) }
+        ensures fault { OnOk result (self.new.fault ≡ self.old.fault) }
         ensures err { IfErr result (WantedMemory self.old self.new) }
         ensures world { self.new.world ≡ self.old.world }
     {

@@ -2,15 +2,15 @@
 ghost use Rattle.std.specs.Prelude.{◌≡◌, ◌+◌, None, Some, IfOk, IfErr, OnOk, length, true, false};
 ghost use Rattle.rt_model.specs.Program.{own_context, provides, look_up, look_here, looked_up};
 ghost use Rattle.rt_calls.specs.Calls.{given_of, world_of, call_of};
-ghost use Rattle.rt_calls.specs.Reads.{looked_at};
+ghost use Rattle.rt_programs.specs.Reads.{looked_at};
 ghost use Rattle.rt_calls.specs.Steps.{WantedMemory, LostMemory};
 
 use crate::command::Command;
 use crate::cx::Cx;
 use crate::faults::CxFault;
 use crate::made::{copied, made_context};
+use rt_cells::Source;
 use rt_parts::Parts;
-use rt_tracked::Source;
 use rt_values::{OutOfMemory, ScopeId};
 use std::alloc::Global;
 
@@ -19,6 +19,7 @@ impl<'a, P: Parts, K> Cx<'a, P, K> {
     pub fn provide_context(&mut self, kind: u32, value: P::Value) -> Result<(), CxFault>
         ensures call { OnOk result (call_of self.new
             ≡ provides (world_of self.old.world) (call_of self.old) false kind value) }
+        ensures fault { OnOk result (self.new.fault ≡ self.old.fault) }
         ensures err { IfErr result (WantedMemory self.old self.new) }
         ensures world { self.new.world ≡ self.old.world }
     {
@@ -33,6 +34,7 @@ impl<'a, P: Parts, K> Cx<'a, P, K> {
     pub fn provide_root_context(&mut self, kind: u32, value: P::Value) -> Result<(), CxFault>
         ensures call { OnOk result (call_of self.new
             ≡ provides (world_of self.old.world) (call_of self.old) true kind value) }
+        ensures fault { OnOk result (self.new.fault ≡ self.old.fault) }
         ensures err { IfErr result (WantedMemory self.old self.new) }
         ensures world { self.new.world ≡ self.old.world }
     {
@@ -53,6 +55,7 @@ impl<'a, P: Parts, K> Cx<'a, P, K> {
             ≡ (look_up (world_of self.old.world) None kind (call_of self.old)).value) }
         ensures call { OnOk result (call_of self.new
             ≡ (look_up (world_of self.old.world) None kind (call_of self.old)).call) }
+        ensures fault { OnOk result (self.new.fault ≡ self.old.fault) }
         ensures err { IfErr result (LostMemory self.old self.new) }
         ensures world { self.new.world ≡ self.old.world }
     {
@@ -70,6 +73,7 @@ impl<'a, P: Parts, K> Cx<'a, P, K> {
             ≡ (look_up (world_of self.old.world) (Some scope.0) kind (call_of self.old)).value) }
         ensures call { OnOk result (call_of self.new
             ≡ (look_up (world_of self.old.world) (Some scope.0) kind (call_of self.old)).call) }
+        ensures fault { OnOk result (self.new.fault ≡ self.old.fault) }
         ensures err { IfErr result (LostMemory self.old self.new) }
         ensures world { self.new.world ≡ self.old.world }
     {
@@ -82,6 +86,7 @@ impl<'a, P: Parts, K> Cx<'a, P, K> {
             ≡ (look_here (world_of self.old.world) kind (call_of self.old)).value) }
         ensures call { OnOk result (call_of self.new
             ≡ (look_here (world_of self.old.world) kind (call_of self.old)).call) }
+        ensures fault { OnOk result (self.new.fault ≡ self.old.fault) }
         ensures err { IfErr result (LostMemory self.old self.new) }
         ensures world { self.new.world ≡ self.old.world }
     {
@@ -100,6 +105,7 @@ impl<'a, P: Parts, K> Cx<'a, P, K> {
             (length (given_of self.old.world).parents + 1) from.0 (call_of self.old)).value) }
         ensures call { OnOk result (call_of self.new ≡ (looked_up (world_of self.old.world) kind
             (length (given_of self.old.world).parents + 1) from.0 (call_of self.old)).call) }
+        ensures fault { OnOk result (self.new.fault ≡ self.old.fault) }
         ensures err { IfErr result (LostMemory self.old self.new) }
         ensures world { self.new.world ≡ self.old.world }
     {

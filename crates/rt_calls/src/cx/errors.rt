@@ -1,18 +1,18 @@
 //! Errors and marks: the nearest error, errors that are thrown, scopes that are marked.
 ghost use Rattle.std.specs.Prelude.{◌≡◌, ◌↔◌, IsTrue, IfOk, IfErr, OnOk, Err, Some, option_map};
 ghost use Rattle.std.specs.Option.{option_copied};
-ghost use Rattle.rt_model.specs.Program.{says, drew_error, nearest_boundary, error_in, noted_error};
+ghost use Rattle.rt_model.specs.Program.{faults, says, drew_error, nearest_boundary, error_in, noted_error};
 ghost use Rattle.rt_model.specs.World as model;
 ghost use Rattle.rt_model.specs.World.{at_end};
 ghost use Rattle.rt_mirror.specs.Mirror.{error_of};
 ghost use Rattle.rt_calls.specs.Calls.{number_of, given_of, world_of, call_of};
-ghost use Rattle.rt_calls.specs.Steps.{WantedMemory, LostMemory, DrawsNone};
+ghost use Rattle.rt_calls.specs.Steps.{WantedMemory, LostMemory, DrawsNone, IsTold};
 
 use crate::command::Command;
 use crate::cx::Cx;
 use crate::faults::{Counter, CxFault};
+use rt_cells::Source;
 use rt_parts::{CapturedError, Parts};
-use rt_tracked::Source;
 use rt_values::{OutOfMemory, ScopeId, Text};
 use std::alloc::Global;
 
@@ -23,6 +23,7 @@ impl<'a, P: Parts, K> Cx<'a, P, K> {
             ≡ error_in (world_of self.old.world) (nearest_boundary (given_of self.old.world))) }
         ensures call { OnOk result (call_of self.new
             ≡ noted_error (call_of self.old) (nearest_boundary (given_of self.old.world))) }
+        ensures fault { OnOk result (self.new.fault ≡ self.old.fault) }
         ensures err { IfErr result (LostMemory self.old self.new) }
         ensures world { self.new.world ≡ self.old.world }
     {
@@ -54,13 +55,17 @@ impl<'a, P: Parts, K> Cx<'a, P, K> {
     }
 
     /// An error with the next serial number. It takes no memory.
+    #[tactic(auto, using(crate::proofs::Told::telling))]
     pub fn captured(&mut self, text: Text) -> Result<CapturedError, CxFault>
         ensures value { IfOk result (λ error.
             error ≡ record { serial = self.old.next.errors; text = text }) }
         ensures call { OnOk result (call_of self.new ≡ drew_error (call_of self.old)) }
         ensures at_end { (result ≡ Err (CxFault.IdsExhausted Counter.Errors))
             ↔ IsTrue (at_end self.old.next.errors) }
+        ensures fault { OnOk result (self.new.fault ≡ self.old.fault) }
         ensures err { IfErr result (DrawsNone Counter.Errors self.old self.new) }
+        ensures told { IfErr result (IsTold
+            (faults (call_of self.old) (model.CounterAtEnd model.Errors)) self.old self.new) }
         ensures world { self.new.world ≡ self.old.world }
     {
         let serial = self.next.errors;
@@ -77,6 +82,7 @@ impl<'a, P: Parts, K> Cx<'a, P, K> {
     pub fn throw_error(&mut self, error: CapturedError) -> Result<(), CxFault>
         ensures call { OnOk result
             (call_of self.new ≡ says (call_of self.old) (model.Throw (error_of error))) }
+        ensures fault { OnOk result (self.new.fault ≡ self.old.fault) }
         ensures err { IfErr result (WantedMemory self.old self.new) }
         ensures world { self.new.world ≡ self.old.world }
     {
@@ -86,6 +92,7 @@ impl<'a, P: Parts, K> Cx<'a, P, K> {
     /// Clears the error that the nearest error boundary keeps.
     pub fn clear_errors(&mut self) -> Result<(), CxFault>
         ensures call { OnOk result (call_of self.new ≡ says (call_of self.old) model.ClearErrors) }
+        ensures fault { OnOk result (self.new.fault ≡ self.old.fault) }
         ensures err { IfErr result (WantedMemory self.old self.new) }
         ensures world { self.new.world ≡ self.old.world }
     {
@@ -96,6 +103,7 @@ impl<'a, P: Parts, K> Cx<'a, P, K> {
     pub fn needs_update(&mut self) -> Result<(), CxFault>
         ensures call { OnOk result (call_of self.new
             ≡ says (call_of self.old) (model.Update (self.old.world.scope).0)) }
+        ensures fault { OnOk result (self.new.fault ≡ self.old.fault) }
         ensures err { IfErr result (WantedMemory self.old self.new) }
         ensures world { self.new.world ≡ self.old.world }
     {
@@ -107,6 +115,7 @@ impl<'a, P: Parts, K> Cx<'a, P, K> {
     pub fn needs_update_any(&mut self, scope: ScopeId) -> Result<(), CxFault>
         ensures call { OnOk result
             (call_of self.new ≡ says (call_of self.old) (model.Update scope.0)) }
+        ensures fault { OnOk result (self.new.fault ≡ self.old.fault) }
         ensures err { IfErr result (WantedMemory self.old self.new) }
         ensures world { self.new.world ≡ self.old.world }
     {

@@ -6,7 +6,7 @@ ghost use Rattle.rt_model.specs.World as model;
 ghost use Rattle.rt_model.specs.World.{clean_up_kind, before_render_kind, after_render_kind};
 ghost use Rattle.rt_calls.specs.Calls.{hook_of, given_of, world_of, call_of};
 ghost use Rattle.rt_calls.specs.Hooks.{is_changed, kept, held_or, standing, standing_after, both_stand, HookRefused, PairRefused};
-ghost use Rattle.rt_calls.specs.Steps.{first_refusal, WantedMemory};
+ghost use Rattle.rt_calls.specs.Steps.{first_refusal, WantedMemory, IsTold};
 
 use crate::command::Command;
 use crate::cx::{Cx, InBody};
@@ -16,14 +16,14 @@ use rt_parts::{ListenerCallback, Parts};
 use rt_values::{OutOfMemory, Part};
 use std::alloc::Global;
 
-/// The kind of clean-ups.
-const CLEAN_UP: u32 = u32::MAX - 2;
+/// The kind of clean-ups: effects that are done when their scope is removed.
+pub const CLEAN_UP: u32 = u32::MAX - 2;
 
 /// The kind of effects that are done before each run of their scope.
-const BEFORE_RENDER: u32 = u32::MAX - 1;
+pub const BEFORE_RENDER: u32 = u32::MAX - 1;
 
 /// The kind of effects that are done after each run's commands.
-const AFTER_RENDER: u32 = u32::MAX;
+pub const AFTER_RENDER: u32 = u32::MAX;
 
 impl<'a, P: Parts> Cx<'a, P, InBody> {
     /// Whether no hook stands at the next index yet.
@@ -66,9 +66,12 @@ impl<'a, P: Parts> Cx<'a, P, InBody> {
             ≡ hooked (world_of self.old.world) (call_of self.old) kind
             (model.HookValue kind initial) (standing self.old)) }
         ensures changed { is_changed result ≡ not (hook_stands kind (standing self.old)) }
+        ensures index { OnOk result (self.new.index ≡ self.old.index + 1) }
+        ensures fault { OnOk result (self.new.fault ≡ self.old.fault) }
         ensures err { IfErr result (HookRefused kind self.old self.new) }
-        ensures index { OnOk result ((self.new.index ≡ self.old.index + 1)
-            × (self.new.fault ≡ self.old.fault)) }
+        ensures told { IfErr result (IsTold
+            (hooked (world_of self.old.world) (call_of self.old) kind
+            (model.HookValue kind initial) (standing self.old)) self.old self.new) }
         ensures world { self.new.world ≡ self.old.world }
     {
         self.meet(kind)?;
@@ -84,7 +87,11 @@ impl<'a, P: Parts> Cx<'a, P, InBody> {
             ≡ hooked (world_of self.old.world) (call_of self.old) clean_up_kind
             (model.HookEffect clean_up_kind clean) (standing self.old)) }
         ensures changed { is_changed result ≡ not (hook_stands clean_up_kind (standing self.old)) }
+        ensures fault { OnOk result (self.new.fault ≡ self.old.fault) }
         ensures err { IfErr result (HookRefused clean_up_kind self.old self.new) }
+        ensures told { IfErr result (IsTold
+            (hooked (world_of self.old.world) (call_of self.old) clean_up_kind
+            (model.HookEffect clean_up_kind clean) (standing self.old)) self.old self.new) }
         ensures world { self.new.world ≡ self.old.world }
     {
         self.effect_hook(CLEAN_UP, clean)
@@ -97,7 +104,11 @@ impl<'a, P: Parts> Cx<'a, P, InBody> {
             (model.HookEffect before_render_kind hook) (standing self.old)) }
         ensures changed { is_changed result
             ≡ not (hook_stands before_render_kind (standing self.old)) }
+        ensures fault { OnOk result (self.new.fault ≡ self.old.fault) }
         ensures err { IfErr result (HookRefused before_render_kind self.old self.new) }
+        ensures told { IfErr result (IsTold
+            (hooked (world_of self.old.world) (call_of self.old) before_render_kind
+            (model.HookEffect before_render_kind hook) (standing self.old)) self.old self.new) }
         ensures world { self.new.world ≡ self.old.world }
     {
         self.effect_hook(BEFORE_RENDER, hook)
@@ -110,7 +121,11 @@ impl<'a, P: Parts> Cx<'a, P, InBody> {
             (model.HookEffect after_render_kind hook) (standing self.old)) }
         ensures changed { is_changed result
             ≡ not (hook_stands after_render_kind (standing self.old)) }
+        ensures fault { OnOk result (self.new.fault ≡ self.old.fault) }
         ensures err { IfErr result (HookRefused after_render_kind self.old self.new) }
+        ensures told { IfErr result (IsTold
+            (hooked (world_of self.old.world) (call_of self.old) after_render_kind
+            (model.HookEffect after_render_kind hook) (standing self.old)) self.old self.new) }
         ensures world { self.new.world ≡ self.old.world }
     {
         self.effect_hook(AFTER_RENDER, hook)
@@ -135,6 +150,7 @@ impl<'a, P: Parts> Cx<'a, P, InBody> {
             clean_up_kind (model.HookEffect clean_up_kind clean) (standing_after self.old)) }
         ensures kept { OnOk result (both_stand kind self.old ≡ true) }
         ensures changed { is_changed result ≡ true → both_stand kind self.old ≡ false }
+        ensures fault { OnOk result (self.new.fault ≡ self.old.fault) }
         ensures err { IfErr result (λ fault.
             self.new.fault ≡ first_refusal self.old.fault fault) }
         ensures why { IfErr result (PairRefused kind self.old) }
@@ -152,7 +168,11 @@ impl<'a, P: Parts> Cx<'a, P, InBody> {
             ≡ hooked (world_of self.old.world) (call_of self.old) kind
             (model.HookEffect kind effect) (standing self.old)) }
         ensures changed { is_changed result ≡ not (hook_stands kind (standing self.old)) }
+        ensures fault { OnOk result (self.new.fault ≡ self.old.fault) }
         ensures err { IfErr result (HookRefused kind self.old self.new) }
+        ensures told { IfErr result (IsTold
+            (hooked (world_of self.old.world) (call_of self.old) kind
+            (model.HookEffect kind effect) (standing self.old)) self.old self.new) }
         ensures world { self.new.world ≡ self.old.world }
     {
         self.meet(kind)?;
@@ -160,11 +180,16 @@ impl<'a, P: Parts> Cx<'a, P, InBody> {
     }
 
     /// Refuses a hook where one of another kind stands at its index. The hook counts as used.
+    #[tactic(auto, using(crate::proofs::Told::telling))]
     fn meet(&mut self, kind: u32) -> Result<(), CxFault>
         ensures ok { OnOk result (self.new ≡ self.old) }
         ensures changed { is_changed result ≡ not (hook_stands kind (standing self.old)) }
         ensures stands { OnOk result (hook_stands kind (standing self.old) ≡ true) }
+        ensures fault { OnOk result (self.new.fault ≡ self.old.fault) }
         ensures err { IfErr result (HookRefused kind self.old self.new) }
+        ensures told { IfErr result (λ fault. (hook : _) → IsTold
+            (hooked (world_of self.old.world) (call_of self.old) kind
+            hook (standing self.old)) self.old self.new fault) }
         ensures world { self.new.world ≡ self.old.world }
     {
         match self.kept_kind() {
@@ -186,8 +211,8 @@ impl<'a, P: Parts> Cx<'a, P, InBody> {
     fn keep(&mut self, hook: Hook<P>) -> Result<(), CxFault>
         ensures call { OnOk result (call_of self.new
             ≡ kept (call_of self.old) (hook_of hook) (standing self.old)) }
-        ensures index { OnOk result ((self.new.index ≡ self.old.index + 1)
-            × (self.new.fault ≡ self.old.fault)) }
+        ensures index { OnOk result (self.new.index ≡ self.old.index + 1) }
+        ensures fault { OnOk result (self.new.fault ≡ self.old.fault) }
         ensures err { IfErr result (WantedMemory self.old self.new) }
         ensures world { self.new.world ≡ self.old.world }
     {

@@ -1,28 +1,32 @@
 //! Reactive contexts: made, and read for.
 ghost use Rattle.std.specs.Prelude.{◌≡◌, ◌↔◌, ◌++◌, ◌∷◌, [], IsTrue, IfOk, IfErr, OnOk, Err, true, false};
-ghost use Rattle.rt_model.specs.Program.{says, drew_context, noted_at, noted};
+ghost use Rattle.rt_model.specs.Program.{faults, says, drew_context, noted_at, noted};
 ghost use Rattle.rt_model.specs.World as model;
 ghost use Rattle.rt_model.specs.World.{at_end};
 ghost use Rattle.rt_calls.specs.Calls.{call_of, target_of, source_of};
-ghost use Rattle.rt_calls.specs.Contexts.{entered, left};
-ghost use Rattle.rt_calls.specs.Steps.{with_aside, WantedMemory, LostMemory, DrawsNone};
+ghost use Rattle.rt_programs.specs.Contexts.{entered, left};
+ghost use Rattle.rt_calls.specs.Steps.{with_aside, WantedMemory, LostMemory, DrawsNone, IsTold};
 
 use crate::command::Command;
 use crate::cx::Cx;
 use crate::entered::{last_entered, leave_last};
 use crate::faults::{Counter, CxFault};
+use rt_cells::{ReactiveContext, Source, Target};
 use rt_parts::Parts;
-use rt_tracked::{ReactiveContext, Source, Target};
 
 impl<'a, P: Parts, K> Cx<'a, P, K> {
     /// Makes a reactive context of the caller's scope, which tells the target.
+    #[tactic(auto, using(crate::proofs::Told::telling))]
     pub fn new_context(&mut self, target: Target) -> Result<ReactiveContext, CxFault>
         ensures value { IfOk result (λ context. context.0 ≡ self.old.next.contexts) }
         ensures call { OnOk result
             (call_of self.new ≡ drew_context (call_of self.old) (target_of target)) }
         ensures at_end { (result ≡ Err (CxFault.IdsExhausted Counter.Contexts))
             ↔ IsTrue (at_end self.old.next.contexts) }
+        ensures fault { OnOk result (self.new.fault ≡ self.old.fault) }
         ensures err { IfErr result (DrawsNone Counter.Contexts self.old self.new) }
+        ensures told { IfErr result (IsTold
+            (faults (call_of self.old) (model.CounterAtEnd model.Contexts)) self.old self.new) }
         ensures world { self.new.world ≡ self.old.world }
     {
         let number = self.next.contexts;
@@ -41,6 +45,7 @@ impl<'a, P: Parts, K> Cx<'a, P, K> {
     #[tactic(auto, using(crate::proofs::Gathered::more))]
     pub fn run_in(&mut self, context: ReactiveContext) -> Result<(), CxFault>
         ensures call { OnOk result (call_of self.new ≡ entered (call_of self.old) context.0) }
+        ensures fault { OnOk result (self.new.fault ≡ self.old.fault) }
         ensures err { IfErr result (WantedMemory self.old self.new) }
         ensures world { self.new.world ≡ self.old.world }
     {
@@ -54,6 +59,7 @@ impl<'a, P: Parts, K> Cx<'a, P, K> {
     pub fn reset_and_run_in(&mut self, context: ReactiveContext) -> Result<(), CxFault>
         ensures call { OnOk result (call_of self.new
             ≡ says (entered (call_of self.old) context.0) (model.Reset context.0)) }
+        ensures fault { OnOk result (self.new.fault ≡ self.old.fault) }
         ensures err { IfErr result (LostMemory self.old self.new) }
         ensures world { self.new.world ≡ self.old.world }
     {
@@ -64,6 +70,7 @@ impl<'a, P: Parts, K> Cx<'a, P, K> {
     /// Ends the last `run_in`.
     pub fn leave(&mut self) -> Result<(), CxFault>
         ensures call { OnOk result (call_of self.new ≡ left (call_of self.old)) }
+        ensures fault { OnOk result (self.new.fault ≡ self.old.fault) }
         ensures err { IfErr result (WantedMemory self.old self.new) }
         ensures world { self.new.world ≡ self.old.world }
     {
@@ -123,6 +130,7 @@ impl<'a, P: Parts, K> Cx<'a, P, K> {
         ensures ok { OnOk result (self.new ≡ with_aside self.old source) }
         ensures call { OnOk result (call_of self.new
             ≡ noted_at (call_of self.old) (source_of source) [] false) }
+        ensures fault { OnOk result (self.new.fault ≡ self.old.fault) }
         ensures err { IfErr result (WantedMemory self.old self.new) }
         ensures world { self.new.world ≡ self.old.world }
     {

@@ -1,10 +1,10 @@
 //! Tasks, effects and the suspense boundary, which change once the call has returned.
 ghost use Rattle.std.specs.Prelude.{◌≡◌, ◌↔◌, IsTrue, IfOk, IfErr, OnOk, Err, true, false};
-ghost use Rattle.rt_model.specs.Program.{says, drew_task};
+ghost use Rattle.rt_model.specs.Program.{faults, says, drew_task};
 ghost use Rattle.rt_model.specs.World as model;
 ghost use Rattle.rt_model.specs.World.{at_end};
 ghost use Rattle.rt_calls.specs.Calls.{call_of};
-ghost use Rattle.rt_calls.specs.Steps.{WantedMemory, DrawsNone};
+ghost use Rattle.rt_calls.specs.Steps.{WantedMemory, DrawsNone, IsTold};
 
 use crate::command::Command;
 use crate::cx::Cx;
@@ -20,7 +20,10 @@ impl<'a, P: Parts, K> Cx<'a, P, K> {
             (call_of self.new ≡ drew_task (call_of self.old) state false false) }
         ensures at_end { (result ≡ Err (CxFault.IdsExhausted Counter.Tasks))
             ↔ IsTrue (at_end self.old.next.tasks) }
+        ensures fault { OnOk result (self.new.fault ≡ self.old.fault) }
         ensures err { IfErr result (DrawsNone Counter.Tasks self.old self.new) }
+        ensures told { IfErr result (IsTold
+            (faults (call_of self.old) (model.CounterAtEnd model.Tasks)) self.old self.new) }
         ensures world { self.new.world ≡ self.old.world }
     {
         self.spawn_as(state, false, false)
@@ -33,7 +36,10 @@ impl<'a, P: Parts, K> Cx<'a, P, K> {
             (call_of self.new ≡ drew_task (call_of self.old) state false true) }
         ensures at_end { (result ≡ Err (CxFault.IdsExhausted Counter.Tasks))
             ↔ IsTrue (at_end self.old.next.tasks) }
+        ensures fault { OnOk result (self.new.fault ≡ self.old.fault) }
         ensures err { IfErr result (DrawsNone Counter.Tasks self.old self.new) }
+        ensures told { IfErr result (IsTold
+            (faults (call_of self.old) (model.CounterAtEnd model.Tasks)) self.old self.new) }
         ensures world { self.new.world ≡ self.old.world }
     {
         self.spawn_as(state, false, true)
@@ -46,13 +52,17 @@ impl<'a, P: Parts, K> Cx<'a, P, K> {
             (call_of self.new ≡ drew_task (call_of self.old) state true false) }
         ensures at_end { (result ≡ Err (CxFault.IdsExhausted Counter.Tasks))
             ↔ IsTrue (at_end self.old.next.tasks) }
+        ensures fault { OnOk result (self.new.fault ≡ self.old.fault) }
         ensures err { IfErr result (DrawsNone Counter.Tasks self.old self.new) }
+        ensures told { IfErr result (IsTold
+            (faults (call_of self.old) (model.CounterAtEnd model.Tasks)) self.old self.new) }
         ensures world { self.new.world ≡ self.old.world }
     {
         self.spawn_as(state, true, false)
     }
 
     /// Spawns a task.
+    #[tactic(auto, using(crate::proofs::Told::telling))]
     fn spawn_as(
         &mut self,
         state: P::TaskState,
@@ -64,7 +74,10 @@ impl<'a, P: Parts, K> Cx<'a, P, K> {
             (call_of self.new ≡ drew_task (call_of self.old) state forever isomorphic) }
         ensures at_end { (result ≡ Err (CxFault.IdsExhausted Counter.Tasks))
             ↔ IsTrue (at_end self.old.next.tasks) }
+        ensures fault { OnOk result (self.new.fault ≡ self.old.fault) }
         ensures err { IfErr result (DrawsNone Counter.Tasks self.old self.new) }
+        ensures told { IfErr result (IsTold
+            (faults (call_of self.old) (model.CounterAtEnd model.Tasks)) self.old self.new) }
         ensures world { self.new.world ≡ self.old.world }
     {
         let number = self.next.tasks;
@@ -88,6 +101,7 @@ impl<'a, P: Parts, K> Cx<'a, P, K> {
     pub fn remove_future(&mut self, task: Task) -> Result<(), CxFault>
         ensures call { OnOk result
             (call_of self.new ≡ says (call_of self.old) (model.RemoveFuture task.0)) }
+        ensures fault { OnOk result (self.new.fault ≡ self.old.fault) }
         ensures err { IfErr result (WantedMemory self.old self.new) }
         ensures world { self.new.world ≡ self.old.world }
     {
@@ -98,6 +112,7 @@ impl<'a, P: Parts, K> Cx<'a, P, K> {
     pub fn wake(&mut self, task: Task) -> Result<(), CxFault>
         ensures call { OnOk result
             (call_of self.new ≡ says (call_of self.old) (model.Wake task.0)) }
+        ensures fault { OnOk result (self.new.fault ≡ self.old.fault) }
         ensures err { IfErr result (WantedMemory self.old self.new) }
         ensures world { self.new.world ≡ self.old.world }
     {
@@ -108,6 +123,7 @@ impl<'a, P: Parts, K> Cx<'a, P, K> {
     pub fn set_active(&mut self, task: Task, active: bool) -> Result<(), CxFault>
         ensures call { OnOk result
             (call_of self.new ≡ says (call_of self.old) (model.SetActive task.0 active)) }
+        ensures fault { OnOk result (self.new.fault ≡ self.old.fault) }
         ensures err { IfErr result (WantedMemory self.old self.new) }
         ensures world { self.new.world ≡ self.old.world }
     {
@@ -118,6 +134,7 @@ impl<'a, P: Parts, K> Cx<'a, P, K> {
     pub fn queue_effect(&mut self, effect: P::Effect) -> Result<(), CxFault>
         ensures call { OnOk result
             (call_of self.new ≡ says (call_of self.old) (model.QueueEffect effect)) }
+        ensures fault { OnOk result (self.new.fault ≡ self.old.fault) }
         ensures err { IfErr result (WantedMemory self.old self.new) }
         ensures world { self.new.world ≡ self.old.world }
     {
@@ -128,6 +145,7 @@ impl<'a, P: Parts, K> Cx<'a, P, K> {
     pub fn after_suspense_resolved(&mut self, effect: P::Effect) -> Result<(), CxFault>
         ensures call { OnOk result
             (call_of self.new ≡ says (call_of self.old) (model.Resolved effect)) }
+        ensures fault { OnOk result (self.new.fault ≡ self.old.fault) }
         ensures err { IfErr result (WantedMemory self.old self.new) }
         ensures world { self.new.world ≡ self.old.world }
     {
@@ -137,6 +155,7 @@ impl<'a, P: Parts, K> Cx<'a, P, K> {
     /// Freezes the caller's suspense boundary.
     pub fn freeze(&mut self) -> Result<(), CxFault>
         ensures call { OnOk result (call_of self.new ≡ says (call_of self.old) model.Freeze) }
+        ensures fault { OnOk result (self.new.fault ≡ self.old.fault) }
         ensures err { IfErr result (WantedMemory self.old self.new) }
         ensures world { self.new.world ≡ self.old.world }
     {

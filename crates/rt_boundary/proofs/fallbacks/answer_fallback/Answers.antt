@@ -6,35 +6,39 @@ use Rattle.rt_model.specs.Run.{after_hooks, start_agenda}
 use Rattle.rt_model.specs.Boundary.{counted_render, tree_or_placeholder}
 use Rattle.rt_mirror.specs.Sealed.{element_of}
 use Rattle.rt_work.specs.Items.{work_of}
-use Rattle.rt_scopes.specs.Mirror.{state_of}
-use Rattle.rt_runs.proofs.Counted.{counts_then}
-use Rattle.rt_runs.proofs.Onward.{came_as, came_on, cut_as, cut_on}
+use Rattle.rt_state.specs.Mirror.{state_of}
+use Rattle.rt_scopes.proofs.Counted.{counts_then}
+use Rattle.rt_scopes.proofs.Onward.{came_as, came_on, cut_as, cut_on}
 use Rattle.rt_boundary.proofs.fallbacks.answer_fallback.Goals as goal
 
-pub returns-in-Ok-clause-answered : goal.returns-in-Ok-clause-answered
-returns-in-Ok-clause-answered g c =
-    λ kept.
-    let app = g.A.App.meaning c.args.runtime.now.app in
-    let done = c.in-Ok.ensures.counted kept in
-    let came = c.patch_fallback.ensures.patched done.0 in (
-      came.0,
-      came_as _ _ _ _ _
-          (ap (λ b. onward (onward (counted_render app (state_of kept c.args.runtime.now.state) c.args.boundary b) (λ v. after_hooks app v c.args.boundary)) (λ v. start_agenda app v c.args.boundary FallbackSide (tree_or_placeholder (element_of c.args.answer)))) (sym c.counts_render-counts.ensures))
-          (came_on _ (λ v. start_agenda app v c.args.boundary FallbackSide (tree_or_placeholder (element_of c.args.answer))) (state_of done.0 c.count_and_hook.new.runtime.state) _ [] work_of _ done.1
-          (came_as _ _ _ _ _
-          (ap (λ (a : g.row.A.Denot). start_agenda (g.A.App.meaning a) (state_of done.0 c.count_and_hook.new.runtime.state) c.args.boundary FallbackSide (tree_or_placeholder (element_of c.args.answer))) (sym c.in-Ok.ensures.app))
-          came.1)),
-      counts_then _ _ _ _ _ _ _ done.2 came.2,
-    )
+pub returns-in-Ok : goal.returns-in-Ok
+returns-in-Ok g c =
+    record {
+      answered =
+          λ kept.
+          let app = g.A.App.meaning c.args.app.now in
+          let done = c.in-Ok.ensures.counted kept in
+          let came = c.patch_fallback.ensures.patched app (g.met.A.App.lawful c.args.app.now).tests_components c.count_and_hook.new.calls done.0 in (
+            came.0,
+            came_as _ _ _ _ _
+                (ap (λ b. onward (onward (counted_render app (state_of kept c.args.scopes.now.state) c.args.boundary b) (λ v. after_hooks app v c.args.boundary)) (λ v. start_agenda app v c.args.boundary FallbackSide (tree_or_placeholder (element_of c.args.answer)))) (sym c.counts_render-counts.ensures))
+                (came_on _ (λ v. start_agenda app v c.args.boundary FallbackSide (tree_or_placeholder (element_of c.args.answer))) (state_of done.0 c.count_and_hook.new.scopes.state) _ [] work_of _ done.1
+                came.1),
+            counts_then _ _ _ _ _ _ _ done.2 came.2,
+          );
+    }
 
-pub returns-in-Err-clause-answered : goal.returns-in-Err-clause-answered
-returns-in-Err-clause-answered g c =
-    λ kept.
-    let app = g.A.App.meaning c.args.runtime.now.app in
-    let cut = c.in-Err.ensures.counted kept in (
-      cut.0,
-      cut_as _ _ _ _
-          (ap (λ b. onward (onward (counted_render app (state_of kept c.args.runtime.now.state) c.args.boundary b) (λ v. after_hooks app v c.args.boundary)) (λ v. start_agenda app v c.args.boundary FallbackSide (tree_or_placeholder (element_of c.args.answer)))) (sym c.counts_render-counts.ensures))
-          (cut_on _ (λ v. start_agenda app v c.args.boundary FallbackSide (tree_or_placeholder (element_of c.args.answer))) _ _ cut.1),
-      cut.2,
-    )
+pub returns-in-Err : goal.returns-in-Err
+returns-in-Err g c =
+    record {
+      answered =
+          λ kept.
+          let app = g.A.App.meaning c.args.app.now in
+          let cut = c.in-Err.ensures.counted kept in (
+            cut.0,
+            cut_as _ _ _ _
+                (ap (λ b. onward (onward (counted_render app (state_of kept c.args.scopes.now.state) c.args.boundary b) (λ v. after_hooks app v c.args.boundary)) (λ v. start_agenda app v c.args.boundary FallbackSide (tree_or_placeholder (element_of c.args.answer)))) (sym c.counts_render-counts.ensures))
+                (cut_on _ (λ v. start_agenda app v c.args.boundary FallbackSide (tree_or_placeholder (element_of c.args.answer))) _ _ cut.1),
+            cut.2,
+          );
+    }

@@ -1,8 +1,8 @@
 -- The tree that was copied, or one placeholder.
 use Rattle.std.proofs.Common.{◌∙◌, ap, sym}
 use Rattle.rt_mirror.specs.Sealed.{tree_of}
-use Rattle.rt_scopes.proofs.Changed.{if_ok}
-use Rattle.rt_runs.proofs.TreesAnswered.{no_tree_shown, placeholder_is}
+use Rattle.rt_state.proofs.Changed.{if_ok}
+use Rattle.rt_scopes.proofs.TreesAnswered.{no_tree_shown, placeholder_is}
 use Rattle.rt_boundary.proofs.parts.copy_tree.Goals as goal
 
 pub returns-in-Ok : goal.returns-in-Ok

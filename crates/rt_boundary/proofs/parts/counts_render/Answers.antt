@@ -2,7 +2,7 @@
 use Rattle.std.proofs.Common.{refl}
 use Rattle.rt_mirror.specs.Sealed.{element_of}
 use Rattle.rt_mirror.proofs.SealedComponents.{component_App, component_Root}
-use Rattle.rt_runs.proofs.BuiltIns.{error_boundary_is, fragment_is, suspense_boundary_children, suspense_boundary_is}
+use Rattle.rt_scopes.proofs.BuiltIns.{error_boundary_is, fragment_is, suspense_boundary_children, suspense_boundary_is}
 use Rattle.rt_boundary.proofs.parts.counts_render.Goals as goal
 
 pub returns-in-SuspenseBoundary : goal.returns-in-SuspenseBoundary

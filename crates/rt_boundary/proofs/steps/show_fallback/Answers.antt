@@ -2,28 +2,37 @@
 use Rattle.std.proofs.Common.{rules, ◌∙◌, [], ap, sym}
 use Rattle.rt_model.specs.State.{Done, ShowFallback}
 use Rattle.rt_work.specs.Items.{work_of}
-use Rattle.rt_scopes.specs.Mirror.{state_of}
+use Rattle.rt_state.specs.Mirror.{state_of}
 use Rattle.rt_boundary.proofs.Stepped.{step_fallback, step_dead}
 use Rattle.rt_boundary.proofs.steps.show_fallback.Goals as goal
 
-pub returns-then-not-is_live-clause-done : goal.returns-then-not-is_live-clause-done
-returns-then-not-is_live-clause-done g c =
-    λ kept. (
-      kept,
-      step_dead (g.A.App.meaning c.args.runtime.now.app) (state_of kept c.args.runtime.now.state) c.args.boundary ShowFallback (sym (c.is_live.ensures kept) ∙ c.if-not-is_live.true)
-          ∙ ap (λ work. Done (state_of kept c.args.runtime.now.state) (work_of work)) (sym c.new.ensures.empty),
-      λ was. was,
-    )
+pub returns-then-not-is_live : goal.returns-then-not-is_live
+returns-then-not-is_live g c =
+    record {
+      done =
+          λ app count kept. (
+            kept,
+            step_dead app (state_of kept c.args.scopes.now.state) c.args.boundary ShowFallback (sym (c.is_live.ensures kept) ∙ c.if-not-is_live.true)
+                ∙ ap (λ work. Done (state_of kept c.args.scopes.now.state) (work_of work)) (sym c.new.ensures.empty),
+            λ was. was,
+          );
+    }
 
-pub returns-clause-done : goal.returns-clause-done
-returns-clause-done g c =
-    λ kept. (
-      kept,
-      step_fallback (g.A.App.meaning c.args.runtime.now.app) (state_of kept c.args.runtime.now.state) c.args.boundary (sym (c.is_live.ensures kept) ∙ c.if-not-is_live.false)
-          ∙ ap (λ w. Done w []) (sym (c.in_ok-show_fallback.ensures kept))
-          ∙ ap (λ work. Done (state_of kept c.show_fallback.new.self) (work_of work)) (sym c.new-2.ensures.empty),
-      λ was. was,
-    )
+pub returns : goal.returns
+returns g c =
+    record {
+      done =
+          λ app count kept. (
+            kept,
+            step_fallback app (state_of kept c.args.scopes.now.state) c.args.boundary (sym (c.is_live.ensures kept) ∙ c.if-not-is_live.false)
+                ∙ ap (λ w. Done w []) (sym (c.in_ok-show_fallback.ensures kept))
+                ∙ ap (λ work. Done (state_of kept c.show_fallback.new.self) (work_of work)) (sym c.new-2.ensures.empty),
+            λ was. was,
+          );
+    }
 
-pub returns-in_err-show_fallback-clause-done : goal.returns-in_err-show_fallback-clause-done
-returns-in_err-show_fallback-clause-done g c = λ kept. (kept, search rules, search rules)
+pub returns-in_err-show_fallback : goal.returns-in_err-show_fallback
+returns-in_err-show_fallback g c =
+    record {
+      done = λ app count kept. (kept, search rules, search rules);
+    }

@@ -6,8 +6,8 @@ use Rattle.rt_mirror.specs.Sealed.{tree_of}
 use Rattle.rt_places.specs.Places.{side_name_of}
 use Rattle.rt_work.specs.Items.{work_of}
 use Rattle.rt_calls.specs.Kept.{scope_of}
-use Rattle.rt_scopes.specs.Mirror.{state_of}
-use Rattle.rt_scopes.proofs.Each.{found-each}
+use Rattle.rt_state.specs.Mirror.{state_of}
+use Rattle.rt_state.proofs.Each.{found-each}
 use Rattle.rt_sides.proofs.Agendas.{begins, not_started}
 use Rattle.rt_sides.proofs.agenda.start_agenda.Goals as goal
 

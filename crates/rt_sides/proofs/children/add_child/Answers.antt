@@ -3,8 +3,8 @@ use Rattle.std.proofs.Common.{◌++◌, sym, ap, ◌∙◌}
 use Rattle.rt_model.specs.Boundary.{live_child}
 use Rattle.rt_places.specs.Places.{place_of}
 use Rattle.rt_work.specs.Found.{child_in}
-use Rattle.rt_scopes.specs.Mirror.{state_of}
-use Rattle.rt_scopes.proofs.Changed.{on_ok}
+use Rattle.rt_state.specs.Mirror.{state_of}
+use Rattle.rt_state.proofs.Changed.{on_ok}
 use Rattle.rt_work.proofs.Agendas.{nil-right}
 use Rattle.rt_sides.proofs.Spots.{node_has_none, component_has}
 use Rattle.rt_sides.proofs.children.add_child.Goals as goal

@@ -1,8 +1,8 @@
 -- The fallback's children, then those of the other sides.
 use Rattle.std.specs.Prelude.{Some, None}
 use Rattle.rt_calls.specs.Kept.{scope_of}
-use Rattle.rt_scopes.specs.Mirror.{state_of}
-use Rattle.rt_scopes.proofs.Each.{found-each}
+use Rattle.rt_state.specs.Mirror.{state_of}
+use Rattle.rt_state.proofs.Each.{found-each}
 use Rattle.rt_sides.proofs.Spots.{none_below, all_below}
 use Rattle.rt_sides.proofs.children.children_below.Goals as goal
 

@@ -2,9 +2,9 @@
 use Rattle.std.proofs.Common.{◌∙◌}
 use Rattle.std.specs.Prelude.{Some, None}
 use Rattle.rt_calls.specs.Kept.{scope_of}
-use Rattle.rt_scopes.specs.Mirror.{state_of}
-use Rattle.rt_scopes.proofs.Each.{found-each}
-use Rattle.rt_scopes.proofs.Changed.{if_ok}
+use Rattle.rt_state.specs.Mirror.{state_of}
+use Rattle.rt_state.proofs.Each.{found-each}
+use Rattle.rt_state.proofs.Changed.{if_ok}
 use Rattle.rt_sides.proofs.Spots.{fallback_found, no_fallback}
 use Rattle.rt_sides.proofs.children.fallback_scopes.Goals as goal
 

@@ -3,8 +3,8 @@ use Rattle.std.proofs.Common.{◌∙◌, ap}
 use Rattle.std.specs.Prelude.{Some, None}
 use Rattle.rt_places.specs.Places.{place_of, side_name_of}
 use Rattle.rt_calls.specs.Kept.{scope_of}
-use Rattle.rt_scopes.specs.Mirror.{state_of}
-use Rattle.rt_scopes.proofs.Each.{found-each}
+use Rattle.rt_state.specs.Mirror.{state_of}
+use Rattle.rt_state.proofs.Each.{found-each}
 use Rattle.rt_work.specs.Found.{child_in}
 use Rattle.rt_sides.proofs.Spots.{fed_found, none_fed}
 use Rattle.rt_sides.proofs.children.fed_child.Goals as goal

@@ -1,7 +1,7 @@
 -- One more spot.
 use Rattle.std.proofs.Common.{◌++◌, refl, ap, ◌∙◌, map}
 use Rattle.rt_places.specs.Places.{spot_of}
-use Rattle.rt_scopes.specs.Mirror.{state_of}
+use Rattle.rt_state.specs.Mirror.{state_of}
 use Rattle.rt_work.proofs.Agendas.{one_more, all_done}
 use Rattle.rt_sides.specs.Sides.{child_here, children_at}
 use Rattle.rt_sides.proofs.Spots.{side_is}

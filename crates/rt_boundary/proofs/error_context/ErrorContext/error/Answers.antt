@@ -2,8 +2,8 @@
 use Rattle.std.proofs.Common.{Some, None, option_map, ap, ◌∙◌}
 use Rattle.rt_mirror.specs.Mirror.{error_of}
 use Rattle.rt_calls.specs.Kept.{scope_of}
-use Rattle.rt_scopes.specs.Mirror.{state_of}
-use Rattle.rt_scopes.proofs.Each.{found-each}
+use Rattle.rt_state.specs.Mirror.{state_of}
+use Rattle.rt_state.proofs.Each.{found-each}
 use Rattle.rt_boundary.proofs.Seen.{error_there, error_gone}
 use Rattle.rt_boundary.proofs.error_context.ErrorContext.error.Goals as goal
 

@@ -1,10 +1,17 @@
 -- The climb goes on at the parent.
-use Rattle.std.proofs.Common.{rules, false, None, Some, length, ◌<◌, ◌≡◌, sym, ◌∙◌}
+use Rattle.std.proofs.Common.{rules, true, false, None, Some, length, ◌<◌, ◌≡◌, sym, ◌∙◌}
 use Rattle.rt_model.specs.Lists.{has}
 use Rattle.rt_model.specs.Program.{parent_in}
 use Rattle.rt_calls.specs.Calls.{given_of}
-use Rattle.rt_calls.proofs.Climbs.{bound-on, bound-ends}
+use Rattle.rt_calls.proofs.Climbs.{bound-here, bound-on, bound-ends}
 use Rattle.rt_calls.proofs.cx.Cx.nearest_boundary.Goals as goal
+
+pub returns-then-is_boundary : goal.returns-then-is_boundary
+returns-then-is_boundary g c =
+    let here : has (given_of c.args.self.now.world).boundaries c.loop-steps.scope.0 ≡ true = search rules in
+    let before : c.loop-steps._steps < length (given_of c.args.self.now.world).parents = search rules in
+    sym (bound-here (given_of c.args.self.now.world) (length (given_of c.args.self.now.world).parents) c.loop-steps._steps c.loop-steps.scope.0 before here)
+    ∙ c.loop-steps.invariant
 
 pub loop-steps-preserved : goal.loop-steps-preserved
 loop-steps-preserved g c =

@@ -1,0 +1,221 @@
+-- Where a session breaks off, for want of memory or at its sink.
+use Rattle.std.proofs.Common.{ℕ, Bool, true, false, List, [], ◌∷◌, ◌++◌, ◌≡◌, ◌<◌, refl, sym, ap, ◌∙◌, subst, map, Err, reverse, arith, append_assoc}
+use Rattle.std.proofs.lemmas.List.{append-nil, map-append}
+use Rattle.std.specs.Prelude.{Option, Some, None, IsTrue}
+use Rattle.rt_edits.specs.Sinks.{grown}
+use Rattle.rt_edits.specs.declared.edit.Edit.{Edit}
+use Rattle.rt_mirror.specs.Mirror.{edit_of}
+use Rattle.rt_model.specs.Document as doc
+use Rattle.rt_model.specs.OneLog.{types}
+use Rattle.rt_model.specs.Tree.{Types}
+use Rattle.rt_model.specs.World.{Application}
+use Rattle.rt_model.specs.Laws.{IsLawful}
+use Rattle.rt_model.specs.State as model
+use Rattle.rt_model.specs.Replay as replay
+use Rattle.rt_model.specs.Caused.{caused_until}
+use Rattle.rt_model.specs.Causes as causes
+use Rattle.rt_moves.specs.Moves.{AtRest}
+use Rattle.rt_reports.specs.declared.limits.Limits.{Limits}
+use Rattle.rt_state.specs.Mirror.{Unkept, state_of}
+use Rattle.rt_state.specs.Names.{fault_of}
+use Rattle.rt_state.specs.declared.names.Stop.TheVariants as stops
+use Rattle.rt_turns.specs.Turn.{turn_of, entries_at}
+use Rattle.rt_turns.proofs.Items.{works_cut, works_deep}
+use Rattle.rt_work.specs.Items.{work_of}
+use Rattle.rt_machine.specs.Ends.{Explains}
+use Rattle.rt_machine.specs.Machines.{machine_of, open_work, noted, first_in, fault_in, WasCut, ServesAs, StillRemembers, KeepsOn}
+use Rattle.rt_machine.specs.Short.{Short, PartBy}
+use Rattle.rt_machine.specs.Stands.{Going, StandsFor, StandsAt, StandsBefore, Over, Broke, GoesOn}
+use Rattle.rt_machine.specs.Writings.{ClosesPart, WrotePart, WrotePartUntil, CutsShort}
+use Rattle.rt_machine.specs.declared.ended.Ended.{Ended}
+use Rattle.rt_machine.specs.declared.ended.Ended.TheVariants as ends
+use Rattle.rt_machine.specs.declared.machine.Machine.{Machine}
+use Rattle.rt_machine.proofs.Running.{told_more}
+use Rattle.rt_machine.proofs.Short.{item_none, short_none, short_rests, short_works, short_closing, short_stopped}
+use Rattle.rt_machine.proofs.Turning.{grown_none, deep_at, Within, still_first, still_remembered}
+
+pub never : (b : Bool) → IsTrue b → b ≡ false → ⊥
+never b h k = cc
+
+-- some edits and then more, in one
+pub joined : (edits : List doc.Edit) (xs ys : List Edit) → (edits ++ map edit_of xs) ++ map edit_of ys ≡ edits ++ map edit_of (xs ++ ys)
+joined edits xs ys = append_assoc edits (map edit_of xs) (map edit_of ys) ∙ ap (λ es. edits ++ es) (sym (map-append edit_of xs ys))
+
+-- the edits before one that was refused, whatever the cause was
+pub part_refused : (ended : Ended) (taken rest whole : List doc.Edit) (refused : doc.Edit) → taken ++ refused ∷ rest ≡ whole → PartBy ended taken whole
+part_refused ends.Sink taken rest whole refused is = (refused, rest, is)
+part_refused (ends.OutOfTurns units) taken rest whole refused is = (refused ∷ rest, is)
+part_refused (ends.TooDeep height) taken rest whole refused is = (refused ∷ rest, is)
+part_refused (ends.Run stop) taken rest whole refused is = (refused ∷ rest, is)
+
+-- none was taken, where it isn't the sink that failed
+pub part_none : (limits : Limits) (ended : Ended) (whole : List doc.Edit) → ((before after : ℕ) → Explains limits before after ended) → PartBy ended [] whole
+part_none limits ends.Sink whole why = let never : 0 < 0 = why 0 0 in absurd (omega (arith, never))
+part_none limits (ends.OutOfTurns units) whole why = (whole, refl)
+part_none limits (ends.TooDeep height) whole why = (whole, refl)
+part_none limits (ends.Run stop) whole why = (whole, refl)
+
+-- an edit was refused after those that were taken
+pub wrote_before : (edits front rest : List Edit) (edit : Edit) (before now after : Option (List Edit)) (ended : Ended)
+    → front ++ edit ∷ rest ≡ edits
+    → now ≡ grown before front
+    → after ≡ now
+    → WrotePart edits before after ended
+wrote_before edits front rest edit before now after ended is told left =
+    record {
+      wrote = front;
+      told = left ∙ told;
+      part = part_refused ended (map edit_of front) (map edit_of rest) (map edit_of edits) (edit_of edit) (sym (map-append edit_of front (edit ∷ rest)) ∙ ap (λ es. map edit_of es) is);
+    }
+
+module _ {K : Types} (app : Application K) (limits : causes.Limits) (r : Going K) where
+  broke_short : (edits : List doc.Edit) (now : Option (List Edit)) (ended : Ended) → Short app limits (PartBy ended) r.from edits → Broke app limits r edits now now ended
+  broke_short edits now ended short =
+      record {
+        wrote = [];
+        told = grown_none now;
+        short = subst (λ (es : List doc.Edit). Short app limits (PartBy ended) r.from es) (sym (append-nil edits)) short;
+      }
+
+  -- no entry came yet
+  pub broke_begun : (now : Option (List Edit)) (ended : Ended) → AtRest r.from → PartBy ended [] [] → Broke app limits r [] now now ended
+  broke_begun now ended rest none = broke_short [] now ended (short_none app limits (PartBy ended) r.from rest none)
+
+module _ {P C Q V H T E L : Type 0} (app : Application (types C Q V H T E L)) (limits : causes.Limits) (r : Going (types C Q V H T E L)) where
+  -- where it stands nothing more was taken
+  pub broke_at : (edits : List doc.Edit) (now : Option (List Edit)) (d : Machine P C Q V H T E L) (ended : Ended)
+      → StandsAt app limits r edits d
+      → PartBy ended [] []
+      → Broke app limits r edits now now ended
+  broke_at edits now d ended stands none = broke_short app limits r edits now ended (by (first_in d) stands)
+    where
+      by : (o : Option replay.Entry) → StandsFor app limits r o edits d → Short app limits (PartBy ended) r.from edits
+      by None s = short_rests app limits r.props r.inputs (PartBy ended) r.from (machine_of s.0 r.left r.taken d) (r.opening ∷ noted d) edits s.1 none
+      by (Some first) s = short_works app limits r.props r.inputs (PartBy ended) r.from (machine_of s.0 r.left r.taken d) (r.opening ∷ noted d) edits s.1 first s.2 none
+
+  -- nothing was left to do
+  pub broke_over : (before after : Option (List Edit)) (count : ℕ) (d : Machine P C Q V H T E L) (ended : Ended)
+      → Over app limits r [] before after count d
+      → PartBy ended [] []
+      → Broke app limits r [] before after ended
+  broke_over before after count d ended over none =
+      record {
+        wrote = over.wrote;
+        told = over.told;
+        short = short_rests app limits r.props r.inputs (PartBy ended) r.from over.settled.last (r.opening ∷ noted d) (map edit_of over.wrote) over.settled.rests none;
+      }
+
+  -- it breaks off after more was taken
+  pub broke_after : (edits : List doc.Edit) (before now after : Option (List Edit)) (count : ℕ) (d : Machine P C Q V H T E L) (ended : Ended)
+      → (on : GoesOn app limits r edits before now count d)
+      → Broke app limits r (edits ++ map edit_of on.wrote) now after ended
+      → Broke app limits r edits before after ended
+  broke_after edits before now after count d ended on broke =
+      record {
+        wrote = on.wrote ++ broke.wrote;
+        told = told_more before now after on.wrote broke.wrote on.told broke.told;
+        short = subst (λ (es : List doc.Edit). Short app limits (PartBy ended) r.from es) (joined edits on.wrote broke.wrote) broke.short;
+      }
+
+module _ {P C Q V H T E L : Type 0} (app : Application (types C Q V H T E L)) (lawful : IsLawful (types C Q V H T E L) app) (limits : causes.Limits) (r : Going (types C Q V H T E L)) where
+  -- a unit ended, and a part of its edits was taken
+  pub broke_closing : (first : replay.Entry) (edits : List doc.Edit) (d : Machine P C Q V H T E L) (before after : Option (List Edit)) (ended : Ended)
+      → StandsFor app limits r (Some first) edits d
+      → d.work ≡ []
+      → ClosesPart first d before after ended
+      → Broke app limits r edits before after ended
+  broke_closing first edits d before after ended s idle closes =
+      let g = s.0 in
+      let w = s.1 in
+      let none : open_work d ≡ [] = ap (λ xs. work_of (reverse xs)) idle in
+      record {
+        wrote = closes.wrote;
+        told = closes.told;
+        short =
+            short_closing app limits r.props r.inputs (PartBy ended) r.from (machine_of g r.left r.taken d) (r.opening ∷ noted d) edits (map edit_of closes.wrote) w first s.2 none
+            (closes.part app lawful g w s.3);
+      }
+
+  -- a make is too deep, and a part of what was due up to it was taken
+  broke_deep : (item : model.Item (types C Q V H T E L)) (first : replay.Entry) (edits : List doc.Edit) (old new : Machine P C Q V H T E L) (before after : Option (List Edit)) (fault : model.Fault) (result : Ended)
+      → StandsBefore app limits r item first edits old
+      → first_in old ≡ Some first
+      → ((g : Unkept (types C Q V H T E L)) → deep_at limits (state_of g (old.scopes).state) item ≡ Some fault)
+      → new ≡ old
+      → WrotePartUntil item new before after result
+      → Broke app limits r edits before after result
+  broke_deep item first edits old new before after fault result s is deep same wrote =
+      let g = s.0 in
+      let w = s.1 in
+      let m = record (machine_of g r.left r.taken old) { work = item ∷ open_work old } in
+      let log : List replay.Entry = r.opening ∷ noted old in
+      let here : WrotePartUntil item old before after result = subst (λ (d : Machine P C Q V H T E L). WrotePartUntil item d before after result) same wrote in
+      let refused = works_deep app lawful limits r.props r.inputs r.from m log edits w first item (open_work old) fault s.2 refl (deep g) in
+      record {
+        wrote = here.wrote;
+        told = here.told;
+        short =
+            short_stopped app limits r.props r.inputs (PartBy result) r.from m log [] log edits (caused_until app w (state_of g (old.scopes).state) (Some item) first) (map edit_of here.wrote) w first fault
+            s.2 (sym (append-nil log)) refl refused (here.part app lawful first is g w s.3);
+      }
+
+  -- an item's change was cut, and a part of what was due up to it was taken
+  broke_cut : (item : model.Item (types C Q V H T E L)) (first : replay.Entry) (edits : List doc.Edit) (old new : Machine P C Q V H T E L) (before after : Option (List Edit)) (fault : model.Fault) (result : Ended)
+      → StandsBefore app limits r item first edits old
+      → first_in old ≡ Some first
+      → Within old new
+      → ((g : Unkept (types C Q V H T E L)) → (deep_at limits (state_of g (old.scopes).state) item ≡ None) × WasCut app (turn_of app (state_of g (old.scopes).state) item) (entries_at app (state_of g (old.scopes).state) item) fault old new)
+      → StillRemembers old new
+      → WrotePartUntil item new before after result
+      → Broke app limits r edits before after result
+  broke_cut item first edits old new before after fault result s is frame serves still wrote =
+      let g = s.0 in
+      let w = s.1 in
+      let d = serves g in
+      let cut = d.1 in
+      let h = cut.kept in
+      let v = state_of h (new.scopes).state in
+      let m = record (machine_of g r.left r.taken old) { work = item ∷ open_work old } in
+      let log : List replay.Entry = r.opening ∷ noted old in
+      let es : List replay.Entry = entries_at app (state_of g (old.scopes).state) item in
+      let now : first_in new ≡ Some first = still_first old new first frame is in
+      let refused = works_cut app lawful limits r.props r.inputs r.from m log edits w first item (open_work old) v fault s.2 refl d.0 cut.cut in
+      let kept = still_remembered g old new first w.scopes is now still s.3 in
+      record {
+        wrote = wrote.wrote;
+        told = wrote.told;
+        short =
+            short_stopped app limits r.props r.inputs (PartBy result) r.from m log es (log ++ es) edits (caused_until app w v (Some item) first) (map edit_of wrote.wrote) w first fault
+            s.2 refl (item_none app (state_of g (old.scopes).state) item) refused (wrote.part app lawful first now h w kept);
+      }
+
+  -- memory was wanting at an item
+  broke_wanting : (item : model.Item (types C Q V H T E L)) (first : replay.Entry) (edits : List doc.Edit) (old : Machine P C Q V H T E L) (before after : Option (List Edit)) (result : Ended)
+      → StandsBefore app limits r item first edits old
+      → (result ≡ ends.Run stops.OutOfMemory) × (after ≡ before)
+      → Broke app limits r edits before after result
+  broke_wanting item first edits old before after result s same =
+      let m = record (machine_of s.0 r.left r.taken old) { work = item ∷ open_work old } in
+      let wanting : Ended = ends.Run stops.OutOfMemory in
+      subst (λ (e : Ended). Broke app limits r edits before after e) (sym same.0)
+      (subst (λ (o : Option (List Edit)). Broke app limits r edits before o wanting) (sym same.1)
+      (broke_short app limits r edits before wanting (short_works app limits r.props r.inputs (PartBy wanting) r.from m (r.opening ∷ noted old) edits s.1 first s.2 ([], refl))))
+
+  -- an item was refused, and then writing broke off; or memory was wanting
+  pub broke_refused : (item : model.Item (types C Q V H T E L)) (first : replay.Entry) (edits : List doc.Edit) (old new : Machine P C Q V H T E L) (before after : Option (List Edit)) (ended result : Ended)
+      → StandsBefore app limits r item first edits old
+      → first_in old ≡ Some first
+      → Within old new
+      → ((g : Unkept (types C Q V H T E L)) → ServesAs app (deep_at limits (state_of g (old.scopes).state) item) (turn_of app (state_of g (old.scopes).state) item) (entries_at app (state_of g (old.scopes).state) item) old new (Err ended))
+      → KeepsOn old new (Err ended)
+      → CutsShort item new before after ended result
+      → fault_in result ≡ None
+      → Broke app limits r edits before after result
+  broke_refused item first edits old new before after ends.Sink result s is frame serves still cuts none = absurd (serves s.0)
+  broke_refused item first edits old new before after (ends.OutOfTurns units) result s is frame serves still cuts none = absurd (serves s.0)
+  broke_refused item first edits old new before after (ends.TooDeep height) result s is frame serves still cuts none =
+      broke_deep item first edits old new before after (model.TooDeep height) result s is (λ g. (serves g).0) (serves s.0).1 (cuts.breaks (model.TooDeep height) refl none)
+  broke_refused item first edits old new before after (ends.Run stops.OutOfMemory) result s is frame serves still cuts none =
+      broke_wanting item first edits old before after result s (cuts.wants refl)
+  broke_refused item first edits old new before after (ends.Run (stops.Fault what)) result s is frame serves still cuts none =
+      broke_cut item first edits old new before after (fault_of what) result s is frame serves still (cuts.breaks (fault_of what) refl none)

@@ -1,0 +1,39 @@
+use Rattle.std.proofs.Common.{rules, ◌∙◌, ap, sym}
+use Rattle.rt_mirror.specs.Sealed.{component_of}
+use Rattle.rt_model.specs.Replay as replay
+use Rattle.rt_model.specs.State as model
+use Rattle.rt_places.specs.Places.{place_of, side_name_of}
+use Rattle.rt_state.specs.Mirror.{state_of}
+use Rattle.rt_work.specs.Items.{work_of}
+use Rattle.rt_machine.proofs.Arms.{came_as, copied, made_dead, noted_any, noted_one}
+use Rattle.rt_machine.proofs.agenda.make.Goals as goal
+
+pub returns-then-is_live-clause-made : goal.returns-then-is_live-clause-made
+returns-then-is_live-clause-made g c =
+    λ kept.
+    let app = g.A.App.meaning c.args.app.now in
+    let came = c.make_below.ensures.made (λ h. sym (c.is_live.ensures h) ∙ c.if-is_live.true) kept in (
+      came.0,
+      came_as _ _ _ _ _
+          (ap (λ x. replay.made app (state_of kept c.args.scopes.now.state) c.args.scope (side_name_of c.args.side) (place_of x) (component_of c.args.component.now)) (sym (copied _ _ _ c.copy.ensures.copy c.in_ok-place.ensures.left))
+          ∙ ap (λ x. replay.made app (state_of kept c.args.scopes.now.state) c.args.scope (side_name_of c.args.side) (place_of c.in_ok-place.place) (component_of x)) (sym (copied _ _ _ c.copy-2.ensures c.in_ok-place.ensures.right)))
+          came.1,
+    )
+
+pub returns-else-is_live-clause-made : goal.returns-else-is_live-clause-made
+returns-else-is_live-clause-made g c =
+    λ kept. (
+      kept,
+      made_dead (g.A.App.meaning c.args.app.now) (state_of kept c.args.scopes.now.state) c.args.scope (side_name_of c.args.side) (place_of c.args.place.now) (component_of c.args.component.now)
+          (sym (c.is_live.ensures kept) ∙ c.if-is_live.false)
+          ∙ ap (λ xs. model.Done (state_of kept c.args.scopes.now.state) (work_of xs)) (sym c.new.ensures.empty),
+    )
+
+pub returns-then-is_live-clause-noted : goal.returns-then-is_live-clause-noted
+returns-then-is_live-clause-noted g c = λ kept. noted_any c.args.course.now.entries c.note.new.self.entries _ c.make_below.result (noted_one _ _ _ c.in_ok-note.ensures.ok)
+
+pub returns-in_err-note-clause-made : goal.returns-in_err-note-clause-made
+returns-in_err-note-clause-made g c = λ kept. (kept, search rules)
+
+pub returns-in_err-place-clause-made : goal.returns-in_err-place-clause-made
+returns-in_err-place-clause-made g c = λ kept. (kept, search rules)

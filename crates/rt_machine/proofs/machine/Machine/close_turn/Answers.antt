@@ -1,0 +1,26 @@
+use Rattle.std.proofs.lemmas.Result.{err_from_is_err_and}
+use Rattle.rt_reports.specs.Seen.{entry_of}
+use Rattle.rt_machine.specs.Machines.{fault_in}
+use Rattle.rt_machine.proofs.Breaking.{broke_closing}
+use Rattle.rt_machine.proofs.Steps.{no_fault}
+use Rattle.rt_machine.proofs.Turning.{stands_closed}
+use Rattle.rt_machine.proofs.machine.Machine.close_turn.Goals as goal
+
+pub returns-in_err-close-clause-turns : goal.returns-in_err-close-clause-turns
+returns-in_err-close-clause-turns g c =
+    let p = err_from_is_err_and c.from_residual.result c.from_residual.ensures.1 in
+    rw (p.1, p.2)
+    (
+    λ app lawful limits r edits is idle stands. (
+      λ fault why. no_fault (fault_in c.in_err-close.field-0.0) c.in_err-close.ensures.cause why,
+      λ none.
+          broke_closing app lawful limits r (entry_of c.args.first) edits c.args.self.now
+          (g.M.WriteMutations.taken c.args.sink.now) (g.M.WriteMutations.taken c.close.new.sink) c.in_err-close.field-0.0 stands idle c.in_err-close.ensures.part,
+    )
+    )
+
+pub returns-clause-turns : goal.returns-clause-turns
+returns-clause-turns g c =
+    λ app lawful limits r edits is idle stands.
+    stands_closed app lawful limits r (entry_of c.args.first) edits c.args.self.now c.close.new.self
+    (g.M.WriteMutations.taken c.args.sink.now) (g.M.WriteMutations.taken c.close.new.sink) c.in_ok-close.field-0 stands idle c.close.ensures.others c.in_ok-close.ensures.over c.in_ok-close.ensures.mounted c.in_ok-close.ensures.closes

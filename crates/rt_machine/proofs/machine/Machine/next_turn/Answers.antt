@@ -1,0 +1,38 @@
+use Rattle.std.proofs.Common.{◌∙◌, refl, sym, ap}
+use Rattle.std.proofs.lemmas.Result.{err_from_is_err_and}
+use Rattle.std.specs.Prelude.{option_map}
+use Rattle.rt_reports.specs.Seen.{limits_of}
+use Rattle.rt_state.specs.Names.{work_of}
+use Rattle.rt_machine.proofs.Opening.{stands_begun, none_begun}
+use Rattle.rt_machine.proofs.Turning.{stands_settled}
+use Rattle.rt_machine.proofs.machine.Machine.next_turn.Goals as goal
+
+pub returns-in_err-begin-in-Some-clause-turns : goal.returns-in_err-begin-in-Some-clause-turns
+returns-in_err-begin-in-Some-clause-turns g c =
+    let p = err_from_is_err_and c.from_residual-in_err-begin-in-Some.result c.from_residual-in_err-begin-in-Some.ensures.1 in
+    rw (p.1, p.2)
+    (
+    λ r edits over idle stands fault why.
+    let app = g.A.App.meaning c.args.app.now in
+    let mid = record c.args.self.now { scopes = record c.args.self.now.scopes { state = c.at_rest.new.self } } in
+    none_begun app (g.met.A.App.lawful c.args.app.now) (c.due_is_any.ensures app) (limits_of c.args.limits) r (work_of c.in-Some.work) edits c.args.self.now mid c.begin.new.self c.in_err-begin-in-Some.field-0.0 fault stands
+    (record { frame = refl; rested = λ kept. c.in_ok-at_rest.ensures kept; up = λ kept. sym (ap (λ o. option_map work_of o) c.in-Some.is) ∙ c.next_at_rest.ensures kept })
+    c.in_err-begin-in-Some.ensures.begins why
+    )
+
+pub returns-in_ok-begin-in-Some-clause-turns : goal.returns-in_ok-begin-in-Some-clause-turns
+returns-in_ok-begin-in-Some-clause-turns g c =
+    λ r edits over idle stands.
+    let app = g.A.App.meaning c.args.app.now in
+    let mid = record c.args.self.now { scopes = record c.args.self.now.scopes { state = c.at_rest.new.self } } in
+    stands_begun app (g.met.A.App.lawful c.args.app.now) (c.due_is_any.ensures app) (limits_of c.args.limits) r (work_of c.in-Some.work) edits c.args.self.now mid c.begin.new.self stands idle
+    (record { frame = refl; rested = λ kept. c.in_ok-at_rest.ensures kept; up = λ kept. sym (ap (λ o. option_map work_of o) c.in-Some.is) ∙ c.next_at_rest.ensures kept })
+    c.in_ok-begin-in-Some.ensures.begins c.in_ok-begin-in-Some.ensures.first c.in_ok-begin-in-Some.ensures.units (c.in_ok-begin-in-Some.ensures.remembers stands.0) c.begin.ensures.others
+
+pub returns-in-None-clause-turns : goal.returns-in-None-clause-turns
+returns-in-None-clause-turns g c =
+    λ r edits over idle stands.
+    let app = g.A.App.meaning c.args.app.now in
+    let mid = record c.args.self.now { scopes = record c.args.self.now.scopes { state = c.at_rest.new.self } } in
+    stands_settled app (g.met.A.App.lawful c.args.app.now) (limits_of c.args.limits) r edits c.args.self.now mid stands over idle refl (λ kept. c.in_ok-at_rest.ensures kept)
+    (λ kept. sym (ap (λ o. option_map work_of o) c.in-None.is) ∙ c.next_at_rest.ensures kept)

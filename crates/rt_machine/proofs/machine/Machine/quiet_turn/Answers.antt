@@ -1,0 +1,35 @@
+use Rattle.std.proofs.Common.{sym, ◌∙◌, subst}
+use Rattle.std.proofs.lemmas.Result.{err_from_is_err_and}
+use Rattle.std.specs.Prelude.{Ok}
+use Rattle.rt_reports.specs.Seen.{limits_of}
+use Rattle.rt_machine.specs.Machines.{HearsAs, machine_of, noted}
+use Rattle.rt_machine.specs.Stands.{QuietAs, StandsQuiet}
+use Rattle.rt_machine.proofs.Quiet.{stands_silent, quiet_cut}
+use Rattle.rt_machine.proofs.Turning.{stands_heard}
+use Rattle.rt_machine.proofs.machine.Machine.quiet_turn.Goals as goal
+
+pub returns-in_err-hear-clause-turns : goal.returns-in_err-hear-clause-turns
+returns-in_err-hear-clause-turns g c =
+    let p = err_from_is_err_and c.from_residual.result c.from_residual.ensures.1 in
+    rw (p.1, p.2)
+    (
+    λ r edits over idle stands fault why.
+    quiet_cut (g.A.App.meaning c.args.app.now) (g.met.A.App.lawful c.args.app.now) (limits_of c.args.limits) r edits c.args.self.now c.hear.new.self c.in_err-hear.field-0.0 fault stands
+    (λ kept. c.in_err-hear.ensures.hears kept r.left r.taken) why
+    )
+
+pub returns-then-branch-clause-turns : goal.returns-then-branch-clause-turns
+returns-then-branch-clause-turns g c =
+    λ r edits over idle stands.
+    let app = g.A.App.meaning c.args.app.now in
+    stands_heard app (g.met.A.App.lawful c.args.app.now) (limits_of c.args.limits) r edits c.args.self.now c.hear.new.self stands (c.hear.ensures.first ∙ over)
+    (λ kept. subst (λ b. HearsAs app (machine_of kept r.left r.taken c.args.self.now) (noted c.args.self.now) (noted c.hear.new.self) (λ h. machine_of h r.left r.taken c.hear.new.self) (Ok b)) c.if-branch.true (c.in_ok-hear.ensures.hears kept r.left r.taken))
+    (c.hear.ensures.work ∙ idle)
+
+pub returns-clause-turns : goal.returns-clause-turns
+returns-clause-turns g c =
+    λ r edits over idle stands.
+    let app = g.A.App.meaning c.args.app.now in
+    c.next_turn.ensures.turns r edits (c.hear.ensures.first ∙ over) (c.hear.ensures.work ∙ idle)
+    (stands_silent app (g.met.A.App.lawful c.args.app.now) (limits_of c.args.limits) r edits c.args.self.now c.hear.new.self stands
+    (λ kept. subst (λ b. HearsAs app (machine_of kept r.left r.taken c.args.self.now) (noted c.args.self.now) (noted c.hear.new.self) (λ h. machine_of h r.left r.taken c.hear.new.self) (Ok b)) c.if-branch.false (c.in_ok-hear.ensures.hears kept r.left r.taken)))

@@ -1,0 +1,64 @@
+use Rattle.std.proofs.Common.{[], refl, sym, ap, ◌∙◌, subst}
+use Rattle.std.proofs.lemmas.Result.{err_from_is_err_and}
+use Rattle.std.specs.Prelude.{Some, None, option_map}
+use Rattle.rt_reports.specs.Seen.{entry_of, limits_of}
+use Rattle.rt_machine.specs.Stands.{StandsFor}
+use Rattle.rt_machine.proofs.Breaking.{broke_at, part_none}
+use Rattle.rt_machine.proofs.Quiet.{stands_before, quiet_turns, quiet_came}
+use Rattle.rt_machine.proofs.Sinks.{ends-caused}
+use Rattle.rt_machine.proofs.machine.Machine.turn.Goals as goal
+
+pub returns-in_err-quiet_turn-in-None-clause-err : goal.returns-in_err-quiet_turn-in-None-clause-err
+returns-in_err-quiet_turn-in-None-clause-err g c =
+    let p = err_from_is_err_and c.from_residual.result c.from_residual.ensures.1 in
+    rw (p.1, p.2) (ends-caused c.args.limits _ _ _ c.in_err-quiet_turn-in-None.ensures.err)
+
+pub returns-in-Some-clause-ok : goal.returns-in-Some-clause-ok
+returns-in-Some-clause-ok g c = c.work_turn.ensures.ok
+
+pub returns-in-Some-clause-err : goal.returns-in-Some-clause-err
+returns-in-Some-clause-err g c = c.work_turn.ensures.err
+
+pub returns-in-Some-clause-turns : goal.returns-in-Some-clause-turns
+returns-in-Some-clause-turns g c =
+    λ r edits stands.
+    let b = stands_before (g.A.App.meaning c.args.app.now) (g.met.A.App.lawful c.args.app.now) (limits_of c.args.limits) r edits c.args.self.now (record c.args.self.now { work = c.pop.new.self }) c.in-Some.item stands c.in-Some.ensures.last refl in
+    c.work_turn.ensures.turns r edits b.0 b.1 b.2
+
+pub returns-in-Some-first-clause-turns : goal.returns-in-Some-first-clause-turns
+returns-in-Some-first-clause-turns g c =
+    λ r edits stands.
+    let app = g.A.App.meaning c.args.app.now in
+    let at = ap (λ o. option_map entry_of o) c.in-Some-first.is in
+    let same = ap (λ ws. record c.args.self.now { work = ws }) (c.in_default.ensures.last.0 ∙ sym c.in_default.ensures.last.1) in
+    c.close_turn.ensures.turns app (g.met.A.App.lawful c.args.app.now) (limits_of c.args.limits) r edits at c.in_default.ensures.last.1
+    (subst (λ d. StandsFor app (limits_of c.args.limits) r (Some (entry_of c.in-Some-first.first)) edits d) same (subst (λ o. StandsFor app (limits_of c.args.limits) r o edits c.args.self.now) at stands))
+
+pub returns-in_err-quiet_turn-in-None-clause-turns : goal.returns-in_err-quiet_turn-in-None-clause-turns
+returns-in_err-quiet_turn-in-None-clause-turns g c =
+    let p = err_from_is_err_and c.from_residual.result c.from_residual.ensures.1 in
+    rw (p.1, p.2)
+    (
+    λ r edits stands.
+    let app = g.A.App.meaning c.args.app.now in
+    let at = ap (λ o. option_map entry_of o) c.in-None.is in
+    let same = ap (λ ws. record c.args.self.now { work = ws }) (c.in_default.ensures.last.0 ∙ sym c.in_default.ensures.last.1) in
+    quiet_came app (g.met.A.App.lawful c.args.app.now) (limits_of c.args.limits) r edits (g.M.WriteMutations.taken c.args.sink.now) c.quiet_turn.new.self c.in_err-quiet_turn-in-None.field-0.0
+    (c.in_err-quiet_turn-in-None.ensures.turns r edits c.in-None.is c.in_default.ensures.last.1
+    (subst (λ d. StandsFor app (limits_of c.args.limits) r None edits d) same (subst (λ o. StandsFor app (limits_of c.args.limits) r o edits c.args.self.now) at stands)))
+    (
+    λ none.
+    broke_at app (limits_of c.args.limits) r edits (g.M.WriteMutations.taken c.args.sink.now) c.args.self.now c.in_err-quiet_turn-in-None.field-0.0 stands
+    (part_none c.args.limits c.in_err-quiet_turn-in-None.field-0.0 [] c.in_err-quiet_turn-in-None.ensures.err)
+    )
+    )
+
+pub returns-in_ok-quiet_turn-in-None-clause-turns : goal.returns-in_ok-quiet_turn-in-None-clause-turns
+returns-in_ok-quiet_turn-in-None-clause-turns g c =
+    λ r edits stands.
+    let app = g.A.App.meaning c.args.app.now in
+    let at = ap (λ o. option_map entry_of o) c.in-None.is in
+    let same = ap (λ ws. record c.args.self.now { work = ws }) (c.in_default.ensures.last.0 ∙ sym c.in_default.ensures.last.1) in
+    quiet_turns app (g.met.A.App.lawful c.args.app.now) (limits_of c.args.limits) r edits (g.M.WriteMutations.taken c.args.sink.now) c.quiet_turn.new.self c.in_ok-quiet_turn-in-None.field-0 c.in_ok-quiet_turn-in-None.ensures.ok
+    (c.in_ok-quiet_turn-in-None.ensures.turns r edits c.in-None.is c.in_default.ensures.last.1
+    (subst (λ d. StandsFor app (limits_of c.args.limits) r None edits d) same (subst (λ o. StandsFor app (limits_of c.args.limits) r o edits c.args.self.now) at stands)))

@@ -1,0 +1,39 @@
+use Rattle.std.proofs.Common.{[], refl, sym, subst}
+use Rattle.std.proofs.lemmas.List.{append-nil}
+use Rattle.rt_reports.specs.Seen.{limits_of}
+use Rattle.rt_work.specs.Items.{item_of}
+use Rattle.rt_machine.specs.Stands.{StandsAt}
+use Rattle.rt_machine.specs.Writings.{WroteUntil, CutsShort}
+use Rattle.rt_machine.proofs.Breaking.{broke_refused}
+use Rattle.rt_machine.proofs.Turning.{grown_none, stands_served, stands_refused}
+use Rattle.rt_machine.proofs.machine.Machine.work_turn.Goals as goal
+
+pub returns-in-Ok-clause-turns : goal.returns-in-Ok-clause-turns
+returns-in-Ok-clause-turns g c =
+    λ r edits first is stands.
+    let app = g.A.App.meaning c.args.app.now in
+    record {
+      wrote = [];
+      told = grown_none (g.M.WriteMutations.taken c.args.sink.now);
+      counted = refl;
+      stands =
+          subst (λ es. StandsAt app (limits_of c.args.limits) r es c.serve.new.self) (sym (append-nil edits))
+          (stands_served app (g.met.A.App.lawful c.args.app.now) (limits_of c.args.limits) r (item_of c.args.item.now) first edits c.args.self.now c.serve.new.self stands is c.serve.ensures.others
+          c.in-Ok.ensures.serves c.in-Ok.ensures.remembers);
+    }
+
+pub returns-in-Err-clause-turns : goal.returns-in-Err-clause-turns
+returns-in-Err-clause-turns g c =
+    λ r edits first is stands. (
+      λ fault why.
+          let both = c.cut.ensures.cuts fault why in
+          stands_refused (g.A.App.meaning c.args.app.now) (g.met.A.App.lawful c.args.app.now) (limits_of c.args.limits) r (item_of c.args.item.now) first edits c.args.self.now c.serve.new.self
+          (g.M.WriteMutations.taken c.args.sink.now) (g.M.WriteMutations.taken c.cut.new.sink) c.in-Err.ended fault stands is c.serve.ensures.others c.in-Err.ensures.serves c.in-Err.ensures.remembers both.0
+          both.1,
+      λ none.
+          let app = g.A.App.meaning c.args.app.now in
+          broke_refused app (g.met.A.App.lawful c.args.app.now) (limits_of c.args.limits) r (item_of c.args.item.now) first edits c.args.self.now c.serve.new.self
+          (g.M.WriteMutations.taken c.args.sink.now) (g.M.WriteMutations.taken c.cut.new.sink) c.in-Err.ended c.cut.result stands is c.serve.ensures.others c.in-Err.ensures.serves c.in-Err.ensures.remembers
+          c.cut.ensures.part
+          none,
+    )

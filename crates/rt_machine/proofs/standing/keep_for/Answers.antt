@@ -1,0 +1,31 @@
+use Rattle.std.proofs.Common.{◌∙◌, ◌∷◌, [], ap, sym, subst}
+use Rattle.rt_moves.specs.Frames.{those}
+use Rattle.rt_model.specs.Replay.{fed_child}
+use Rattle.rt_places.specs.Places.{place_of, side_name_of}
+use Rattle.rt_state.specs.Mirror.{state_of}
+use Rattle.rt_work.specs.Items.{item_of}
+use Rattle.rt_machine.specs.Changes.{AllKept, changes_of}
+use Rattle.rt_machine.proofs.Keeps.{on_ok}
+use Rattle.rt_machine.proofs.standing.keep_for.Goals as goal
+
+pub returns-in-Feed-clause-kept : goal.returns-in-Feed-clause-kept
+returns-in-Feed-clause-kept g c =
+    on_ok c.keep_found.result c.keep_found.ensures.kept
+    (
+    λ h kept.
+    subst (λ ss. AllKept c.keep_found.new.stood ss)
+    (sym
+    (ap (λ i. changes_of (state_of kept c.args.state.now) (item_of i)) c.in-Feed.is
+    ∙ ap (λ o. those o) (ap (λ p. fed_child (state_of kept c.args.state.now) c.in-Feed.scope (side_name_of c.in-Feed.side) (place_of p)) (sym c.as_slice.ensures.items) ∙ sym (c.fed_child.ensures kept))))
+    h
+    )
+
+pub returns-in_ok-leaf-in-Drop-clause-kept : goal.returns-in_ok-leaf-in-Drop-clause-kept
+returns-in_ok-leaf-in-Drop-clause-kept g c =
+    on_ok c.keep-in-Drop.result c.keep-in-Drop.ensures.kept
+    (
+    λ h kept.
+    subst (λ ss. AllKept c.keep-in-Drop.new.stood ss)
+    (sym (ap (λ i. changes_of (state_of kept c.args.state.now) (item_of i)) c.in-Drop.is ∙ ap (λ n. n ∷ []) (sym (c.in_ok-leaf-in-Drop.ensures kept))))
+    (h, tt)
+    )

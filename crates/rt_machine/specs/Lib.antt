@@ -1,0 +1,11 @@
+pub mod Ends
+pub mod Short
+pub mod Turns
+pub mod Notes
+pub mod Changes
+pub mod Hearings
+pub mod Machines
+pub mod Writings
+pub mod Sessions
+pub mod Stands
+pub mod Runs

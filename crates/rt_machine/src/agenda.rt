@@ -1,0 +1,296 @@
+//! The items of open work, each served in its turn.
+ghost use Rattle.std.specs.Prelude.{◌≡◌, ◌<◌, ◌+◌, ◌∷◌, [], Some, true, if◌then◌else◌, option_map, IfOk, IfSome};
+ghost use Rattle.rt_model.specs.Causes as causes;
+ghost use Rattle.rt_model.specs.State as model;
+ghost use Rattle.rt_model.specs.Replay as replay;
+ghost use Rattle.rt_model.specs.Removal as removal;
+ghost use Rattle.rt_model.specs.Run.{run};
+ghost use Rattle.rt_mirror.specs.Sealed.{component_of};
+ghost use Rattle.rt_places.specs.Places.{kind_of, place_of, side_name_of};
+ghost use Rattle.rt_reports.specs.Seen.{limits_of};
+ghost use Rattle.rt_scopes.specs.Outcomes.{StateComes};
+ghost use Rattle.rt_state.specs.Mirror.{state_of};
+ghost use Rattle.rt_turns.specs.Turn.{again, turn_of, entries_at};
+ghost use Rattle.rt_work.specs.Items.{item_of, work_of};
+ghost use Rattle.rt_machine.specs.Notes.{NotedBy};
+
+use crate::course::Course;
+use crate::keeping::keeps;
+use crate::turn::sum;
+use rt_boundary::boundary_step;
+use rt_calls::{App, Calls};
+use rt_nodes::VComponent;
+use rt_parts::Parts;
+use rt_places::{Kind, Place, SideName};
+use rt_reports::{Entry, Limits};
+use rt_scopes::Scopes;
+use rt_sides::{fed_child, next_removed};
+use rt_state::{State, Stop};
+use rt_values::{List, OutOfMemory, Part, ScopeId, both};
+use rt_work::Item;
+use std::alloc::Global;
+
+/// The height of the scope that an item makes, where it is above the limit.
+pub(crate) fn too_deep<P: Parts>(
+    state: &State<P>,
+    item: &Item<P>,
+    limits: Limits,
+) -> Result<Option<u64>, OutOfMemory>
+    ensures above { IfOk result (λ deep. IfSome deep (λ height. limits.height < height)) }
+    ensures refused { IfOk result (λ deep. (g : _) →
+        causes.depth_refused (limits_of limits) (causes.height_at (state_of g state.now) (item_of item.now ∷ []))
+        ≡ option_map model.TooDeep deep) }
+{
+    match item {
+        Item::Make { scope, .. } => above(state.height_of(*scope), limits),
+        _ => Ok(None),
+    }
+}
+
+/// One more than a height, where that is above the limit.
+fn above(height: u64, limits: Limits) -> Result<Option<u64>, OutOfMemory>
+    ensures above { IfOk result (λ deep. IfSome deep (λ height. limits.height < height)) }
+    ensures refused { IfOk result (λ deep.
+        causes.depth_refused (limits_of limits) (Some (height + 1)) ≡ option_map model.TooDeep deep) }
+{
+    let height = sum(height, 1)?;
+    if u64::from(limits.height) < height {
+        Ok(Some(height))
+    } else {
+        Ok(None)
+    }
+}
+
+/// One turn at an item of open work: it is served, and of a drop one scope goes. The work that it
+/// leads to.
+pub(crate) fn turn_at<A: App>(
+    scopes: &mut Scopes<A>,
+    app: &A,
+    calls: &mut Calls,
+    course: &mut Course,
+    item: &Item<A>,
+) -> Result<List<Item<A>>, Stop>
+    ensures turned { StateComes (λ w. turn_of (A.meaning app.now) w (item_of item.now))
+        scopes.old.state scopes.new.state work_of result }
+    ensures noted { (g : _) → NotedBy course.old.entries course.new.entries
+        (entries_at (A.meaning app.now) (state_of g scopes.old.state) (item_of item.now))
+        result }
+{
+    match item {
+        Item::Draw {
+            scope,
+            side,
+            place,
+            kind,
+        } => draw(scopes, *scope, *side, place, *kind),
+        Item::Row { boundary, step } => boundary_step(scopes, app, calls, *boundary, *step),
+        Item::Feed {
+            scope,
+            side,
+            place,
+            component,
+        } => feed(scopes, app, calls, course, *scope, *side, place, component),
+        Item::Make {
+            scope,
+            side,
+            place,
+            component,
+        } => make(scopes, app, calls, course, *scope, *side, place, component),
+        Item::Drop { child, scope, side } => take(
+            scopes, app, calls, course, *child, *scope, *side,
+        ),
+    }
+}
+
+/// Draws a number for a place.
+fn draw<A: App>(
+    scopes: &mut Scopes<A>,
+    scope: u64,
+    side: SideName,
+    place: &Place,
+    kind: Kind,
+) -> Result<List<Item<A>>, Stop>
+    ensures drawn { StateComes (λ w.
+        replay.draw_number w scope (side_name_of side) (place_of place.now) (kind_of kind))
+        scopes.old.state scopes.new.state work_of result }
+{
+    let place = place.copy(scopes.alloc)?;
+    scopes.state.draw_number(scope, side, place, kind)?;
+    Ok(List::new(scopes.alloc))
+}
+
+/// Hands the child at a place a component.
+fn feed<A: App>(
+    scopes: &mut Scopes<A>,
+    app: &A,
+    calls: &mut Calls,
+    course: &mut Course,
+    scope: u64,
+    side: SideName,
+    place: &Place,
+    component: &VComponent<A>,
+) -> Result<List<Item<A>>, Stop>
+    ensures fed { StateComes (λ w. replay.outcome_of (A.meaning app.now) w
+        (model.Feed scope (side_name_of side) (place_of place.now) (component_of component.now)))
+        scopes.old.state scopes.new.state work_of result }
+    ensures noted { (g : _) → NotedBy course.old.entries course.new.entries
+        (replay.entry_of (A.meaning app.now) (state_of g scopes.old.state)
+        (model.Feed scope (side_name_of side) (place_of place.now) (component_of component.now)))
+        result }
+{
+    match fed_child(&scopes.state, scope, side, place.as_slice()) {
+        Some(child) => hand(scopes, app, calls, course, child, component),
+        None => Ok(List::new(scopes.alloc)),
+    }
+}
+
+/// Hands a scope a component. It keeps its output where that means the same, else it is run.
+fn hand<A: App>(
+    scopes: &mut Scopes<A>,
+    app: &A,
+    calls: &mut Calls,
+    course: &mut Course,
+    child: u64,
+    component: &VComponent<A>,
+) -> Result<List<Item<A>>, Stop>
+    ensures handed { StateComes (λ w.
+        replay.handed (A.meaning app.now) w child (component_of component.now))
+        scopes.old.state scopes.new.state work_of result }
+    ensures noted { (g : _) → NotedBy course.old.entries course.new.entries
+        ((if replay.keeps (A.meaning app.now) (state_of g scopes.old.state) child
+        (component_of component.now) then replay.Kept child else replay.Fed child) ∷ []) result }
+{
+    let kept = keeps(app, &scopes.state, child, component);
+    let component = component.copy(scopes.alloc)?;
+    if kept {
+        course.note(Entry::Kept(ScopeId(child)))?;
+        put(scopes, child, component)
+    } else {
+        course.note(Entry::Fed(ScopeId(child)))?;
+        put_and_run(scopes, app, calls, child, component)
+    }
+}
+
+/// A scope has another component, and keeps its output.
+fn put<A: App>(
+    scopes: &mut Scopes<A>,
+    child: u64,
+    component: VComponent<A>,
+) -> Result<List<Item<A>>, Stop>
+    ensures done { (app : _) → StateComes (λ w. model.Done
+        (replay.with_props app w child (component_of component)) [])
+        scopes.old.state scopes.new.state work_of result }
+{
+    scopes.state.put_component(child, component)?;
+    Ok(List::new(scopes.alloc))
+}
+
+/// A scope has another component, and is run.
+fn put_and_run<A: App>(
+    scopes: &mut Scopes<A>,
+    app: &A,
+    calls: &mut Calls,
+    child: u64,
+    component: VComponent<A>,
+) -> Result<List<Item<A>>, Stop>
+    ensures done { StateComes (λ w. run (A.meaning app.now)
+        (replay.with_props (A.meaning app.now) w child (component_of component)) child)
+        scopes.old.state scopes.new.state work_of result }
+{
+    scopes.state.put_component(child, component)?;
+    scopes.run(app, calls, ScopeId(child))
+}
+
+/// Makes a scope for the component at a place, and runs it.
+fn make<A: App>(
+    scopes: &mut Scopes<A>,
+    app: &A,
+    calls: &mut Calls,
+    course: &mut Course,
+    scope: u64,
+    side: SideName,
+    place: &Place,
+    component: &VComponent<A>,
+) -> Result<List<Item<A>>, Stop>
+    ensures made { StateComes (λ w. replay.made (A.meaning app.now) w scope
+        (side_name_of side) (place_of place.now) (component_of component.now))
+        scopes.old.state scopes.new.state work_of result }
+    ensures noted { (g : _) → NotedBy course.old.entries course.new.entries
+        (replay.Made (state_of g scopes.old.state).next_scope ∷ []) result }
+{
+    course.note(Entry::Made(ScopeId(scopes.state.next_scope)))?;
+    let alloc = scopes.alloc;
+    let (place, component) = both(place.copy(alloc), component.copy(alloc))?;
+    if scopes.state.is_live(scope) {
+        make_below(scopes, app, calls, scope, side, place, component)
+    } else {
+        Ok(List::new(alloc))
+    }
+}
+
+/// Makes a scope below a live one, and runs it.
+fn make_below<A: App>(
+    scopes: &mut Scopes<A>,
+    app: &A,
+    calls: &mut Calls,
+    scope: u64,
+    side: SideName,
+    place: Place,
+    component: VComponent<A>,
+) -> Result<List<Item<A>>, Stop>
+    ensures made { ((g : _) → model.is_live (state_of g scopes.old.state) scope ≡ true) →
+        StateComes (λ w. replay.made (A.meaning app.now) w scope
+        (side_name_of side) (place_of place) (component_of component))
+        scopes.old.state scopes.new.state work_of result }
+{
+    let alloc = scopes.alloc;
+    match scopes
+        .state
+        .with_new_scope(alloc, scope, side, place, component)?
+    {
+        Some(child) => scopes.run(app, calls, ScopeId(child)),
+        None => Ok(List::new(alloc)),
+    }
+}
+
+/// Removes the first scope of those that go with a child. The item comes again until the child
+/// itself went.
+fn take<A: App>(
+    scopes: &mut Scopes<A>,
+    app: &A,
+    calls: &mut Calls,
+    course: &mut Course,
+    child: u64,
+    scope: u64,
+    side: SideName,
+) -> Result<List<Item<A>>, Stop>
+    ensures turned { StateComes (λ w. turn_of (A.meaning app.now) w
+        (model.Drop child scope (side_name_of side)))
+        scopes.old.state scopes.new.state work_of result }
+    ensures noted { (g : _) → NotedBy course.old.entries course.new.entries
+        (replay.Removed (removal.next_removed (state_of g scopes.old.state) child) ∷ []) result }
+{
+    let alloc = scopes.alloc;
+    let leaf = next_removed(alloc, &scopes.state, child)?;
+    course.note(Entry::Removed(ScopeId(leaf)))?;
+    scopes.remove_leaf(app, calls, ScopeId(leaf))?;
+    Ok(drop_again(alloc, leaf == child, child, scope, side)?)
+}
+
+/// The drop that comes again, unless its own scope went.
+fn drop_again<P: Parts>(
+    alloc: Global,
+    went: bool,
+    child: u64,
+    scope: u64,
+    side: SideName,
+) -> Result<List<Item<P>>, OutOfMemory>
+    ensures { IfOk result (λ items. work_of items
+        ≡ again went (model.Drop child scope (side_name_of side))) }
+{
+    let mut items = List::new(alloc);
+    if !went {
+        items.push(Item::Drop { child, scope, side })?;
+    }
+    Ok(items)
+}

@@ -1,0 +1,205 @@
+//! What the scopes that a rerun changes were before it.
+ghost use Rattle.std.specs.Prelude.{◌≡◌, ℕ, true, is_some, option_map, IfOk, OnOk};
+ghost use Rattle.rt_model.specs.Lists.{at};
+ghost use Rattle.rt_moves.specs.Frames.{those};
+ghost use Rattle.rt_calls.specs.Calls.{number_of};
+ghost use Rattle.rt_state.specs.Mirror.{scopes_of, state_of};
+ghost use Rattle.rt_shown.specs.Look as looks;
+ghost use Rattle.rt_shown.specs.Stands.{Stands};
+ghost use Rattle.rt_state.specs.Names.{work_of};
+ghost use Rattle.rt_work.specs.Items.{item_of};
+ghost use Rattle.rt_machine.specs.Changes.{AllKept, KeepsFor, changes_of};
+
+use rt_calls::Scope;
+use rt_parts::Parts;
+use rt_places::Side;
+use rt_shown::Stood;
+use rt_sides::{fed_child, next_removed};
+use rt_state::{State, Work};
+use rt_values::{List, OutOfMemory, Part, ScopeId};
+use rt_work::Item;
+use std::alloc::Global;
+
+/// A copy of a side.
+fn copy_side<P: Parts>(alloc: Global, side: &Side<P>) -> Result<Side<P>, OutOfMemory>
+    ensures { IfOk result (λ copy. copy ≡ side.now) }
+{
+    let output = match &side.output {
+        Some(tree) => Some(tree.copy(alloc)?),
+        None => None,
+    };
+    Ok(Side {
+        output,
+        numbers: side.numbers.copy(alloc)?,
+        children: side.children.copy(alloc)?,
+    })
+}
+
+/// The number of a parent.
+fn number_of(parent: Option<ScopeId>) -> Option<u64>
+    ensures { result ≡ number_of parent }
+{
+    match parent {
+        Some(parent) => Some(parent.0),
+        None => None,
+    }
+}
+
+/// What shows of a scope, as it stands.
+fn standing<P: Parts>(alloc: Global, scope: &Scope<P>) -> Result<Stood<P>, OutOfMemory>
+    ensures { IfOk result (λ stood. stood ≡ looks.standing scope.now) }
+{
+    Ok(Stood {
+        parent: number_of(scope.row.parent),
+        height: scope.rest.height,
+        below: scope.rest.below,
+        shows: scope.rest.shows,
+        main_side: copy_side(alloc, &scope.rest.main_side)?,
+        children_side: copy_side(alloc, &scope.rest.children_side)?,
+        fallback_side: copy_side(alloc, &scope.rest.fallback_side)?,
+    })
+}
+
+/// What shows of a scope now, none where it isn't live.
+fn shown_now<P: Parts>(
+    alloc: Global,
+    state: &State<P>,
+    scope: u64,
+) -> Result<Option<Stood<P>>, OutOfMemory>
+    ensures { IfOk result (λ stood.
+        option_map looks.sight_in stood
+        ≡ option_map looks.sight_of (at (scopes_of state.now.rows.table) scope)) }
+{
+    match state.scope(scope) {
+        Some(found) => Ok(Some(standing(alloc, found)?)),
+        None => Ok(None),
+    }
+}
+
+/// Whether it is kept what a scope was.
+fn is_kept<P: Parts>(stood: &[(u64, Option<Stood<P>>)], scope: u64) -> bool
+    ensures { result ≡ is_some (at stood.now scope) }
+{
+    for entry in stood {
+        if entry.0 == scope {
+            return true;
+        }
+    }
+    false
+}
+
+/// Keeps what shows of a scope, unless it is kept what it was.
+pub(crate) fn keep<P: Parts>(
+    alloc: Global,
+    state: &State<P>,
+    scope: u64,
+    stood: &mut List<(u64, Option<Stood<P>>)>,
+) -> Result<(), OutOfMemory>
+    ensures kept { OnOk result (is_some (at stood.new scope) ≡ true) }
+    ensures others { OnOk result ((other : ℕ) →
+        is_some (at stood.old other) ≡ true → is_some (at stood.new other) ≡ true) }
+    ensures stands { OnOk result ((was : _) →
+        Stands stood.old was (scopes_of state.now.rows.table) →
+        Stands stood.new was (scopes_of state.now.rows.table)) }
+{
+    if is_kept(stood.as_slice(), scope) {
+        return Ok(());
+    }
+    let shown = shown_now(alloc, state, scope)?;
+    stood.push((scope, shown))
+}
+
+/// Keeps what shows of the scopes that a turn at an item may change.
+pub(crate) fn keep_for<P: Parts>(
+    alloc: Global,
+    state: &State<P>,
+    item: &Item<P>,
+    stood: &mut List<(u64, Option<Stood<P>>)>,
+) -> Result<(), OutOfMemory>
+    ensures kept { OnOk result ((g : _) →
+        AllKept stood.new (changes_of (state_of g state.now) (item_of item.now))) }
+    ensures stands { OnOk result ((was : _) →
+        Stands stood.old was (scopes_of state.now.rows.table) →
+        Stands stood.new was (scopes_of state.now.rows.table)) }
+{
+    match item {
+        Item::Draw { scope, .. } => keep(alloc, state, *scope, stood),
+        Item::Row { boundary, .. } => keep(alloc, state, *boundary, stood),
+        Item::Feed {
+            scope,
+            side,
+            place,
+            ..
+        } => keep_found(
+            alloc,
+            state,
+            fed_child(state, *scope, *side, place.as_slice()),
+            stood,
+        ),
+        Item::Make { scope, .. } => {
+            keep(alloc, state, *scope, stood)?;
+            keep(alloc, state, state.next_scope, stood)
+        }
+        Item::Drop { child, .. } => {
+            let leaf = next_removed(alloc, state, *child)?;
+            keep(alloc, state, leaf, stood)
+        }
+    }
+}
+
+/// Keeps what shows of a scope, where there is one.
+fn keep_found<P: Parts>(
+    alloc: Global,
+    state: &State<P>,
+    scope: Option<u64>,
+    stood: &mut List<(u64, Option<Stood<P>>)>,
+) -> Result<(), OutOfMemory>
+    ensures kept { OnOk result (AllKept stood.new (those scope)) }
+    ensures stands { OnOk result ((was : _) →
+        Stands stood.old was (scopes_of state.now.rows.table) →
+        Stands stood.new was (scopes_of state.now.rows.table)) }
+{
+    match scope {
+        Some(scope) => keep(alloc, state, scope, stood),
+        None => Ok(()),
+    }
+}
+
+/// Keeps it where the scopes before and after are compared.
+pub(crate) fn keep_where<P: Parts>(
+    compared: bool,
+    alloc: Global,
+    state: &State<P>,
+    item: &Item<P>,
+    stood: &mut List<(u64, Option<Stood<P>>)>,
+) -> Result<(), OutOfMemory>
+    ensures kept { OnOk result (compared ≡ true → (g : _) →
+        AllKept stood.new (changes_of (state_of g state.now) (item_of item.now))) }
+    ensures stands { OnOk result ((was : _) →
+        Stands stood.old was (scopes_of state.now.rows.table) →
+        Stands stood.new was (scopes_of state.now.rows.table)) }
+{
+    if compared {
+        keep_for(alloc, state, item, stood)
+    } else {
+        Ok(())
+    }
+}
+
+/// What is kept at the begin of a unit: of a rerun what its own scope is.
+pub(crate) fn first_kept<P: Parts>(
+    alloc: Global,
+    state: &State<P>,
+    work: Work,
+) -> Result<List<(u64, Option<Stood<P>>)>, OutOfMemory>
+    ensures { IfOk result (λ stood.
+        KeepsFor (work_of work) stood (scopes_of state.now.rows.table)) }
+{
+    let mut stood = List::new(alloc);
+    match work {
+        Work::RerunScope(scope) => keep(alloc, state, scope, &mut stood)?,
+        Work::PollTask(_) => {}
+        Work::RunEffects(_) => {}
+    }
+    Ok(stood)
+}

@@ -1,0 +1,144 @@
+//! The build, and the units that follow.
+ghost use Rattle.std.specs.Prelude.{◌≡◌, ℕ, ◌+◌, false, Some, IfErr, OnOk};
+ghost use Rattle.rt_model.specs.Reports.{is_opening};
+ghost use Rattle.rt_model.specs.Replay as replay;
+ghost use Rattle.rt_reports.specs.Seen.{entry_of, limits_of};
+ghost use Rattle.rt_scopes.specs.Outcomes.{StateComes};
+ghost use Rattle.rt_state.specs.Mirror.{scopes_of};
+ghost use Rattle.rt_state.specs.Names.{work_of as model_work};
+ghost use Rattle.rt_turns.specs.Turn.{entry_for, unit_of};
+ghost use Rattle.rt_work.specs.Items.{work_of};
+ghost use Rattle.rt_machine.specs.Ends.{Explains};
+ghost use Rattle.rt_machine.specs.Machines.{Begins, BeginsUnit, Builds, first_in, is_rerun, RemembersAt};
+
+use crate::ended::Ended;
+use crate::machine::{Machine, stack};
+use crate::standing::first_kept;
+use crate::turn::sum;
+use rt_calls::{App, Calls};
+use rt_reports::{Entry, Limits};
+use rt_scopes::Scopes;
+use rt_state::{Stop, Work};
+use rt_values::{List, ScopeId, Task};
+use rt_work::Item;
+
+/// The entry that begins a unit.
+fn entry_for(work: Work) -> Entry
+    ensures entry { entry_of result ≡ entry_for (model_work work) }
+    ensures later { is_opening (entry_of result) ≡ false }
+{
+    match work {
+        Work::RerunScope(scope) => Entry::Rerun(ScopeId(scope)),
+        Work::PollTask(task) => Entry::Poll(Task(task)),
+        Work::RunEffects(scope) => Entry::Effects(ScopeId(scope)),
+    }
+}
+
+/// What a unit does first. The work that it leads to.
+fn first_step<A: App>(
+    scopes: &mut Scopes<A>,
+    app: &A,
+    calls: &mut Calls,
+    work: Work,
+) -> Result<List<Item<A>>, Stop>
+    ensures done { StateComes (λ w. unit_of (A.meaning app.now) w (model_work work))
+        scopes.old.state scopes.new.state work_of result }
+{
+    match work {
+        Work::RerunScope(scope) => scopes.run(app, calls, ScopeId(scope)),
+        Work::PollTask(task) => {
+            scopes.poll_task(app, calls, Task(task))?;
+            Ok(List::new(scopes.alloc))
+        }
+        Work::RunEffects(scope) => {
+            scopes.call_effects(app, calls, ScopeId(scope))?;
+            Ok(List::new(scopes.alloc))
+        }
+    }
+}
+
+impl<A: App> Machine<A> {
+    /// Begins the build.
+    pub fn build(&mut self, app: &A, calls: &mut Calls) -> Result<(), Stop>
+        ensures builds { Builds (A.meaning app.now) self.old self.new result }
+        ensures first { first_in self.new ≡ Some replay.Build }
+        ensures others { self.new ≡ record self.old {
+          scopes = self.new.scopes;
+          work = self.new.work;
+          first = self.new.first;
+        } }
+    {
+        self.first = Some(Entry::Build);
+        let work = self.scopes.run(app, calls, ScopeId(0))?;
+        Ok(stack(&mut self.work, work)?)
+    }
+
+    /// Begins a unit, where so many were not yet done.
+    pub(crate) fn begin(
+        &mut self,
+        app: &A,
+        calls: &mut Calls,
+        work: Work,
+        limits: Limits,
+    ) -> Result<(), Ended>
+        ensures explains { IfErr result (λ ended. (before after : ℕ) → Explains limits before after ended) }
+        ensures begins { Begins (A.meaning app.now) (limits_of limits) (model_work work)
+            self.old self.new result }
+        ensures first { OnOk result (first_in self.new ≡ Some (entry_for (model_work work))) }
+        ensures units { OnOk result (self.new.units ≡ self.old.units + 1) }
+        ensures remembers { OnOk result ((g : _) →
+            RemembersAt g self.new (scopes_of self.old.scopes.state.rows.table)) }
+        ensures others { self.new ≡ record self.old {
+          scopes = self.new.scopes;
+          work = self.new.work;
+          first = self.new.first;
+          stood = self.new.stood;
+          lived = self.new.lived;
+          course = self.new.course;
+          units = self.new.units;
+        } }
+    {
+        if self.units == limits.units {
+            return Err(Ended::OutOfTurns {
+                units: limits.units,
+            });
+        }
+        self.units = sum(self.units, 1)?;
+        Ok(self.begin_unit(app, calls, work)?)
+    }
+
+    /// Begins a unit.
+    fn begin_unit(&mut self, app: &A, calls: &mut Calls, work: Work) -> Result<(), Stop>
+        ensures begins { BeginsUnit (A.meaning app.now) (model_work work)
+            self.old self.new result }
+        ensures first { OnOk result (first_in self.new ≡ Some (entry_for (model_work work))) }
+        ensures remembers { OnOk result ((g : _) →
+            RemembersAt g self.new (scopes_of self.old.scopes.state.rows.table)) }
+        ensures others { self.new ≡ record self.old {
+          scopes = self.new.scopes;
+          work = self.new.work;
+          first = self.new.first;
+          stood = self.new.stood;
+          lived = self.new.lived;
+          course = self.new.course;
+        } }
+    {
+        let entry = entry_for(work);
+        self.course.note(entry)?;
+        self.first = Some(entry);
+        self.stood = first_kept(self.scopes.alloc, &self.scopes.state, work)?;
+        self.lived = self.scopes.state.rows.table.as_slice().len() as u64;
+        let items = first_step(&mut self.scopes, app, calls, work)?;
+        Ok(stack(&mut self.work, items)?)
+    }
+
+    /// Whether the states before and after the unit at work are compared.
+    pub(crate) fn is_compared(&self) -> bool
+        ensures { result ≡ is_rerun (first_in self.now) }
+    {
+        match self.first {
+            Some(Entry::Rerun(_)) => true,
+            _ => false,
+        }
+    }
+}

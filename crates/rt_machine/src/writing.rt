@@ -1,0 +1,210 @@
+//! The edits of the build and of the units, written where these end.
+ghost use Rattle.std.specs.Prelude.{◌≡◌, ◌∷◌, [], ℕ, None, length, IfOk, IfErr, OnOk, OnErr};
+ghost use Rattle.rt_edits.specs.Sinks.{grown};
+ghost use Rattle.rt_model.specs.Replay as replay;
+ghost use Rattle.rt_model.specs.Replay.{mounted_state};
+ghost use Rattle.rt_reports.specs.Seen.{entry_of};
+ghost use Rattle.rt_reports.specs.declared.limits.Limits.{Limits};
+ghost use Rattle.rt_state.specs.Mirror.{state_of};
+ghost use Rattle.rt_work.specs.Items.{item_of};
+ghost use Rattle.rt_machine.specs.Ends.{Took, Ends, Explains};
+ghost use Rattle.rt_machine.specs.Machines.{fault_in};
+ghost use Rattle.rt_machine.specs.Writings.{AreCausedNow, AreEdits, AreEditsUntil, AreUntil, Closes, ClosesPart, Cuts, CutsShort, WrotePart, WrotePartUntil, WroteUntil};
+
+use crate::ended::Ended;
+use crate::machine::Machine;
+use rt_calls::{App, Calls};
+use rt_edits::{Edit, SinkError, WriteMutations};
+use rt_reports::Entry;
+use rt_shown::{Look, built, written, written_until};
+use rt_state::Stop;
+use rt_values::{List, OutOfMemory, ScopeId};
+use rt_work::Item;
+use std::alloc::Global;
+
+/// Writes an edit to the sink.
+fn write_edit<M: WriteMutations>(alloc: Global, edit: &Edit, sink: &mut M) -> Result<(), Ended>
+    ensures ok { IfOk result (λ _. Took (M.taken sink.old) (M.taken sink.new)
+        (M.faults sink.old) (M.faults sink.new) 1) }
+    ensures told { OnOk result (M.taken sink.new ≡ grown (M.taken sink.old) (edit.now ∷ [])) }
+    ensures err { IfErr result (λ ended. (limits : Limits) → Ends limits 0
+        (M.taken sink.old) (M.taken sink.new) (M.faults sink.old) (M.faults sink.new) ended) }
+    ensures cause { IfErr result (λ ended. fault_in ended ≡ None) }
+    ensures left { OnErr result (M.taken sink.new ≡ M.taken sink.old) }
+{
+    match edit.write_to(alloc, sink) {
+        Ok(()) => Ok(()),
+        Err(SinkError::Failed) => Err(Ended::Sink),
+        Err(SinkError::OutOfMemory) => Err(Ended::Run(Stop::OutOfMemory)),
+    }
+}
+
+/// Writes edits to the sink. The answer is how many.
+fn write_edits<M: WriteMutations>(alloc: Global, edits: &[Edit], sink: &mut M) -> Result<u64, Ended>
+    ensures ok { IfOk result (λ taken. Took (M.taken sink.old) (M.taken sink.new)
+        (M.faults sink.old) (M.faults sink.new) taken) }
+    ensures told { OnOk result (M.taken sink.new ≡ grown (M.taken sink.old) edits.now) }
+    ensures count { IfOk result (λ taken. taken ≡ length edits.now) }
+    ensures err { IfErr result (λ ended. (limits : Limits) → Ends limits 0
+        (M.taken sink.old) (M.taken sink.new) (M.faults sink.old) (M.faults sink.new) ended) }
+    ensures cause { IfErr result (λ ended. fault_in ended ≡ None) }
+    ensures part { IfErr result (λ ended.
+        WrotePart edits.now (M.taken sink.old) (M.taken sink.new) ended) }
+{
+    for edit in edits {
+        write_edit(alloc, edit, sink)?;
+    }
+    Ok(edits.len() as u64)
+}
+
+impl<A: App> Machine<A> {
+    /// Ends the build or a unit: every scope that shows is mounted, and what changed is written. The
+    /// answer is how many edits that took.
+    pub(crate) fn close<M: WriteMutations>(
+        &mut self,
+        first: Entry,
+        sink: &mut M,
+    ) -> Result<u64, Ended>
+        ensures ok { IfOk result (λ taken. Took (M.taken sink.old) (M.taken sink.new)
+            (M.faults sink.old) (M.faults sink.new) taken) }
+        ensures err { IfErr result (λ ended. (limits : Limits) → Ends limits 0
+            (M.taken sink.old) (M.taken sink.new) (M.faults sink.old) (M.faults sink.new) ended) }
+        ensures cause { IfErr result (λ ended. fault_in ended ≡ None) }
+        ensures closes { IfOk result (λ count. Closes (entry_of first)
+            self.old (M.taken sink.old) (M.taken sink.new) count) }
+        ensures part { IfErr result (λ ended. ClosesPart
+            (entry_of first) self.old (M.taken sink.old) (M.taken sink.new) ended) }
+        ensures mounted { OnOk result ((g : _) → state_of g self.new.scopes.state
+            ≡ mounted_state (state_of g self.old.scopes.state)) }
+        ensures over { OnOk result (self.new.first ≡ None) }
+        ensures others { self.new ≡ record self.old {
+          scopes = self.new.scopes;
+          first = self.new.first;
+        } }
+    {
+        let edits = self.ended_unit(first)?;
+        write_edits(self.scopes.alloc, edits.as_slice(), sink)
+    }
+
+    /// Mounts what shows, and ends the build or the unit. The answer is what it writes.
+    fn ended_unit(&mut self, first: Entry) -> Result<List<Edit>, OutOfMemory>
+        ensures edits { IfOk result (λ edits. AreEdits (entry_of first)
+            self.old edits) }
+        ensures mounted { OnOk result ((g : _) → state_of g self.new.scopes.state
+            ≡ mounted_state (state_of g self.old.scopes.state)) }
+        ensures over { OnOk result (self.new.first ≡ None) }
+        ensures others { self.new ≡ record self.old {
+          scopes = self.new.scopes;
+          first = self.new.first;
+        } }
+    {
+        self.scopes.state.mount_shown()?;
+        let edits = self.caused(first)?;
+        self.first = None;
+        Ok(edits)
+    }
+
+    /// What the build or a unit writes, by the entry that began it.
+    fn caused(&self, first: Entry) -> Result<List<Edit>, OutOfMemory>
+        ensures { IfOk result (λ edits. AreCausedNow (entry_of first)
+            self.now edits) }
+    {
+        let alloc = self.scopes.alloc;
+        match first {
+            Entry::Build => self.built(),
+            Entry::Rerun(ScopeId(scope)) => self.rewritten(scope),
+            _ => Ok(List::new(alloc)),
+        }
+    }
+
+    /// What the build writes.
+    fn built(&self) -> Result<List<Edit>, OutOfMemory>
+        ensures { IfOk result (λ edits. AreCausedNow replay.Build
+            self.now edits) }
+    {
+        built(self.scopes.alloc, &Look::now(&self.scopes.state.rows))
+    }
+
+    /// What a rerun of a scope writes.
+    fn rewritten(&self, scope: u64) -> Result<List<Edit>, OutOfMemory>
+        ensures { IfOk result (λ edits. AreCausedNow
+            (replay.Rerun scope) self.now edits) }
+    {
+        let rows = &self.scopes.state.rows;
+        let before = Look::before(rows, self.stood.as_slice(), self.lived);
+        written(self.scopes.alloc, &before, &Look::now(rows), scope)
+    }
+
+    /// What a unit wrote before an item of it was refused.
+    fn caused_until(&self, refused: &Item<A>) -> Result<List<Edit>, OutOfMemory>
+        ensures { IfOk result (λ edits. AreEditsUntil
+            (item_of refused.now) self.now edits) }
+    {
+        match self.first {
+            Some(first) => self.caused_by(first, refused),
+            None => Ok(List::new(self.scopes.alloc)),
+        }
+    }
+
+    /// The same, by the entry that began the unit.
+    fn caused_by(&self, first: Entry, refused: &Item<A>) -> Result<List<Edit>, OutOfMemory>
+        ensures { IfOk result (λ edits. AreUntil
+            (item_of refused.now) (entry_of first) self.now edits) }
+    {
+        match first {
+            Entry::Rerun(ScopeId(scope)) => self.rewritten_until(refused, scope),
+            _ => Ok(List::new(self.scopes.alloc)),
+        }
+    }
+
+    /// What a rerun of a scope wrote before an item of it was refused.
+    fn rewritten_until(&self, refused: &Item<A>, scope: u64) -> Result<List<Edit>, OutOfMemory>
+        ensures { IfOk result (λ edits. AreUntil
+            (item_of refused.now) (replay.Rerun scope) self.now edits) }
+    {
+        let rows = &self.scopes.state.rows;
+        let before = Look::before(rows, self.stood.as_slice(), self.lived);
+        written_until(self.scopes.alloc, &before, &Look::now(rows), refused, scope)
+    }
+
+    /// Ends a run in which an item was refused. What it changed before is written, unless memory is
+    /// wanting. The answer is why it ends.
+    pub(crate) fn cut<M: WriteMutations>(
+        &self,
+        ended: Ended,
+        refused: &Item<A>,
+        sink: &mut M,
+    ) -> Ended
+        ensures ends { (limits : Limits) → ((before after : ℕ) → Explains limits before after ended) →
+            Ends limits 0 (M.taken sink.old) (M.taken sink.new)
+            (M.faults sink.old) (M.faults sink.new) result }
+        ensures cuts { Cuts (item_of refused.now) self.now
+            (M.taken sink.old) (M.taken sink.new) ended result }
+        ensures part { CutsShort (item_of refused.now) self.now
+            (M.taken sink.old) (M.taken sink.new) ended result }
+    {
+        if ended.wants_memory() {
+            return ended;
+        }
+        match self.write_until(refused, sink) {
+            Ok(_edits) => ended,
+            Err(failed) => failed,
+        }
+    }
+
+    /// Writes what a unit changed before an item of it was refused. The answer is how many edits.
+    fn write_until<M: WriteMutations>(&self, refused: &Item<A>, sink: &mut M) -> Result<u64, Ended>
+        ensures ok { IfOk result (λ taken. Took (M.taken sink.old) (M.taken sink.new)
+            (M.faults sink.old) (M.faults sink.new) taken) }
+        ensures err { IfErr result (λ ended. (limits : Limits) → Ends limits 0
+            (M.taken sink.old) (M.taken sink.new) (M.faults sink.old) (M.faults sink.new) ended) }
+        ensures cause { IfErr result (λ ended. fault_in ended ≡ None) }
+        ensures wrote { OnOk result (WroteUntil
+            (item_of refused.now) self.now (M.taken sink.old) (M.taken sink.new)) }
+        ensures part { IfErr result (λ ended. WrotePartUntil
+            (item_of refused.now) self.now (M.taken sink.old) (M.taken sink.new) ended) }
+    {
+        let edits = self.caused_until(refused)?;
+        write_edits(self.scopes.alloc, edits.as_slice(), sink)
+    }
+}

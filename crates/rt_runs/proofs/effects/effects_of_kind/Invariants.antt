@@ -1,7 +1,0 @@
--- The effects so far, and those of the hooks that are left, are those of all hooks.
-use Rattle.std.proofs.Common.{◌≡◌, ◌++◌, drop}
-use Rattle.rt_runs.specs.Hooks.{effects_in}
-use Rattle.rt_runs.proofs.effects.effects_of_kind.Given as goal
-
-abbrev pub invariant-loop-hook : goal.invariant-loop-hook
-invariant-loop-hook g l = l.effects ++ effects_in l.kind (drop l.hook-index l.hooks) ≡ effects_in l.kind l.hooks

@@ -1,8 +1,0 @@
-pub mod Counts
-pub mod Outcomes
-pub mod Hooks
-pub mod Bodies
-pub mod Hearings
-pub mod CleanUps
-pub mod Polls
-pub mod Runs

@@ -1,0 +1,49 @@
+-- A run, by what was found of the scope.
+use Rattle.std.proofs.Common.{rules, ◌∙◌, map, ap, sym}
+use Rattle.std.specs.Prelude.{Some, None, option_map}
+use Rattle.rt_model.specs.State.{Done}
+use Rattle.rt_model.specs.Run.{row_of}
+use Rattle.rt_mirror.specs.Sealed.{component_of}
+use Rattle.rt_places.specs.Places.{side_name_of}
+use Rattle.rt_work.specs.Items.{row_step_of, work_of}
+use Rattle.rt_calls.specs.Kept.{scope_of}
+use Rattle.rt_state.specs.Mirror.{state_of}
+use Rattle.rt_state.proofs.Each.{found-each}
+use Rattle.rt_scopes.proofs.Onward.{came_as}
+use Rattle.rt_scopes.proofs.RunKinds.{run_found, run_gone}
+use Rattle.rt_scopes.proofs.scopes.Scopes.run.Goals as goal
+
+pub returns-in_default : goal.returns-in_default
+returns-in_default g c =
+    record {
+      run =
+          λ kept. (
+            kept,
+            run_gone (g.A.App.meaning c.args.app.now) (state_of kept c.args.self.now.state) c.args.scope.0 (found-each scope_of (c.args.self.now.state.rows).table c.args.scope.0 None c.in_default.ensures)
+                ∙ ap (λ work. Done (state_of kept c.args.self.now.state) (work_of work)) (sym c.new.ensures.empty),
+            λ was. was,
+          );
+    }
+
+pub returns : goal.returns
+returns g c =
+    record {
+      run =
+          λ kept.
+          let came = c.run_component.ensures.run kept in (
+            came.0,
+            came_as _ _ _ _ _
+                (run_found (g.A.App.meaning c.args.app.now) (state_of kept c.args.self.now.state) c.args.scope.0 (scope_of c.in-Some.found.now) (component_of c.in_ok-component.component) (map row_step_of c.row_of-steps.result.now)
+                (found-each scope_of (c.args.self.now.state.rows).table c.args.scope.0 (Some c.in-Some.found.now) c.in-Some.ensures)
+                (ap component_of (sym c.in_ok-component.ensures))
+                (c.row_of-steps.ensures ∙ ap (λ held. row_of (option_map side_name_of c.in-Some.found.now.rest.shows) held) c.is_held.ensures))
+                came.1,
+            came.2,
+          );
+    }
+
+pub returns-in_err-component : goal.returns-in_err-component
+returns-in_err-component g c =
+    record {
+      run = λ kept. (kept, search rules, search rules);
+    }

@@ -1,0 +1,33 @@
+-- The answer settles, and then the hooks are called.
+use Rattle.std.specs.Prelude.{[]}
+use Rattle.std.proofs.lemmas.Result.{err_from_is_err_and}
+use Rattle.rt_model.specs.Run.{after_hooks}
+use Rattle.rt_state.specs.Mirror.{state_of}
+use Rattle.rt_scopes.specs.Outcomes.{no_work}
+use Rattle.rt_scopes.proofs.Counted.{counts_then}
+use Rattle.rt_scopes.proofs.Onward.{came_on, cut_on}
+use Rattle.rt_scopes.proofs.scopes.Scopes.settle_and_hook.Goals as goal
+
+pub returns-in_err-settle : goal.returns-in_err-settle
+returns-in_err-settle g c =
+    record {
+      settled =
+          λ kept.
+          let cut = c.in_err-settle.ensures.settled (g.A.App.meaning c.args.app.now) c.args.calls.now kept in
+          let p = err_from_is_err_and c.from_residual.result c.from_residual.ensures.1 in
+          rw (p.1, p.2) (cut.0, cut_on _ (λ v. after_hooks (g.A.App.meaning c.args.app.now) v c.args.scope) _ _ cut.1, cut.2);
+    }
+
+pub returns : goal.returns
+returns g c =
+    record {
+      settled =
+          λ kept.
+          let done = c.in_ok-settle.ensures.settled (g.A.App.meaning c.args.app.now) c.args.calls.now kept in
+          let came = c.call_hooks.ensures.called done.0 in (
+            came.0,
+            came_on _ (λ v. after_hooks (g.A.App.meaning c.args.app.now) v c.args.scope) (state_of done.0 c.settle.new.self.state) _ [] no_work _ done.1
+                came.1,
+            counts_then _ _ _ _ _ _ _ done.2 came.2,
+          );
+    }

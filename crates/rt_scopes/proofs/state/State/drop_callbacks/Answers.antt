@@ -1,8 +1,0 @@
-use Rattle.std.proofs.Common.{rules, [], refl}
-use Rattle.rt_scopes.proofs.state.State.drop_callbacks.Goals as goal
-
-pub returns : goal.returns
-returns g c =
-    c.change_scope.ensures
-    (record { code = λ x. record x { rest = record (x.rest) { callbacks = [] } }; model = λ x. record x { callbacks = [] }; same = λ x. refl })
-    (λ x y ret. search rules)

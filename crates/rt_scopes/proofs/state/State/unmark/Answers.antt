@@ -1,5 +1,0 @@
-use Rattle.rt_scopes.specs.Mirror.{state_of}
-use Rattle.rt_scopes.proofs.state.State.unmark.Goals as goal
-
-pub returns : goal.returns
-returns g c = λ kept i. record (state_of kept c.args.self.now) { posted = c.drop_posted.ensures i; seen = c.drop_number.ensures i; skipped = c.drop_number-2.ensures i }

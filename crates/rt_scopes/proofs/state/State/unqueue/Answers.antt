@@ -1,5 +1,0 @@
-use Rattle.rt_scopes.specs.Mirror.{state_of}
-use Rattle.rt_scopes.proofs.state.State.unqueue.Goals as goal
-
-pub returns : goal.returns
-returns g c = λ kept i. record (state_of kept c.args.self.now) { posted = c.drop_posted.ensures i; queued = c.drop_number.ensures i }

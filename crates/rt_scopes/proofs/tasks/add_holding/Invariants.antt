@@ -1,9 +1,0 @@
-use Rattle.std.proofs.Common.{◌≡◌, ◌++◌, map, drop}
-use Rattle.rt_model.specs.Commands.{holding}
-use Rattle.rt_scopes.specs.Names.{posted_of}
-use Rattle.rt_scopes.specs.Mirror.{scopes_of}
-use Rattle.rt_scopes.proofs.tasks.add_holding.Given as goal
-
-abbrev pub invariant-loop-entry : goal.invariant-loop-entry
-invariant-loop-entry g l =
-    map posted_of l.posted ++ holding (scopes_of (drop l.entry-index l.scopes)) l.task ≡ map posted_of l.initial.posted ++ holding (scopes_of l.scopes) l.task

@@ -1,0 +1,182 @@
+//! One run of a scope, up to its agenda.
+ghost use Rattle.std.specs.Prelude.{◌≡◌, map, IfOk, option_map};
+ghost use Rattle.rt_model.specs.Run as run;
+ghost use Rattle.rt_model.specs.Run.{after_hooks, boundary_run, call_body};
+ghost use Rattle.rt_model.specs.State.{Done, onward};
+ghost use Rattle.rt_mirror.specs.Sealed.{component_of};
+ghost use Rattle.rt_places.specs.Places.{side_name_of};
+ghost use Rattle.rt_work.specs.Items.{row_step_of, work_of};
+ghost use Rattle.rt_scopes.specs.Outcomes.{Comes};
+ghost use Rattle.rt_scopes.specs.Runs.{run_by, run_on};
+
+use crate::scopes::Scopes;
+use rt_calls::{App, Calls};
+use rt_nodes::VComponent;
+use rt_parts::Parts;
+use rt_places::SideName;
+use rt_state::{Stop, is_held, is_suspense_boundary};
+use rt_values::{List, OutOfMemory, ScopeId};
+use rt_work::{Item, RowStep};
+use std::alloc::Global;
+
+/// The steps of a suspense boundary's run, by the side that shows and by whether it is held at its
+/// start.
+fn row_of(shows: Option<SideName>, held: bool) -> &'static [RowStep]
+    ensures { map row_step_of result.now ≡ run.row_of (option_map side_name_of shows) held }
+{
+    match (shows, held) {
+        (None, _) => &[RowStep::PatchChildren, RowStep::MadeChildren],
+        (Some(SideName::Fallback), true) => &[RowStep::RunFallback, RowStep::PatchChildren],
+        (Some(SideName::Fallback), false) => &[
+            RowStep::PatchChildren,
+            RowStep::ShowChildren,
+            RowStep::DropFallback,
+            RowStep::Resolve,
+        ],
+        (Some(SideName::Children), true) => &[
+            RowStep::RunFallback,
+            RowStep::ShowFallback,
+            RowStep::PatchChildren,
+        ],
+        (Some(SideName::Children), false) => &[RowStep::PatchChildren],
+        (Some(SideName::Main), _) => &[],
+    }
+}
+
+/// Whether a run calls the fallback. A boundary that is made knows it only later.
+fn runs_fallback(steps: &[RowStep]) -> bool
+    ensures { result ≡ run.runs_fallback (map row_step_of steps.now) }
+{
+    for step in steps {
+        if *step == RowStep::RunFallback {
+            return true;
+        }
+    }
+    false
+}
+
+/// Steps of a boundary's run as open work.
+pub fn row_items<P: Parts>(
+    alloc: Global,
+    boundary: u64,
+    steps: &[RowStep],
+) -> Result<List<Item<P>>, OutOfMemory>
+    ensures { IfOk result (λ items.
+        work_of items ≡ run.row_items boundary (map row_step_of steps.now)) }
+{
+    let mut items = List::new(alloc);
+    for step in steps {
+        items.push(Item::Row {
+            boundary,
+            step: *step,
+        })?;
+    }
+    Ok(items)
+}
+
+impl<A: App> Scopes<A> {
+    /// Runs a scope: its marks go, the before-render hooks are called, then its body, or the first
+    /// steps of a suspense boundary. The agenda that this leads to; none of a scope that is gone.
+    pub fn run(&mut self, app: &A, calls: &mut Calls, scope: ScopeId) -> Result<List<Item<A>>, Stop>
+        ensures run { Comes (λ w. run.run (A.meaning app.now) w scope.0)
+            self.old.state calls.old self.new.state calls.new work_of result }
+    {
+        let Some(found) = self.state.scope(scope.0) else {
+            return Ok(List::new(self.alloc));
+        };
+        let component = found.rest.component.copy(self.alloc)?;
+        let steps = row_of(found.rest.shows, is_held(found));
+        self.run_component(app, calls, scope.0, &component, steps)
+    }
+
+    /// Runs a scope with this component: its marks go, the before-render hooks are called, then its
+    /// body, or these steps of a suspense boundary.
+    fn run_component(
+        &mut self,
+        app: &A,
+        calls: &mut Calls,
+        scope: u64,
+        component: &VComponent<A>,
+        steps: &[RowStep],
+    ) -> Result<List<Item<A>>, Stop>
+        ensures run { Comes (λ w. run_by (A.meaning app.now) w scope
+            (component_of component.now) (map row_step_of steps.now))
+            self.old.state calls.old self.new.state calls.new work_of result }
+    {
+        self.state.unmark(scope);
+        self.call_hooks(app, calls, ScopeId(scope), false)?;
+        self.run_kind(app, calls, scope, component, steps)
+    }
+
+    /// Runs a body, or these steps of a suspense boundary.
+    fn run_kind(
+        &mut self,
+        app: &A,
+        calls: &mut Calls,
+        scope: u64,
+        component: &VComponent<A>,
+        steps: &[RowStep],
+    ) -> Result<List<Item<A>>, Stop>
+        ensures run { Comes (λ w. run_on (A.meaning app.now) w scope
+            (component_of component.now) (map row_step_of steps.now))
+            self.old.state calls.old self.new.state calls.new work_of result }
+    {
+        if is_suspense_boundary(component) {
+            self.run_boundary(app, calls, scope, steps)
+        } else {
+            self.run_body(app, calls, scope, component)
+        }
+    }
+
+    /// Calls a body, and does what follows its answer.
+    fn run_body(
+        &mut self,
+        app: &A,
+        calls: &mut Calls,
+        scope: u64,
+        component: &VComponent<A>,
+    ) -> Result<List<Item<A>>, Stop>
+        ensures run { Comes (λ w. call_body (A.meaning app.now) w scope
+            (component_of component.now)
+            (λ v answer. run.after_answer (A.meaning app.now) v scope answer))
+            self.old.state calls.old self.new.state calls.new work_of result }
+    {
+        let answer = self.call_component(app, calls, ScopeId(scope), component)?;
+        self.after_answer(app, calls, scope, answer)
+    }
+
+    /// The run of a suspense boundary: its steps. Where no fallback runs the after-render hooks
+    /// come at the start.
+    fn run_boundary(
+        &mut self,
+        app: &A,
+        calls: &mut Calls,
+        boundary: u64,
+        steps: &[RowStep],
+    ) -> Result<List<Item<A>>, Stop>
+        ensures run { Comes (λ w. boundary_run (A.meaning app.now) w boundary
+            (map row_step_of steps.now))
+            self.old.state calls.old self.new.state calls.new work_of result }
+    {
+        if runs_fallback(steps) {
+            return Ok(row_items(self.alloc, boundary, steps)?);
+        }
+        self.hook_and_run(app, calls, boundary, steps)
+    }
+
+    /// The after-render hooks of a boundary are called, and then its steps are open.
+    fn hook_and_run(
+        &mut self,
+        app: &A,
+        calls: &mut Calls,
+        boundary: u64,
+        steps: &[RowStep],
+    ) -> Result<List<Item<A>>, Stop>
+        ensures run { Comes (λ w. onward (after_hooks (A.meaning app.now) w boundary)
+            (λ v. Done v (run.row_items boundary (map row_step_of steps.now))))
+            self.old.state calls.old self.new.state calls.new work_of result }
+    {
+        self.call_hooks(app, calls, ScopeId(boundary), true)?;
+        Ok(row_items(self.alloc, boundary, steps)?)
+    }
+}

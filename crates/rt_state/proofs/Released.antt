@@ -1,0 +1,110 @@
+-- A task's end: whom it held is marked and let go.
+use Rattle.std.proofs.Common.{◌≡◌, ℕ, zero, suc, ◌+◌, ◌<◌, ◌≤◌, Bool, true, false, List, [], ◌∷◌, ◌++◌, length, get_or, take, drop, map, refl, ap, sym, ◌∙◌, arith, append_assoc, append-nil}
+use Rattle.std.specs.Prelude.{slice_set, is_some, if◌then◌else◌}
+use Rattle.std.proofs.lemmas.List.{drop_more, map-append}
+use Rattle.std.proofs.lemmas.Grind.{common_steps}
+use Rattle.rt_model.specs.Lists.{at, without, drop_number}
+use Rattle.rt_model.specs.OneLog.{types}
+use Rattle.rt_model.specs.Tree.{Types}
+use Rattle.rt_model.specs.State as model
+use Rattle.rt_model.specs.State.{holds}
+use Rattle.rt_model.specs.Commands.{released, holding, drop_posted, end}
+use Rattle.rt_calls.specs.Kept.{each, scope_of}
+use Rattle.rt_calls.specs.declared.rest.Scope.{Scope}
+use Rattle.rt_state.specs.Names.{posted_of}
+use Rattle.rt_state.specs.Holders.{let_go}
+use Rattle.rt_state.specs.Mirror.{Unkept, task_of, scopes_of, state_of}
+use Rattle.rt_state.specs.declared.names.Posted.{Posted}
+use Rattle.rt_state.specs.declared.state.State.{State}
+use Rattle.rt_state.specs.declared.state.TaskRow.{TaskRow}
+use Rattle.rt_state.proofs.Each.{drop-all, without-each}
+use Rattle.rt_state.proofs.Entries.{length-set}
+
+-- one more item is changed, and the others are to come
+pub done_step : {A : Type 0} (f : A → A) (xs : List A) (i : ℕ) (d a : A) → i < length xs → a ≡ f (get_or xs i d)
+    → take (i + 1) (slice_set xs i a) ++ map f (drop (i + 1) (slice_set xs i a)) ≡ take i xs ++ map f (drop i xs)
+done_step f [] i d a within is = absurd (omega arith)
+done_step f (x ∷ xs) zero d a within is = grind (arith, common_steps)
+done_step f (x ∷ xs) (suc i) d a within is = grind (arith, common_steps, done_step f xs i d a)
+
+-- all are changed
+pub done_end : {A : Type 0} (f : A → A) (xs all : List A) (i : ℕ) → length xs ≤ i → take i xs ++ map f (drop i xs) ≡ all → xs ≡ all
+done_end f xs all i end is =
+    let whole : take i xs ≡ xs = grind (arith, common_steps) in
+    sym (ap (λ ys. ys ++ map f (drop i xs)) whole ∙ ap (λ ys. xs ++ map f ys) (drop-all xs i end) ∙ append-nil xs) ∙ is
+
+module _ {P C Q V H T E L : Type 0} where
+  pub released-is : (es : List (ℕ × Scope P C Q V H T E L)) (t : ℕ) → scopes_of (map (let_go t) es) ≡ released (scopes_of es) t
+  released-is [] t = refl
+  released-is (e ∷ es) t = ap (λ rest. (e.0, scope_of (let_go t e).1) ∷ rest) (released-is es t)
+
+  -- the mark of one more boundary
+  pub held_step : (es : List (ℕ × Scope P C Q V H T E L)) (i : ℕ) (e : ℕ × Scope P C Q V H T E L) (t : ℕ) (posted new : List Posted)
+      → i < length es → e ≡ get_or es i e
+      → map posted_of new ≡ map posted_of posted ++ (if holds (scope_of e.1) t then model.Mark e.0 ∷ [] else [])
+      → map posted_of new ++ holding (scopes_of (drop (i + 1) es)) t ≡ map posted_of posted ++ holding (scopes_of (drop i es)) t
+  held_step es i e t posted new within is made =
+      let rest = holding (scopes_of (drop (i + 1) es)) t in
+      ap (λ ms. ms ++ rest) made
+      ∙ append_assoc (map posted_of posted) (if holds (scope_of e.1) t then model.Mark e.0 ∷ [] else []) rest
+      ∙ ap (λ ms. map posted_of posted ++ ms)
+      (first (holds (scope_of e.1) t) (model.Mark e.0) rest
+      ∙ ap (λ (d : ℕ × Scope P C Q V H T E L). if holds (scope_of d.1) t then model.Mark d.0 ∷ rest else rest) is
+      ∙ ap (λ ys. holding (scopes_of ys) t) (sym (drop_more es i e within)))
+    where
+      first : (b : Bool) (m : model.Posted) (ms : List model.Posted) → ((if b then m ∷ [] else []) ++ ms) ≡ (if b then m ∷ ms else ms)
+      first true m ms = refl
+      first false m ms = refl
+
+  pub held_end : (es : List (ℕ × Scope P C Q V H T E L)) (i t : ℕ) (a b : List model.Posted) → length es ≤ i → a ++ holding (scopes_of (drop i es)) t ≡ b → a ≡ b
+  held_end es i t a b end is = sym (append-nil a) ∙ ap (λ ys. a ++ holding (scopes_of ys) t) (sym (drop-all es i end)) ∙ is
+
+  -- a task that is gone has no end
+  pub not_ended : (d : State P C Q V H T E L) (t : ℕ) (g : Unkept (types C Q V H T E L)) → is_some (at (state_of g d).tasks t) ≡ false → state_of g d ≡ end (state_of g d) t
+  not_ended d t g gone =
+      let w : model.State (types C Q V H T E L) = state_of g d in
+      ap (λ b. if b then record w { tasks = without w.tasks t; posted = drop_posted w.posted (model.Woken t) ++ holding w.scopes t; queued = drop_number w.queued t; scopes = released w.scopes t } else w) (sym gone)
+
+  -- a task ends
+  pub ended : (d : State P C Q V H T E L) (t : ℕ) (tasks : List (ℕ × TaskRow P C Q V H T E L)) (posted : List Posted) (queued : List ℕ) (g : Unkept (types C Q V H T E L))
+      → is_some (at (state_of g d).tasks t) ≡ true → tasks ≡ without d.tasks t
+      → map posted_of posted ≡ drop_posted (map posted_of d.posted) (model.Woken t) ++ holding (scopes_of (d.rows).table) t → queued ≡ drop_number d.queued t
+      → state_of g (record d { tasks = tasks; posted = posted; queued = queued; rows = record { table = map (let_go t) (d.rows).table } }) ≡ end (state_of g d) t
+  ended d t tasks posted queued g live less marks fewer =
+      let w : model.State (types C Q V H T E L) = state_of g d in
+      (λ i. record w {
+        tasks = (ap (each task_of) less ∙ without-each task_of d.tasks t) i;
+        posted = marks i;
+        queued = fewer i;
+        scopes = released-is (d.rows).table t i;
+      })
+      ∙ ap (λ b. if b then record w { tasks = without w.tasks t; posted = drop_posted w.posted (model.Woken t) ++ holding w.scopes t; queued = drop_number w.queued t; scopes = released w.scopes t } else w) (sym live)
+
+  -- one more scope is let go
+  module _ (start now new : State P C Q V H T E L) (t i : ℕ) (d : ℕ × Scope P C Q V H T E L)
+      (same : now ≡ record start { rows = record { table = (now.rows).table } })
+      (is : new ≡ record now { rows = record { table = slice_set (now.rows).table i (let_go t (get_or (now.rows).table i d)) } }) where
+    pub release_same : new ≡ record start { rows = record { table = (new.rows).table } }
+    release_same =
+        is
+        ∙ ap (λ (u : State P C Q V H T E L). let v : State P C Q V H T E L = record u { rows = record { table = slice_set (now.rows).table i (let_go t (get_or (now.rows).table i d)) } } in v) same
+        ∙ sym (ap (λ (u : State P C Q V H T E L). let v : State P C Q V H T E L = record start { rows = record { table = (u.rows).table } } in v) is)
+
+    pub release_count : length (new.rows).table ≡ length (now.rows).table
+    release_count = ap (λ (u : State P C Q V H T E L). length (u.rows).table) is ∙ length-set (now.rows).table i (let_go t (get_or (now.rows).table i d))
+
+    pub release_done : i < length (now.rows).table
+        → take (i + 1) (new.rows).table ++ map (let_go t) (drop (i + 1) (new.rows).table) ≡ take i (now.rows).table ++ map (let_go t) (drop i (now.rows).table)
+    release_done within =
+        ap (λ (u : State P C Q V H T E L). take (i + 1) (u.rows).table ++ map (let_go t) (drop (i + 1) (u.rows).table)) is
+        ∙ done_step (let_go t) (now.rows).table i d (let_go t (get_or (now.rows).table i d)) within refl
+
+  -- all are let go
+  pub release_all : (start now : State P C Q V H T E L) (t i : ℕ) → now ≡ record start { rows = record { table = (now.rows).table } } → length (now.rows).table ≤ i
+      → take i (now.rows).table ++ map (let_go t) (drop i (now.rows).table) ≡ map (let_go t) (start.rows).table → now ≡ record start { rows = record { table = map (let_go t) (start.rows).table } }
+  release_all start now t i same end done =
+      same ∙ ap (λ (es : List (ℕ × Scope P C Q V H T E L)). let v : State P C Q V H T E L = record start { rows = record { table = es } } in v) (done_end (let_go t) (now.rows).table _ i end done)
+
+  pub release_one : (now new : State P C Q V H T E L) (es : List (ℕ × Scope P C Q V H T E L)) → new ≡ record now { rows = record { table = (new.rows).table } } → (new.rows).table ≡ es
+      → new ≡ record now { rows = record { table = es } }
+  release_one now new es others is = others ∙ ap (λ (xs : List (ℕ × Scope P C Q V H T E L)). let v : State P C Q V H T E L = record now { rows = record { table = xs } } in v) is

@@ -1,0 +1,12 @@
+use Rattle.std.proofs.Common.{rules, refl, ◌++◌, ◌∷◌, []}
+use Rattle.rt_state.proofs.state.State.add_holder.Goals as goal
+
+pub returns : goal.returns
+returns g c =
+    c.change_scope.ensures
+    (record {
+      code = λ x. record x { rest = record (x.rest) { holders = (x.rest).holders ++ (c.args.task, c.args.origin) ∷ [] } };
+      model = λ x. record x { holders = x.holders ++ (c.args.task, c.args.origin) ∷ [] };
+      same = λ x. refl;
+    })
+    (λ x y ret. search rules)

@@ -1,0 +1,19 @@
+use Rattle.std.specs.Fn.{FnOnceReturnsAtMut}
+use Rattle.rt_state.proofs.Changed.{scope_changed}
+use Rattle.rt_state.proofs.state.State.change_scope.Goals as goal
+
+pub returns : goal.returns
+returns g c =
+    λ k step.
+    scope_changed
+    c.change.result
+    (λ x y. FnOnceReturnsAtMut g.F.FnOnce c.args.apply x c.change.result y)
+    c.args.self.now
+    c.change.new.self
+    c.args.scope
+    k.code
+    k.model
+    c.change.ensures.absent
+    c.change.ensures.changed
+    step
+    k.same

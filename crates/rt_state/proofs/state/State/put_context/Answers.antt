@@ -1,0 +1,16 @@
+use Rattle.std.proofs.Common.{rules}
+use Rattle.rt_model.specs.Lists.{put}
+use Rattle.rt_calls.specs.Kept.{scope_of}
+use Rattle.rt_state.specs.Provided.{put_provided}
+use Rattle.rt_state.proofs.Provides.{put-mirrored}
+use Rattle.rt_state.proofs.state.State.put_context.Goals as goal
+
+pub returns : goal.returns
+returns g c =
+    c.change_scope.ensures
+    (record {
+      code = λ x. record x { row = record (x.row) { contexts = put_provided (x.row).contexts c.args.kind c.args.value } };
+      model = λ x. record x { contexts = put x.contexts c.args.kind c.args.value };
+      same = λ x i. record (scope_of x) { contexts = put-mirrored (x.row).contexts c.args.kind c.args.value i };
+    })
+    (λ x y ret. search rules)

@@ -1,0 +1,17 @@
+use Rattle.std.proofs.Common.{rules, [], refl, true, map}
+use Rattle.std.specs.Prelude.{Some}
+use Rattle.rt_model.specs.State as model
+use Rattle.rt_calls.specs.Calls.{source_of}
+use Rattle.rt_mirror.specs.Sealed.{component_of}
+use Rattle.rt_places.specs.Places.{side_name_of}
+use Rattle.rt_state.proofs.state.State.show.Goals as goal
+
+pub returns : goal.returns
+returns g c =
+    c.change_scope.ensures
+    (record {
+      code = λ x. record x { rest = record (x.rest) { shows = Some c.args.side } };
+      model = λ x. record x { shows = Some (side_name_of c.args.side) };
+      same = λ x. refl;
+    })
+    (λ x y ret. search rules)

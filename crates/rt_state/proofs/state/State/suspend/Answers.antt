@@ -1,0 +1,10 @@
+use Rattle.std.proofs.Common.{rules, refl}
+use Rattle.rt_model.specs.State.{SuspendedTask}
+use Rattle.rt_state.specs.declared.names.TaskKind.TheVariants.{Suspended}
+use Rattle.rt_state.proofs.state.State.suspend.Goals as goal
+
+pub returns : goal.returns
+returns g c =
+    c.change_task.ensures
+    (record { code = λ x. record x { kind = Suspended }; model = λ x. record x { kind = SuspendedTask }; same = λ x. refl })
+    (λ x y ret. search rules)

@@ -1,0 +1,15 @@
+pub mod Names
+pub mod Mirror
+pub mod Climbs
+pub mod Sources
+pub mod Looks
+pub mod Provided
+pub mod Effects
+pub mod Holders
+pub mod Sides
+pub mod Starts
+pub mod Made
+pub mod Mounts
+pub mod Kinds
+pub mod CleanUps
+pub mod Outputs

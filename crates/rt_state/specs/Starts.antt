@@ -1,0 +1,18 @@
+-- The start of a runtime.
+use Rattle.std.specs.Prelude.{◌≡◌, []}
+use Rattle.rt_calls.specs.declared.world.Firsts.{Firsts}
+use Rattle.rt_state.specs.declared.state.State.{State}
+
+module _ {P C Q V H T E L : Type 0} where
+  -- nothing is kept, and these numbers come first
+  pub record IsEmpty (firsts : Firsts) (d : State P C Q V H T E L) : Type 0 where
+    pub rows : (d.rows).table ≡ []
+    pub cells : (d.cells).cells ≡ []
+    pub contexts : d.contexts ≡ []
+    pub tasks : d.tasks ≡ []
+    pub posted : d.posted ≡ []
+    pub seen : d.seen ≡ []
+    pub queued : d.queued ≡ []
+    pub resolved : d.resolved ≡ []
+    pub skipped : d.skipped ≡ []
+    pub next : d.next ≡ firsts

@@ -1,0 +1,31 @@
+//! The state of a runtime: scopes, cells, reactive contexts, tasks and what is owed; and all changes
+//! of it that call no application.
+#![tactic(auto)]
+
+mod cells;
+mod climbs;
+mod commands;
+mod errors;
+mod held;
+mod looks;
+mod mounting;
+mod names;
+mod numbers;
+mod order;
+mod posting;
+mod provided;
+mod removal;
+mod scope_state;
+mod scopes;
+mod sides;
+mod sources;
+mod state;
+mod tasks;
+
+pub use names::{Fault, Posted, Stop, TaskKind, Work};
+pub use numbers::{drop_number, join};
+pub use removal::clean_ups;
+pub use scope_state::{NotBuilt, ScopeState, get_scope};
+pub use scopes::{holds, is_held, is_suspense_boundary, new_scope, put_side, side_of};
+pub use sources::{is_same_source, names_source};
+pub use state::{ContextRow, State, TaskRow};

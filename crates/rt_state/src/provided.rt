@@ -1,0 +1,121 @@
+//! What scopes provide.
+ghost use Rattle.std.specs.Prelude.{◌≡◌, ◌<◌, ◌++◌, ◌∷◌, [], length, map, slice_set, OnOk, IfSome, IfNone};
+ghost use Rattle.std.specs.Option.{option_copied};
+ghost use Rattle.rt_model.specs.Lists.{at, put};
+ghost use Rattle.rt_model.specs.State.{change};
+ghost use Rattle.rt_model.specs.Commands.{provide_context};
+ghost use Rattle.rt_calls.specs.Kept.{provided_of};
+ghost use Rattle.rt_model.specs.OneLog.{types};
+ghost use Rattle.rt_model.specs.World.{Application};
+ghost use Rattle.rt_model.specs.Laws.{Tests};
+ghost use Rattle.rt_state.specs.Provided.{put_provided, provides_now};
+ghost use Rattle.rt_state.specs.Mirror.{state_of};
+
+use crate::state::State;
+use rt_calls::{Provided, Scope};
+use rt_cells::Source;
+use rt_parts::Parts;
+use rt_values::{List, OutOfMemory, Part, ScopeId};
+
+/// The index of the first value of a kind.
+fn kind_in<P: Parts>(contexts: &[Provided<P>], kind: u32) -> Option<usize>
+    ensures within { IfSome result (λ index. index < length contexts.now) }
+    ensures put { IfSome result (λ index. (value : P.Value) → put_provided contexts.now kind value
+        ≡ slice_set contexts.now index (record { kind = kind; value = value })) }
+    ensures new { IfNone result ((value : P.Value) → put_provided contexts.now kind value
+        ≡ contexts.now ++ record { kind = kind; value = value } ∷ []) }
+{
+    for index in 0..contexts.len() {
+        if contexts[index].kind == kind {
+            return Some(index);
+        }
+    }
+    None
+}
+
+/// The first value of a kind.
+fn provided_in<P: Parts>(contexts: &[Provided<P>], kind: u32) -> Option<&P::Value>
+    ensures { option_copied result ≡ at (map provided_of contexts.now) kind }
+{
+    for context in contexts {
+        if context.kind == kind {
+            return Some(&context.value);
+        }
+    }
+    None
+}
+
+/// Puts a value in the place of the one of its kind, or at the end.
+fn put_provided<P: Parts>(
+    contexts: &mut List<Provided<P>>,
+    kind: u32,
+    value: P::Value,
+) -> Result<(), OutOfMemory>
+    ensures { OnOk result (contexts.new ≡ put_provided contexts.old kind value) }
+{
+    match kind_in(contexts.as_slice(), kind) {
+        Some(index) => {
+            contexts.set(index, Provided { kind, value });
+            Ok(())
+        }
+        None => contexts.push(Provided { kind, value }),
+    }
+}
+
+impl<P: Parts> State<P> {
+    /// A live scope provides a value of a kind. Those who read that are marked where it was absent or
+    /// differs.
+    pub fn provide_context(
+        &mut self,
+        scope: u64,
+        kind: u32,
+        value: P::Value,
+    ) -> Result<(), OutOfMemory>
+        ensures { (app : Application (types P.Component P.Props P.Value P.Handler P.TaskState P.Effect P.Payload))
+            → Tests P.Value app.same_value → OnOk result ((g : _) → state_of g self.new
+            ≡ provide_context app (state_of g self.old) scope kind value) }
+    {
+        let Some(same) = self.provides(scope, kind, &value) else {
+            return Ok(());
+        };
+        self.put_context(scope, kind, value)?;
+        if same {
+            Ok(())
+        } else {
+            self.tell(Source::Context(kind, ScopeId(scope)))
+        }
+    }
+
+    /// Whether a live scope provides this value of a kind already.
+    fn provides(&self, scope: u64, kind: u32, value: &P::Value) -> Option<bool>
+        ensures { (app : Application (types P.Component P.Props P.Value P.Handler P.TaskState P.Effect P.Payload))
+            → Tests P.Value app.same_value → (g : _) → result
+            ≡ provides_now app (state_of g self.now) scope kind value.now }
+    {
+        let Some(found) = self.scope(scope) else {
+            return None;
+        };
+        match provided_in(found.row.contexts.as_slice(), kind) {
+            Some(old) => Some(old.same(value)),
+            None => Some(false),
+        }
+    }
+
+    /// Puts a value among what a live scope provides.
+    fn put_context(&mut self, scope: u64, kind: u32, value: P::Value) -> Result<(), OutOfMemory>
+        ensures { OnOk result ((g : _) → state_of g self.new
+            ≡ change (state_of g self.old) scope
+            (λ x. record x { contexts = put x.contexts kind value })) }
+    {
+        self.change_scope(
+            scope,
+            |found: &mut Scope<P>| -> Result<(), OutOfMemory>
+                ensures { OnOk result (found.new ≡ record found.old {
+                  row = record found.old.row {
+                    contexts = put_provided found.old.row.contexts kind value;
+                  };
+                }) }
+            { put_provided(&mut found.row.contexts, kind, value) },
+        )
+    }
+}

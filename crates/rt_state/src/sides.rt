@@ -1,0 +1,396 @@
+//! What changes on the sides of scopes: numbers, children, the side that shows.
+ghost use Rattle.std.specs.Prelude.{◌≡◌, ℕ, true, ◌++◌, ◌∷◌, [], OnOk, IfOk, IfErr, Ok, Err, Some, None, map};
+ghost use Rattle.rt_model.specs.Lists.{at, drop_number as drop_from, without};
+ghost use Rattle.rt_model.specs.World.{Scopes, at_end};
+ghost use Rattle.rt_model.specs.State as model;
+ghost use Rattle.rt_model.specs.State.{change, effects_of};
+ghost use Rattle.rt_model.specs.State.{Done, Cut, IdsExhausted};
+ghost use Rattle.rt_model.specs.Replay.{draw_number};
+ghost use Rattle.rt_state.specs.Effects.{callbacks_of};
+ghost use Rattle.rt_state.specs.Names.{fault_of};
+ghost use Rattle.rt_state.specs.Sides.{with_number, with_child, more_number, more_child};
+ghost use Rattle.rt_calls.specs.Calls.{source_of, newest_first};
+ghost use Rattle.rt_mirror.specs.Sealed.{component_of};
+ghost use Rattle.rt_places.specs.Places.{kind_of, number_of, place_of, side_name_of};
+ghost use Rattle.rt_state.specs.Made.{IsMade};
+ghost use Rattle.rt_state.specs.Mirror.{state_of, forgets};
+
+use crate::held::next_number;
+use crate::names::{Fault, Stop};
+use crate::numbers::drop_number;
+use crate::scopes::new_scope;
+use crate::sources::newest_first;
+use crate::state::State;
+use rt_calls::{Counter, Scope};
+use rt_cells::Source;
+use rt_nodes::VComponent;
+use rt_parts::Parts;
+use rt_places::{Child, Kind, Numbered, Place, Side, SideName};
+use rt_values::{List, OutOfMemory, Part};
+use std::alloc::Global;
+
+impl<P: Parts> State<P> {
+    /// A number of the document for a place of a scope's side.
+    pub fn draw_number(
+        &mut self,
+        scope: u64,
+        side: SideName,
+        place: Place,
+        kind: Kind,
+    ) -> Result<(), Stop>
+        ensures done { OnOk result ((g : _) →
+            draw_number (state_of g self.old) scope (side_name_of side) (place_of place) (kind_of kind)
+            ≡ Done (state_of g self.new) []) }
+        ensures cut { (what : Fault) → IfErr result (λ stop. stop ≡ Stop.Fault what → (g : _) →
+            draw_number (state_of g self.old) scope (side_name_of side) (place_of place) (kind_of kind)
+            ≡ Cut (state_of g self.new) (fault_of what)) }
+    {
+        let number = self.next.elements;
+        let Some(next) = next_number(number) else {
+            return Err(Stop::Fault(Fault::IdsExhausted {
+                what: Counter::Elements,
+            }));
+        };
+        self.next.elements = next;
+        self.add_number(
+            scope,
+            side,
+            Numbered {
+                place,
+                kind,
+                number,
+            },
+        )?;
+        Ok(())
+    }
+
+    /// Puts a number after those of a scope's side.
+    fn add_number(
+        &mut self,
+        scope: u64,
+        side: SideName,
+        number: Numbered,
+    ) -> Result<(), OutOfMemory>
+        ensures { OnOk result ((g : _) → state_of g self.new
+            ≡ change (state_of g self.old) scope
+            (λ x. more_number (side_name_of side) (number_of number) x)) }
+    {
+        self.change_scope(
+            scope,
+            |found: &mut Scope<P>| -> Result<(), OutOfMemory>
+                ensures { OnOk result (found.new ≡ with_number found.old side number) }
+            { push_number(found, side, number) },
+        )
+    }
+
+    /// Makes a scope under a parent, which knows it at its place, and answers its number. It isn't run.
+    /// Nothing is made, and None is the answer, where the parent is gone.
+    pub fn with_new_scope(
+        &mut self,
+        alloc: Global,
+        parent: u64,
+        side: SideName,
+        place: Place,
+        component: VComponent<P>,
+    ) -> Result<Option<u64>, Stop>
+        ensures made { (child : ℕ) → result ≡ Ok (Some child) → (g : _) →
+            IsMade (state_of g self.old) parent (side_name_of side) (place_of place)
+            (component_of component) child (state_of g self.new) }
+        ensures gone { result ≡ Ok None → (g : _) →
+            (at (state_of g self.old).scopes parent ≡ None)
+            × (state_of g self.new ≡ state_of g self.old) }
+        ensures cut { (what : Fault) → result ≡ Err (Stop.Fault what) → (g : _) →
+            (fault_of what ≡ IdsExhausted Scopes) × (at_end (state_of g self.old).next_scope ≡ true)
+            × (state_of g self.new ≡ state_of g self.old) }
+    {
+        let Some(found) = self.scope(parent) else {
+            return Ok(None);
+        };
+        let Some(height) = next_number(found.rest.height) else {
+            return Err(Stop::OutOfMemory);
+        };
+        let number = self.next_scope;
+        let Some(next) = next_number(number) else {
+            return Err(Stop::Fault(Fault::IdsExhausted {
+                what: Counter::Scopes,
+            }));
+        };
+        self.add_child_at(parent, side, place, number)?;
+        let scope = new_scope(alloc, component, Some(parent), height, side);
+        self.rows.table.push(number, scope)?;
+        self.next_scope = next;
+        Ok(Some(number))
+    }
+
+    /// Puts a child after those of a scope's side.
+    fn add_child_at(
+        &mut self,
+        scope: u64,
+        side: SideName,
+        place: Place,
+        child: u64,
+    ) -> Result<(), OutOfMemory>
+        ensures { OnOk result ((g : _) → state_of g self.new
+            ≡ change (state_of g self.old) scope
+            (λ x. more_child (side_name_of side) (place_of place, child) x)) }
+    {
+        self.change_scope(
+            scope,
+            |found: &mut Scope<P>| -> Result<(), OutOfMemory>
+                ensures { OnOk result (found.new
+                    ≡ with_child found.old side (record { place = place; scope = child })) }
+            {
+                push_child(
+                    found,
+                    side,
+                    Child {
+                        place,
+                        scope: child,
+                    },
+                )
+            },
+        )
+    }
+
+    /// A live scope is handed another component of its kind.
+    pub fn put_component(&mut self, scope: u64, component: VComponent<P>) -> Result<(), OutOfMemory>
+        ensures { OnOk result ((g : _) → state_of g self.new
+            ≡ change (state_of g self.old) scope
+            (λ x. record x { component = component_of component })) }
+    {
+        self.change_scope(
+            scope,
+            |found: &mut Scope<P>| -> Result<(), OutOfMemory>
+                ensures { OnOk result (found.new ≡ record found.old {
+                  rest = record found.old.rest { component = component };
+                }) }
+            {
+                found.rest.component = component;
+                Ok(())
+            },
+        )
+    }
+
+    /// The fallback of a boundary shows; it counts as turned to its children no more.
+    pub fn show_fallback(&mut self, boundary: u64) -> Result<(), OutOfMemory>
+        ensures { OnOk result ((g : _) → state_of g self.new
+            ≡ change (record (state_of g self.old) {
+              resolved = drop_from (state_of g self.old).resolved boundary;
+            }) boundary (λ x. record x { shows = Some model.FallbackSide })) }
+    {
+        drop_number(&mut self.resolved, boundary);
+        self.show(boundary, SideName::Fallback)
+    }
+
+    /// A side of a boundary shows.
+    fn show(&mut self, boundary: u64, side: SideName) -> Result<(), OutOfMemory>
+        ensures { OnOk result ((g : _) → state_of g self.new
+            ≡ change (state_of g self.old) boundary
+            (λ x. record x { shows = Some (side_name_of side) })) }
+    {
+        self.change_scope(
+            boundary,
+            |found: &mut Scope<P>| -> Result<(), OutOfMemory>
+                ensures { OnOk result (found.new ≡ record found.old {
+                  rest = record found.old.rest { shows = Some side };
+                }) }
+            {
+                found.rest.shows = Some(side);
+                Ok(())
+            },
+        )
+    }
+
+    /// The children of a boundary show, and it reads nothing.
+    pub fn show_children(&mut self, alloc: Global, boundary: u64) -> Result<(), OutOfMemory>
+        // Its last call is kept no more.
+        ensures { OnOk result ((g : _) → state_of (forgets g boundary) self.new
+            ≡ change (record (state_of g self.old) {
+              last_calls = without (state_of g self.old).last_calls boundary;
+            }) boundary (λ x. record x { shows = Some model.ChildrenSide; reads = [] })) }
+    {
+        self.change_scope(
+            boundary,
+            |found: &mut Scope<P>| -> Result<(), OutOfMemory>
+                ensures { OnOk result (found.new ≡ record found.old {
+                  rest = record found.old.rest { shows = Some SideName.Children; reads = [] };
+                }) }
+            {
+                found.rest.shows = Some(SideName::Children);
+                found.rest.reads = List::new(alloc);
+                Ok(())
+            },
+        )
+    }
+
+    /// A boundary counts as turned to its children, and its callbacks are taken out, each with its
+    /// scope.
+    pub fn resolve(
+        &mut self,
+        alloc: Global,
+        boundary: u64,
+    ) -> Result<List<(u64, P::Effect)>, OutOfMemory>
+        ensures turned { OnOk result ((g : _) → state_of g self.new
+            ≡ change (record (state_of g self.old) {
+              resolved = (state_of g self.old).resolved ++ boundary ∷ [];
+            }) boundary (λ x. record x { callbacks = [] })) }
+        ensures callbacks { IfOk result (λ callbacks. (g : _) →
+            callbacks ≡ callbacks_of (state_of g self.old) boundary) }
+    {
+        let callbacks = self.callbacks_of(alloc, boundary)?;
+        self.resolved.push(boundary)?;
+        self.drop_callbacks(alloc, boundary)?;
+        Ok(callbacks)
+    }
+
+    /// The callbacks that wait for a live boundary's turn, each with its scope.
+    fn callbacks_of(
+        &self,
+        alloc: Global,
+        boundary: u64,
+    ) -> Result<List<(u64, P::Effect)>, OutOfMemory>
+        ensures { IfOk result (λ callbacks. (g : _) →
+            callbacks ≡ callbacks_of (state_of g self.now) boundary) }
+    {
+        match self.scope(boundary) {
+            Some(found) => copy_callbacks(alloc, found.rest.callbacks.as_slice()),
+            None => Ok(List::new(alloc)),
+        }
+    }
+
+    /// No callback waits for a boundary's turn any more.
+    fn drop_callbacks(&mut self, alloc: Global, boundary: u64) -> Result<(), OutOfMemory>
+        ensures { OnOk result ((g : _) → state_of g self.new
+            ≡ change (state_of g self.old) boundary (λ x. record x { callbacks = [] })) }
+    {
+        self.change_scope(
+            boundary,
+            |found: &mut Scope<P>| -> Result<(), OutOfMemory>
+                ensures { OnOk result (found.new ≡ record found.old {
+                  rest = record found.old.rest { callbacks = [] };
+                }) }
+            {
+                found.rest.callbacks = List::new(alloc);
+                Ok(())
+            },
+        )
+    }
+
+    /// The effects that a live scope has queued are taken out.
+    pub fn take_effects(
+        &mut self,
+        alloc: Global,
+        scope: u64,
+    ) -> Result<List<P::Effect>, OutOfMemory>
+        ensures taken { OnOk result ((g : _) → state_of g self.new
+            ≡ change (state_of g self.old) scope (λ x. record x { effects = [] })) }
+        ensures effects { IfOk result (λ effects. (g : _) →
+            effects ≡ effects_of (state_of g self.old) scope) }
+    {
+        let effects = self.effects_of(alloc, scope)?;
+        self.drop_effects(alloc, scope)?;
+        Ok(effects)
+    }
+
+    /// The effects that a live scope has queued, in order.
+    fn effects_of(&self, alloc: Global, scope: u64) -> Result<List<P::Effect>, OutOfMemory>
+        ensures { IfOk result (λ effects. (g : _) →
+            effects ≡ effects_of (state_of g self.now) scope) }
+    {
+        match self.scope(scope) {
+            Some(found) => found.rest.effects.copy(alloc),
+            None => Ok(List::new(alloc)),
+        }
+    }
+
+    /// No effect of a live scope is queued any more.
+    pub(crate) fn drop_effects(&mut self, alloc: Global, scope: u64) -> Result<(), OutOfMemory>
+        ensures { OnOk result ((g : _) → state_of g self.new
+            ≡ change (state_of g self.old) scope (λ x. record x { effects = [] })) }
+    {
+        self.change_scope(
+            scope,
+            |found: &mut Scope<P>| -> Result<(), OutOfMemory>
+                ensures { OnOk result (found.new ≡ record found.old {
+                  rest = record found.old.rest { effects = [] };
+                }) }
+            {
+                found.rest.effects = List::new(alloc);
+                Ok(())
+            },
+        )
+    }
+
+    /// A live scope's body has read these last.
+    pub fn keep_reads(&mut self, scope: u64, reads: List<Source>) -> Result<(), OutOfMemory>
+        // The newest one first.
+        ensures { OnOk result ((g : _) → state_of g self.new
+            ≡ change (state_of g self.old) scope
+            (λ x. record x { reads = newest_first source_of reads })) }
+    {
+        self.put_reads(scope, newest_first(reads))
+    }
+
+    /// A live scope's body has read these last, the newest first.
+    fn put_reads(&mut self, scope: u64, reads: List<Source>) -> Result<(), OutOfMemory>
+        ensures { OnOk result ((g : _) → state_of g self.new
+            ≡ change (state_of g self.old) scope
+            (λ x. record x { reads = map source_of reads })) }
+    {
+        self.change_scope(
+            scope,
+            |found: &mut Scope<P>| -> Result<(), OutOfMemory>
+                ensures { OnOk result (found.new ≡ record found.old {
+                  rest = record found.old.rest { reads = reads };
+                }) }
+            {
+                found.rest.reads = reads;
+                Ok(())
+            },
+        )
+    }
+}
+
+/// Puts a number after those of a side.
+fn push_number<P: Parts>(
+    scope: &mut Scope<P>,
+    side: SideName,
+    number: Numbered,
+) -> Result<(), OutOfMemory>
+    ensures { OnOk result (scope.new ≡ with_number scope.old side number) }
+{
+    match side {
+        SideName::Main => scope.rest.main_side.numbers.push(number),
+        SideName::Children => scope.rest.children_side.numbers.push(number),
+        SideName::Fallback => scope.rest.fallback_side.numbers.push(number),
+    }
+}
+
+/// Puts a child after those of a side.
+fn push_child<P: Parts>(
+    scope: &mut Scope<P>,
+    side: SideName,
+    child: Child,
+) -> Result<(), OutOfMemory>
+    ensures { OnOk result (scope.new ≡ with_child scope.old side child) }
+{
+    match side {
+        SideName::Main => scope.rest.main_side.children.push(child),
+        SideName::Children => scope.rest.children_side.children.push(child),
+        SideName::Fallback => scope.rest.fallback_side.children.push(child),
+    }
+}
+
+/// A copy of callbacks with their scopes.
+fn copy_callbacks<E: Part>(
+    alloc: Global,
+    callbacks: &[(u64, E)],
+) -> Result<List<(u64, E)>, OutOfMemory>
+    ensures { IfOk result (λ copied. copied ≡ callbacks.now) }
+{
+    let mut copied = List::new(alloc);
+    for callback in callbacks {
+        copied.push((callback.0, callback.1.copy(alloc)?))?;
+    }
+    Ok(copied)
+}

@@ -1,0 +1,187 @@
+//! The state of a runtime.
+ghost use Rattle.std.specs.Prelude.{◌≡◌, ◌<◌, ℕ, length, get_or, slice_set, OnOk, IfOk, is_some, option_map};
+ghost use Rattle.std.specs.Option.{option_copied};
+ghost use Rattle.std.specs.Fn.{FnOnceReturnsAtMut};
+ghost use Rattle.rt_model.specs.Lists.{at};
+ghost use Rattle.rt_model.specs.State as model;
+ghost use Rattle.rt_model.specs.State.{is_live, change, world_of};
+ghost use Rattle.rt_calls.specs.Kept.{scope_of};
+ghost use Rattle.rt_model.specs.Replay.{first_state};
+ghost use Rattle.rt_calls.specs.Calls as calls;
+ghost use Rattle.rt_calls.specs.Calls.{firsts_of};
+ghost use Rattle.rt_state.specs.Starts.{IsEmpty};
+ghost use Rattle.rt_calls.specs.Enter as entry;
+ghost use Rattle.rt_state.specs.Mirror.{ScopeChange, at_first, state_of};
+
+use crate::names::{Posted, TaskKind};
+use crate::scopes::new_scope;
+use rt_calls::{Firsts, Rows, Scope, World};
+use rt_cells::{Cells, Source, Target};
+use rt_nodes::{RootProps, VComponent};
+use rt_parts::Parts;
+use rt_places::SideName;
+use rt_table::Table;
+use rt_values::{List, OutOfMemory, Task};
+use std::alloc::Global;
+use std::snapshot::Snapshot;
+
+/// A reactive context: what it marks, and what was read in it.
+#[derive(Drop)]
+pub struct ContextRow {
+    pub scope: u64,
+    pub target: Target,
+    /// In order of reading, each once.
+    pub sources: List<Source>,
+}
+
+/// A task that hasn't ended.
+#[derive(Drop)]
+pub struct TaskRow<P: Parts> {
+    /// It ends with this scope.
+    pub scope: u64,
+    /// The task that was polled when it was spawned.
+    pub parent: Option<u64>,
+    /// None while it is polled.
+    pub state: Option<P::TaskState>,
+    /// The state that stands for it while it is polled. Contracts alone read it.
+    pub(crate) was: Snapshot<P::TaskState>,
+    /// A paused task isn't polled.
+    pub active: bool,
+    pub kind: TaskKind,
+}
+
+/// All that is kept between two calls of an application. Each part is by number.
+#[derive(Drop)]
+pub struct State<P: Parts> {
+    pub rows: Rows<P>,
+    pub cells: Cells<P::Value>,
+    pub contexts: Table<ContextRow>,
+    pub tasks: Table<TaskRow<P>>,
+    /// Marks and wakes in order, not yet looked at.
+    pub posted: List<Posted>,
+    /// The marked scopes, as the last look left them.
+    pub seen: List<u64>,
+    /// The woken tasks in order, as the last look left them.
+    pub queued: List<u64>,
+    /// The boundaries that turned to their children.
+    pub resolved: List<u64>,
+    /// The scopes that a suspended render passed over.
+    pub skipped: List<u64>,
+    pub next_scope: u64,
+    /// The numbers that calls draw next, and the next node of the document.
+    pub next: Firsts,
+}
+
+impl<P: Parts> State<P> {
+    /// Nothing is kept. The counters begin at these numbers.
+    pub fn empty(alloc: Global, firsts: Firsts) -> State<P>
+        ensures { IsEmpty firsts result }
+    {
+        State {
+            rows: Rows::new(alloc),
+            cells: Cells::new(alloc, firsts.cells, firsts.contexts),
+            contexts: Table::new(alloc),
+            tasks: Table::new(alloc),
+            posted: List::new(alloc),
+            seen: List::new(alloc),
+            queued: List::new(alloc),
+            resolved: List::new(alloc),
+            skipped: List::new(alloc),
+            next_scope: 0,
+            next: firsts,
+        }
+    }
+
+    /// Makes scope 0, the wrapper round this root, not yet run, where nothing is kept.
+    pub fn add_root(
+        &mut self,
+        alloc: Global,
+        root: P::Component,
+        props: P::Props,
+    ) -> Result<(), OutOfMemory>
+        ensures { (firsts : _) → IsEmpty firsts self.old → OnOk result
+            (state_of at_first self.new ≡ first_state root props (firsts_of firsts)) }
+    {
+        let component = VComponent::Root(RootProps {
+            component: root,
+            props,
+        });
+        let scope = new_scope(alloc, component, None, 0, SideName::Main);
+        self.rows.table.push(0, scope)?;
+        self.next_scope = 1;
+        Ok(())
+    }
+
+    /// What a call can look at now, in whatever scope.
+    pub fn world(&self, task: Option<Task>, rendering: bool) -> World<'_, P>
+        ensures { (g : _) (scope : _) →
+            calls.world_of (entry.world_of result scope)
+            ≡ world_of (state_of g self.now) scope.0 (option_map (λ t. t.0) task) rendering }
+    {
+        World {
+            rows: &self.rows,
+            cells: &self.cells,
+            next: self.next,
+            task,
+            rendering,
+        }
+    }
+
+    /// All that is kept of a live scope.
+    pub fn scope(&self, scope: u64) -> Option<&Scope<P>>
+        ensures { option_copied result ≡ at self.now.rows.table scope }
+    {
+        self.rows.table.get(scope)
+    }
+
+    /// Whether a scope stands.
+    #[tactic(auto, using(crate::proofs::Each::eaches))]
+    pub fn is_live(&self, scope: u64) -> bool
+        ensures { (g : _) → result ≡ is_live (state_of g self.now) scope }
+    {
+        self.rows.table.get(scope).is_some()
+    }
+
+    /// Whether a task hasn't ended.
+    #[tactic(auto, using(crate::proofs::Each::eaches))]
+    pub fn has_task(&self, task: u64) -> bool
+        ensures { (g : _) → result ≡ is_some (at (state_of g self.now).tasks task) }
+    {
+        self.tasks.get(task).is_some()
+    }
+
+    /// Changes what is kept of a scope, where it is live.
+    pub fn change_scope<F: FnOnce(&mut Scope<P>) -> Result<(), OutOfMemory>>(
+        &mut self,
+        scope: u64,
+        apply: F,
+    ) -> Result<(), OutOfMemory>
+        requires { F.IsAlwaysCallable apply }
+        ensures { (k : ScopeChange P P.Component P.Props P.Value P.Handler P.TaskState P.Effect P.Payload)
+            → ((x y : Scope P P.Component P.Props P.Value P.Handler P.TaskState P.Effect P.Payload)
+            → FnOnceReturnsAtMut F.FnOnce apply x result y → OnOk result (y ≡ k.code x))
+            → OnOk result ((g : _) → state_of g self.new ≡ change (state_of g self.old) scope k.model) }
+    {
+        self.rows.table.change(scope, apply)
+    }
+
+    /// Changes what is kept of the scope at an index of the table.
+    pub(crate) fn change_entry<F: FnOnce(&mut Scope<P>) -> Result<(), OutOfMemory>>(
+        &mut self,
+        index: usize,
+        apply: F,
+    ) -> Result<(), OutOfMemory>
+        requires callable { F.IsAlwaysCallable apply }
+        requires within { index < length self.old.rows.table }
+        ensures changed { (k : Scope P P.Component P.Props P.Value P.Handler P.TaskState P.Effect P.Payload
+            → Scope P P.Component P.Props P.Value P.Handler P.TaskState P.Effect P.Payload)
+            → ((x y : Scope P P.Component P.Props P.Value P.Handler P.TaskState P.Effect P.Payload)
+            → FnOnceReturnsAtMut F.FnOnce apply x result y → OnOk result (y ≡ k x))
+            → OnOk result ((row : ℕ × Scope P P.Component P.Props P.Value P.Handler P.TaskState P.Effect P.Payload)
+            → self.new.rows.table ≡ slice_set self.old.rows.table index
+            ((get_or self.old.rows.table index row).0, k (get_or self.old.rows.table index row).1)) }
+        ensures others { self.new ≡ record self.old { rows = record { table = self.new.rows.table } } }
+    {
+        self.rows.table.change_at(index, apply)
+    }
+}
