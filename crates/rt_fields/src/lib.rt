@@ -4,8 +4,6 @@
 mod fields;
 mod keys;
 mod names;
-#[cfg(test)]
-mod tests;
 
 pub use fields::{is_zero, is_zero_at, list_at, list_or_empty, text_at, whole, whole_at};
 pub use keys::{is_object_of, only_member};

@@ -6,9 +6,12 @@ use Rattle.rt_model.specs.State.{Fault}
 use Rattle.rt_model.specs.Replay.{Entry}
 use Rattle.rt_model.specs.Told.{Told, Telling, tell_reports, tell_log, telling, edits_of}
 use Rattle.rt_model.specs.Causes.{Limits, refusal, replay_within, edits_at_refusal}
-use Rattle.rt_model.specs.Headline.{last_machine, one_each, one_each_then}
+use Rattle.rt_model.specs.Headline.{Headline, last_machine}
+use Rattle.rt_model.specs.Ran.{Ran}
+use Rattle.rt_model.specs.Openings.{one_each, one_each_then}
 use Rattle.rt_model.specs.Finished.{reports_of, is_finished, TestsDecide}
 use Rattle.rt_model.proofs.Conjunctions.{and-left, and-right}
+use Rattle.rt_model.proofs.InputsLeft.{ran_is_valid}
 use Rattle.rt_model.proofs.FinishedTold.{finished_is_headline, finished_comes_to}
 use Rattle.rt_language.specs.Syntax.{Source}
 use Rattle.rt_language.specs.Expressions.{SourceTypes}
@@ -29,20 +32,33 @@ tests-decide s =
     record { components = lawful.tests_components; props = lawful.tests_props; handlers = lawful.tests_handlers }
 
 -- of reports that are told
-told-says : (s : Source) (logs : List (List Entry)) (text : Text) (o : Option (List (Told SourceTypes)))
+told-says : (limits : Limits) (s : Source) (logs : List (List Entry)) (text : Text) (o : Option (List (Told SourceTypes)))
     → tell_reports (meaning_of s) (start_of s) logs ≡ o
     → one_each (inputs_of s.inputs) logs ≡ true
+    → is_some (replay_within (meaning_of s) limits (Some (start_of s)) (joined logs)) ≡ true
     → text_of_told (meaning_of s) logs o ≡ Some text
-    → PrintedSays s logs text
-told-says s logs text None e each h = cc
-told-says s logs text (Some told) e each h =
+    → PrintedSays limits s logs text
+told-says limits s logs text None e each within h = cc
+told-says limits s logs text (Some told) e each within h =
     let own = text_of (joined (edits_of told)) (reports_of logs told) in
     let split = where-true (is_finished (meaning_of s) told) (Some own) text h in
+    let taken = Some (joined (edits_of told)) in
+    let reports = reports_of logs told in
+    let held : Headline (meaning_of s) (props_of s) (inputs_of s.inputs) limits taken reports =
+    finished_is_headline (meaning_of s) (tests-decide s) (props_of s) (inputs_of s.inputs) limits logs told e each split.0 within in
+    let ran : Ran (meaning_of s) (props_of s) (inputs_of s.inputs) limits taken reports =
+    record { told = held.told; recorded = (held.holds).recorded; done = held.done } in
     record {
       told = told;
-      headline = finished_is_headline (meaning_of s) (tests-decide s) (props_of s) (inputs_of s.inputs) logs told e each split.0;
+      headline = held;
+      valid = ran_is_valid (meaning_of s) (props_of s) (inputs_of s.inputs) limits taken reports ran;
       printed = ap (λ (t : Option Text). or_else own t) split.1;
     }
+
+-- a test of what there is
+there-is : {A : Type 0} (o : Option A) (test : A → Bool) → elim o as (λ x. Bool) [ None ↦ false | Some a ↦ test a ] ≡ true → is_some o ≡ true
+there-is None test h = cc
+there-is (Some a) test h = refl
 
 -- what a row computes is what it says
 pub rows_say : RowsSay
@@ -52,7 +68,9 @@ rows_say limits s logs text h =
     let rest : Bool =
     elim (replay_within (meaning_of s) limits (Some (start_of s)) (joined logs)) as (λ x. Bool) [ None ↦ false | Some m ↦ no_refusal (refusal limits m) ]
     in
-    told-says s logs text o refl (and-left _ rest split.0) split.1
+    told-says limits s logs text o refl (and-left _ rest split.0)
+    (there-is (replay_within (meaning_of s) limits (Some (start_of s)) (joined logs)) (λ m. no_refusal (refusal limits m)) (and-right (one_each (inputs_of s.inputs) logs) rest split.0))
+    split.1
 
 module _ (limits : Limits) (s : Source) (logs : List (List Entry)) (log : List Entry) (text : Text) (told : List (Told SourceTypes)) where
   -- of a log that comes to a refusal

@@ -1,8 +1,9 @@
 -- Worked rows of units that a fault cuts: which of their edits are taken.
 use Rattle.std.specs.Prelude.{codes, [], ◌∷◌, ◌++◌, None}
+use Rattle.rt_model.specs.Causes.{usual}
 use Rattle.rt_model.specs.Replay.{Taken, Rerun, Poll, Fed, Kept}
 use Rattle.rt_language.specs.Syntax.{Client, Equal, Get, If, ListOf, NoViews, PickOf, Read, SlotView, SpawnTask, Stay, SuspendOn, SuspenseBoundaryOf, TextOf, UseCell, UseHook, Source}
-use Rattle.rt_language.specs.Printed.{FaultPrints, usual}
+use Rattle.rt_language.specs.Printed.{FaultPrints}
 use Rattle.rt_language.specs.Shorthand.{number, words, these, slot, text_slot, text, use_before, use_alone, component, of_components, with_tasks, write_number, builds, lines}
 
 -- a fed child asks for another hook, between two texts of its parent

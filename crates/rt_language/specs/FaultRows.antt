@@ -1,9 +1,9 @@
 -- Worked rows that end in a fault.
 use Rattle.std.specs.Prelude.{ℕ, [], ◌∷◌, ◌++◌, codes}
-use Rattle.rt_model.specs.Causes.{Limits}
+use Rattle.rt_model.specs.Causes.{Limits, usual}
 use Rattle.rt_model.specs.Replay.{Taken, Rerun, Poll, Fed, Kept}
 use Rattle.rt_language.specs.Syntax.{Get, Read, Add, Let, UseCell, UseHook, When, WriteTo, SuspendOn, StaticAttribute, NoViews, Source}
-use Rattle.rt_language.specs.Printed.{usual, PrintsWithin, FaultPrints}
+use Rattle.rt_language.specs.Printed.{PrintsWithin, FaultPrints}
 use Rattle.rt_language.specs.Shorthand.{number, words, steps, text_slot, element_with, spawns, component, of_components, with_actions, with_tasks, on, write_number, built, builds, built_line, lines}
 use Rattle.rt_language.specs.ContextRows.{through_fragment}
 

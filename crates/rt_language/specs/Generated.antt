@@ -1,15 +1,16 @@
 -- The generated application of so many rows, and the line that sums up its run.
 use Rattle.std.specs.Prelude.{ℕ, zero, suc, ◌+◌, ◌*◌, ◌%◌, List, [], ◌∷◌, ◌++◌, length, Option, Some, None, if◌then◌else◌, codes, decimal, ◌≡◌}
+use Rattle.rt_model.specs.Causes.{usual}
 use Rattle.rt_model.specs.Lists.{Text}
 use Rattle.rt_model.specs.Replay.{Entry, Taken, Rerun}
 use Rattle.rt_model.specs.Told.{Told, tell_reports}
-use Rattle.rt_model.specs.Headline.{Report}
+use Rattle.rt_model.specs.Reports.{Report}
 use Rattle.rt_model.specs.Finished.{reports_of, is_finished}
 use Rattle.rt_language.specs.Syntax.{Get, Read, UseCell, ListOf, InputSource, Source}
 use Rattle.rt_language.specs.Expressions.{SourceTypes}
 use Rattle.rt_language.specs.Meaning.{meaning_of}
 use Rattle.rt_language.specs.Lines.{line}
-use Rattle.rt_language.specs.Printed.{start_of, is_within, usual}
+use Rattle.rt_language.specs.Printed.{start_of, is_within}
 use Rattle.rt_language.specs.Shorthand.{number, slot, text_slot, element, use_alone, component, of_components, write_number, builds, lines}
 
 -- so many writes, from the k-th on: each of n rows has its cell

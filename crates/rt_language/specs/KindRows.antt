@@ -1,8 +1,9 @@
 -- Worked rows of what a table of the language says of a single case.
 use Rattle.std.specs.Prelude.{negsuc, codes, [], ◌∷◌, ◌++◌, None}
+use Rattle.rt_model.specs.Causes.{usual}
 use Rattle.rt_model.specs.Replay.{Taken, Heard, Rerun, Poll}
 use Rattle.rt_language.specs.Syntax.{Cat, Client, ElementView, Equal, Generation, Get, If, IsAbsent, Let, ListOf, ListenerAttribute, LookUp, MarkScopeOf, Me, NoViews, Not, NumberLiteral, OwnScope, Parse, PickOf, ProvideAs, Read, Say, SlotView, SpawnTask, SuspendOn, TextOf, UseCell, UseHook, WriteTo, Source}
-use Rattle.rt_language.specs.Printed.{FaultPrints, Prints, usual}
+use Rattle.rt_language.specs.Printed.{FaultPrints, Prints}
 use Rattle.rt_language.specs.Shorthand.{number, words, these, slot, text_slot, text, use_alone, component, of_components, with_actions, with_tasks, write_number, event, builds, built, lines}
 
 -- a hook that keeps none

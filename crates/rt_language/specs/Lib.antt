@@ -1,6 +1,6 @@
 pub mod Syntax
 pub mod Values
-pub mod Sequence
+pub use Rattle.rt_programs.specs.Sequence
 pub mod Expressions
 pub mod Statements
 pub mod Views

@@ -7,7 +7,7 @@ use Rattle.rt_model.specs.World.{Counter, Scopes, Tasks, Cells, Contexts, Elemen
 use Rattle.rt_model.specs.State.{Fault, OutOfTurns, TooDeep, IdsExhausted, HookChanged, NoSuchTask, BadNode}
 use Rattle.rt_model.specs.Document.{DocAttribute, Content, DocElement, DocText, DocPlaceholder, Forest, Empty, Node, Edit, AppendChildren, ReplaceNodeWith, InsertNodesAfter, RemoveNode, SetNodeText, SetAttribute, CreateEventListener, RemoveEventListener}
 use Rattle.rt_model.specs.Replay.{Entry, Build, Taken, Heard, Rerun, Poll, Effects, Made, Fed, Kept, Removed, Post, MarkScope, WakeTask, AllDirty, Message}
-use Rattle.rt_model.specs.Headline.{Report}
+use Rattle.rt_model.specs.Reports.{Report}
 
 -- nodes
 

@@ -5,8 +5,9 @@ use Rattle.rt_model.specs.World.{Application}
 use Rattle.rt_model.specs.State.{Fault}
 use Rattle.rt_model.specs.Replay.{Entry, Machine, start}
 use Rattle.rt_model.specs.Told.{Told, Telling, tell_reports, tell_log, telling, edits_of}
-use Rattle.rt_model.specs.Causes.{Limits, refusal, replay_within, edits_at_refusal}
-use Rattle.rt_model.specs.Headline.{last_machine, one_each, one_each_then}
+use Rattle.rt_model.specs.Causes.{Limits, usual, refusal, replay_within, edits_at_refusal}
+use Rattle.rt_model.specs.Headline.{last_machine}
+use Rattle.rt_model.specs.Openings.{one_each, one_each_then}
 use Rattle.rt_model.specs.Finished.{reports_of, is_finished}
 use Rattle.rt_language.specs.Syntax.{Source}
 use Rattle.rt_language.specs.Expressions.{SourceTypes}
@@ -38,10 +39,6 @@ text_of_told app logs (Some told) = if is_finished app told then Some (text_of (
 abbrev pub printed : Limits → Source → List (List Entry) → Option Text
 printed limits s logs =
     if is_within limits s logs then text_of_told (meaning_of s) logs (tell_reports (meaning_of s) (start_of s) logs) else None
-
--- the limits of a run that names none
-abbrev pub usual : Limits
-usual = record { units = 10000; height = 128; drain = 1024 }
 
 -- the text up to a refusal: the edits that were taken, the reports that are finished, the fault
 abbrev pub text_at : Limits → Application SourceTypes → List (List Entry) → List (Told SourceTypes) → Telling SourceTypes → Option Fault

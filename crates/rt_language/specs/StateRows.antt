@@ -1,8 +1,9 @@
 -- Worked rows of the order of work, of tasks that pause, and of what goes with a scope.
 use Rattle.std.specs.Prelude.{codes, [], ◌∷◌, ◌++◌, None, Some}
+use Rattle.rt_model.specs.Causes.{usual}
 use Rattle.rt_model.specs.Replay.{Taken, Heard, Rerun, Poll, Kept, Removed}
 use Rattle.rt_language.specs.Syntax.{ActOn, AtRemoval, CallAt, Cat, Client, ElementView, Forever, Forget, Generation, Get, IsAbsent, Less, ListOf, ListenerAttribute, NoViews, Pause, Read, Resume, SlotView, SpawnTask, Stay, SuspendOn, SuspenseBoundaryOf, TextOf, UseCell, WakeInput, When, WriteTo, Source}
-use Rattle.rt_language.specs.Printed.{Prints, PrintsWithin, usual}
+use Rattle.rt_language.specs.Printed.{Prints, PrintsWithin}
 use Rattle.rt_language.specs.Shorthand.{number, words, these, steps, slot, text_slot, text, handed, use_before, use_alone, component, of_components, with_actions, with_tasks, write_number, event, builds, built, lines}
 
 -- an action that writes first what the later scope reads

@@ -25,20 +25,20 @@ fn put_edit(alloc: Global, line: &mut Line, edit: &Edit) -> Result<(), OutOfMemo
 {
     match edit {
         Edit::AppendChildren { id, nodes } => {
-            put_place(alloc, line, "append ", id.0)?;
+            put_place(line, "append ", id.0)?;
             put_nodes(alloc, line, nodes.as_slice())
         }
         Edit::ReplaceNodeWith { id, nodes } => {
-            put_place(alloc, line, "replace ", id.0)?;
+            put_place(line, "replace ", id.0)?;
             put_nodes(alloc, line, nodes.as_slice())
         }
         Edit::InsertNodesAfter { id, nodes } => {
-            put_place(alloc, line, "after ", id.0)?;
+            put_place(line, "after ", id.0)?;
             put_nodes(alloc, line, nodes.as_slice())
         }
-        Edit::RemoveNode { id } => put_place(alloc, line, "remove ", id.0),
+        Edit::RemoveNode { id } => put_place(line, "remove ", id.0),
         Edit::SetNodeText { id, text } => {
-            put_place(alloc, line, "text ", id.0)?;
+            put_place(line, "text ", id.0)?;
             line.word(" ")?;
             line.quoted(alloc, text)
         }
@@ -48,18 +48,18 @@ fn put_edit(alloc: Global, line: &mut Line, edit: &Edit) -> Result<(), OutOfMemo
             namespace,
             value,
         } => {
-            put_place(alloc, line, "attr ", id.0)?;
+            put_place(line, "attr ", id.0)?;
             line.word(" ")?;
             line.name(namespace, name)?;
             put_value(alloc, line, value)
         }
         Edit::CreateEventListener { id, name } => {
-            put_place(alloc, line, "listen ", id.0)?;
+            put_place(line, "listen ", id.0)?;
             line.word(" ")?;
             line.word(name.as_str())
         }
         Edit::RemoveEventListener { id, name } => {
-            put_place(alloc, line, "unlisten ", id.0)?;
+            put_place(line, "unlisten ", id.0)?;
             line.word(" ")?;
             line.word(name.as_str())
         }
@@ -67,11 +67,11 @@ fn put_edit(alloc: Global, line: &mut Line, edit: &Edit) -> Result<(), OutOfMemo
 }
 
 /// Appends the word of an edit, and the node that it names.
-fn put_place(alloc: Global, line: &mut Line, word: &str, number: u64) -> Result<(), OutOfMemory>
+fn put_place(line: &mut Line, word: &str, number: u64) -> Result<(), OutOfMemory>
     ensures place { OnOk result (line.new ≡ line.old ++ (word.now ++ numbered number)) }
 {
     line.word(word)?;
-    line.numbered(alloc, number)
+    line.numbered(number)
 }
 
 /// Appends what an attribute becomes.

@@ -21,10 +21,10 @@ pub fn fault_line(alloc: Global, fault: Fault) -> Result<Option<List<u8>>, OutOf
     match fault {
         Fault::OutOfMemory | Fault::SinkFault => return Ok(None),
         Fault::OutOfTurns { units } => {
-            put_word(alloc, &mut line, "fault 3 OutOfTurns ", units)?;
+            put_word(&mut line, "fault 3 OutOfTurns ", units)?;
         }
         Fault::TooDeep { height } => {
-            put_word(alloc, &mut line, "fault 4 TooDeep ", height)?;
+            put_word(&mut line, "fault 4 TooDeep ", height)?;
         }
         Fault::IdsExhausted { what } => {
             line.word("fault 5 IdsExhausted ")?;
@@ -36,17 +36,17 @@ pub fn fault_line(alloc: Global, fault: Fault) -> Result<Option<List<u8>>, OutOf
             kept,
             asked,
         } => {
-            put_word(alloc, &mut line, "fault 6 HookChanged ", scope.0)?;
-            put_word(alloc, &mut line, " ", index)?;
-            put_word(alloc, &mut line, " ", kept as u64)?;
-            put_word(alloc, &mut line, " ", asked as u64)?;
+            put_word(&mut line, "fault 6 HookChanged ", scope.0)?;
+            put_word(&mut line, " ", index)?;
+            put_word(&mut line, " ", kept as u64)?;
+            put_word(&mut line, " ", asked as u64)?;
         }
         Fault::NoSuchTask { scope, task } => {
-            put_word(alloc, &mut line, "fault 7 NoSuchTask ", scope.0)?;
-            put_word(alloc, &mut line, " ", task.0)?;
+            put_word(&mut line, "fault 7 NoSuchTask ", scope.0)?;
+            put_word(&mut line, " ", task.0)?;
         }
         Fault::BadNode { scope } => {
-            put_word(alloc, &mut line, "fault 8 BadNode ", scope.0)?;
+            put_word(&mut line, "fault 8 BadNode ", scope.0)?;
         }
     }
     Ok(Some(line.end()?))

@@ -1,13 +1,13 @@
 //! A line under way.
-ghost use Rattle.std.specs.Prelude.{◌≡◌, [], ◌++◌, OnOk, IfOk, decimal, codes};
-ghost use Rattle.json.specs.Print.{quoted};
+ghost use Rattle.std.specs.Prelude.{◌≡◌, [], ◌++◌, true, OnOk, IfOk, decimal, codes};
+ghost use Rattle.json.specs.Print.{escape, quoted};
 ghost use Rattle.rt_language.specs.Lines.{numbered, qualified, line};
 
+use itoa::Buffer;
 use json::Writer;
 use rt_values::{List, OutOfMemory, Text};
 use std::alloc::Global;
 use std::marker::Model;
-use std::mem;
 
 /// A line under way, as its bytes.
 #[derive(Drop)]
@@ -41,35 +41,45 @@ impl Line {
     }
 
     /// Appends a number in decimal.
-    #[tactic(auto, using(crate::proofs::Printed::printing))]
-    pub fn decimal(&mut self, alloc: Global, number: u64) -> Result<(), OutOfMemory>
+    pub fn decimal(&mut self, number: u64) -> Result<(), OutOfMemory>
         ensures number { OnOk result (self.new ≡ self.old ++ decimal number) }
     {
-        let bytes = mem::replace(&mut self.bytes, Vec::new(alloc));
-        let mut writer = Writer::new(bytes);
-        writer.u64(number)?;
-        self.bytes = writer.into_inner();
-        Ok(())
+        let mut digits = Buffer::new();
+        self.word(digits.format(number))
     }
 
-    /// Appends a text as JSON writes a string.
-    #[tactic(auto, using(crate::proofs::Printed::printing))]
+    /// Appends a text as JSON writes a string. A text without escapes is written as it is.
     pub fn quoted(&mut self, alloc: Global, text: &Text) -> Result<(), OutOfMemory>
         ensures quoted { OnOk result (self.new ≡ self.old ++ quoted text.now) }
     {
-        let bytes = mem::replace(&mut self.bytes, Vec::new(alloc));
-        let mut writer = Writer::new(bytes);
+        if is_plain(text.as_bytes()) {
+            self.word("\"")?;
+            self.word(text.as_str())?;
+            self.word("\"")
+        } else {
+            self.escaped(alloc, text)
+        }
+    }
+
+    // Appends a text by JSON's writer, which is given room of its own: it fills the spare room of
+    // what it is given.
+    #[tactic(auto, using(crate::proofs::Printed::printing))]
+    fn escaped(&mut self, alloc: Global, text: &Text) -> Result<(), OutOfMemory>
+        ensures quoted { OnOk result (self.new ≡ self.old ++ quoted text.now) }
+    {
+        let mut writer = Writer::new(Vec::new(alloc));
         writer.string(text.as_str())?;
-        self.bytes = writer.into_inner();
+        let bytes = writer.into_inner();
+        self.bytes.extend_from_slice(bytes.as_slice())?;
         Ok(())
     }
 
     /// Appends `#` and a number.
-    pub fn numbered(&mut self, alloc: Global, number: u64) -> Result<(), OutOfMemory>
+    pub fn numbered(&mut self, number: u64) -> Result<(), OutOfMemory>
         ensures numbered { OnOk result (self.new ≡ self.old ++ numbered number) }
     {
         self.word("#")?;
-        self.decimal(alloc, number)
+        self.decimal(number)
     }
 
     /// Appends a name, with its namespace and `:` before it where it has one.
@@ -91,4 +101,16 @@ impl Line {
         bytes.extend_from_slice(b"\n")?;
         Ok(List::from_vec(bytes))
     }
+}
+
+/// Whether JSON writes each of these bytes as it is.
+fn is_plain(bytes: &[u8]) -> bool
+    ensures plain { result ≡ true → escape bytes.now ≡ bytes.now }
+{
+    for byte in bytes {
+        if *byte < 32 || *byte == 34 || *byte == 92 {
+            return false;
+        }
+    }
+    true
 }

@@ -16,21 +16,21 @@ pub fn taken_line(alloc: Global, report: u64, message: &Msg) -> Result<List<u8>,
         ≡ language.line (taken_text report (message_of message.now))) }
 {
     let mut line = Line::new(alloc);
-    put_word(alloc, &mut line, "taken ", report)?;
-    put_word(alloc, &mut line, " ", message.poster)?;
-    put_word(alloc, &mut line, ":", message.seq)?;
+    put_word(&mut line, "taken ", report)?;
+    put_word(&mut line, " ", message.poster)?;
+    put_word(&mut line, ":", message.seq)?;
     line.word(" ")?;
-    put_post(alloc, &mut line, message.what)?;
+    put_post(&mut line, message.what)?;
     line.end()
 }
 
 /// Appends what a message asks for.
-fn put_post(alloc: Global, line: &mut Line, post: Post) -> Result<(), OutOfMemory>
+fn put_post(line: &mut Line, post: Post) -> Result<(), OutOfMemory>
     ensures post { OnOk result (line.new ≡ line.old ++ post_text (post_of post)) }
 {
     match post {
-        Post::Mark(scope) => put_word(alloc, line, "mark:", scope.0),
-        Post::Wake(task) => put_word(alloc, line, "wake:", task.0),
+        Post::Mark(scope) => put_word(line, "mark:", scope.0),
+        Post::Wake(task) => put_word(line, "wake:", task.0),
         Post::AllDirty => line.word("all"),
     }
 }

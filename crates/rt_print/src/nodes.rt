@@ -49,7 +49,7 @@ fn put_kind(alloc: Global, line: &mut Line, number: u64, kind: &DocKind) -> Resu
         } => {
             line.word("(")?;
             line.name(namespace, tag)?;
-            line.numbered(alloc, number)?;
+            line.numbered(number)?;
             put_attributes(alloc, line, attrs.as_slice())?;
             put_listeners(line, listeners.as_slice())?;
             put_nodes(alloc, line, children.as_slice())?;
@@ -57,11 +57,11 @@ fn put_kind(alloc: Global, line: &mut Line, number: u64, kind: &DocKind) -> Resu
         }
         DocKind::Text(text) => {
             line.quoted(alloc, text)?;
-            line.numbered(alloc, number)
+            line.numbered(number)
         }
         DocKind::Placeholder => {
             line.word("_")?;
-            line.numbered(alloc, number)
+            line.numbered(number)
         }
     }
 }

@@ -14,70 +14,60 @@ pub fn report_line(alloc: Global, number: u64, report: &Report) -> Result<List<u
     ensures line { IfOk result (λ line. line ≡ language.report_line number (report_of report.now)) }
 {
     let mut line = Line::new(alloc);
-    put_counts(alloc, &mut line, number, report)?;
+    put_counts(&mut line, number, report)?;
     line.word(" log")?;
-    put_log(alloc, &mut line, report.log.as_slice())?;
+    put_log(&mut line, report.log.as_slice())?;
     line.end()
 }
 
 /// Appends what a report counts, with its number before it.
-fn put_counts(
-    alloc: Global,
-    line: &mut Line,
-    number: u64,
-    report: &Report,
-) -> Result<(), OutOfMemory>
+fn put_counts(line: &mut Line, number: u64, report: &Report) -> Result<(), OutOfMemory>
     ensures counts { OnOk result (line.new ≡ line.old ++ counts_text number (report_of report.now)) }
 {
     line.word("report ")?;
-    line.decimal(alloc, number)?;
+    line.decimal(number)?;
     line.word(" units ")?;
-    line.decimal(alloc, report.units)?;
+    line.decimal(report.units)?;
     line.word(" bodies ")?;
-    line.decimal(alloc, report.bodies)?;
+    line.decimal(report.bodies)?;
     line.word(" edits ")?;
-    line.decimal(alloc, report.edits)
+    line.decimal(report.edits)
 }
 
 /// Appends the word of each entry with a space before it.
-fn put_log(alloc: Global, line: &mut Line, log: &[Entry]) -> Result<(), OutOfMemory>
+fn put_log(line: &mut Line, log: &[Entry]) -> Result<(), OutOfMemory>
     ensures log { OnOk result (line.new
         ≡ line.old ++ spaced (map entry_text (map entry_of log.now))) }
 {
     for entry in log {
         line.word(" ")?;
-        put_entry(alloc, line, *entry)?;
+        put_entry(line, *entry)?;
     }
     Ok(())
 }
 
 /// Appends the word of an entry.
-fn put_entry(alloc: Global, line: &mut Line, entry: Entry) -> Result<(), OutOfMemory>
+fn put_entry(line: &mut Line, entry: Entry) -> Result<(), OutOfMemory>
     ensures entry { OnOk result (line.new ≡ line.old ++ entry_text (entry_of entry)) }
 {
     match entry {
         Entry::Build => line.word("build"),
-        Entry::Input(number) => put_word(alloc, line, "input:", number),
-        Entry::Heard(scope) => put_word(alloc, line, "heard:", scope.0),
-        Entry::Rerun(scope) => put_word(alloc, line, "rerun:", scope.0),
-        Entry::Poll(task) => put_word(alloc, line, "poll:", task.0),
-        Entry::Effects(scope) => put_word(alloc, line, "effects:", scope.0),
-        Entry::Made(scope) => put_word(alloc, line, "made:", scope.0),
-        Entry::Fed(scope) => put_word(alloc, line, "fed:", scope.0),
-        Entry::Kept(scope) => put_word(alloc, line, "kept:", scope.0),
-        Entry::Removed(scope) => put_word(alloc, line, "removed:", scope.0),
+        Entry::Input(number) => put_word(line, "input:", number),
+        Entry::Heard(scope) => put_word(line, "heard:", scope.0),
+        Entry::Rerun(scope) => put_word(line, "rerun:", scope.0),
+        Entry::Poll(task) => put_word(line, "poll:", task.0),
+        Entry::Effects(scope) => put_word(line, "effects:", scope.0),
+        Entry::Made(scope) => put_word(line, "made:", scope.0),
+        Entry::Fed(scope) => put_word(line, "fed:", scope.0),
+        Entry::Kept(scope) => put_word(line, "kept:", scope.0),
+        Entry::Removed(scope) => put_word(line, "removed:", scope.0),
     }
 }
 
 /// Appends a word and a number.
-pub(crate) fn put_word(
-    alloc: Global,
-    line: &mut Line,
-    word: &str,
-    number: u64,
-) -> Result<(), OutOfMemory>
+pub(crate) fn put_word(line: &mut Line, word: &str, number: u64) -> Result<(), OutOfMemory>
     ensures word { OnOk result (line.new ≡ line.old ++ (word.now ++ decimal number)) }
 {
     line.word(word)?;
-    line.decimal(alloc, number)
+    line.decimal(number)
 }

@@ -1,298 +1,181 @@
-//! What is wrong with statements.
+//! The forms of statements and expressions.
 
-use crate::fault::{Fault, at, under, wrong};
-use crate::keys::{of_bound, of_keys, of_text, of_zero};
-use crate::operands::{of_call, of_operand};
-use rt_expressions::Names;
-use rt_statements::{Binder, Form, Place, Plain, form_in, read_block, stands};
-use rt_values::{OutOfMemory, Text, copy_slice};
-use serde_json::Value;
-use std::alloc::Global;
+use crate::forms::Entry::{May, Must};
+use crate::forms::{ANYWHERE, BODY, Form, Group, Leaf, OUTSIDE, Row, STEP, Want};
 
-/// One level more than JSON nests.
-const LEVELS: u8 = 128;
+const GIVEN: Want = Want::Expression;
 
-const STATEMENT: &str = "a statement: an object with one of the keys let cell hook spawn drop \
-    before after effect resolved freeze when provide write forget act mark throw clear fail \
-    suspend stop prevent stay";
+const BINDS: Want = Want::Binds;
 
-const KINDS: &str = "client, isomorphic or forever";
+const BOUND: Want = Want::Leaf(Leaf::Bound);
 
-const ACTS: &str = "wake, cancel, pause or resume";
+const TEXT: Want = Want::Leaf(Leaf::Text);
 
-const ACTION: &str = "the name of an action";
+const ZERO: Want = Want::Leaf(Leaf::Zero);
 
-/// What is wrong with the statements at a key, with these params in reach.
-pub fn of_statements(
-    alloc: Global,
-    names: &Names,
-    place: Place,
-    params: &[Text],
-    value: &Value,
-) -> Result<Option<Fault>, OutOfMemory> {
-    statements(alloc, LEVELS, names, place, params, value)
-}
+const ACTION_NAME: Want = Want::Leaf(Leaf::Called(Group::Actions));
 
-/// How many statements of a list can be read, of a list that can't be read to its end: those before
-/// the first that is wrong.
-fn read_of(
-    alloc: Global,
-    names: &Names,
-    place: Place,
-    bound: &[Text],
-    values: &[Value],
-) -> Result<usize, OutOfMemory> {
-    let mut read = 0;
-    let mut refused = values.len();
-    while refused - read > 1 {
-        let middle = read + (refused - read) / 2;
-        let reach = copy_slice(alloc, bound)?;
-        match read_block(alloc, names, place, reach, &values[..middle])? {
-            Some(_read) => read = middle,
-            None => refused = middle,
-        }
-    }
-    Ok(read)
-}
+const TASK_NAME: Want = Want::Leaf(Leaf::Called(Group::Tasks));
 
-#[cycle(statements)]
-fn statements(
-    alloc: Global,
-    levels: u8,
-    names: &Names,
-    place: Place,
-    bound: &[Text],
-    value: &Value,
-) -> Result<Option<Fault>, OutOfMemory> {
-    let Some(values) = value.as_array() else {
-        return wrong(alloc, "a list of statements");
-    };
-    let reach = copy_slice(alloc, bound)?;
-    if read_block(alloc, names, place, reach, values)?.is_some() {
-        return Ok(None);
-    }
-    let number = read_of(alloc, names, place, bound, values)?;
-    let Some(refused) = values.get(number) else {
-        return Ok(None);
-    };
-    let reach = copy_slice(alloc, bound)?;
-    let before = &values[..number];
-    let Some((variables, _statements)) = read_block(alloc, names, place, reach, before)? else {
-        return Ok(None);
-    };
-    let fault = statement(alloc, levels, names, place, &variables, refused)?;
-    at(number, fault)
-}
-
-fn out_of_place(place: Place) -> &'static str {
-    match place {
-        Place::Body => "a statement that stands in bodies",
-        Place::Action => "a statement that stands in actions",
-        Place::Step => "a statement that stands in steps",
-    }
-}
-
-#[cycle(statements)]
-fn statement(
-    alloc: Global,
-    levels: u8,
-    names: &Names,
-    place: Place,
-    variables: &[Text],
-    value: &Value,
-) -> Result<Option<Fault>, OutOfMemory> {
-    let Some((key, form)) = form_in(value) else {
-        return wrong(alloc, STATEMENT);
-    };
-    if !stands(place, form) {
-        return under(alloc, key, wrong(alloc, out_of_place(place))?);
-    }
-    match form {
-        Form::Binds(Binder::Let) => of_pair(alloc, names, variables, value, ("let", "be")),
-        Form::Binds(Binder::Cell) => of_pair(alloc, names, variables, value, ("cell", "init")),
-        Form::Binds(Binder::Hook) => of_pair(alloc, names, variables, value, ("hook", "init")),
-        Form::Spawn => of_spawn(alloc, names, variables, value),
-        Form::When if levels == 0 => wrong(alloc, STATEMENT),
-        Form::When => of_when(alloc, levels - 1, names, place, variables, value),
-        Form::Does(plain) => of_plain(alloc, names, variables, key, plain, value),
-    }
-}
-
-#[cycle(statements)]
-fn of_when(
-    alloc: Global,
-    levels: u8,
-    names: &Names,
-    place: Place,
-    variables: &[Text],
-    value: &Value,
-) -> Result<Option<Fault>, OutOfMemory> {
-    let fault = of_keys(alloc, value, STATEMENT, &["when", "do"], &[])?;
-    if fault.is_some() {
-        return Ok(fault);
-    }
-    let fault = of_operand(alloc, names, variables, value, "when")?;
-    if fault.is_some() {
-        return Ok(fault);
-    }
-    match value.get("do") {
-        Some(found) => {
-            let fault = statements(alloc, levels, names, place, variables, found)?;
-            under(alloc, "do", fault)
-        }
-        None => Ok(None),
-    }
-}
-
-/// A text at one key, an expression at the only other one.
-fn of_pair(
-    alloc: Global,
-    names: &Names,
-    variables: &[Text],
-    value: &Value,
-    (name, given): (&str, &str),
-) -> Result<Option<Fault>, OutOfMemory> {
-    let fault = of_keys(alloc, value, STATEMENT, &[name, given], &[])?;
-    if fault.is_some() {
-        return Ok(fault);
-    }
-    let fault = of_text(alloc, value, name)?;
-    if fault.is_some() {
-        return Ok(fault);
-    }
-    of_operand(alloc, names, variables, value, given)
-}
-
-/// One of some words at a key, where something stands there.
-fn of_word(
-    alloc: Global,
-    value: &Value,
-    key: &str,
-    words: &[&str],
-    wanted: &str,
-) -> Result<Option<Fault>, OutOfMemory> {
-    let Some(found) = value.get(key) else {
-        return Ok(None);
-    };
-    for word in words {
-        if found.as_str() == Some(*word) {
-            return Ok(None);
-        }
-    }
-    under(alloc, key, wrong(alloc, wanted)?)
-}
-
-fn of_spawn(
-    alloc: Global,
-    names: &Names,
-    variables: &[Text],
-    value: &Value,
-) -> Result<Option<Fault>, OutOfMemory> {
-    let fault = of_keys(alloc, value, STATEMENT, &["spawn", "task", "args"], &["as"])?;
-    if fault.is_some() {
-        return Ok(fault);
-    }
-    let fault = of_text(alloc, value, "spawn")?;
-    if fault.is_some() {
-        return Ok(fault);
-    }
-    let fault = of_word(
-        alloc,
-        value,
-        "as",
-        &["client", "isomorphic", "forever"],
-        KINDS,
-    )?;
-    if fault.is_some() {
-        return Ok(fault);
-    }
-    let tasks = names.tasks.as_slice();
-    let call = ("task", "the name of a task", "args");
-    of_call(alloc, names, variables, tasks, value, call)
-}
-
-fn of_plain(
-    alloc: Global,
-    names: &Names,
-    variables: &[Text],
-    key: &str,
-    plain: Plain,
-    value: &Value,
-) -> Result<Option<Fault>, OutOfMemory> {
-    match plain {
-        Plain::Calls(_) => {
-            let fault = of_keys(alloc, value, STATEMENT, &[key, "args"], &[])?;
-            if fault.is_some() {
-                return Ok(fault);
-            }
-            let actions = names.actions.as_slice();
-            of_call(
-                alloc,
-                names,
-                variables,
-                actions,
-                value,
-                (key, ACTION, "args"),
-            )
-        }
-        Plain::Says(_) => {
-            let fault = of_keys(alloc, value, STATEMENT, &[key], &[])?;
-            if fault.is_some() {
-                return Ok(fault);
-            }
-            of_zero(alloc, value, key)
-        }
-        Plain::Mark | Plain::Throw | Plain::Fail => {
-            let fault = of_keys(alloc, value, STATEMENT, &[key], &[])?;
-            if fault.is_some() {
-                return Ok(fault);
-            }
-            of_operand(alloc, names, variables, value, key)
-        }
-        Plain::Forget | Plain::Suspend => {
-            let fault = of_keys(alloc, value, STATEMENT, &[key], &[])?;
-            if fault.is_some() {
-                return Ok(fault);
-            }
-            of_bound(alloc, variables, value, key)
-        }
-        Plain::Provide => of_pair(alloc, names, variables, value, ("provide", "be")),
-        Plain::Write => of_write(alloc, names, variables, value),
-        Plain::Act => of_act(alloc, variables, value),
-    }
-}
-
-fn of_write(
-    alloc: Global,
-    names: &Names,
-    variables: &[Text],
-    value: &Value,
-) -> Result<Option<Fault>, OutOfMemory> {
-    let fault = of_keys(alloc, value, STATEMENT, &["write", "be"], &[])?;
-    if fault.is_some() {
-        return Ok(fault);
-    }
-    let fault = of_bound(alloc, variables, value, "write")?;
-    if fault.is_some() {
-        return Ok(fault);
-    }
-    of_operand(alloc, names, variables, value, "be")
-}
-
-fn of_act(alloc: Global, variables: &[Text], value: &Value) -> Result<Option<Fault>, OutOfMemory> {
-    let fault = of_keys(alloc, value, STATEMENT, &["act", "task"], &[])?;
-    if fault.is_some() {
-        return Ok(fault);
-    }
-    let fault = of_word(
-        alloc,
-        value,
+/// Statements, by their keys.
+pub(crate) static STATEMENT: [Form; 23] = [
+    Form(
+        "let",
+        "",
+        ANYWHERE,
+        &[Must("be", GIVEN), Must("let", BINDS)],
+    ),
+    Form(
+        "cell",
+        "",
+        BODY,
+        &[Must("init", GIVEN), Must("cell", BINDS)],
+    ),
+    Form(
+        "hook",
+        "",
+        BODY,
+        &[Must("init", GIVEN), Must("hook", BINDS)],
+    ),
+    Form(
+        "spawn",
+        "",
+        ANYWHERE,
+        &[
+            May("as", Want::Leaf(Leaf::Kind)),
+            Must("task", TASK_NAME),
+            Must("args", Want::Row(Row::Handed(Group::Tasks, "task"))),
+            Must("spawn", BINDS),
+        ],
+    ),
+    Form(
+        "drop",
+        "",
+        BODY,
+        &[
+            Must("drop", ACTION_NAME),
+            Must("args", Want::Row(Row::Handed(Group::Actions, "drop"))),
+        ],
+    ),
+    Form(
+        "before",
+        "",
+        BODY,
+        &[
+            Must("before", ACTION_NAME),
+            Must("args", Want::Row(Row::Handed(Group::Actions, "before"))),
+        ],
+    ),
+    Form(
+        "after",
+        "",
+        BODY,
+        &[
+            Must("after", ACTION_NAME),
+            Must("args", Want::Row(Row::Handed(Group::Actions, "after"))),
+        ],
+    ),
+    Form(
+        "effect",
+        "",
+        ANYWHERE,
+        &[
+            Must("effect", ACTION_NAME),
+            Must("args", Want::Row(Row::Handed(Group::Actions, "effect"))),
+        ],
+    ),
+    Form(
+        "resolved",
+        "",
+        ANYWHERE,
+        &[
+            Must("resolved", ACTION_NAME),
+            Must("args", Want::Row(Row::Handed(Group::Actions, "resolved"))),
+        ],
+    ),
+    Form("freeze", "", ANYWHERE, &[Must("freeze", ZERO)]),
+    Form(
+        "when",
+        "",
+        ANYWHERE,
+        &[Must("when", GIVEN), Must("do", Want::Inner)],
+    ),
+    Form(
+        "provide",
+        "",
+        ANYWHERE,
+        &[Must("provide", TEXT), Must("be", GIVEN)],
+    ),
+    Form(
+        "write",
+        "",
+        ANYWHERE,
+        &[Must("write", BOUND), Must("be", GIVEN)],
+    ),
+    Form("forget", "", ANYWHERE, &[Must("forget", BOUND)]),
+    Form(
         "act",
-        &["wake", "cancel", "pause", "resume"],
-        ACTS,
-    )?;
-    if fault.is_some() {
-        return Ok(fault);
-    }
-    of_bound(alloc, variables, value, "task")
-}
+        "",
+        ANYWHERE,
+        &[Must("act", Want::Leaf(Leaf::Act)), Must("task", BOUND)],
+    ),
+    Form("mark", "", ANYWHERE, &[Must("mark", GIVEN)]),
+    Form("throw", "", ANYWHERE, &[Must("throw", GIVEN)]),
+    Form("clear", "", ANYWHERE, &[Must("clear", ZERO)]),
+    Form("fail", "", BODY, &[Must("fail", GIVEN)]),
+    Form("suspend", "", BODY, &[Must("suspend", BOUND)]),
+    Form("stop", "", OUTSIDE, &[Must("stop", ZERO)]),
+    Form("prevent", "", OUTSIDE, &[Must("prevent", ZERO)]),
+    Form("stay", "", STEP, &[Must("stay", ZERO)]),
+];
+
+/// Expressions that are objects, by their keys.
+pub(crate) static EXPRESSION: [Form; 17] = [
+    Form("get", "", ANYWHERE, &[Must("get", BOUND)]),
+    Form("read", "", ANYWHERE, &[Must("read", BOUND)]),
+    Form(
+        "cat",
+        "",
+        ANYWHERE,
+        &[Must("cat", Want::Row(Row::Expressions))],
+    ),
+    Form(
+        "add",
+        "",
+        ANYWHERE,
+        &[Must("add", Want::Row(Row::Counted(2)))],
+    ),
+    Form(
+        "mul",
+        "",
+        ANYWHERE,
+        &[Must("mul", Want::Row(Row::Counted(2)))],
+    ),
+    Form(
+        "eq",
+        "",
+        ANYWHERE,
+        &[Must("eq", Want::Row(Row::Counted(2)))],
+    ),
+    Form(
+        "lt",
+        "",
+        ANYWHERE,
+        &[Must("lt", Want::Row(Row::Counted(2)))],
+    ),
+    Form("not", "", ANYWHERE, &[Must("not", GIVEN)]),
+    Form("none", "", ANYWHERE, &[Must("none", GIVEN)]),
+    Form(
+        "if",
+        "",
+        ANYWHERE,
+        &[Must("if", Want::Row(Row::Counted(3)))],
+    ),
+    Form("parse", "", ANYWHERE, &[Must("parse", GIVEN)]),
+    Form("context", "", ANYWHERE, &[Must("context", TEXT)]),
+    Form("scope", "", ANYWHERE, &[Must("scope", ZERO)]),
+    Form("generation", "", ANYWHERE, &[Must("generation", ZERO)]),
+    Form("error", "", ANYWHERE, &[Must("error", ZERO)]),
+    Form("payload", "", ANYWHERE, &[Must("payload", ZERO)]),
+    Form("me", "", ANYWHERE, &[Must("me", ZERO)]),
+];

@@ -1,12 +1,15 @@
-//! Why bytes are no source: one line with the place in them and what was wanted there.
+//! Why bytes are no source: one line with the place in them, what was wanted there and what was
+//! found.
 #![tactic(auto)]
 
 mod bodies;
-mod fault;
-mod inputs;
-mod keys;
-mod operands;
+mod forms;
+mod leaves;
+mod saying;
 mod sources;
-mod views;
+mod tables;
+mod walk;
+mod words;
 
-pub use sources::refusal;
+pub use sources::{refusal, too_long};
+pub use words::unknown_word;

@@ -1,241 +1,102 @@
-//! What is wrong with a whole source.
+//! What is wrong with the bytes of a source.
 
-use crate::bodies::of_statements;
-use crate::fault::{Fault, at, under, wrong};
-use crate::inputs::{of_inputs, of_posts, of_props};
-use crate::keys::of_keys;
-use crate::views::of_views;
-use rt_expressions::{Names, signature_of};
-use rt_fields::{list_or_empty, place_of};
-use rt_sources::{SOURCE_LIMIT, names_in};
-use rt_statements::{Place, read_block};
-use rt_values::{OutOfMemory, Text};
+use crate::forms::{Table, Want};
+use crate::saying::line_of;
+use crate::walk::{Look, Walk};
+use rt_streams::MOST_BYTES;
+use rt_values::OutOfMemory;
 use serde_json::Value;
 use serde_json::error::Category;
 use std::alloc::Global;
 
-const SOURCE: &str = "an object with the keys components and root";
+/// One level more than JSON nests.
+const LEVELS: u8 = 128;
 
-/// One line with the place where bytes break the form of a source and what was wanted there, or
-/// `None` where they are one.
+/// How deep JSON nests at most.
+const NESTS: usize = 127;
+
+/// One line with the place where bytes break the form of a source, what was wanted there and what
+/// was found; or `None` where they are one.
 pub fn refusal(alloc: Global, bytes: &[u8]) -> Result<Option<String>, OutOfMemory> {
-    if bytes.len() > SOURCE_LIMIT {
-        let text = format!(in alloc; "the source: wanted at most {SOURCE_LIMIT} bytes")?;
-        return Ok(Some(text));
-    }
     match Value::from_slice(alloc, bytes) {
-        Ok(value) => match source(alloc, &value)? {
-            Some(fault) => Ok(Some(format!(in alloc; "{fault}")?)),
-            None => Ok(None),
-        },
+        Ok(value) => of_value(alloc, &value),
         Err(error) if error.classify() == Category::Memory => Err(OutOfMemory),
-        Err(error) => Ok(Some(format!(in alloc; "{error}")?)),
+        Err(error) => match of_bytes(alloc, bytes)? {
+            Some(line) => Ok(Some(line)),
+            None => Ok(Some(format!(in alloc; "{error}")?)),
+        },
     }
 }
 
-fn source(alloc: Global, value: &Value) -> Result<Option<Fault>, OutOfMemory> {
-    let required = ["components", "root"];
-    let optional = ["props", "actions", "tasks", "inputs", "posts"];
-    let fault = of_keys(alloc, value, SOURCE, &required, &optional)?;
-    if fault.is_some() {
-        return Ok(fault);
+/// What is said of a source that is too long.
+pub fn too_long(alloc: Global) -> Result<String, OutOfMemory> {
+    Ok(format!(in alloc; "the source: wanted at most {MOST_BYTES} bytes, found more")?)
+}
+
+fn of_value(alloc: Global, value: &Value) -> Result<Option<String>, OutOfMemory> {
+    let mut walk = Walk::new(alloc, value);
+    let mut look = walk.look(LEVELS, Want::One(Table::Outline), value);
+    if look == Look::Fits {
+        look = walk.look(LEVELS, Want::One(Table::Source), value);
     }
-    let fault = named(alloc, value, "components", &["view"], &["params", "do"])?;
-    if fault.is_some() {
-        return Ok(fault);
-    }
-    let fault = named(alloc, value, "actions", &["do"], &["params"])?;
-    if fault.is_some() {
-        return Ok(fault);
-    }
-    let fault = named(alloc, value, "tasks", &["steps"], &["params"])?;
-    if fault.is_some() {
-        return Ok(fault);
-    }
-    match names_in(alloc, value)? {
-        Some(names) => defined(alloc, &names, value),
-        None => wrong(alloc, SOURCE),
+    match look {
+        Look::Fits => Ok(None),
+        Look::Wrong => Ok(Some(line_of(alloc, &walk)?)),
+        Look::OutOfMemory => Err(OutOfMemory),
     }
 }
 
-/// What is wrong with the keys and params of what is defined by name under a key.
-fn named(
-    alloc: Global,
-    value: &Value,
-    key: &str,
-    required: &[&str],
-    optional: &[&str],
-) -> Result<Option<Fault>, OutOfMemory> {
-    let Some(found) = value.get(key) else {
-        return Ok(None);
-    };
-    let Some(members) = found.as_object() else {
-        return under(alloc, key, wrong(alloc, "an object by name")?);
-    };
-    for (name, one) in members.iter() {
-        let fault = of_keys(alloc, one, "an object", required, optional)?;
-        let fault = match fault {
-            None => params(alloc, one)?,
-            fault => fault,
-        };
-        if fault.is_some() {
-            return under(alloc, key, under(alloc, name.as_str(), fault)?);
-        }
+/// What is wrong with bytes that aren't JSON, where more can be said than at which place.
+fn of_bytes(alloc: Global, bytes: &[u8]) -> Result<Option<String>, OutOfMemory> {
+    if bytes.trim_ascii().is_empty() {
+        return Ok(Some(String::from_str(alloc, "the source: wanted an object, found nothing")?));
     }
-    Ok(None)
-}
-
-fn params(alloc: Global, value: &Value) -> Result<Option<Fault>, OutOfMemory> {
-    let Some(values) = list_or_empty(value, "params") else {
-        return under(alloc, "params", wrong(alloc, "a list of names")?);
-    };
-    let mut names = Vec::new(alloc);
-    for number in 0..values.len() {
-        let Some(name) = values[number].as_str() else {
-            return under(alloc, "params", at(number, wrong(alloc, "a text")?)?);
-        };
-        if place_of(&names, name).is_some() {
-            let fault = wrong(alloc, "a name that no param before it has")?;
-            return under(alloc, "params", at(number, fault)?);
-        }
-        names.push(Text::from_str(alloc, name)?)?;
+    if has_order_mark(bytes) {
+        return Ok(Some(String::from_str(
+            alloc,
+            "the source: wanted JSON from its first byte, found a byte order mark",
+        )?));
     }
-    Ok(None)
-}
-
-fn names_of(alloc: Global, value: &Value) -> Result<Vec<Text>, OutOfMemory> {
-    let mut names = Vec::new(alloc);
-    let Some(values) = list_or_empty(value, "params") else {
-        return Ok(names);
-    };
-    for value in values {
-        if let Some(name) = value.as_str() {
-            names.push(Text::from_str(alloc, name)?)?;
-        }
+    if let Err(error) = str::from_utf8(bytes) {
+        let place = error.valid_up_to();
+        let line = format!(in alloc;
+            "the source: wanted UTF-8, found another byte at place {place}, counted from 0"
+        )?;
+        return Ok(Some(line));
     }
-    Ok(names)
-}
-
-/// What is wrong with what a source defines, and with its root, props, inputs and posts.
-fn defined(alloc: Global, names: &Names, value: &Value) -> Result<Option<Fault>, OutOfMemory> {
-    let fault = components(alloc, names, value)?;
-    if fault.is_some() {
-        return Ok(fault);
-    }
-    let fault = actions(alloc, names, value)?;
-    if fault.is_some() {
-        return Ok(fault);
-    }
-    let fault = tasks(alloc, names, value)?;
-    if fault.is_some() {
-        return Ok(fault);
-    }
-    let root = value.get("root").and_then(Value::as_str);
-    let found = match root {
-        Some(name) => signature_of(names.components.as_slice(), name),
-        None => None,
-    };
-    let Some((_place, params)) = found else {
-        return under(alloc, "root", wrong(alloc, "the name of a component")?);
-    };
-    let fault = of_props(alloc, params, value)?;
-    if fault.is_some() {
-        return Ok(fault);
-    }
-    let fault = match value.get("inputs") {
-        Some(found) => under(alloc, "inputs", of_inputs(alloc, found)?)?,
-        None => None,
-    };
-    if fault.is_some() {
-        return Ok(fault);
-    }
-    match value.get("posts") {
-        Some(found) => under(alloc, "posts", of_posts(alloc, found)?),
+    match too_deep(bytes) {
+        Some(place) => Ok(Some(format!(in alloc;
+            "the source: wanted at most {NESTS} levels, found one more at byte {place}, counted from 0"
+        )?)),
         None => Ok(None),
     }
 }
 
-fn component(alloc: Global, names: &Names, value: &Value) -> Result<Option<Fault>, OutOfMemory> {
-    let params = names_of(alloc, value)?;
-    if let Some(found) = value.get("do") {
-        let fault = of_statements(alloc, names, Place::Body, &params, found)?;
-        if fault.is_some() {
-            return under(alloc, "do", fault);
-        }
-    }
-    let values = list_or_empty(value, "do").unwrap_or(&[]);
-    let Some((bound, _statements)) = read_block(alloc, names, Place::Body, params, values)? else {
-        return Ok(None);
-    };
-    match value.get("view") {
-        Some(found) => under(alloc, "view", of_views(alloc, names, &bound, found)?),
-        None => Ok(None),
-    }
+/// Whether bytes begin with the mark that some editors put before a text.
+fn has_order_mark(bytes: &[u8]) -> bool {
+    bytes.len() >= 3 && bytes[0] == 0xEF && bytes[1] == 0xBB && bytes[2] == 0xBF
 }
 
-fn components(alloc: Global, names: &Names, value: &Value) -> Result<Option<Fault>, OutOfMemory> {
-    let Some(members) = value.get("components").and_then(Value::as_object) else {
-        return Ok(None);
-    };
-    for (name, one) in members.iter() {
-        let fault = component(alloc, names, one)?;
-        if fault.is_some() {
-            return under(alloc, "components", under(alloc, name.as_str(), fault)?);
+/// Where a list or an object begins that is nested too deep; strings are passed over.
+fn too_deep(bytes: &[u8]) -> Option<usize> {
+    let mut depth = 0usize;
+    let mut is_text = false;
+    let mut is_escaped = false;
+    for place in 0..bytes.len() {
+        let byte = bytes[place];
+        if is_text {
+            is_text = is_escaped || byte != b'"';
+            is_escaped = !is_escaped && byte == b'\\';
+        } else if byte == b'"' {
+            is_text = true;
+        } else if byte == b'[' || byte == b'{' {
+            if depth == NESTS {
+                return Some(place);
+            }
+            depth = depth.saturating_add(1);
+        } else if byte == b']' || byte == b'}' {
+            depth = depth.saturating_sub(1);
         }
     }
-    Ok(None)
-}
-
-fn actions(alloc: Global, names: &Names, value: &Value) -> Result<Option<Fault>, OutOfMemory> {
-    let Some(members) = value.get("actions").and_then(Value::as_object) else {
-        return Ok(None);
-    };
-    for (name, one) in members.iter() {
-        let params = names_of(alloc, one)?;
-        let Some(found) = one.get("do") else {
-            return Ok(None);
-        };
-        let fault = of_statements(alloc, names, Place::Action, &params, found)?;
-        if fault.is_some() {
-            let fault = under(alloc, "do", fault)?;
-            return under(alloc, "actions", under(alloc, name.as_str(), fault)?);
-        }
-    }
-    Ok(None)
-}
-
-fn steps(
-    alloc: Global,
-    names: &Names,
-    params: &[Text],
-    value: &Value,
-) -> Result<Option<Fault>, OutOfMemory> {
-    let Some(values) = value.as_array() else {
-        return wrong(alloc, "a list of steps, each a list of statements");
-    };
-    for number in 0..values.len() {
-        let fault = of_statements(alloc, names, Place::Step, params, &values[number])?;
-        if fault.is_some() {
-            return at(number, fault);
-        }
-    }
-    Ok(None)
-}
-
-fn tasks(alloc: Global, names: &Names, value: &Value) -> Result<Option<Fault>, OutOfMemory> {
-    let Some(members) = value.get("tasks").and_then(Value::as_object) else {
-        return Ok(None);
-    };
-    for (name, one) in members.iter() {
-        let params = names_of(alloc, one)?;
-        let Some(found) = one.get("steps") else {
-            return Ok(None);
-        };
-        let fault = steps(alloc, names, &params, found)?;
-        if fault.is_some() {
-            let fault = under(alloc, "steps", fault)?;
-            return under(alloc, "tasks", under(alloc, name.as_str(), fault)?);
-        }
-    }
-    Ok(None)
+    None
 }

@@ -14,8 +14,8 @@ use Rattle.rt_syntax.specs.Mirror.{literal_of, expression_of, arguments_of}
 use Rattle.rt_syntax.specs.declared.expression.Literal.{Literal}
 use Rattle.rt_syntax.specs.declared.expression.Expression.{Expression, the_lemmas}
 use Rattle.rt_syntax.specs.declared.expression.Expression.TheVariants as forms
-use Rattle.rt_script.specs.Came.{Came, came, reached}
-use Rattle.rt_script.proofs.Steps.{on, at_done, at_scope, at_task, at_generation, at_read, at_error, at_consume_context}
+use Rattle.rt_programs.specs.Came.{Came, came, reached}
+use Rattle.rt_programs.proofs.Steps.{on, at_done, at_scope, at_task, at_generation, at_read, at_error, at_consume_context}
 
 -- which expression of the language each form is
 seen-Say : (l : Literal) → expression_of (forms.Say l) ≡ language.Say (literal_of l)

@@ -36,9 +36,10 @@ use Rattle.rt_syntax.specs.Mirror.{expression_of, arguments_of, use_of}
 use Rattle.rt_syntax.specs.declared.expression.Expression.{Expression}
 use Rattle.rt_syntax.specs.declared.view.ComponentUse.{ComponentUse}
 use Rattle.rt_calls.specs.Calls.{world_of, call_of}
-use Rattle.rt_script.specs.Came.{Came, came, reached}
+use Rattle.rt_programs.specs.Came.{Came, came, reached}
 use Rattle.rt_script.specs.Fills.{filling_of}
-use Rattle.rt_script.specs.Seen.{ScriptCall, ScriptWorld, Comes}
+use Rattle.rt_bodies.specs.Comes.{Comes}
+use Rattle.rt_script.specs.Seen.{ScriptCall, ScriptWorld}
 use Rattle.rt_script.specs.declared.caller.Frame.{Frame}
 use Rattle.rt_script.specs.declared.filling.Filling as code
 use Rattle.rt_script_views.specs.Plans.{Held, Planned, planned, fill_of, slot_program, filled, tree_with, one_attribute, one_slot}
@@ -50,7 +51,7 @@ use Rattle.rt_script_views.specs.declared.plan.SlotPlan.TheVariants as plans
 use Rattle.rt_script_views.proofs.Plans.{fill-is-Attribute, fill-is-Listener, fill-is-Node, slot-is-TextOf, slot-is-UseOf, slot-is-ListOf, slot-is-PickOf, slot-is-FragmentOf, slot-is-ErrorBoundaryOf, slot-is-SuspenseBoundaryOf, slot-is-Hole, plan-is}
 use Rattle.rt_script.specs.declared.script.Script.{Script}
 use Rattle.rt_script.proofs.Expressions.{chosen_by}
-use Rattle.rt_script.proofs.Steps.{on, at_done, at_scope}
+use Rattle.rt_programs.proofs.Steps.{on, at_done, at_scope}
 
 -- built-in components round children
 module _ {P C Q V H T E L : Type 0} where

@@ -1,4 +1,3 @@
-pub mod Goes
 pub mod Places
 pub mod Steps
 pub mod Expressions

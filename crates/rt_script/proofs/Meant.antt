@@ -26,11 +26,12 @@ use Rattle.rt_model.specs.Lists.{nth}
 use Rattle.rt_language.specs.Values.{Value, same_values}
 use Rattle.rt_language.proofs.Lawful.{values}
 use Rattle.rt_script.specs.Applications.{asked_by, heard}
-use Rattle.rt_script.specs.Came.{Came, came, reached}
-use Rattle.rt_script.specs.Seen.{ScriptCall, Comes, ComesIfRemembered, Knows, caller_of, frame_of, outcome_of}
+use Rattle.rt_programs.specs.Came.{Came, came, reached}
+use Rattle.rt_bodies.specs.Comes.{Comes, ComesIfRemembered}
+use Rattle.rt_script.specs.Seen.{ScriptCall, Knows, caller_of, frame_of, outcome_of}
 use Rattle.rt_script.specs.declared.script.Asked.{Asked}
 use Rattle.rt_script.specs.declared.script.Script.{Script}
-use Rattle.rt_script.proofs.Goes.{exec-came, told_by}
+use Rattle.rt_programs.proofs.Goes.{exec-came, told_by}
 use Rattle.rt_script.proofs.Heard.{still, still-not}
 use Rattle.rt_script.specs.declared.caller.Caller as callers
 use Rattle.rt_script.specs.declared.caller.Frame as frames
@@ -38,34 +39,7 @@ use Rattle.rt_script.specs.declared.caller.Outcome as code
 use Rattle.rt_script.specs.declared.caller.Outcome.TheVariants as outcomes
 use Rattle.rt_script.proofs.Fills.{placeholder-is}
 use Rattle.rt_script.proofs.Places.{nth-get, nth-map}
-use Rattle.rt_script.proofs.Steps.{on, at_done}
-
--- what a call of a script leaves
-abbrev ScriptTurn : Type 0 → Type 0
-ScriptTurn A = Left Script ℕ (List Value) Value Doing Standing Doing Value A
-
--- a call that comes to its answer means its program
-pub means : {A B : Type 0} (f : A → B) (in_body : Bool) (before after : ScriptCall) (p : Program SourceTypes B) (a : A)
-    → before ≡ turns.begun in_body before.world
-    → ComesIfRemembered before after p (f a)
-    → after.fault ≢ Some OutOfMemory
-    → meaning_of f (turns.ended after a).meaning ≡ exec (world_of before.world) p (program.begun in_body (world_of before.world).given.next)
-means f in_body before after p a fresh comes had =
-    let w : model.World SourceTypes = world_of before.world in
-    let start : call_of before ≡ program.begun in_body w.given.next =
-    ap call_of fresh ∙ (stand-for {A = Unit {0}} {B = Unit {0}}).begun in_body before.world in
-    sym (ap (exec w p) (sym start) ∙ exec-came w p (call_of before) ∙ ap told_by (comes had))
-
--- the turn of such a call
-pub turn-means : {A B : Type 0} (f : A → B) (in_body : Bool) (before after : ScriptCall) (p : Program SourceTypes B) (a : A) (turn : ScriptTurn A)
-    → before ≡ turns.begun in_body before.world
-    → ComesIfRemembered before after p (f a)
-    → turn ≡ turns.ended after a
-    → turn.meaning.fault ≢ Some OutOfMemory
-    → meaning_of f turn.meaning ≡ exec (world_of before.world) p (program.begun in_body (world_of before.world).given.next)
-turn-means {A} f in_body before after p a turn fresh comes is had =
-    ap (λ (t : ScriptTurn A). meaning_of f t.meaning) is ∙
-    means f in_body before after p a fresh comes (λ bad. had (ap (λ (t : ScriptTurn A). t.meaning.fault) is ∙ bad))
+use Rattle.rt_programs.proofs.Steps.{on, at_done}
 
 -- an answer at the mirror
 pub elements-are : (answer : Result (VNode Script ℕ (List Value) Value Doing Standing Doing Value) RenderError) → mirror.element_of answer ≡ plain.element_of answer

@@ -26,11 +26,12 @@ use Rattle.rt_script.specs.declared.caller.Caller.TheVariants as callers
 use Rattle.rt_script.specs.declared.caller.Frame as frames
 use Rattle.rt_script.specs.declared.caller.Outcome.{Outcome}
 use Rattle.rt_script.specs.declared.caller.Outcome.TheVariants as outcomes
-use Rattle.rt_script.specs.Came.{Came, came, reached}
+use Rattle.rt_programs.specs.Came.{Came, came, reached}
 use Rattle.rt_script.specs.Held.{IsNoCell, IsNoTask, IsNoScope}
-use Rattle.rt_script.specs.Seen.{caller_of, SeesRenders, IsOutside, IsBody, outcome_of, ScriptCall, ScriptWorld, Comes, Knows, Extends, Follows}
+use Rattle.rt_bodies.specs.Comes.{Comes}
+use Rattle.rt_script.specs.Seen.{caller_of, SeesRenders, IsOutside, IsBody, outcome_of, ScriptCall, ScriptWorld, Knows, Extends, Follows}
 use Rattle.rt_script.proofs.Expressions.{chosen_by}
-use Rattle.rt_script.proofs.Steps.{on, at_done, at_scope, at_write, at_drop_cell, at_spawn, at_wake, at_remove_future, at_set_active, at_queue_effect, at_resolved, at_freeze, at_provide, at_needs_update, at_captured, at_throw, at_clear_errors}
+use Rattle.rt_programs.proofs.Steps.{on, at_done, at_scope, at_write, at_drop_cell, at_spawn, at_wake, at_remove_future, at_set_active, at_queue_effect, at_resolved, at_freeze, at_provide, at_needs_update, at_captured, at_throw, at_clear_errors}
 
 -- which statement of the language each form is
 pub s-Let : (e : Expression) → statement_of (forms.Let e) ≡ language.Let (expression_of e)

@@ -2,9 +2,7 @@
 use Rattle.std.specs.Prelude.{List, [], ◌≡◌}
 use Rattle.std.proofs.Common.{ap}
 use Rattle.rt_model.specs.Laws.{IsLawful}
-use Rattle.rt_model.specs.Program.{Program, Call, exec, ended, body_means}
-use Rattle.rt_model.specs.Tree.{Types}
-use Rattle.rt_model.specs.World.{World}
+use Rattle.rt_model.specs.Program.{body_means}
 use Rattle.rt_model.proofs.Lawful.{mean_alike, programs_are_lawful}
 use Rattle.rt_language.specs.Values.{Value}
 use Rattle.rt_language.specs.Expressions.{SourceTypes}
@@ -12,7 +10,6 @@ use Rattle.rt_language.specs.Meaning.{meaning_of, props_of}
 use Rattle.rt_language.specs.Syntax as language
 use Rattle.rt_language.proofs.Lawful.{sources_are_lawful}
 use Rattle.rt_script.specs.Applications.{programs_of_script, meaning_of_script, props_of_script}
-use Rattle.rt_script.specs.Came.{came}
 use Rattle.rt_script.specs.declared.script.Script.{Script}
 
 -- the calls of the script mean what those of the source do, and the root that it names has the props that the source gives it
@@ -35,7 +32,3 @@ scripts_are_lawful s =
     laws.tests_props
     laws.tests_values
     laws.tests_handlers
-
--- whatever call it goes on from, a program means the answer and the call that it comes to
-abbrev pub ComesToMeaning : Types → Type 0 → Type 0
-ComesToMeaning K A = (w : World K) (p : Program K A) (c : Call K) → exec w p c ≡ ended (came w p c).call (came w p c).answer

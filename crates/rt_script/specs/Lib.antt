@@ -1,4 +1,3 @@
-pub mod Came
 pub mod Held
 pub mod Seen
 pub mod Fills

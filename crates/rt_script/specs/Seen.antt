@@ -1,19 +1,15 @@
 -- What contracts see of the code's calls, callers, frames and outcomes.
-use Rattle.std.specs.Prelude.{◌≡◌, ◌≢◌, ◌++◌, ℕ, List, Some, Result, Ok, Err}
-use Rattle.rt_calls.specs.Calls.{world_of, call_of}
+use Rattle.std.specs.Prelude.{◌≡◌, ◌≢◌, ◌++◌, ℕ, List, Some}
 use Rattle.rt_calls.specs.Turn.{Call}
 use Rattle.rt_calls.specs.World.{CallWorld}
-use Rattle.rt_calls.specs.declared.faults.CxFault.{CxFault}
 use Rattle.rt_calls.specs.declared.faults.CxFault.TheVariants.{OutOfMemory}
 use Rattle.rt_mirror.specs.Sealed.{element_of}
-use Rattle.rt_model.specs.Program.{Program}
 use Rattle.rt_model.specs.World as model
 use Rattle.rt_language.specs.Expressions as language
 use Rattle.rt_language.specs.Expressions.{Doing, Standing, SourceTypes}
 use Rattle.rt_language.specs.Statements as statements
 use Rattle.rt_language.specs.Statements.{WentOn, EndedWith, WasRefused}
 use Rattle.rt_language.specs.Values.{Value}
-use Rattle.rt_script.specs.Came.{came, reached}
 use Rattle.rt_script.specs.declared.caller.Caller.{Caller}
 use Rattle.rt_script.specs.declared.caller.Caller.TheVariants as callers
 use Rattle.rt_script.specs.declared.caller.Frame.{Frame}
@@ -57,24 +53,11 @@ ScriptWorld = CallWorld Script ℕ (List Value) Value Doing Standing Doing Value
 abbrev pub ScriptCall : Type 0
 ScriptCall = Call Script ℕ (List Value) Value Doing Standing Doing Value
 
--- the program comes to the answer from one call to another
-abbrev pub Comes : {A : Type 0} → ScriptCall → ScriptCall → Program SourceTypes A → A → Type 0
-Comes before after program answer = came (world_of before.world) program (call_of before) ≡ reached answer (call_of after)
-
--- the same, unless memory was wanted
-abbrev pub ComesIfRemembered : {A : Type 0} → ScriptCall → ScriptCall → Program SourceTypes A → A → Type 0
-ComesIfRemembered before after program answer = after.fault ≢ Some OutOfMemory → Comes before after program answer
-
 -- where statements ended at a refused call, what follows holds unless memory was wanted
 abbrev pub Knows : Outcome → ScriptCall → Type 0 → Type 0
 Knows outcomes.WentOn c T = T
 Knows (outcomes.Ended answer) c T = T
 Knows outcomes.Refused c T = c.fault ≢ Some OutOfMemory → T
-
--- a call was refused for another cause than want of memory
-abbrev pub RefusedOther : {A : Type 0} → Result A CxFault → Type 0
-RefusedOther (Ok a) = ⊥
-RefusedOther (Err fault) = fault ≢ OutOfMemory
 
 -- the values before are the first ones of those after
 pub record Extends (before after : List Value) : Type 0 where

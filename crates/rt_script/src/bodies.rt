@@ -9,13 +9,14 @@ ghost use Rattle.rt_language.specs.Statements as meanings;
 ghost use Rattle.rt_language.specs.Statements.{hook_with, task_hook, time_kind};
 ghost use Rattle.rt_language.specs.Syntax as language;
 ghost use Rattle.rt_syntax.specs.Mirror.{expression_of, arguments_of, statement_of, statements_of, spawned_of, time_of};
-ghost use Rattle.rt_script.specs.Seen.{caller_of, IsBody, SeesRenders, frame_of, outcome_of, Comes, Knows, Follows};
+ghost use Rattle.rt_bodies.specs.Comes.{Comes};
+ghost use Rattle.rt_script.specs.Seen.{caller_of, IsBody, SeesRenders, frame_of, outcome_of, Knows, Follows};
 
-use crate::answers::unless_refused;
 use crate::caller::{Frame, Outcome, held_task};
 use crate::evaluation::{evaluate, evaluate_all};
 use crate::running::{ask, spawn, throw};
 use crate::script::Script;
+use rt_bodies::unless_refused;
 use rt_calls::{BodyCx, CxFault};
 use rt_parts::RenderError;
 use rt_script_values::{Doing, Standing, Value, text_of};

@@ -7,11 +7,12 @@ ghost use Rattle.rt_language.specs.Syntax.{Cat};
 ghost use Rattle.rt_language.specs.Values.{NoValue, value_of};
 ghost use Rattle.rt_model.specs.Lists.{or_else};
 ghost use Rattle.rt_syntax.specs.Mirror.{literal_of, expression_of, arguments_of};
-ghost use Rattle.rt_script.specs.Seen.{caller_of, SeesRenders, ScriptCall, Comes};
+ghost use Rattle.rt_bodies.specs.Comes.{Comes};
+ghost use Rattle.rt_script.specs.Seen.{caller_of, SeesRenders, ScriptCall};
 
-use crate::answers::remembered;
 use crate::caller::{Caller, Frame, held_by, held_cell};
 use crate::script::Script;
+use rt_bodies::remembered;
 use rt_calls::Cx;
 use rt_parts::CapturedError;
 use rt_script_values::{
@@ -207,7 +208,7 @@ fn looked_up<K>(
 }
 
 /// How often the body has answered a tree, none where it is no body that asks.
-#[tactic(auto, using(crate::proofs::Steps::steps))]
+#[tactic(auto, using(rt_programs::proofs::Steps::steps))]
 fn generation(by: &Caller<'_>) -> Value
     ensures came { (before : ScriptCall) → SeesRenders (world_of before.world) by.now →
         Comes before before (meanings.generation_for (caller_of by.now)) result }

@@ -12,7 +12,8 @@ ghost use Rattle.rt_language.specs.Views.{filled_on, items_from, use_or_none};
 ghost use Rattle.rt_syntax.specs.Mirror.{use_of};
 ghost use Rattle.rt_script_views.specs.Plans.{planned, fill_of, slot_program};
 ghost use Rattle.rt_script.specs.Fills.{filling_of};
-ghost use Rattle.rt_script.specs.Seen.{caller_of, SeesRenders, Comes};
+ghost use Rattle.rt_bodies.specs.Comes.{Comes};
+ghost use Rattle.rt_script.specs.Seen.{caller_of, SeesRenders};
 
 use crate::attributes::{attribute_value, slot_with};
 use crate::caller::Frame;
@@ -23,11 +24,12 @@ use rt_nodes::{
     DynamicNode, ErrorBoundaryProps, ErrorHandler, Fallback, FragmentProps, SuspenseBoundaryProps,
     VComponent, VNode,
 };
-use rt_parts::{Attribute, AttributeValue};
+use rt_parts::{Attribute, AttributeValue, Template};
 use rt_script_values::{Content, Doing, Props, Value, item_count, text_of};
 use rt_script_views::{Fill, Plan, SlotPlan};
+use rt_shared::Shared;
 use rt_syntax::ComponentUse;
-use rt_values::{Boxed, List, OutOfMemory};
+use rt_values::{Boxed, List, OutOfMemory, both};
 use std::alloc::Global;
 
 /// What the slots of a template are filled with, by number.
@@ -62,15 +64,33 @@ pub(crate) fn tree_of(
     match &plan.template {
         None => Ok(VNode::placeholder(alloc)?),
         Some(template) => {
-            let template = template.copy(alloc)?;
-            let Filling { attributes, nodes } = filling;
-            Ok(VNode {
-                template,
-                dynamic_nodes: nodes,
-                dynamic_attrs: attributes,
-            })
+            let tree = filled_tree(alloc, template, filling)?;
+            Ok(tree)
         }
     }
+}
+
+/// The tree of a template whose slots are filled so.
+fn filled_tree(
+    alloc: Global,
+    template: &Template,
+    filling: Filling,
+) -> Result<VNode<Script>, OutOfMemory>
+    ensures tree { IfOk result (λ tree. tree ≡ record {
+      template = template.now;
+      dynamic_nodes = filling.nodes;
+      dynamic_attrs = filling.attributes;
+    }) }
+{
+    let Filling { attributes, nodes } = filling;
+    let attributes = Shared::from_list(alloc, attributes);
+    let slots = both(Shared::from_list(alloc, nodes), attributes);
+    let (template, (dynamic_nodes, dynamic_attrs)) = both(template.copy(alloc), slots)?;
+    Ok(VNode {
+        template,
+        dynamic_nodes,
+        dynamic_attrs,
+    })
 }
 
 /// Fills the next slot.
@@ -172,7 +192,8 @@ fn component_in(
 {
     match slot {
         SlotPlan::UseOf(used) => {
-            let props = Props::new(evaluate_all(alloc, cx, frame, used.props.as_slice())?);
+            let values = evaluate_all(alloc, cx, frame, used.props.as_slice())?;
+            let props = Props::new(alloc, values)?;
             let component = used.component;
             Ok(DynamicNode::Component(VComponent::App { component, props }))
         }
@@ -204,7 +225,7 @@ fn items(
     frame: &mut Frame<'_>,
     count: u64,
     item: &Plan,
-) -> Result<List<VNode<Script>>, OutOfMemory>
+) -> Result<Shared<VNode<Script>>, OutOfMemory>
     requires renders { SeesRenders (world_of cx.old.world) frame.old.by }
     requires count { count ≤ 10000 }
     ensures came { IfOk result (λ trees. Comes cx.old cx.new
@@ -221,7 +242,8 @@ fn items(
         frame.keep(alloc, bound);
         trees.push(tree)?;
     }
-    Ok(trees)
+    let finished = Shared::from_list(alloc, trees)?;
+    Ok(finished)
 }
 
 /// The number of an item.
@@ -248,17 +270,15 @@ fn picked(
     ensures world { cx.new.world ≡ cx.old.world }
     ensures frame { OnOk result (frame.new ≡ frame.old) }
 {
-    let mut trees = List::new(alloc);
     if plan.template.is_none() {
-        return Ok(DynamicNode::Fragment(trees));
+        return Ok(DynamicNode::Fragment(Shared::empty()));
     }
     let tree = tree_of(alloc, cx, frame, plan)?;
-    trees.push(tree)?;
-    Ok(DynamicNode::Fragment(trees))
+    Ok(DynamicNode::Fragment(Shared::one(alloc, tree)?))
 }
 
 /// A component and the values of what it is handed, where one is named.
-#[tactic(auto, using(crate::proofs::Steps::steps))]
+#[tactic(auto, using(rt_programs::proofs::Steps::steps))]
 fn handed(
     alloc: Global,
     cx: &mut BodyCx<'_, Script>,
@@ -272,8 +292,9 @@ fn handed(
 {
     match component {
         Some(used) => {
-            let props = evaluate_all(alloc, cx, frame, used.props.as_slice())?;
-            Ok(Some((used.component, Props::new(props))))
+            let values = evaluate_all(alloc, cx, frame, used.props.as_slice())?;
+            let props = Props::new(alloc, values)?;
+            Ok(Some((used.component, props)))
         }
         None => Ok(None),
     }

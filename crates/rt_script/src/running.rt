@@ -12,12 +12,13 @@ ghost use Rattle.rt_language.specs.Syntax as language;
 ghost use Rattle.rt_language.specs.Values.{NumberValue};
 ghost use Rattle.rt_syntax.specs.Mirror.{expression_of, arguments_of, statement_of, statements_of, spawned_of, act_of};
 ghost use Rattle.rt_script.specs.Held.{IsNoScope};
-ghost use Rattle.rt_script.specs.Seen.{caller_of, SeesRenders, IsOutside, frame_of, outcome_of, Comes, Knows, Follows};
+ghost use Rattle.rt_bodies.specs.Comes.{Comes};
+ghost use Rattle.rt_script.specs.Seen.{caller_of, SeesRenders, IsOutside, frame_of, outcome_of, Knows, Follows};
 
-use crate::answers::{remembered, unless_refused};
 use crate::caller::{Frame, Outcome, held_cell, held_task};
 use crate::evaluation::{evaluate, evaluate_all};
 use crate::script::Script;
+use rt_bodies::{remembered, unless_refused};
 use rt_calls::{Cx, CxFault};
 use rt_script_values::{Content, Doing, Standing, Value, text_of};
 use rt_syntax::{Expression, SpawnKind, Statement, TaskAct};
@@ -292,7 +293,7 @@ fn tell_held<K>(
 }
 
 /// Acts on a task.
-#[tactic(auto, using(crate::proofs::Steps::steps))]
+#[tactic(auto, using(rt_programs::proofs::Steps::steps))]
 fn act_on<K>(cx: &mut Cx<'_, Script, K>, act: TaskAct, task: Task) -> Result<(), OutOfMemory>
     ensures came { OnOk result ((frame : meanings.Frame) →
         Comes cx.old cx.new (acted_on (act_of act) task.0 (goes_on frame)) (WentOn frame)) }

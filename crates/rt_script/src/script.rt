@@ -10,7 +10,7 @@ ghost use Rattle.rt_language.specs.Sequence.{go_on};
 ghost use Rattle.rt_language.specs.Syntax.{NoStatements};
 ghost use Rattle.rt_syntax.specs.Mirror.{statements_of, source_of};
 ghost use Rattle.rt_script.specs.Applications.{programs_of_script, meaning_of_script, props_of_script, body_of, asked_by, heard};
-ghost use Rattle.rt_script.specs.Seen.{Comes, ComesIfRemembered};
+ghost use Rattle.rt_bodies.specs.Comes.{Comes, ComesIfRemembered};
 ghost use Rattle.rt_script.specs.Laws.{scripts_are_lawful, MeansSource};
 ghost use Rattle.rt_calls.specs.Answers.{event_of, step_of, no_answer};
 ghost use Rattle.rt_calls.specs.Calls.{meaning_of, world_of};
@@ -104,7 +104,7 @@ impl Script {
         for literal in self.props.as_slice() {
             values.push(said(alloc, literal)?)?;
         }
-        Ok(Props::new(values))
+        Props::new(alloc, values)
     }
 
     /// The answer of a component's body; a placeholder where there is no such component.
@@ -297,8 +297,8 @@ impl App for Script {
         Ok(self.root)
     }
 
-    fn empty_props(&self, alloc: Global) -> Result<Props, OutOfMemory> {
-        Ok(Props::new(List::new(alloc)))
+    fn empty_props(&self, _alloc: Global) -> Result<Props, OutOfMemory> {
+        Ok(Props::none())
     }
 
     fn render(

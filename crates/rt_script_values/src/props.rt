@@ -1,15 +1,16 @@
 //! What a component is handed.
-ghost use Rattle.std.specs.Prelude.{◌≡◌};
+ghost use Rattle.std.specs.Prelude.{◌≡◌, [], IfOk};
 
 use crate::value::Value;
+use rt_shared::Shared;
 use rt_values::{List, OutOfMemory, Part};
 use std::alloc::Global;
 use std::marker::Model;
 
-/// What a component is handed: the values of its params, in order.
-#[derive(Debug, Drop)]
+/// What a component is handed: the values of its params, in order. Copies share them.
+#[derive(Drop)]
 pub struct Props {
-    values: List<Value>,
+    values: Shared<Value>,
 }
 
 impl Model for Props {
@@ -22,10 +23,22 @@ impl Model for Props {
 }
 
 impl Props {
-    pub fn new(values: List<Value>) -> Props
-        ensures { result ≡ values }
+    /// What is handed where a component has no params.
+    pub fn none() -> Props
+        ensures none { result ≡ [] }
     {
-        Props { values }
+        Props {
+            values: Shared::empty(),
+        }
+    }
+
+    /// What is handed where the params have these values.
+    pub fn new(alloc: Global, values: List<Value>) -> Result<Props, OutOfMemory>
+        ensures values { IfOk result (λ props. props ≡ values) }
+    {
+        Ok(Props {
+            values: Shared::from_list(alloc, values)?,
+        })
     }
 
     pub fn values(&self) -> &[Value]
@@ -40,9 +53,9 @@ impl Part for Props {
         self.values.same(&other.values)
     }
 
-    fn copy(&self, alloc: Global) -> Result<Props, OutOfMemory> {
+    fn copy(&self, _alloc: Global) -> Result<Props, OutOfMemory> {
         Ok(Props {
-            values: self.values.copy(alloc)?,
+            values: self.values.share()?,
         })
     }
 }

@@ -9,8 +9,9 @@ ghost use Rattle.rt_syntax.specs.Mirror as source;
 ghost use Rattle.rt_script_views.specs.Built.{AttributeBuilt, AttributesBuilt, NodeBuilt, RowBuilt};
 
 use rt_parts::{Template, TemplateAttribute, TemplateNode};
+use rt_shared::Shared;
 use rt_syntax::{ViewAttribute, ViewNode};
-use rt_values::{List, OutOfMemory, Part};
+use rt_values::{List, OutOfMemory, Part, both};
 use std::alloc::Global;
 
 /// A template as far as it is built. Slots are numbered as they are met.
@@ -33,11 +34,29 @@ pub(crate) fn template_of(alloc: Global, roots: &[ViewNode]) -> Result<Template,
         path: List::new(alloc),
     };
     let roots = row_of(alloc, &mut paths, roots)?;
+    let template = finished(alloc, roots, paths)?;
+    Ok(template)
+}
+
+/// The template with these roots, and with the paths that were met.
+fn finished(
+    alloc: Global,
+    roots: Shared<TemplateNode>,
+    paths: Paths,
+) -> Result<Template, OutOfMemory>
+    ensures template { IfOk result (λ template. template ≡ record {
+      roots = roots;
+      node_paths = paths.node_paths;
+      attr_paths = paths.attr_paths;
+    }) }
+{
     let Paths {
         node_paths,
         attr_paths,
         path: _,
     } = paths;
+    let attr_paths = Shared::from_list(alloc, attr_paths);
+    let (node_paths, attr_paths) = both(Shared::from_list(alloc, node_paths), attr_paths)?;
     Ok(Template {
         roots,
         node_paths,
@@ -52,7 +71,7 @@ fn row_of(
     alloc: Global,
     paths: &mut Paths,
     nodes: &[ViewNode],
-) -> Result<List<TemplateNode>, OutOfMemory>
+) -> Result<Shared<TemplateNode>, OutOfMemory>
     ensures built { IfOk result (λ made.
         RowBuilt paths.old paths.new (source.view_of nodes.now) (mirror.nodes_of made)) }
 {
@@ -65,7 +84,8 @@ fn row_of(
         made.push(node)?;
         index = index.saturating_add(1);
     }
-    Ok(made)
+    let finished = Shared::from_list(alloc, made)?;
+    Ok(finished)
 }
 
 /// The step of a path to the node at an index, the greatest one for those past it.
@@ -117,7 +137,7 @@ fn attributes_of(
     alloc: Global,
     paths: &mut Paths,
     attributes: &[ViewAttribute],
-) -> Result<List<TemplateAttribute>, OutOfMemory>
+) -> Result<Shared<TemplateAttribute>, OutOfMemory>
     ensures built { IfOk result (λ made. AttributesBuilt paths.old paths.new
         (map source.attribute_of attributes.now) (map attribute_in made)) }
 {
@@ -126,7 +146,8 @@ fn attributes_of(
         let attribute = attribute_of(alloc, paths, attribute)?;
         made.push(attribute)?;
     }
-    Ok(made)
+    let finished = Shared::from_list(alloc, made)?;
+    Ok(finished)
 }
 
 /// One attribute of the element at the present path.

@@ -8,8 +8,8 @@ use Rattle.rt_model.specs.State as model
 use Rattle.rt_model.specs.Replay.{Input}
 use Rattle.rt_model.specs.Causes as causes
 use Rattle.rt_model.specs.Document as documents
-use Rattle.rt_model.specs.Headline as headline
-use Rattle.rt_model.specs.Headline.{Ran, RanTo, Headline, CameTo}
+use Rattle.rt_model.specs.Reports as sessions
+use Rattle.rt_model.specs.Headline.{Headline, CameTo}
 use Rattle.rt_model.specs.World.{Application}
 use Rattle.rt_language.specs.Syntax.{Source}
 use Rattle.rt_language.specs.Expressions.{SourceTypes}
@@ -27,12 +27,12 @@ use Rattle.rt_streams.specs.declared.out.OutError.TheVariants as errors
 use Rattle.rt_script.specs.Applications.{meaning_of_script, props_of_script}
 use Rattle.rt_script.specs.Laws.{MeansSource}
 use Rattle.rt_script.specs.declared.script.Script.{Script}
-use Rattle.rt_vdom.specs.Sessions.{Finished, FinishedAt, Headlined, CameAt}
+use Rattle.rt_machine.specs.Sessions.{Headlined, CameAt}
 use Rattle.rt_show.specs.Outs.{stop_of}
 use Rattle.rt_show.specs.Ready.{IsMeant, MadeOf}
 use Rattle.rt_show.specs.Words.{usual}
 use Rattle.rt_show.specs.Texts.{text_of}
-use Rattle.rt_show.specs.Runs.{IsRun, IsRunTo, HasHeadline, HasCome, IsRunText, IsFaultText, IsSummary, IsDoneText, IsEndedText, Prints}
+use Rattle.rt_show.specs.Runs.{HasHeadline, HasCome, IsRunText, IsFaultText, IsSummary, IsDoneText, IsEndedText, Prints}
 use Rattle.rt_show.specs.declared.words.Wish.{Wish}
 
 -- a text of a run that was not written whole stops the program where the out says
@@ -77,7 +77,7 @@ of_source Holds said script props inputs made holds =
 
 -- what holds of a session of a source, into a sink that began with nothing, holds of the edits that the sink tells
 holds_of :
-    (Holds : List documents.Edit → List headline.Report → Type 0)
+    (Holds : List documents.Edit → List sessions.Report → Type 0)
     (old new : Option (List Edit)) (edits wrote : List Edit) (reports shown : List Report)
     → old ≡ Some [] → new ≡ Some edits → shown ≡ reports → new ≡ sinks.grown old wrote
     → Holds (map edit_of wrote) (map report_of reports)
@@ -87,71 +87,33 @@ holds_of Holds old new edits wrote reports shown began tells same told holds =
     subst (λ (r : List Report). Holds (map edit_of edits) (map report_of r)) (sym same)
     (subst (λ (e : List Edit). Holds (map edit_of e) (map report_of reports)) all holds)
 
--- a session into a sink that began with nothing took what it tells
-pub ran_of : (limits : Limits) (said : Source) (old new : Option (List Edit)) (edits : List Edit) (reports shown : List Report) →
-    old ≡ Some [] → new ≡ Some edits → shown ≡ reports →
-    Finished (meaning_of said) (props_of said) (inputs_of said.inputs) (limits_of limits) old new (map report_of reports) →
-    IsRun limits said (Some (map edit_of edits)) (map report_of shown)
-unfolding IsRun
-ran_of limits said old new edits reports shown began tells same ran =
-    holds_of (λ e r. Ran (meaning_of said) (props_of said) (inputs_of said.inputs) (limits_of limits) (Some e) r) old new edits ran.wrote reports shown
-    began tells same ran.told ran.ran
-
+-- a session into a sink that began with nothing has the headline with what it tells
 pub headline_of : (limits : Limits) (said : Source) (old new : Option (List Edit)) (edits : List Edit) (reports shown : List Report) →
     old ≡ Some [] → new ≡ Some edits → shown ≡ reports →
     Headlined (meaning_of said) (props_of said) (inputs_of said.inputs) (limits_of limits) old new (map report_of reports) →
-    HasHeadline said (Some (map edit_of edits)) (map report_of shown)
+    HasHeadline limits said (Some (map edit_of edits)) (map report_of shown)
 unfolding HasHeadline
 headline_of limits said old new edits reports shown began tells same headlined =
-    holds_of (λ e r. Headline (meaning_of said) (props_of said) (inputs_of said.inputs) (Some e) r) old new edits headlined.wrote reports shown
+    holds_of (λ e r. Headline (meaning_of said) (props_of said) (inputs_of said.inputs) (limits_of limits) (Some e) r) old new edits headlined.wrote reports shown
     began tells same headlined.told headlined.headline
 
 -- where the edits aren't asked for
-untold : (app : Application SourceTypes) (props : List Value) (inputs : List (Input SourceTypes)) (limits : causes.Limits) (edits : List documents.Edit) (reports : List headline.Report) →
-    Ran app props inputs limits (Some edits) reports → Ran app props inputs limits None reports
-untold app props inputs limits edits reports ran = record {
-  told = ran.told;
-  accepted = ran.accepted;
-  within = ran.within;
-  one_each = ran.one_each;
-  counted = ran.counted;
-  settled = ran.settled;
-  edits = tt;
-}
-
-pub ran_untold : (limits : Limits) (said : Source) (old new : Option (List Edit)) (reports : List Report) →
-    Finished (meaning_of said) (props_of said) (inputs_of said.inputs) (limits_of limits) old new (map report_of reports) → IsRun limits said None (map report_of reports)
-unfolding IsRun
-ran_untold limits said old new reports ran =
-    untold (meaning_of said) (props_of said) (inputs_of said.inputs) (limits_of limits) (map edit_of ran.wrote) (map report_of reports) ran.ran
-
-headline_alone : (app : Application SourceTypes) (props : List Value) (inputs : List (Input SourceTypes)) (edits : List documents.Edit) (reports : List headline.Report) →
-    Headline app props inputs (Some edits) reports → Headline app props inputs None reports
-headline_alone app props inputs edits reports held = record { told = held.told; holds = held.holds; one_each = held.one_each; edits = tt }
+headline_alone : (app : Application SourceTypes) (props : List Value) (inputs : List (Input SourceTypes)) (limits : causes.Limits) (edits : List documents.Edit) (reports : List sessions.Report) →
+    Headline app props inputs limits (Some edits) reports → Headline app props inputs limits None reports
+headline_alone app props inputs limits edits reports held =
+    record { told = held.told; holds = held.holds; done = record { one_each = (held.done).one_each; within = (held.done).within; edits = tt } }
 
 pub headline_untold : (limits : Limits) (said : Source) (old new : Option (List Edit)) (reports : List Report) →
-    Headlined (meaning_of said) (props_of said) (inputs_of said.inputs) (limits_of limits) old new (map report_of reports) → HasHeadline said None (map report_of reports)
+    Headlined (meaning_of said) (props_of said) (inputs_of said.inputs) (limits_of limits) old new (map report_of reports) → HasHeadline limits said None (map report_of reports)
 unfolding HasHeadline
 headline_untold limits said old new reports headlined =
-    headline_alone (meaning_of said) (props_of said) (inputs_of said.inputs) (map edit_of headlined.wrote) (map report_of reports) headlined.headline
+    headline_alone (meaning_of said) (props_of said) (inputs_of said.inputs) (limits_of limits) (map edit_of headlined.wrote) (map report_of reports) headlined.headline
 
 -- the generated source
-pub ran_generated : (rows : ℕ) (said : Source) (reports : List Report) → said ≡ generated rows → IsRun usual said None (map report_of reports) → IsRun usual (generated rows) None (map report_of reports)
-ran_generated rows said reports is ran = subst (λ (s : Source). IsRun usual s None (map report_of reports)) is ran
-
-pub headline_generated : (rows : ℕ) (said : Source) (reports : List Report) → said ≡ generated rows → HasHeadline said None (map report_of reports) → HasHeadline (generated rows) None (map report_of reports)
-headline_generated rows said reports is held = subst (λ (s : Source). HasHeadline s None (map report_of reports)) is held
+pub headline_generated : (rows : ℕ) (said : Source) (reports : List Report) → said ≡ generated rows → HasHeadline usual said None (map report_of reports) → HasHeadline usual (generated rows) None (map report_of reports)
+headline_generated rows said reports is held = subst (λ (s : Source). HasHeadline usual s None (map report_of reports)) is held
 
 -- the same of a session that came to a fault
-ran_to : (limits : Limits) (said : Source) (old new : Option (List Edit)) (edits : List Edit) (ended : SessionFault) (shown : List Report) (fault : model.Fault) →
-    old ≡ Some [] → new ≡ Some edits → shown ≡ ended.reports →
-    FinishedAt (meaning_of said) (props_of said) (inputs_of said.inputs) (limits_of limits) old new (map report_of ended.reports) fault →
-    IsRunTo limits said (map edit_of edits) (map report_of shown) fault
-unfolding IsRunTo
-ran_to limits said old new edits ended shown fault began tells same ran =
-    holds_of (λ e r. RanTo (meaning_of said) (props_of said) (inputs_of said.inputs) (limits_of limits) (Some e) r fault) old new edits ran.wrote ended.reports shown
-    began tells same ran.told ran.ran_to
-
 came_to : (limits : Limits) (said : Source) (old new : Option (List Edit)) (edits : List Edit) (ended : SessionFault) (shown : List Report) (fault : model.Fault) →
     old ≡ Some [] → new ≡ Some edits → shown ≡ ended.reports →
     CameAt (meaning_of said) (props_of said) (inputs_of said.inputs) (limits_of limits) old new (map report_of ended.reports) fault →
@@ -162,19 +124,16 @@ came_to limits said old new edits ended shown fault began tells same came =
     began tells same came.told came.came_to
 
 -- edits and reports are the text of a run that was done
-pub run_of : (limits : Limits) (said : Source) (edits : List Edit) (shown : List Report) →
-    IsRun limits said (Some (map edit_of edits)) (map report_of shown) → HasHeadline said (Some (map edit_of edits)) (map report_of shown) →
-    IsRunText limits said (text_of edits shown)
-run_of limits said edits shown ran held =
-    record { edits = map edit_of edits; reports = map report_of shown; ran = ran; headline = held; printed = refl }
+pub run_of : (limits : Limits) (said : Source) (edits : List Edit) (shown : List Report)
+    → HasHeadline limits said (Some (map edit_of edits)) (map report_of shown) → IsRunText limits said (text_of edits shown)
+run_of limits said edits shown held = record { edits = map edit_of edits; reports = map report_of shown; headline = held; printed = refl }
 
 -- a summary is that of reports
-pub summed_up : (rows : ℕ) (source : Source) (reports shown : List Report) (said : List ℕ) → shown ≡ reports → IsRun usual source None (map report_of reports) →
-    HasHeadline source None (map report_of reports) → said ≡ summary_line rows (map report_of shown) → IsSummary rows source said
-summed_up rows source reports shown said same ran held is = record {
+pub summed_up : (rows : ℕ) (source : Source) (reports shown : List Report) (said : List ℕ) → shown ≡ reports
+    → HasHeadline usual source None (map report_of reports) → said ≡ summary_line rows (map report_of shown) → IsSummary rows source said
+summed_up rows source reports shown said same held is = record {
   reports = map report_of shown;
-  ran = subst (λ (r : List Report). IsRun usual source None (map report_of r)) (sym same) ran;
-  headline = subst (λ (r : List Report). HasHeadline source None (map report_of r)) (sym same) held;
+  headline = subst (λ (r : List Report). HasHeadline usual source None (map report_of r)) (sym same) held;
   printed = is;
 }
 
@@ -187,17 +146,14 @@ named (Some fault) said is = (fault, refl, cc is)
 pub ended_by : (limits : Limits) (said : Source) (old new : Option (List Edit)) (edits : List Edit) (ended : SessionFault) (shown : List Report) (text : List ℕ) →
     old ≡ Some [] → new ≡ Some edits → shown ≡ ended.reports →
     ((fault : model.Fault) → fault_of ended.fault ≡ Some fault →
-    FinishedAt (meaning_of said) (props_of said) (inputs_of said.inputs) (limits_of limits) old new (map report_of ended.reports) fault) →
-    ((fault : model.Fault) → fault_of ended.fault ≡ Some fault →
     CameAt (meaning_of said) (props_of said) (inputs_of said.inputs) (limits_of limits) old new (map report_of ended.reports) fault) →
     Some text ≡ option_map (λ f. line (fault_text f)) (fault_of ended.fault) → IsFaultText limits said (text_of edits shown ++ text)
-ended_by limits said old new edits ended shown text began tells same ran came is =
+ended_by limits said old new edits ended shown text began tells same came is =
     let name = named (fault_of ended.fault) text is in
     record {
       edits = map edit_of edits;
       reports = map report_of shown;
       fault = name.0;
-      ran = ran_to limits said old new edits ended shown name.0 began tells same (ran name.0 name.1);
       headline = came_to limits said old new edits ended shown name.0 began tells same (came name.0 name.1);
       printed = ap (λ last. text_of edits shown ++ last) name.2;
     }

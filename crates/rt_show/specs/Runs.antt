@@ -1,10 +1,13 @@
 -- What the program is given, what it prints of it, and how a run of it comes out.
 use Rattle.std.specs.Prelude.{◌≡◌, ◌⊎◌, ℕ, ◌<◌, List, Option, Some, None, Result, Ok, Err}
-use Rattle.rt_streams.specs.Reads.{IsWhole, IsLonger}
+use Rattle.rt_streams.specs.Reads.{Advances, IsWhole, IsLonger}
+use Rattle.rt_streams.specs.declared.reading.TheConstants.{MOST_BYTES}
 use Rattle.rt_streams.specs.Writes.{grown, AddsFront}
 use Rattle.rt_model.specs.Document.{Edit}
 use Rattle.rt_model.specs.State.{Fault}
-use Rattle.rt_model.specs.Headline.{Report, Ran, RanTo, Headline, CameTo}
+use Rattle.rt_model.specs.Reports.{Report}
+use Rattle.rt_model.specs.Causes.{IsValid}
+use Rattle.rt_model.specs.Headline.{Headline, CameTo}
 use Rattle.rt_language.specs.Syntax.{Source}
 use Rattle.rt_language.specs.Meaning.{meaning_of, props_of, inputs_of}
 use Rattle.rt_language.specs.Lines.{text_of, fault_text_of}
@@ -40,21 +43,11 @@ abbrev pub Chooses : Wish → Source → (left after : Option (List ℕ)) → Ty
 Chooses (Run limits) said left after = DescribedBy said left after
 Chooses (Make rows) said left after = (said ≡ generated rows) × (after ≡ left)
 
--- a source has a session within these limits with these reports; these edits of it were taken, where that is told
-unfoldable pub IsRun : Limits → Source → Option (List Edit) → List Report → Type 0
-IsRun limits said taken reports =
-    Ran (meaning_of said) (props_of said) (inputs_of said.inputs) (limits_of limits) taken reports
-
--- the same of a session that came to a fault
-unfoldable pub IsRunTo : Limits → Source → List Edit → List Report → Fault → Type 0
-IsRunTo limits said edits reports fault =
-    RanTo (meaning_of said) (props_of said) (inputs_of said.inputs) (limits_of limits) (Some edits) reports fault
-
--- a source has the headline with these reports and edits, where those are told: replay accepts the logs, the edits never
+-- a source has the headline within these limits with these reports and edits, where those are told: replay accepts the logs, the edits never
 -- fault and give what shows after each report, and there every output is current, and fallbacks show just while they are held
-unfoldable pub HasHeadline : Source → Option (List Edit) → List Report → Type 0
-HasHeadline said taken reports =
-    Headline (meaning_of said) (props_of said) (inputs_of said.inputs) taken reports
+unfoldable pub HasHeadline : Limits → Source → Option (List Edit) → List Report → Type 0
+HasHeadline limits said taken reports =
+    Headline (meaning_of said) (props_of said) (inputs_of said.inputs) (limits_of limits) taken reports
 
 -- the same of the reports that were finished before a fault
 unfoldable pub HasCome : Limits → Source → List Edit → List Report → Fault → Type 0
@@ -66,8 +59,7 @@ pub record IsRunText (limits : Limits) (said : Source) (text : List ℕ) : Type 
   pub edits : List Edit
   pub reports : List Report
   -- they are those of a session of the source
-  pub ran : IsRun limits said (Some edits) reports
-  pub headline : HasHeadline said (Some edits) reports
+  pub headline : HasHeadline limits said (Some edits) reports
   pub printed : text ≡ text_of edits reports
 
 -- the text of a run that a fault ended: lines of edits and of finished reports, and the line of the fault
@@ -76,7 +68,6 @@ pub record IsFaultText (limits : Limits) (said : Source) (text : List ℕ) : Typ
   pub reports : List Report
   pub fault : Fault
   -- they are those of a session of the source, which came to the fault
-  pub ran : IsRunTo limits said edits reports fault
   pub headline : HasCome limits said edits reports fault
   pub printed : text ≡ fault_text_of edits reports fault
 
@@ -84,11 +75,10 @@ pub record IsFaultText (limits : Limits) (said : Source) (text : List ℕ) : Typ
 pub record IsSummary (rows : ℕ) (said : Source) (text : List ℕ) : Type 0 where
   pub reports : List Report
   -- they are those of a session of the source
-  pub ran : IsRun usual said None reports
-  pub headline : HasHeadline said None reports
+  pub headline : HasHeadline usual said None reports
   pub printed : text ≡ summary_line rows reports
 
--- the text of what was done
+-- the text of what was done: what each wish says of a source and of bytes
 abbrev pub IsDoneText : Wish → Source → List ℕ → Type 0
 IsDoneText (Run limits) said text = IsRunText limits said text
 IsDoneText (Make rows) said text = IsSummary rows said text
@@ -116,10 +106,28 @@ pub record PrintsEnded (wish : Wish) (said : Source) (old new : Option (List ℕ
   pub run : IsEndedText wish said text
   pub written : new ≡ grown old text
 
--- what reading comes to, by what is left of the input and its count of failures, before and after
+-- no run of a source within these limits comes to a fault
+unfoldable pub IsSafe : Limits → Source → Type 0
+IsSafe limits said = IsValid (meaning_of said) (props_of said) (inputs_of said.inputs) (limits_of limits)
+
+-- the input is told, it describes a source, and no run of what it describes comes to a fault
+pub record SafeInput (limits : Limits) (left : Option (List ℕ)) : Type 0 where
+  pub bytes : List ℕ
+  pub told : left ≡ Some bytes
+  pub said : Source
+  pub described : Describes bytes said
+  pub safe : (other : Source) → Describes bytes other → IsSafe limits other
+
+-- what is asked for can be done with this input
+abbrev pub CanBeDone : Wish → Option (List ℕ) → Type 0
+CanBeDone (Run limits) left = SafeInput limits left
+CanBeDone (Make rows) left = Unit {0}
+
+-- what reading comes to, by what is left of the input and its count of failures, before and after: where a read failed, no more than
+-- the limit of bytes had come
 abbrev pub Reads : (left after : Option (List ℕ)) → (before now : ℕ) → Stop → Type 0
 Reads left after before now stops.Form = IsRefused left after
-Reads left after before now stops.Source = before < now
+Reads left after before now stops.Source = (before < now) × Advances MOST_BYTES left after
 Reads left after before now stops.OutOfMemory = Unit {0}
 Reads left after before now stops.Words = ⊥
 Reads left after before now stops.Fault = ⊥

@@ -1,5 +1,5 @@
 -- What the words of the program ask for.
-use Rattle.std.specs.Prelude.{ℕ, ◌+◌, ◌-◌, ◌*◌, ◌≤◌, List, [], ◌∷◌, Bool, false, ◌&&◌, ◌==◌, nat_le, if◌then◌else◌, Option, Some, None, option_and_then, option_map, bytes_eq, codes}
+use Rattle.std.specs.Prelude.{ℕ, ◌+◌, ◌-◌, ◌*◌, ◌≡◌, ◌≤◌, List, [], ◌∷◌, Bool, true, false, ◌&&◌, ◌==◌, nat_le, if◌then◌else◌, Option, Some, None, option_and_then, option_map, bytes_eq, codes}
 use Rattle.rt_reports.specs.declared.limits.Limits.{Limits}
 use Rattle.rt_show.specs.declared.words.Wish.{Wish}
 use Rattle.rt_show.specs.declared.words.Wish.TheVariants.{Run, Make}
@@ -77,3 +77,14 @@ wish_of (word ∷ number ∷ other ∷ second ∷ more ∷ words) = None
 abbrev pub IsFew : Wish → Type 0
 IsFew (Run limits) = Unit {0}
 IsFew (Make rows) = rows ≤ 10000
+
+-- the source is read for what is asked
+abbrev pub reads_source : Wish → Bool
+reads_source (Run limits) = true
+reads_source (Make rows) = false
+
+-- the words ask for something for which the source is read
+pub record AskForSource (words : List (List ℕ)) : Type 0 where
+  pub wish : Wish
+  pub asked : wish_of words ≡ Some wish
+  pub reads : reads_source wish ≡ true

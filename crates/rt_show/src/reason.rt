@@ -3,7 +3,9 @@ ghost use Rattle.std.specs.Prelude.{◌≡◌, Err};
 ghost use Rattle.rt_show.specs.Statuses.{status_of};
 
 use rt_streams::OutError;
-use rt_values::OutOfMemory;
+use rt_values::{OutOfMemory, ScopeId};
+use rt_vdom::Fault;
+use std::alloc::Global;
 
 /// Why the program doesn't come to its end.
 #[derive(Clone, Copy, Debug, PartialEq, Eq)]
@@ -59,5 +61,20 @@ impl From<OutError> for Stop {
             OutError::Failed => Stop::Out,
             OutError::OutOfMemory => Stop::OutOfMemory,
         }
+    }
+}
+
+/// What a fault says; of the scope that the application begins with, whose it is.
+pub(crate) fn fault_said(alloc: Global, fault: Fault) -> Result<String, OutOfMemory> {
+    let scope = match fault {
+        Fault::HookChanged { scope, .. } => scope,
+        Fault::NoSuchTask { scope, .. } => scope,
+        Fault::BadNode { scope } => scope,
+        _ => ScopeId(0),
+    };
+    if scope.0 == 3 {
+        Ok(format!(in alloc; "{fault}; scope 3 is that of the root component")?)
+    } else {
+        Ok(format!(in alloc; "{fault}")?)
     }
 }

@@ -4,21 +4,21 @@ ghost use Rattle.rt_language.specs.Generated as language;
 ghost use Rattle.rt_language.specs.Meaning.{meaning_of, props_of, inputs_of};
 ghost use Rattle.rt_reports.specs.Seen.{fault_of, input_of, limits_of, report_of};
 ghost use Rattle.rt_syntax.specs.Mirror.{source_of};
-ghost use Rattle.rt_vdom.specs.Sessions.{CameAt, Finished, FinishedAt, Headlined};
+ghost use Rattle.rt_machine.specs.Sessions.{CameAt, Headlined};
 ghost use Rattle.rt_show.specs.declared.words.Wish.TheVariants as wishes;
 ghost use Rattle.rt_show.specs.Ready.{MadeOf};
-ghost use Rattle.rt_show.specs.Runs.{DescribedBy, IsRun, HasHeadline, Reads, Prints};
+ghost use Rattle.rt_show.specs.Runs.{DescribedBy, HasHeadline, Reads, Prints};
 ghost use Rattle.rt_show.specs.Words.{usual};
-ghost use Rattle.rt_show.specs.Statuses.{Comes, Shows};
+ghost use Rattle.rt_show.specs.Statuses.{Comes, ReadsAsked, Shows};
 
 use crate::generated::generated;
-use crate::reason::Stop;
+use crate::reason::{Stop, fault_said};
 use crate::summary::summary_line;
 use crate::words::{USUAL, Wish, wish_of};
 use crate::writing::{put_ended_run, put_run};
 use rt_edits::{Mutations, NoOpMutations, WriteMutations};
 use rt_print::fault_line;
-use rt_refusals::refusal;
+use rt_refusals::{refusal, too_long, unknown_word};
 use rt_script::{Script, inputs_of};
 use rt_script_values::Props;
 use rt_sources::read_source;
@@ -32,6 +32,14 @@ use std::alloc::Global;
 fn said_of(alloc: Global, bytes: &[u8]) -> Option<String> {
     match refusal(alloc, bytes) {
         Ok(line) => line,
+        Err(OutOfMemory) => None,
+    }
+}
+
+/// A line that is said beside a status; None where there is no memory for it.
+fn said(line: Result<String, OutOfMemory>) -> Option<String> {
+    match line {
+        Ok(line) => Some(line),
         Err(OutOfMemory) => None,
     }
 }
@@ -50,7 +58,10 @@ fn read_application<S: Source>(
     let bytes = match read_all(alloc, source) {
         Ok(bytes) => bytes,
         Err(ReadError::Failed) => return Err(Stop::Source),
-        Err(ReadError::TooLong) => return Err(Stop::Form),
+        Err(ReadError::TooLong) => {
+            *line = said(too_long(alloc));
+            return Err(Stop::Form);
+        }
         Err(ReadError::OutOfMemory) => return Err(Stop::OutOfMemory),
     };
     match read_source(alloc, bytes.as_slice()) {
@@ -97,16 +108,9 @@ fn run_script<M: WriteMutations>(
     sink: &mut M,
     limits: Limits,
 ) -> Result<List<Report>, SessionFault>
-    ensures ran { (said : _) → MadeOf said script props (map input_of inputs) →
-        IfOk result (λ reports. Finished (meaning_of said) (props_of said) (inputs_of said.inputs)
-        (limits_of limits) (M.taken sink.old) (M.taken sink.new) (map report_of reports)) }
     ensures headline { (said : _) → MadeOf said script props (map input_of inputs) →
         IfOk result (λ reports. Headlined (meaning_of said) (props_of said) (inputs_of said.inputs)
         (limits_of limits) (M.taken sink.old) (M.taken sink.new) (map report_of reports)) }
-    ensures ran_to { (said : _) → MadeOf said script props (map input_of inputs) →
-        IfErr result (λ refused. (fault : _) → fault_of refused.fault ≡ Some fault →
-        FinishedAt (meaning_of said) (props_of said) (inputs_of said.inputs)
-        (limits_of limits) (M.taken sink.old) (M.taken sink.new) (map report_of refused.reports) fault) }
     ensures came_to { (said : _) → MadeOf said script props (map input_of inputs) →
         IfErr result (λ refused. (fault : _) → fault_of refused.fault ≡ Some fault →
         CameAt (meaning_of said) (props_of said) (inputs_of said.inputs)
@@ -115,8 +119,14 @@ fn run_script<M: WriteMutations>(
     session(alloc, script, props, inputs, sink, limits)
 }
 
-/// Runs an application and prints what became of it.
-fn run<O: Out>(alloc: Global, described: Described, limits: Limits, out: &mut O) -> Result<(), Stop>
+/// Runs an application and prints what became of it; of a fault `line` says more.
+fn run<O: Out>(
+    alloc: Global,
+    described: Described,
+    limits: Limits,
+    out: &mut O,
+    line: &mut Option<String>,
+) -> Result<(), Stop>
     ensures prints { Prints (wishes.Run limits) (source_of described) (O.written out.old) (O.written out.new)
         (O.faults out.old) (O.faults out.new) result }
 {
@@ -132,14 +142,15 @@ fn run<O: Out>(alloc: Global, described: Described, limits: Limits, out: &mut O)
             Ok(())
         }
         Err(SessionFault { fault, reports }) => {
-            let Some(line) = fault_line(alloc, fault)? else {
+            *line = said(fault_said(alloc, fault));
+            let Some(last) = fault_line(alloc, fault)? else {
                 return Err(Stop::OutOfMemory);
             };
             put_ended_run(
                 alloc,
                 sink.edits(),
                 reports.as_slice(),
-                line.as_slice(),
+                last.as_slice(),
                 out,
             )?;
             Err(Stop::Fault)
@@ -150,8 +161,8 @@ fn run<O: Out>(alloc: Global, described: Described, limits: Limits, out: &mut O)
 /// The reports of the generated application's run.
 fn make(alloc: Global, rows: u64) -> Result<List<Report>, OutOfMemory>
     requires few { rows ≤ 10000 }
-    ensures ran { IfOk result (λ reports. IsRun usual (language.generated rows) None (map report_of reports)) }
-    ensures headline { IfOk result (λ reports. HasHeadline (language.generated rows) None (map report_of reports)) }
+    ensures headline { IfOk result (λ reports.
+        HasHeadline usual (language.generated rows) None (map report_of reports)) }
 {
     let described = generated(alloc, rows)?;
     let Prepared {
@@ -180,6 +191,7 @@ fn sum_up<O: Out>(alloc: Global, rows: u64, out: &mut O) -> Result<(), Stop>
 }
 
 /// What the words ask for is done.
+#[tactic(auto, using(crate::proofs::Coming::comings))]
 fn shown<S: Source, O: Out>(
     alloc: Global,
     words: &[Text],
@@ -187,16 +199,21 @@ fn shown<S: Source, O: Out>(
     out: &mut O,
     line: &mut Option<String>,
 ) -> Result<(), Stop>
+    ensures reads { ReadsAsked words.now (S.left source.old) (S.left source.new)
+        (S.faults source.old) (S.faults source.new) }
     ensures comes { Comes words.now (S.left source.old) (S.left source.new)
         (O.written out.old) (O.written out.new)
         (S.faults source.old) (S.faults source.new) (O.faults out.old) (O.faults out.new) result }
 {
     match wish_of(words) {
-        None => Err(Stop::Words),
+        None => {
+            *line = said(unknown_word(alloc, words));
+            Err(Stop::Words)
+        }
         Some(Wish::Make(rows)) => sum_up(alloc, rows, out),
         Some(Wish::Run(limits)) => {
             let described = read_application(alloc, source, line)?;
-            run(alloc, described, limits, out)
+            run(alloc, described, limits, out, line)
         }
     }
 }
@@ -212,8 +229,8 @@ pub fn show<S: Source, O: Out>(alloc: Global, words: &[Text], source: &mut S, ou
     show_and_say(alloc, words, source, out, &mut line)
 }
 
-/// `show`, where at status 3 `line` may say why: where the source breaks the form and what was
-/// wanted there.
+/// `show`, where `line` may say more of status 2, 3 or 4: which word isn't known; where the source
+/// breaks the form, what was wanted there and what was found; which fault ended the run.
 pub fn show_and_say<S: Source, O: Out>(
     alloc: Global,
     words: &[Text],

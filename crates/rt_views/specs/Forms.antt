@@ -1,6 +1,7 @@
 -- Which form of view node a key names.
 use Rattle.std.specs.Prelude.{ℕ, List, Option, Some, None, if◌then◌else◌, bytes_eq, codes}
 use Rattle.serde_json.specs.Data.{Data, null, boolean, number, string, array, object, Members, no_members, member}
+use Rattle.rt_model.specs.Lists.{first_of}
 use Rattle.rt_views.specs.declared.forms.Leaf.{Leaf}
 use Rattle.rt_views.specs.declared.forms.Leaf.TheVariants as leaves
 use Rattle.rt_views.specs.declared.forms.Form.{Form}
@@ -18,15 +19,10 @@ form_of key =
     if bytes_eq key (codes "use") then Some (forms.Alone leaves.Use) else
     if bytes_eq key (codes "hole") then Some (forms.Alone leaves.Hole) else None
 
--- a form where there is one, else another
-abbrev pub form_or : Option Form → Option Form → Option Form
-form_or None other = other
-form_or (Some form) other = Some form
-
 -- the form of the first key of some members that names one
 unfoldable pub first_form : Members → Option Form
 first_form no_members = None
-first_form (member key d rest) = form_or (form_of key) (first_form rest)
+first_form (member key d rest) = first_of (form_of key) (first_form rest)
 
 -- the form of a view node that is an object
 abbrev pub form_in : Data → Option Form

@@ -5,7 +5,7 @@ use Rattle.rt_model.specs.World.{World}
 use Rattle.rt_language.specs.Expressions.{SourceTypes, evaluate}
 use Rattle.rt_language.specs.Values.{TextValue}
 use Rattle.rt_syntax.specs.Mirror.{expression_of}
-use Rattle.rt_script.specs.Came.{came, reached}
+use Rattle.rt_programs.specs.Came.{came, reached}
 use Rattle.rt_script.specs.Seen.{caller_of}
 use Rattle.rt_script.proofs.Expressions.{text_more, text_end}
 use Rattle.rt_script.proofs.evaluation.+evaluation.Goals as goal

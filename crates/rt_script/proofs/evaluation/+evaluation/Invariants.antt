@@ -5,7 +5,7 @@ use Rattle.rt_language.specs.Expressions.{evaluate, evaluate_all}
 use Rattle.rt_language.specs.Sequence.{go_on}
 use Rattle.rt_language.specs.Syntax.{Cat}
 use Rattle.rt_syntax.specs.Mirror.{arguments_of}
-use Rattle.rt_script.specs.Came.{came}
+use Rattle.rt_programs.specs.Came.{came}
 use Rattle.rt_script.specs.Seen.{caller_of}
 use Rattle.rt_script.proofs.Expressions.{then_text}
 use Rattle.rt_script.proofs.evaluation.+evaluation.Given as goal

@@ -4,7 +4,7 @@ use Rattle.rt_calls.specs.Calls.{world_of, call_of}
 use Rattle.rt_model.specs.World.{World}
 use Rattle.rt_language.specs.Expressions.{SourceTypes, evaluate}
 use Rattle.rt_syntax.specs.Mirror.{expression_of}
-use Rattle.rt_script.specs.Came.{came, reached}
+use Rattle.rt_programs.specs.Came.{came, reached}
 use Rattle.rt_script.specs.Seen.{caller_of}
 use Rattle.rt_script.proofs.Expressions.{values_more, values_end}
 use Rattle.rt_script.proofs.evaluation.evaluate_all.Goals as goal

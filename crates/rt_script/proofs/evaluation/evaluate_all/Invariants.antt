@@ -4,7 +4,7 @@ use Rattle.rt_calls.specs.Calls.{world_of, call_of}
 use Rattle.rt_language.specs.Expressions.{evaluate_all}
 use Rattle.rt_language.specs.Sequence.{go_on}
 use Rattle.rt_syntax.specs.Mirror.{arguments_of}
-use Rattle.rt_script.specs.Came.{came}
+use Rattle.rt_programs.specs.Came.{came}
 use Rattle.rt_script.specs.Seen.{caller_of}
 use Rattle.rt_script.proofs.Expressions.{then_values}
 use Rattle.rt_script.proofs.evaluation.evaluate_all.Given as goal

@@ -1,5 +1,5 @@
 -- One more slot, or item, and none.
-use Rattle.std.proofs.Common.{rules, take, subst, ◌≡◌, ◌++◌, ◌∷◌, [], ◌∙◌, ◌<◌, ◌≤◌, List, ℕ, arith, ap, length, get_or, map}
+use Rattle.std.proofs.Common.{rules, refl, sym, take, subst, ◌≡◌, ◌++◌, ◌∷◌, [], ◌∙◌, ◌<◌, ◌≤◌, List, ℕ, arith, ap, length, get_or, map}
 use Rattle.std.specs.Prelude.{pos}
 use Rattle.rt_calls.specs.Calls.{world_of, call_of}
 use Rattle.rt_mirror.specs.Sealed as mirror
@@ -9,7 +9,7 @@ use Rattle.rt_language.specs.Expressions.{SourceTypes}
 use Rattle.rt_language.specs.Sequence.{go_on}
 use Rattle.rt_language.specs.Values.{Value, NumberValue}
 use Rattle.rt_language.specs.Views.{Filling, filled_on, items_from}
-use Rattle.rt_script.specs.Came.{came, reached}
+use Rattle.rt_programs.specs.Came.{came, reached}
 use Rattle.rt_script.specs.Fills.{filling_of}
 use Rattle.rt_script_views.specs.Plans.{planned, fill_of}
 use Rattle.rt_script.specs.Seen.{ScriptWorld, caller_of}
@@ -61,7 +61,10 @@ items-loop-number-preserved t c =
     )
 
 pub items-returns-clause-came : goal.items-returns-clause-came
-items-returns-clause-came t c = c.loop-number.invariant.0 ∙ items-end _ _ c.loop-number.number c.args.count _ _ (omega arith)
+items-returns-clause-came t c =
+    c.loop-number.invariant.0
+    ∙ items-end _ _ c.loop-number.number c.args.count _ _ (omega arith)
+    ∙ ap (λ trees. reached (trees_from (map mirror.tree_of trees)) (call_of c.loop-number.cx)) (sym c.in_ok-finished.ensures.items)
 
 pub node_of-returns-in_ok-trees-in-ListOf-clause-came : goal.node_of-returns-in_ok-trees-in-ListOf-clause-came
 node_of-returns-in_ok-trees-in-ListOf-clause-came t c =
@@ -82,10 +85,11 @@ tree_of-returns-in_ok-placeholder-in-None-clause-came t c =
     ∙ tree-end _ _ _ _ xs _ _ _ end
     ∙ ap (λ (x : Tree SourceTypes). reached x (call_of c.loop-fill.cx)) (tree-none (c.args.plan.now).template (filling_of c.loop-fill.filling) c.in_ok-placeholder-in-None.field-0 c.in-None.is c.in_ok-placeholder-in-None.ensures.tree)
 
-pub tree_of-returns-in_ok-template-in-Some-clause-came : goal.tree_of-returns-in_ok-template-in-Some-clause-came
-tree_of-returns-in_ok-template-in-Some-clause-came t c =
+pub tree_of-returns-in_ok-tree-in-Some-clause-came : goal.tree_of-returns-in_ok-tree-in-Some-clause-came
+tree_of-returns-in_ok-tree-in-Some-clause-came t c =
     let xs : List Fill = (c.args.plan.now).fills in
     let end : length xs ≤ c.loop-fill.fill-index = omega (arith, ap length c.as_slice-fill-items.ensures.items) in
     c.loop-fill.invariant.0
     ∙ tree-end _ _ _ _ xs _ _ _ end
-    ∙ ap (λ (x : Tree SourceTypes). reached x (call_of c.loop-fill.cx)) (tree-some (c.args.plan.now).template c.in-Some.template c.in_ok-template-in-Some.template c.loop-fill.filling c.in-Some.is c.in_ok-template-in-Some.ensures)
+    ∙ ap (λ (x : Tree SourceTypes). reached x (call_of c.loop-fill.cx)) (tree-some (c.args.plan.now).template c.in-Some.template c.in-Some.template c.loop-fill.filling c.in-Some.is refl)
+    ∙ ap (λ tree. reached (mirror.tree_of tree) (call_of c.loop-fill.cx)) (sym c.in_ok-tree-in-Some.ensures.tree)

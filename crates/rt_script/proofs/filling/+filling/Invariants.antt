@@ -6,7 +6,7 @@ use Rattle.rt_mirror.specs.Sealed as mirror
 use Rattle.rt_language.specs.Sequence.{go_on}
 use Rattle.rt_language.specs.Values.{NumberValue}
 use Rattle.rt_language.specs.Views.{items_from}
-use Rattle.rt_script.specs.Came.{came}
+use Rattle.rt_programs.specs.Came.{came}
 use Rattle.rt_script.specs.Fills.{filling_of}
 use Rattle.rt_script_views.specs.Plans.{planned, fill_of, filled}
 use Rattle.rt_script.specs.Seen.{caller_of}

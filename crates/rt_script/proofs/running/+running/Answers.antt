@@ -8,10 +8,10 @@ use Rattle.rt_language.specs.Statements.{Running, WentOn, perform, run_statement
 use Rattle.rt_syntax.specs.Mirror.{expression_of, statement_of, statements_of}
 use Rattle.rt_language.specs.Values.{Value, is_true}
 use Rattle.rt_script.specs.declared.caller.Frame.{Frame}
-use Rattle.rt_script.specs.Came.{came, reached}
+use Rattle.rt_programs.specs.Came.{came, reached}
 use Rattle.rt_script.specs.Seen.{caller_of, frame_of, outcome_of, ScriptWorld}
 use Rattle.rt_script.proofs.Statements.{one_statement, no_statement, moved, went, knows, stops, follows-on, when_true, kept-held}
-use Rattle.rt_script.proofs.Steps.{at_done}
+use Rattle.rt_programs.proofs.Steps.{at_done}
 use Rattle.rt_script.proofs.running.+running.Goals as goal
 
 pub run_statements-loop-statement-preserved : goal.run_statements-loop-statement-preserved

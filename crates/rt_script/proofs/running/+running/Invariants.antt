@@ -3,7 +3,7 @@ use Rattle.std.proofs.Common.{◌≡◌, drop}
 use Rattle.rt_calls.specs.Calls.{world_of, call_of}
 use Rattle.rt_language.specs.Statements.{run_statements}
 use Rattle.rt_syntax.specs.Mirror.{statements_of}
-use Rattle.rt_script.specs.Came.{came}
+use Rattle.rt_programs.specs.Came.{came}
 use Rattle.rt_script.specs.Seen.{caller_of, frame_of, Follows}
 use Rattle.rt_script.proofs.running.+running.Given as goal
 

@@ -3,25 +3,14 @@ use Rattle.std.proofs.Common.{◌≡◌, Some, map}
 use Rattle.std.specs.Prelude.{IfOk, IfErr}
 use Rattle.rt_model.specs.State as model
 use Rattle.rt_reports.specs.Seen.{fault_of, input_of, limits_of, report_of}
-use Rattle.rt_vdom.specs.Sessions.{CameAt, Finished, FinishedAt, Headlined}
+use Rattle.rt_machine.specs.Sessions.{CameAt, Headlined}
 use Rattle.rt_show.proofs.Runs.{of_source}
 use Rattle.rt_show.proofs.top.run_script.Goals as goal
-
-pub returns-clause-ran : goal.returns-clause-ran
-returns-clause-ran g c = λ said made.
-    of_source (λ app p i. IfOk c.session.result (λ reports. Finished app p i (limits_of c.args.limits) (g.M.WriteMutations.taken c.args.sink.now) (g.M.WriteMutations.taken c.session.new.sink) (map report_of reports)))
-    said c.args.script c.args.props (map input_of c.args.inputs) made c.session.ensures.ran
 
 pub returns-clause-headline : goal.returns-clause-headline
 returns-clause-headline g c = λ said made.
     of_source (λ app p i. IfOk c.session.result (λ reports. Headlined app p i (limits_of c.args.limits) (g.M.WriteMutations.taken c.args.sink.now) (g.M.WriteMutations.taken c.session.new.sink) (map report_of reports)))
     said c.args.script c.args.props (map input_of c.args.inputs) made c.session.ensures.headline
-
-pub returns-clause-ran_to : goal.returns-clause-ran_to
-returns-clause-ran_to g c = λ said made.
-    of_source (λ app p i. IfErr c.session.result (λ refused. (fault : model.Fault) → fault_of refused.fault ≡ Some fault →
-    FinishedAt app p i (limits_of c.args.limits) (g.M.WriteMutations.taken c.args.sink.now) (g.M.WriteMutations.taken c.session.new.sink) (map report_of refused.reports) fault))
-    said c.args.script c.args.props (map input_of c.args.inputs) made c.session.ensures.ran_to
 
 pub returns-clause-came_to : goal.returns-clause-came_to
 returns-clause-came_to g c = λ said made.

@@ -5,9 +5,9 @@ use Rattle.std.proofs.lemmas.Option.{slice_get_past}
 use Rattle.rt_calls.specs.Calls.{world_of, call_of}
 use Rattle.rt_model.specs.Lists.{nth, or_else}
 use Rattle.rt_syntax.specs.Mirror.{statements_of}
-use Rattle.rt_script.specs.Came.{came}
+use Rattle.rt_programs.specs.Came.{came}
 use Rattle.rt_script.proofs.Meant.{step-at}
-use Rattle.rt_script.proofs.Steps.{at_done}
+use Rattle.rt_programs.proofs.Steps.{at_done}
 use Rattle.rt_script.proofs.script.Script.step.Goals as goal
 
 pub returns-in-None-clause-came : goal.returns-in-None-clause-came

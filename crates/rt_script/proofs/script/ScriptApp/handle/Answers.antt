@@ -6,8 +6,9 @@ use Rattle.rt_language.specs.Expressions.{AListener}
 use Rattle.rt_language.specs.Meaning.{action_run}
 use Rattle.rt_syntax.specs.Mirror.{statements_of}
 use Rattle.rt_script.specs.Applications.{programs_of_script}
-use Rattle.rt_script.specs.Came.{reached}
-use Rattle.rt_script.proofs.Meant.{turn-means, hears}
+use Rattle.rt_programs.specs.Came.{reached}
+use Rattle.rt_bodies.proofs.Meant.{turn-means}
+use Rattle.rt_script.proofs.Meant.{hears}
 use Rattle.rt_script.proofs.script.ScriptApp.handle.Goals as goal
 
 pub returns-clause-means : goal.returns-clause-means

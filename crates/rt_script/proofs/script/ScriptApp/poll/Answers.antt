@@ -2,7 +2,7 @@
 use Rattle.std.proofs.Common.{false}
 use Rattle.rt_calls.specs.Answers.{step_of}
 use Rattle.rt_script.specs.Applications.{programs_of_script}
-use Rattle.rt_script.proofs.Meant.{turn-means}
+use Rattle.rt_bodies.proofs.Meant.{turn-means}
 use Rattle.rt_script.proofs.script.ScriptApp.poll.Goals as goal
 
 pub returns-clause-means : goal.returns-clause-means

@@ -3,8 +3,9 @@ use Rattle.std.proofs.Common.{true, ap, ◌∙◌}
 use Rattle.rt_calls.specs.Calls.{call_of}
 use Rattle.rt_mirror.specs.Mirror.{element_of}
 use Rattle.rt_script.specs.Applications.{programs_of_script}
-use Rattle.rt_script.specs.Came.{reached}
-use Rattle.rt_script.proofs.Meant.{turn-means, elements-are}
+use Rattle.rt_programs.specs.Came.{reached}
+use Rattle.rt_bodies.proofs.Meant.{turn-means}
+use Rattle.rt_script.proofs.Meant.{elements-are}
 use Rattle.rt_script.proofs.script.ScriptApp.render.Goals as goal
 
 pub returns-clause-means : goal.returns-clause-means

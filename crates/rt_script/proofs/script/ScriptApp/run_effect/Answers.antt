@@ -2,7 +2,7 @@
 use Rattle.std.proofs.Common.{false}
 use Rattle.rt_calls.specs.Answers.{no_answer}
 use Rattle.rt_script.specs.Applications.{programs_of_script}
-use Rattle.rt_script.proofs.Meant.{turn-means}
+use Rattle.rt_bodies.proofs.Meant.{turn-means}
 use Rattle.rt_script.proofs.script.ScriptApp.run_effect.Goals as goal
 
 pub returns-clause-means : goal.returns-clause-means

@@ -1,0 +1,67 @@
+-- What the program comes to, by what its parts come to.
+use Rattle.std.proofs.Common.{◌≡◌, ◌≢◌, ◌⊎◌, ℕ, List, Option, Some, None, Result, Ok, Err, refl, sym, ◌∙◌, inl, inr}
+use Rattle.rt_language.specs.Generated.{generated}
+use Rattle.rt_language.specs.Syntax.{Source}
+use Rattle.rt_reports.specs.declared.limits.Limits.{Limits}
+use Rattle.rt_show.specs.Words.{wish_of, AskForSource}
+use Rattle.rt_show.specs.Runs.{Chooses, Reads, Prints, PrintsFront}
+use Rattle.rt_show.specs.Statuses.{Comes, Cut, ReadsAsked}
+use Rattle.rt_show.specs.declared.words.Wish.{Wish}
+use Rattle.rt_show.specs.declared.words.Wish.TheVariants.{Run, Make}
+use Rattle.rt_show.specs.declared.reason.Stop.{Stop}
+use Rattle.rt_show.specs.declared.reason.Stop.TheVariants as stops
+
+-- a run of the source is asked for
+pub asks : (words : List (List ℕ)) (limits : Limits) → wish_of words ≡ Some (Run limits) → AskForSource words
+asks words limits asked = record { wish = Run limits; asked = asked; reads = refl }
+
+asked_known : (words : List (List ℕ)) (wish : Wish) → wish_of words ≡ Some wish → wish_of words ≢ None
+asked_known words wish asked unknown = absurd (cc (sym asked ∙ unknown))
+
+-- the source may be read where a run of it is asked for
+pub reads_run : (words : List (List ℕ)) (limits : Limits) (left after : Option (List ℕ)) (sb sa : ℕ) → wish_of words ≡ Some (Run limits)
+    → ReadsAsked words left after sb sa
+reads_run words limits left after sb sa asked = inl (asks words limits asked)
+
+-- else it stays as it was
+pub reads_none : (words : List (List ℕ)) (left after : Option (List ℕ)) (sb sa : ℕ) → after ≡ left → sa ≡ sb → ReadsAsked words left after sb sa
+reads_none words left after sb sa same none = inr (same, none)
+
+-- reading stopped, and nothing was written
+pub comes_reading : (words : List (List ℕ)) (limits : Limits) (left after old new : Option (List ℕ)) (sb sa ob oa : ℕ) (stop : Stop)
+    → wish_of words ≡ Some (Run limits) → Reads left after sb sa stop → new ≡ old → Comes words left after old new sb sa ob oa (Err stop)
+comes_reading words limits left after old new sb sa ob oa stops.Form asked read same = (asks words limits asked, read, same)
+comes_reading words limits left after old new sb sa ob oa stops.Source asked read same = (asks words limits asked, read, same)
+comes_reading words limits left after old new sb sa ob oa stops.OutOfMemory asked read same = (asked_known words (Run limits) asked, inl same)
+comes_reading words limits left after old new sb sa ob oa stops.Words asked read same = absurd read
+comes_reading words limits left after old new sb sa ob oa stops.Fault asked read same = absurd read
+comes_reading words limits left after old new sb sa ob oa stops.Out asked read same = absurd read
+
+little : (words : List (List ℕ)) (wish : Wish) (said : Source) (left after old new : Option (List ℕ)) → wish_of words ≡ Some wish
+    → Chooses wish said left after → ((new ≡ old) ⊎ PrintsFront wish said old new) → (new ≡ old) ⊎ Cut words left after old new
+little words wish said left after old new asked chosen (inl same) = inl same
+little words wish said left after old new asked chosen (inr front) =
+    inr (record { wish = wish; asked = asked; said = said; chosen = chosen; prints = front })
+
+-- what was chosen was done, or stopped
+pub comes_printing : (words : List (List ℕ)) (wish : Wish) (said : Source) (left after old new : Option (List ℕ)) (sb sa ob oa : ℕ)
+    (result : Result (Unit {0}) Stop)
+    → wish_of words ≡ Some wish → Chooses wish said left after → Prints wish said old new ob oa result
+    → Comes words left after old new sb sa ob oa result
+comes_printing words wish said left after old new sb sa ob oa (Ok u) asked chosen prints =
+    record { wish = wish; asked = asked; said = said; chosen = chosen; prints = prints }
+comes_printing words wish said left after old new sb sa ob oa (Err stops.Fault) asked chosen prints =
+    record { wish = wish; asked = asked; said = said; chosen = chosen; prints = prints }
+comes_printing words wish said left after old new sb sa ob oa (Err stops.Out) asked chosen prints =
+    (prints.0, record { wish = wish; asked = asked; said = said; chosen = chosen; prints = prints.1 })
+comes_printing words wish said left after old new sb sa ob oa (Err stops.OutOfMemory) asked chosen prints =
+    (asked_known words wish asked, little words wish said left after old new asked chosen prints)
+comes_printing words wish said left after old new sb sa ob oa (Err stops.Words) asked chosen prints = absurd prints
+comes_printing words wish said left after old new sb sa ob oa (Err stops.Form) asked chosen prints = absurd prints
+comes_printing words wish said left after old new sb sa ob oa (Err stops.Source) asked chosen prints = absurd prints
+
+-- the generated application is chosen without a read
+pub chooses_made : (rows : ℕ) (left after : Option (List ℕ)) → after ≡ left → Chooses (Make rows) (generated rows) left after
+chooses_made rows left after same = (refl, same)
+
+pub ruleset comings = (asks, reads_run, reads_none, comes_reading, comes_printing, chooses_made)
