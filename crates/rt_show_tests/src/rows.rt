@@ -1,139 +1,107 @@
-//! Sources with what is printed of them, each a small program of the language.
+//! A row: a line with a sign and its name; a line with words, if there are any; a line with the
+//! numbers of the read and of the put that fail, if they do; and its source.
 
-/// A run of the program: its words and source, its status, and the lines that it prints.
-pub struct Row {
-    pub shows: &'static str,
-    pub words: &'static [&'static str],
-    pub source: &'static str,
-    pub status: u8,
-    pub lines: &'static [&'static str],
+use rt_show::show_and_say;
+use rt_streams::{BytesOut, BytesSource, Out, OutError};
+use rt_values::{List, OutOfMemory, Text};
+use std::alloc::Global;
+
+/// What stands before the end of the first line, and what stands behind it.
+fn line_in(bytes: &[u8]) -> (&[u8], &[u8]) {
+    for place in 0..bytes.len() {
+        if bytes[place] == b'\n' {
+            return (&bytes[..place], &bytes[place + 1..]);
+        }
+    }
+    (bytes, &[])
 }
 
-/// The rows.
-pub static ROWS: [Row; 9] = [
-    Row {
-        shows: "a conditional read",
-        words: &[],
-        source: r#"{"components":{"App":{"do":[{"cell":"b","init":0},{"cell":"n","init":0}],
-"view":[{"text":{"if":[{"read":"b"},{"read":"n"},0]}}]}},"root":"App","inputs":[{"write":2,
-"be":5},{"write":1,"be":1},{"write":2,"be":6}]}"#,
-        status: 0,
-        lines: &[
-            r##"append #0 "0"#1"##,
-            r##"text #1 "5""##,
-            r##"text #1 "6""##,
-            "report 0 units 0 bodies 4 edits 1 log build made:1 made:2 made:3",
-            "report 1 units 0 bodies 0 edits 0 log input:1",
-            "report 2 units 1 bodies 1 edits 1 log input:2 rerun:3",
-            "report 3 units 1 bodies 1 edits 1 log input:3 rerun:3",
-        ],
-    },
-    Row {
-        shows: "an event that is stopped",
-        words: &[],
-        source: r#"
-{"components":{"App":{"do":[{"cell":"s","init":""}],"view":[{"el":"div","on":{"onclick":{"do":"Add",
-"args":[{"get":"s"},"o"]}},"kids":["x",{"el":"b","on":{"onclick":{"do":"Add",
-"args":[{"get":"s"},"i"]}},"kids":[{"text":{"read":"s"}}]},{"el":"i","on":{"on":{"do":"Add",
-"args":[{"get":"s"},"e"]}}}]}]}},"actions":{"Add":{"params":["c","v"],"do":[{"write":"c",
-"be":{"cat":[{"read":"c"},{"get":"v"}]}},{"stop":0}]}},"root":"App","inputs":[{"event":"click",
-"element":3}]}"#,
-        status: 0,
-        lines: &[
-            r##"append #0 (div#1 @onclick "x"#2 (b#3 @onclick ""#4) (i#5 @on))"##,
-            r##"text #4 "i""##,
-            "report 0 units 0 bodies 4 edits 1 log build made:1 made:2 made:3",
-            "report 1 units 1 bodies 1 edits 1 log input:1 heard:3 rerun:3",
-        ],
-    },
-    Row {
-        shows: "two errors",
-        words: &[],
-        source: r#"
-{"components":{"App":{"view":[{"boundary":"error","kids":[{"use":"Bad","props":["a"]},
-{"use":"Bad","props":["b"]}]}]},"Bad":{"params":["e"],"do":[{"fail":{"get":"e"}}],
-"view":[]}},"root":"App"}"#,
-        status: 0,
-        lines: &[
-            "append #0 _#1 _#2",
-            r##"replace #1 (div#3 style:color="red" (pre#4 "a"#5))"##,
-            "remove #2",
-            "report 0 units 1 bodies 8 edits 3 log build made:1 made:2 made:3 made:4 made:5 \
-             made:6 rerun:4 removed:5 removed:6",
-        ],
-    },
-    Row {
-        shows: "suspense",
-        words: &[],
-        source: r#"
-{"components":{"App":{"view":[{"boundary":"suspense","kids":[{"use":"Article"}],
-"fallback":{"use":"Load"}}]},"Article":{"do":[{"cell":"d","init":0},{"spawn":"t",
-"task":"F","args":[{"get":"d"}]},{"when":{"eq":[{"read":"d"},0]},"do":[{"suspend":"t"}]}],
-"view":["Article"]},"Load":{"view":["Loading..."]}},"tasks":{"F":{"params":["d"],
-"steps":[[],[{"write":"d","be":1}]]}},"root":"App","inputs":[{"wake":1}]}"#,
-        status: 0,
-        lines: &[
-            r##"append #0 "Loading..."#2"##,
-            "replace #2 _#1",
-            r##"replace #1 "Article"#3"##,
-            "report 0 units 2 bodies 7 edits 1 log build made:1 made:2 made:3 made:4 made:5 \
-             rerun:4 kept:5 poll:1",
-            "report 1 units 3 bodies 2 edits 2 log input:1 poll:1 rerun:4 kept:5 rerun:5",
-        ],
-    },
-    Row {
-        shows: "a drain that marks all",
-        words: &[],
-        source: r#"
-{"components":{"App":{"view":[{"el":"div","kids":["hello world"]}]}},"root":"App",
-"inputs":[{"drain":[{"all":0}]}]}"#,
-        status: 0,
-        lines: &[
-            r##"append #0 (div#1 "hello world"#2)"##,
-            "report 0 units 0 bodies 4 edits 1 log build made:1 made:2 made:3",
-            "report 1 units 3 bodies 4 edits 0 log input:1 rerun:0 kept:1 rerun:1 fed:2 \
-             kept:3 rerun:3",
-        ],
-    },
-    Row {
-        shows: "units that are spent",
-        words: &["--units", "5"],
-        source: r#"
-{"components":{"App":{"do":[{"cell":"b","init":0},{"cell":"c","init":0},{"when":{"read":"b"},
-"do":[{"write":"c","be":{"add":[{"read":"c"},1]}}]}],"view":[{"text":{"read":"c"}}]}},
-"root":"App","inputs":[{"write":1,"be":1}]}"#,
-        status: 4,
-        lines: &[
-            r##"append #0 "0"#1"##,
-            r##"text #1 "1""##,
-            r##"text #1 "2""##,
-            r##"text #1 "3""##,
-            r##"text #1 "4""##,
-            "report 0 units 0 bodies 4 edits 1 log build made:1 made:2 made:3",
-            "fault 3 OutOfTurns 5",
-        ],
-    },
-    Row {
-        shows: "no source",
-        words: &[],
-        source: r#""#,
-        status: 3,
-        lines: &[],
-    },
-    Row {
-        shows: "a number with a zero before it",
-        words: &["--units", "05"],
-        source: r#"
-{"components":{"App":{"view":[{"el":"div","kids":["hello world"]}]}},"root":"App"}"#,
-        status: 2,
-        lines: &[],
-    },
-    Row {
-        shows: "ten generated rows",
-        words: &["--make", "10"],
-        source: r#"
-{"components":{"App":{"view":[{"el":"div","kids":["hello world"]}]}},"root":"App"}"#,
-        status: 0,
-        lines: &["make 10 reports 11 units 10 bodies 24 edits 9"],
-    },
-];
+/// The first row, and the others.
+fn row_in(bytes: &[u8]) -> (&[u8], &[u8]) {
+    for place in 1..bytes.len() {
+        if bytes[place] == b'#' && bytes[place - 1] == b'\n' {
+            return (&bytes[..place], &bytes[place..]);
+        }
+    }
+    (bytes, &[])
+}
+
+/// What stands behind a key in a line that begins with it.
+fn behind<'a>(line: &'a [u8], key: &str) -> Option<&'a str> {
+    match str::from_utf8(line) {
+        Ok(text) => text.strip_prefix(key),
+        Err(_other) => None,
+    }
+}
+
+fn words_in(alloc: Global, line: &str) -> Result<Vec<Text>, OutOfMemory> {
+    let mut words = Vec::new(alloc);
+    for word in line.split(" ") {
+        words.push(Text::from_str(alloc, word)?)?;
+    }
+    Ok(words)
+}
+
+/// The number that a digit at a place is; 0 where none stands there.
+fn digit_at(line: &str, place: usize) -> u64 {
+    match line.as_bytes().get(place) {
+        Some(byte) => byte.saturating_sub(b'0') as u64,
+        None => 0,
+    }
+}
+
+/// Runs the program over a source, and puts what it writes and how it ends.
+fn run<O: Out>(
+    alloc: Global,
+    words: &[Text],
+    (read, put): (u64, u64),
+    bytes: &[u8],
+    out: &mut O,
+) -> Result<(), OutError> {
+    let bytes = List::from_slice(alloc, bytes)?;
+    let mut source = BytesSource::new(bytes, List::from_slice(alloc, &[read])?);
+    let mut written = BytesOut::new(alloc, List::from_slice(alloc, &[put])?);
+    let mut line = None;
+    let status = show_and_say(alloc, words, &mut source, &mut written, &mut line);
+    out.put(written.written())?;
+    let end = match line {
+        Some(line) => format!(in alloc; "status {status}: {line}\n")?,
+        None => format!(in alloc; "status {status}\n")?,
+    };
+    out.put(end.as_bytes())
+}
+
+fn put_row<O: Out>(alloc: Global, row: &[u8], out: &mut O) -> Result<(), OutError> {
+    let (name, rest) = line_in(row);
+    out.put(name)?;
+    out.put(b"\n")?;
+    let (line, after) = line_in(rest);
+    let (words, rest) = match behind(line, "words ") {
+        Some(line) => (words_in(alloc, line)?, after),
+        None => (Vec::new(alloc), rest),
+    };
+    let (line, after) = line_in(rest);
+    let (fails, rest) = match behind(line, "fails ") {
+        Some(line) => ((digit_at(line, 0), digit_at(line, 2)), after),
+        None => ((0, 0), rest),
+    };
+    let source = match rest.split_last() {
+        Some((_end, source)) => source,
+        None => rest,
+    };
+    run(alloc, &words, fails, source, out)
+}
+
+/// Runs each row, and puts its name and what came of it.
+pub fn put_rows<O: Out>(alloc: Global, bytes: &[u8], out: &mut O) -> Result<(), OutError> {
+    let mut rest = bytes;
+    for _row in 0..bytes.len() {
+        if rest.is_empty() {
+            return Ok(());
+        }
+        let (row, others) = row_in(rest);
+        put_row(alloc, row, out)?;
+        rest = others;
+    }
+    Ok(())
+}

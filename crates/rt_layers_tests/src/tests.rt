@@ -1,0 +1,8 @@
+//! What the worked cases of each layer say.
+
+mod blocks;
+mod cells;
+mod documents;
+mod inbox;
+mod sched;
+mod trees;

@@ -1,7 +1,0 @@
-//! Wrong sources, each with its line.
-#![tactic(auto)]
-
-#[cfg(test)]
-mod rows;
-#[cfg(test)]
-mod tests;
