@@ -1,0 +1,4 @@
+pub mod Layout
+pub mod Screens
+pub mod Printed
+pub mod Laws
