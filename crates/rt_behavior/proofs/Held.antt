@@ -1,19 +1,29 @@
 -- A task holds a boundary from a suspension until it ends; a run keeps what its body read.
-use Rattle.std.proofs.Common.{ℕ, Bool, true, false, List, [], ◌∷◌, ◌++◌, ◌≡◌, inl, ◌||◌, not, refl, sym, ap, ◌∙◌, subst, nat_eq}
+use Rattle.std.proofs.Common.{ℕ, ◌+◌, ◌≤◌, Bool, true, false, List, [], ◌∷◌, ◌++◌, ◌≡◌, ◌⊎◌, inl, inr, ◌||◌, not, refl, sym, ap, ◌∙◌, subst, nat_eq, arith}
 use Rattle.std.proofs.lemmas.Bool.{eqb-true}
 use Rattle.std.specs.Prelude.{Option, Some, None, if◌then◌else◌, is_some}
 use Rattle.std.specs.List.{list_any}
 use Rattle.rt_model.specs.Lists.{at, put, without, kept_by, drop_number}
 use Rattle.rt_model.specs.Tree.{Types}
-use Rattle.rt_model.specs.World.{Command, Application}
-use Rattle.rt_model.specs.State.{SideName, ChildrenSide, Posted, Mark, Woken, SuspendedTask, Scope, TaskRow, State, changed_scope, change, location, holds}
-use Rattle.rt_model.specs.Commands.{drop_posted, holding, released, post, end, commands}
-use Rattle.rt_model.specs.Run.{joins, suspends_on}
-use Rattle.rt_model.proofs.Maps.{by_test, pick_true, pick_false, eq_same, at_here, at_there, at_put_here}
+use Rattle.rt_model.specs.World.{Firsts, Command, Spawn, RemoveFuture, ClearErrors, Application}
+use Rattle.rt_model.specs.Laws.{IsLawful}
+use Rattle.rt_model.specs.State.{SideName, ChildrenSide, Posted, Mark, Woken, SuspendedTask, Scope, TaskRow, State, changed_scope, change, location, holds, error_context}
+use Rattle.rt_model.specs.Commands.{drop_posted, holding, released, post, end, command, commands}
+use Rattle.rt_model.specs.Run.{with_next, joins, suspends_on}
+use Rattle.rt_model.specs.Replay.{Entry, Machine, mounted_state}
+use Rattle.rt_model.specs.Causes.{Limits}
+use Rattle.rt_model.proofs.Maps.{by_test, pick_true, pick_false, eq_same, at_here, at_there, at_put_here, at_put_none, at_without_here, at_without_none, at_append_none}
+use Rattle.rt_model.proofs.Frames.{AllFresh}
+use Rattle.rt_moves.specs.Moves.{Move, entries, Leads}
+use Rattle.rt_moves.proofs.Logs.{logs_are_moves}
 use Rattle.rt_behavior.specs.Marking.{IsPosted}
 use Rattle.rt_behavior.specs.Holding.{holds_at, EndsOther, NoneEnds, SuspensionsHold, HoldersStay, EndsRelease}
+use Rattle.rt_behavior.specs.Along.{NoneRemoves, HoldersLast, LoggedHoldersLast}
 use Rattle.rt_behavior.proofs.Readers.{posted_last, posted_where, post_posts}
-use Rattle.rt_behavior.proofs.Steadfast.{Steadfast, AllAllowed, commands_on, Of, of_others, of_change, of_released}
+use Rattle.rt_behavior.proofs.Enduring.{Again, Enduring, MayClear, Allowed, AllAllowed, commands_on}
+use Rattle.rt_behavior.proofs.Calling.{Free}
+use Rattle.rt_behavior.proofs.Onwards.{moves_on, good_anyway, spares_all}
+use Rattle.rt_behavior.proofs.Steadfast.{from_zero, lawful_draw, all_allowed, Of, Other, Bears, of_again, of_endures}
 
 -- holders
 
@@ -48,6 +58,18 @@ held_on (d ∷ hs) t u other h =
     either true go g = refl
     either false go g = go g
 
+held_longer : (hs : List (ℕ × ℕ)) (t u origin : ℕ) → list_any (λ h. nat_eq h.0 t) hs ≡ true → list_any (λ h. nat_eq h.0 t) (hs ++ (u, origin) ∷ []) ≡ true
+held_longer [] t u origin h = cc
+held_longer (d ∷ hs) t u origin h = either (nat_eq d.0 t) (λ g. held_longer hs t u origin g) h
+  where
+    either : (b : Bool) → (list_any (λ h. nat_eq h.0 t) hs ≡ true → list_any (λ h. nat_eq h.0 t) (hs ++ (u, origin) ∷ []) ≡ true)
+        → b || list_any (λ h. nat_eq h.0 t) hs ≡ true → b || list_any (λ h. nat_eq h.0 t) (hs ++ (u, origin) ∷ []) ≡ true
+    either true go g = refl
+    either false go g = go g
+
+above_bound : (t n : ℕ) → t + 1 ≤ n → nat_eq n t ≡ false
+above_bound t n low = grind (arith, low)
+
 none_held : (hs : List (ℕ × ℕ)) (t : ℕ) → list_any (λ h. nat_eq h.0 t) (kept_by (λ h. not (nat_eq h.0 t)) hs) ≡ false
 none_held [] t = refl
 none_held (d ∷ hs) t =
@@ -75,24 +97,99 @@ module _ {K : Types} where
   held_at : (w : State K) (b t : ℕ) → Of b (λ x. holds x t ≡ true) w → holds_at w b t ≡ true
   held_at w b t h = ap (λ (o : Option (Scope K)). held_in t o) h.there ∙ h.holds
 
-  holders_steadfast : (b t : ℕ) → Steadfast {K = K} (λ w. Of b (λ x. holds x t ≡ true) w) (λ c. EndsOther t c)
-  holders_steadfast b t =
-      let Q : Scope K → Type 0 = λ x. holds x t ≡ true in
+  holders_bear : (b t : ℕ) → Bears {K = K} b (λ x. holds x t ≡ true) Free (λ u. Other t u)
+  holders_bear b t =
       record {
-        others = λ w v same h. of_others b Q w v same h;
-        hooks = λ w s k h. of_change b Q w s (λ x. record x { hooks = x.hooks ++ k ∷ [] }) (λ x live q. q) h;
-        effects = λ w s f h. of_change b Q w s (λ x. record x { effects = x.effects ++ f ∷ [] }) (λ x live q. q) h;
-        contexts = λ w s k v h. of_change b Q w s (λ x. record x { contexts = put x.contexts k v }) (λ x live q. q) h;
-        callbacks = λ w r s f h. of_change b Q w r (λ x. record x { callbacks = x.callbacks ++ (s, f) ∷ [] }) (λ x live q. q) h;
-        freezes = λ w r h. of_change b Q w r (λ x. record x { frozen = true }) (λ x live q. q) h;
-        throws = λ w r x f live none h. of_change b Q w r (λ y. record y { error = Some f }) (λ y there q. q) h;
-        clears = λ w r a h. of_change b Q w r (λ x. record x { error = None }) (λ x live q. q) h;
-        ends = λ w u a h. of_released b Q w u (λ x q. held_on x.holders t u a q) h;
+        same = λ x y same q. ap (λ (hs : List (ℕ × ℕ)). list_any (λ h. nat_eq h.0 t) hs) (same.but).holders ∙ q;
+        hooks = λ x h q. q;
+        joins = λ x u origin q. held_longer x.holders t u origin q;
+        throws = λ x e none q. q;
+        clears = λ x may q. q;
+        ends = λ x u may q. held_on x.holders t u may q;
       }
 
-  none_ends : (app : Application K) (b t : ℕ) (cs : List (Command K)) → NoneEnds t cs → AllAllowed (λ w. Of b (λ x. holds x t ≡ true) w) (λ c. EndsOther t c) (holders_steadfast b t) app cs
-  none_ends app b t [] h = tt
-  none_ends app b t (c ∷ cs) h = (h.0, none_ends app b t cs h.1)
+  holders_endure : (b t : ℕ) → Enduring {K = K} (λ w. Of b (λ x. holds x t ≡ true) w) 0 Free (λ u. Other t u) (λ s. Other b s)
+  holders_endure b t = of_endures b (λ x. holds x t ≡ true) Free (λ u. Other t u) (holders_bear b t)
+
+  any_clear : (w : State K) (b t : ℕ) (o : Option ℕ) → MayClear {K = K} (λ v. Of b (λ x. holds x t ≡ true) v) 0 Free (λ u. Other t u) (λ s. Other b s) (holders_endure b t) o
+  any_clear w b t None = tt
+  any_clear w b t (Some c) = tt
+
+  ends_other : (app : Application K) (b t : ℕ) (w : State K) (s : ℕ) (c : Command K) → EndsOther t c
+      → Allowed (λ w. Of b (λ x. holds x t ≡ true) w) 0 Free (λ u. Other t u) (λ s. Other b s) (holders_endure b t) app w s c
+  ends_other app b t w s ClearErrors h = any_clear w b t (error_context w s)
+  ends_other app b t w s (Spawn u a forever isomorphic) h = from_zero u
+  ends_other app b t w s (RemoveFuture u) h = h
+  ends_other app b t w s c h = tt
+
+  none_ends : (app : Application K) (b t : ℕ) (w : State K) (s : ℕ) (polled : Option ℕ) (cs : List (Command K)) → NoneEnds t cs
+      → AllAllowed (λ w. Of b (λ x. holds x t ≡ true) w) 0 Free (λ u. Other t u) (λ s. Other b s) (holders_endure b t) app w s polled cs
+  none_ends app b t w s polled [] h = tt
+  none_ends app b t w s polled (c ∷ cs) h = (ends_other app b t w s c h.0, none_ends app b t (command app w s polled c) s polled cs h.1)
+
+  -- the number of a task was drawn, and the task has ended or it holds a boundary
+  abbrev HeldOrEnded : ℕ → ℕ → State K → Type 0
+  HeldOrEnded b t w = (t + 1 ≤ w.next.tasks) × ((at w.tasks t ≡ None) ⊎ Of b (λ x. holds x t ≡ true) w)
+
+  carried : (b t : ℕ) (w v : State K) → t + 1 ≤ v.next.tasks → (at w.tasks t ≡ None → at v.tasks t ≡ None) → (Of b (λ x. holds x t ≡ true) w → Of b (λ x. holds x t ≡ true) v) → HeldOrEnded b t w → HeldOrEnded b t v
+  carried b t w v low f g h = (low, elim h.1 [ inl none ↦ inl (f none) | inr held ↦ inr (g held) ])
+
+  ended_or : (b t : ℕ) (w : State K) (u : ℕ) → HeldOrEnded b t w → HeldOrEnded b t (record w { tasks = without w.tasks u; scopes = released w.scopes u })
+  ended_or b t w u h =
+      let v : State K = record w { tasks = without w.tasks u; scopes = released w.scopes u } in
+      by_test (nat_eq u t)
+      (λ q. (h.0, inl (at_without_here w.tasks u t q)))
+      (λ q. carried b t w v h.0 (λ none. at_without_none w.tasks u t none) (λ held. (holders_endure b t).ends w u q held) h)
+
+  held_endures : (b t : ℕ) → Enduring {K = K} (λ w. HeldOrEnded b t w) (t + 1) Free Free (λ s. Other b s)
+  held_endures b t =
+      let base : Enduring {K = K} (λ w. Of b (λ x. holds x t ≡ true) w) 0 Free (λ u. Other t u) (λ s. Other b s) = holders_endure b t in
+      record {
+        low = λ w h. h.0;
+        others =
+            λ w v scopes tasks next h.
+            carried b t w v (subst (λ (n : ℕ). t + 1 ≤ n) (sym (ap (λ (f : Firsts). f.tasks) next)) h.0)
+            (λ none. ap (λ (es : List (ℕ × TaskRow K)). at es t) tasks ∙ none) (λ held. base.others w v scopes tasks next held) h;
+        nexts = λ w next low h. carried b t w (with_next w next) low (λ none. none) (λ held. base.nexts w next (from_zero next.tasks) held) h;
+        rows = λ w s x y e same h. carried b t w (record w { scopes = put w.scopes s y }) h.0 (λ none. none) (λ held. base.rows w s x y e same held) h;
+        hooks = λ w s x k e h. carried b t w (record w { scopes = put w.scopes s (record x { hooks = x.hooks ++ k ∷ [] }) }) h.0 (λ none. none) (λ held. base.hooks w s x k e held) h;
+        joins =
+            λ w s u origin x e h.
+            carried b t w (record w { scopes = put w.scopes s (record x { holders = x.holders ++ (u, origin) ∷ [] }) }) h.0 (λ none. none) (λ held. base.joins w s u origin x e held) h;
+        throws =
+            λ w s x f e empty h. carried b t w (record w { scopes = put w.scopes s (record x { error = Some f }) }) h.0 (λ none. none) (λ held. base.throws w s x f e empty held) h;
+        clears = λ w s x e may h. carried b t w (record w { scopes = put w.scopes s (record x { error = None }) }) h.0 (λ none. none) (λ held. base.clears w s x e may held) h;
+        ends = λ w u may h. ended_or b t w u h;
+        spawns =
+            λ w n x low h.
+            carried b t w (record w { tasks = w.tasks ++ (n, x) ∷ [] }) h.0 (λ none. at_append_none w.tasks n x t (above_bound t n low) ∙ none)
+            (λ held. base.spawns w n x (from_zero n) held) h;
+        tasks = λ w u x y e h. carried b t w (record w { tasks = put w.tasks u y }) h.0 (λ none. at_put_none w.tasks u y x t e none) (λ held. base.tasks w u x y e held) h;
+        makes = λ w n x h. carried b t w (record w { scopes = w.scopes ++ (n, x) ∷ [] }) h.0 (λ none. none) (λ held. base.makes w n x held) h;
+        removes = λ w s other h. carried b t w (record w { scopes = without w.scopes s }) h.0 (λ none. none) (λ held. base.removes w s other held) h;
+        mounts = λ w h. carried b t w (mounted_state w) h.0 (λ none. none) (λ held. base.mounts w held) h;
+      }
+
+  held_again : (b t : ℕ) → Again {K = K} (λ w. HeldOrEnded b t w)
+  held_again b t = λ w s x y e same h.
+      carried b t w (record w { scopes = put w.scopes s y }) h.0 (λ none. none)
+      (λ held. (of_again b (λ z. holds z t ≡ true) (λ z i keeps q. ap (λ (hs : List (ℕ × ℕ)). list_any (λ d. nat_eq d.0 t) hs) keeps.holders ∙ q)) w s x y e same held) h
+
+  held_freely : (app : Application K) (b t : ℕ) (w : State K) (s : ℕ) (polled : Option ℕ) (cs : List (Command K)) → AllFresh app (t + 1) cs → Unit {0}
+      → AllAllowed (λ w. HeldOrEnded b t w) (t + 1) Free Free (λ s. Other b s) (held_endures b t) app w s polled cs
+  held_freely app b t w s polled cs f g = all_allowed (λ w. HeldOrEnded b t w) (t + 1) (λ s. Other b s) (held_endures b t) app w s polled cs f
+
+  held_lasts : (app : Application K) → IsLawful K app → (limits : Limits) (m v : Machine K) (moves : List Move) (b t : ℕ) (leads : Leads app limits m moves v) → NoneRemoves b (entries moves) → HeldOrEnded b t m.state → HeldOrEnded b t v.state
+  held_lasts app lawful limits m v moves b t leads stays h =
+      moves_on app (λ w. HeldOrEnded b t w) (t + 1) Free (λ s. Other b s) (held_endures b t) (held_again b t) (λ w s polled cs. Unit {0}) (λ w s polled cs f g. held_freely app b t w s polled cs f g) (lawful_draw app (t + 1) lawful)
+      limits m v moves leads
+      (good_anyway app (λ w. HeldOrEnded b t w) (t + 1) Free (λ s. Other b s) (held_endures b t) (held_again b t) (λ w s polled cs. Unit {0}) (λ w s polled cs f g. held_freely app b t w s polled cs f g) (lawful_draw app (t + 1) lawful) (λ w s polled cs. tt) limits m v moves leads)
+      (spares_all app (λ w. HeldOrEnded b t w) (t + 1) Free (λ s. Other b s) (held_endures b t) (held_again b t) (λ w s polled cs. Unit {0}) (λ w s polled cs f g. held_freely app b t w s polled cs f g) (lawful_draw app (t + 1) lawful) b (λ s q. q) moves stays)
+      h
+
+  still_held : (w : State K) (b t : ℕ) → is_some (at w.tasks t) ≡ true → (at w.tasks t ≡ None) ⊎ Of b (λ x. holds x t ≡ true) w → holds_at w b t ≡ true
+  still_held w b t live (inl none) = let absurdity : true ≡ false = sym live ∙ ap (λ (o : Option (TaskRow K)). is_some o) none in cc
+  still_held w b t live (inr held) = held_at w b t held
 
   released_none : (es : List (ℕ × Scope K)) (t b : ℕ) → held_in t (at (released es t) b) ≡ false
   released_none [] t b = refl
@@ -153,7 +250,17 @@ suspensions_hold K w s origin t b row task place live =
 pub holders_stay : {K : Types} (app : Application K) → HoldersStay app
 holders_stay {K = K} app w s polled cs b t none h =
     held_at (commands app w s polled cs) b t
-    (commands_on (λ v. Of b (λ x. holds x t ≡ true) v) (λ c. EndsOther t c) (holders_steadfast b t) app w s polled cs (none_ends app b t cs none) (held_row w b t (at w.scopes b) refl h))
+    (commands_on (λ w. Of b (λ x. holds x t ≡ true) w) 0 Free (λ u. Other t u) (λ s. Other b s) (holders_endure b t) app w s polled cs (none_ends app b t w s polled cs none) (held_row w b t (at w.scopes b) refl h))
+
+pub holders_last : {K : Types} (app : Application K) → HoldersLast app
+holders_last app lawful limits m v moves b t leads stays drawn live h =
+    let low : t + 1 ≤ m.state.next.tasks = omega (arith, drawn) in
+    still_held v.state b t live (held_lasts app lawful limits m v moves b t leads stays (low, inr (held_row m.state b t (at m.state.scopes b) refl h))).1
+
+pub logged_holders_last : {K : Types} (app : Application K) → LoggedHoldersLast app
+logged_holders_last app lawful limits m v log b t settled accepted stays drawn live h =
+    let found = logs_are_moves app limits m v log settled accepted in
+    holders_last app lawful limits m v found.0 b t found.1 (subst (λ (es : List Entry). NoneRemoves b es) (sym found.2) stays) drawn live h
 
 pub ends_release : (K : Types) → EndsRelease K
 ends_release K w t row task =

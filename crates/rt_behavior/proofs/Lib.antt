@@ -14,6 +14,11 @@ mod Running
 mod MovesOwe
 mod Taking
 mod Waking
+mod Enduring
+mod Calling
+mod Lived
+mod Polled
+mod Onwards
 mod Steadfast
 mod Held
 mod Reading

@@ -9,37 +9,32 @@ use Rattle.rt_model.specs.Commands.{post, commands}
 use Rattle.rt_model.specs.Run.{fault_of, with_next, called_once, called_where, is_own, answer_fits, kept_call, is_kind, spots_of, raised, joins, suspends_on, unmarked, has_output, body_of, acted, hook_called, hooks_called, after_hooks, call_body, patched, start_agenda, settled_answer, new_output, after_answer, run_as, run}
 use Rattle.rt_model.proofs.Maps.{eq_same, at_put_here}
 use Rattle.rt_behavior.specs.Holding.{RunsKeepReads}
-use Rattle.rt_behavior.proofs.Steadfast.{Steadfast, AllAllowed, post_on, throw_on, commands_on, Of, of_others, of_change, of_released}
+use Rattle.rt_behavior.proofs.Enduring.{Enduring, post_on, throw_on, commands_on}
+use Rattle.rt_behavior.proofs.Calling.{Free}
+use Rattle.rt_behavior.proofs.Steadfast.{fresh_anyway, all_allowed, Of, Other, of_others, of_change, Bears, of_endures}
 
 module _ {K : Types} (app : Application K) (s : ℕ) (Q : List Source → Type 0) where
   -- the scope is live, and Q holds of what it read
   abbrev Reads : State K → Type 0
   Reads w = Of s (λ x. Q x.reads) w
 
-  abbrev Any : Command K → Type 0
-  Any c = Unit {0}
-
-  reads_steadfast : Steadfast (λ w. Reads w) (λ c. Any c)
-  reads_steadfast =
-      let R : Scope K → Type 0 = λ x. Q x.reads in
+  reads_bear : Bears s (λ (x : Scope K). Q x.reads) Free Free
+  reads_bear =
       record {
-        others = λ w v same h. of_others s R w v same h;
-        hooks = λ w r k h. of_change s R w r (λ x. record x { hooks = x.hooks ++ k ∷ [] }) (λ x live q. q) h;
-        effects = λ w r f h. of_change s R w r (λ x. record x { effects = x.effects ++ f ∷ [] }) (λ x live q. q) h;
-        contexts = λ w r k v h. of_change s R w r (λ x. record x { contexts = put x.contexts k v }) (λ x live q. q) h;
-        callbacks = λ w b r f h. of_change s R w b (λ x. record x { callbacks = x.callbacks ++ (r, f) ∷ [] }) (λ x live q. q) h;
-        freezes = λ w r h. of_change s R w r (λ x. record x { frozen = true }) (λ x live q. q) h;
-        throws = λ w r x f live none h. of_change s R w r (λ y. record y { error = Some f }) (λ y there q. q) h;
-        clears = λ w r a h. of_change s R w r (λ x. record x { error = None }) (λ x live q. q) h;
-        ends = λ w t a h. of_released s R w t (λ x q. q) h;
+        same = λ x y same q. subst (λ (xs : List Source). Q xs) (sym same.reads) q;
+        hooks = λ x h q. q;
+        joins = λ x t origin q. q;
+        throws = λ x e none q. q;
+        clears = λ x may q. q;
+        ends = λ x t may q. q;
       }
 
-  any_allowed : (cs : List (Command K)) → AllAllowed (λ w. Reads w) (λ c. Any c) reads_steadfast app cs
-  any_allowed [] = tt
-  any_allowed (c ∷ cs) = (tt, any_allowed cs)
+  reads_endure : Enduring (λ (w : State K). Reads w) 0 Free Free (λ r. Other s r)
+  reads_endure = of_endures s (λ (x : Scope K). Q x.reads) Free Free reads_bear
 
   commands_keep : (w : State K) (r : ℕ) (polled : Option ℕ) (cs : List (Command K)) → Reads w → Reads (commands app w r polled cs)
-  commands_keep w r polled cs h = commands_on (λ v. Reads v) (λ c. Any c) reads_steadfast app w r polled cs (any_allowed cs) h
+  commands_keep w r polled cs h =
+      commands_on (λ v. Reads v) 0 Free Free (λ t. Other s t) reads_endure app w r polled cs (all_allowed (λ v. Reads v) 0 (λ t. Other s t) reads_endure app w r polled cs (fresh_anyway app cs)) h
 
   abbrev ReadsO : Outcome K → Type 0
   ReadsO (Done v work) = Reads v
@@ -90,7 +85,7 @@ module _ {K : Types} (app : Application K) (s : ℕ) (Q : List Source → Type 0
       either true = h
       either false =
           let u : State K = change w b (λ y. record y { holders = y.holders ++ (t, origin) ∷ [] }) in
-          post_on (λ v. Reads v) (λ c. Any c) reads_steadfast u (Mark b) (of_change s (λ y. Q y.reads) w b (λ y. record y { holders = y.holders ++ (t, origin) ∷ [] }) (λ y live q. q) h)
+          post_on (λ v. Reads v) 0 Free Free (λ t. Other s t) reads_endure u (Mark b) (of_change s (λ y. Q y.reads) w b (λ y. record y { holders = y.holders ++ (t, origin) ∷ [] }) (λ y live q. q) h)
 
   joins_keep : (w : State K) (origin t : ℕ) (o : Option (ℕ × SideName)) → Reads w → Reads (joins w origin t o)
   joins_keep w origin t None h = h
@@ -106,7 +101,7 @@ module _ {K : Types} (app : Application K) (s : ℕ) (Q : List Source → Type 0
 
   settled_keeps : (w : State K) (r : ℕ) (answer : Element K) → Reads w → ReadsO (settled_answer app w r answer)
   settled_keeps w r (rendered tree) h = raised_keeps w r h
-  settled_keeps w r (failed e) h = throw_on (λ v. Reads v) (λ c. Any c) reads_steadfast w r e h
+  settled_keeps w r (failed e) h = throw_on (λ v. Reads v) 0 Free Free (λ t. Other s t) reads_endure w r e h
   settled_keeps w r (suspended origin t) h = suspends_keep w r origin t (at w.tasks t) h
 
   side_reads : (x : Scope K) (side : SideName) (a : Side K) → (with_side x side a).reads ≡ x.reads

@@ -1,146 +1,85 @@
--- What commands can't change of one scope.
-use Rattle.std.proofs.Common.{ℕ, zero, suc, Bool, true, false, List, [], ◌∷◌, ◌++◌, ◌≡◌, ◌&&◌, not, refl, sym, ap, ◌∙◌, subst, nat_eq}
+-- What lasts of one scope: its first error until it is cleared, and its hooks.
+use Rattle.std.proofs.Common.{ℕ, zero, suc, Bool, true, false, List, [], ◌∷◌, ◌++◌, ◌≡◌, ◌≤◌, ◌+◌, ◌||◌, not, refl, sym, ap, ◌∙◌, subst, nat_eq, arith}
 use Rattle.std.proofs.lemmas.Bool.{eqb-true}
-use Rattle.std.specs.Prelude.{Option, Some, None, if◌then◌else◌, is_some}
-use Rattle.rt_model.specs.Lists.{at, put, without, nth, kept_by, drop_number}
+use Rattle.std.specs.Prelude.{Option, Some, None, if◌then◌else◌}
+use Rattle.std.specs.List.{AllByRecursion}
+use Rattle.rt_model.specs.Lists.{at, put, without, nth, kept_by}
 use Rattle.rt_model.specs.Tree.{Types, CapturedError}
-use Rattle.rt_model.specs.World.{Source, Cell, Error, Context, Hook, Command, KeepHook, NewCell, Write, DropCell, NewContext, Reset, ReadInto, Spawn, RemoveFuture, Wake, SetActive, QueueEffect, Provide, Update, Throw, ClearErrors, Resolved, Freeze, Application}
-use Rattle.rt_model.specs.State.{Posted, Mark, Woken, ClientOnly, Isomorphic, Scope, CellRow, ContextRow, TaskRow, State, is_live, changed_scope, change, error_context, suspense_context}
-use Rattle.rt_model.specs.Commands.{drop_posted, holding, released, one_more_source, post, tell, end, written_at, caught_at, thrown_to, throw_error, cleared_at, activated, spawned, registered, frozen_at, provided_at, command, commands}
-use Rattle.rt_model.proofs.Maps.{by_test, at_here, at_there, at_put_here, at_put_other}
-use Rattle.rt_behavior.specs.Keeping.{ClearsNone, NoneClears, FirstErrorStays, HooksStay}
-use Rattle.rt_behavior.proofs.Readers.{Posts, post_posts, tell_posts}
+use Rattle.rt_model.specs.World.{Firsts, Hook, Command, Spawn, RemoveFuture, ClearErrors, Application}
+use Rattle.rt_model.specs.Laws.{IsNumbered, IsLawful}
+use Rattle.rt_model.specs.State.{Scope, State, changed_scope, change, is_shown, error_context}
+use Rattle.rt_model.specs.Commands.{released, command, commands}
+use Rattle.rt_model.specs.Run.{with_next}
+use Rattle.rt_model.specs.Replay.{Entry, Machine, mounted, mounted_state}
+use Rattle.rt_model.specs.Causes.{Limits}
+use Rattle.rt_model.proofs.Maps.{by_test, eq_same, none_some, at_here, at_there, at_put_here, at_put_other, at_without_other}
+use Rattle.rt_model.proofs.Frames.{AllFresh}
+use Rattle.rt_model.proofs.RunFrames.{fresh, numbered_rises}
+use Rattle.rt_moves.specs.Moves.{Move, entries, Leads}
+use Rattle.rt_moves.proofs.Logs.{logs_are_moves}
+use Rattle.rt_behavior.specs.Keeping.{IsOther, ClearsOther, NoneClears, FirstErrorStays, HooksStay}
+use Rattle.rt_behavior.specs.Along.{NoneRemoves, NoneClearsOn, FirstErrorLasts, HooksLast, LoggedFirstErrorLasts, LoggedHooksLast}
+use Rattle.rt_behavior.proofs.Enduring.{LastsBut, LastsIn, lasts_all, Again, Enduring, MayClear, Allowed, AllAllowed, commands_on}
+use Rattle.rt_behavior.proofs.Calling.{Free, AllDraw}
+use Rattle.rt_behavior.proofs.Onwards.{AllSparing, GoodOn, moves_on, good_anyway, spares_all}
+
+-- another scope, another task
+abbrev pub Other : ℕ → ℕ → Type 0
+Other b s = nat_eq s b ≡ false
+
+-- every number is from 0 on
+pub from_zero : (n : ℕ) → 0 ≤ n
+from_zero n = omega arith
+
+module _ {K : Types} (app : Application K) where
+  pub fresh_anyway : (cs : List (Command K)) → AllFresh app 0 cs
+  fresh_anyway [] = tt
+  fresh_anyway (Spawn t a forever isomorphic ∷ cs) = (from_zero t, fresh_anyway cs)
+  fresh_anyway (c ∷ cs) = (tt, fresh_anyway cs)
+
+  -- every call spawns from 0 on
+  pub draw_anyway : AllDraw app 0
+  draw_anyway =
+      record {
+        bodies = λ c p w low. (fresh_anyway (app.body c p w).commands, from_zero (app.body c p w).next.tasks);
+        polls = λ a w low. (fresh_anyway (app.poll a w).commands, from_zero (app.poll a w).next.tasks);
+        effects = λ e w low. (fresh_anyway (app.effect e w).commands, from_zero (app.effect e w).next.tasks);
+        handlers = λ h e w low. (fresh_anyway (app.handle h e w).commands, from_zero (app.handle h e w).next.tasks);
+      }
+
+  drawn_by : (bound : ℕ) → IsLawful K app → (first : Firsts) (cs : List (Command K)) (next : Firsts) → IsNumbered first cs next → bound ≤ first.tasks → AllFresh app bound cs × (bound ≤ next.tasks)
+  drawn_by bound lawful first cs next n low =
+      let rises : first.tasks ≤ next.tasks = (numbered_rises first cs next n).tasks in
+      let above : bound ≤ next.tasks = omega (arith, low, rises) in
+      (fresh app lawful first.tasks next.tasks bound cs low n.tasks, above)
+
+  -- the calls of a lawful application spawn from the next number on
+  pub lawful_draw : (bound : ℕ) → IsLawful K app → AllDraw app bound
+  lawful_draw bound lawful =
+      record {
+        bodies = λ c p w low. drawn_by bound lawful w.given.next (app.body c p w).commands (app.body c p w).next (lawful.bodies_number c p w) low;
+        polls = λ a w low. drawn_by bound lawful w.given.next (app.poll a w).commands (app.poll a w).next (lawful.polls_number a w) low;
+        effects = λ e w low. drawn_by bound lawful w.given.next (app.effect e w).commands (app.effect e w).next (lawful.effects_number e w) low;
+        handlers = λ h e w low. drawn_by bound lawful w.given.next (app.handle h e w).commands (app.handle h e w).next (lawful.handlers_number h e w) low;
+      }
+
+module _ {K : Types} (P : State K → Type 0) (bound : ℕ) (removable : ℕ → Type 0) (law : Enduring P bound Free Free removable) (app : Application K) where
+  pub clears_freely : (o : Option ℕ) → MayClear P bound Free Free removable law o
+  clears_freely None = tt
+  clears_freely (Some b) = tt
+
+  allowed_freely : (w : State K) (s : ℕ) (c : Command K) (cs : List (Command K)) → AllFresh app bound (c ∷ cs) → Allowed P bound Free Free removable law app w s c
+  allowed_freely w s ClearErrors cs f = clears_freely (error_context w s)
+  allowed_freely w s (Spawn t a forever isomorphic) cs f = f.0
+  allowed_freely w s (RemoveFuture t) cs f = tt
+  allowed_freely w s c cs f = tt
+
+  -- where nothing but fresh numbers is asked of commands
+  pub all_allowed : (w : State K) (s : ℕ) (polled : Option ℕ) (cs : List (Command K)) → AllFresh app bound cs → AllAllowed P bound Free Free removable law app w s polled cs
+  all_allowed w s polled [] f = tt
+  all_allowed w s polled (c ∷ cs) f = (allowed_freely w s c cs f, all_allowed (command app w s polled c) s polled cs f.1)
 
 module _ {K : Types} where
-  -- a fact of a state that goes by the scopes alone, and that no command changes but for those that aren't allowed
-  pub record Steadfast (P : State K → Type 0) (allowed : Command K → Type 0) : Type 0 where
-    pub others : (w v : State K) → v.scopes ≡ w.scopes → P w → P v
-    pub hooks : (w : State K) (s : ℕ) (h : Hook K) → P w → P (change w s (λ x. record x { hooks = x.hooks ++ h ∷ [] }))
-    pub effects : (w : State K) (s : ℕ) (e : K.Effect) → P w → P (change w s (λ x. record x { effects = x.effects ++ e ∷ [] }))
-    pub contexts : (w : State K) (s k : ℕ) (v : K.Value) → P w → P (change w s (λ x. record x { contexts = put x.contexts k v }))
-    pub callbacks : (w : State K) (b s : ℕ) (e : K.Effect) → P w → P (change w b (λ x. record x { callbacks = x.callbacks ++ (s, e) ∷ [] }))
-    pub freezes : (w : State K) (b : ℕ) → P w → P (change w b (λ x. record x { frozen = true }))
-    pub throws : (w : State K) (b : ℕ) (x : Scope K) (e : CapturedError) → at w.scopes b ≡ Some x → x.error ≡ None → P w → P (change w b (λ y. record y { error = Some e }))
-    pub clears : (w : State K) (b : ℕ) → allowed ClearErrors → P w → P (change w b (λ x. record x { error = None }))
-    pub ends : (w : State K) (t : ℕ) → allowed (RemoveFuture t) → P w → P (record w { scopes = released w.scopes t })
-
-  module _ (P : State K → Type 0) (allowed : Command K → Type 0) (law : Steadfast P allowed) where
-    either : (x y : State K) (b : Bool) → P x → P y → P (if b then x else y)
-    either x y true f g = f
-    either x y false f g = g
-
-    posted_on : (w v : State K) → Posts w v → P w → P v
-    posted_on w v f p = law.others w v (ap (λ (x : State K). x.scopes) f.alike) p
-
-    pub post_on : (w : State K) (p : Posted) → P w → P (post w p)
-    post_on w p h = posted_on w (post w p) (post_posts w p) h
-
-    tell_on : (w : State K) (i : Source) → P w → P (tell w i)
-    tell_on w i h = posted_on w (tell w i) (tell_posts w i) h
-
-    written_on : (w : State K) (n : ℕ) (v : K.Value) (o : Option (CellRow K)) → P w → P (written_at w n v o)
-    written_on w n v None h = h
-    written_on w n v (Some old) h =
-        let u : State K = record w { cells = put w.cells n (record old { value = v }) } in tell_on u (Cell n) (law.others w u refl h)
-
-    caught_on : (w : State K) (e : CapturedError) (b : ℕ) (x : Scope K) (o : Option CapturedError) → at w.scopes b ≡ Some x → x.error ≡ o → P w → P (caught_at w e b o)
-    caught_on w e b x (Some old) live q h = h
-    caught_on w e b x None live q h = tell_on (change w b (λ y. record y { error = Some e })) (Error b) (law.throws w b x e live q h)
-
-    thrown_at_on : (w : State K) (e : CapturedError) (b : ℕ) (o : Option (Scope K)) → at w.scopes b ≡ o → P w → P (elim o as (λ z. State K) [ None ↦ w | Some x ↦ caught_at w e b x.error ])
-    thrown_at_on w e b None live h = h
-    thrown_at_on w e b (Some x) live h = caught_on w e b x x.error live refl h
-
-    thrown_on : (w : State K) (e : CapturedError) (o : Option ℕ) → P w → P (thrown_to w e o)
-    thrown_on w e None h = h
-    thrown_on w e (Some b) h = thrown_at_on w e b (at w.scopes b) refl h
-
-    pub throw_on : (w : State K) (s : ℕ) (e : CapturedError) → P w → P (throw_error w s e)
-    throw_on w s e h = thrown_on w e (error_context w s) h
-
-    cleared_on : (w : State K) (o : Option ℕ) → allowed ClearErrors → P w → P (cleared_at w o)
-    cleared_on w None a h = h
-    cleared_on w (Some b) a h = tell_on (change w b (λ x. record x { error = None })) (Error b) (law.clears w b a h)
-
-    end_on : (w : State K) (t : ℕ) → allowed (RemoveFuture t) → P w → P (end w t)
-    end_on w t a h =
-        let u : State K = record w { scopes = released w.scopes t } in
-        let v : State K = record w {
-          tasks = without w.tasks t;
-          posted = drop_posted w.posted (Woken t) ++ holding w.scopes t;
-          queued = drop_number w.queued t;
-          scopes = released w.scopes t;
-        } in
-        either v w (is_some (at w.tasks t)) (law.others u v refl (law.ends w t a h)) h
-
-    spawned_on : (w : State K) (polled : Option ℕ) (scope t : ℕ) (a : K.TaskState) (isomorphic : Bool) → P w → P (spawned w polled scope t a isomorphic)
-    spawned_on w polled scope t a isomorphic h =
-        let v : State K = record w {
-          tasks = w.tasks ++ (t, record { scope = scope; parent = polled; state = a; active = true; kind = if isomorphic then Isomorphic else ClientOnly }) ∷ [];
-        } in
-        either (post v (Woken t)) w (is_live w scope) (post_on v (Woken t) (law.others w v refl h)) h
-
-    activated_on : (w : State K) (t : ℕ) (active : Bool) (o : Option (TaskRow K)) → P w → P (activated w t active o)
-    activated_on w t active None h = h
-    activated_on w t active (Some x) h =
-        let v : State K = record w { tasks = put w.tasks t (record x { active = active }) } in
-        either (post v (Woken t)) v (active && not x.active) (post_on v (Woken t) (law.others w v refl h)) (law.others w v refl h)
-
-    registered_on : (w : State K) (s : ℕ) (e : K.Effect) (o : Option ℕ) → P w → P (registered w s e o)
-    registered_on w s e None h = h
-    registered_on w s e (Some b) h = law.callbacks w b s e h
-
-    frozen_on : (w : State K) (o : Option ℕ) → P w → P (frozen_at w o)
-    frozen_on w None h = h
-    frozen_on w (Some b) h = law.freezes w b h
-
-    context_on : (w : State K) (n : ℕ) (f : ContextRow K → ContextRow K) (o : Option (ContextRow K)) → P w → P (elim o as (λ z. State K) [ None ↦ w | Some x ↦ record w { contexts = put w.contexts n (f x) } ])
-    context_on w n f None h = h
-    context_on w n f (Some x) h = law.others w (record w { contexts = put w.contexts n (f x) }) refl h
-
-    module _ (app : Application K) where
-      provided_on : (w : State K) (s k : ℕ) (v : K.Value) (o : Option K.Value) → P w → P (provided_at app w s k v o)
-      provided_on w s k v None h = tell_on (change w s (λ x. record x { contexts = put x.contexts k v })) (Context k s) (law.contexts w s k v h)
-      provided_on w s k v (Some old) h =
-          let u : State K = change w s (λ x. record x { contexts = put x.contexts k v }) in
-          either u (tell u (Context k s)) (app.same_value old v) (law.contexts w s k v h) (tell_on u (Context k s) (law.contexts w s k v h))
-
-      provide_on : (w : State K) (s k : ℕ) (v : K.Value) (o : Option (Scope K)) → P w → P (elim o as (λ z. State K) [ None ↦ w | Some x ↦ provided_at app w s k v (at x.contexts k) ])
-      provide_on w s k v None h = h
-      provide_on w s k v (Some x) h = provided_on w s k v (at x.contexts k) h
-
-      command_on : (w : State K) (s : ℕ) (polled : Option ℕ) (c : Command K) → allowed c → P w → P (command app w s polled c)
-      command_on w s polled (KeepHook h) a p = law.hooks w s h p
-      command_on w s polled (NewCell n v) a p =
-          let u : State K = record w { cells = w.cells ++ (n, record { owner = s; value = v }) ∷ [] } in either u w (is_live w s) (law.others w u refl p) p
-      command_on w s polled (Write n v) a p = written_on w n v (at w.cells n) p
-      command_on w s polled (DropCell n) a p =
-          let u : State K = record w { cells = without w.cells n } in either (tell u (Cell n)) w (is_some (at w.cells n)) (tell_on u (Cell n) (law.others w u refl p)) p
-      command_on w s polled (NewContext n target) a p =
-          let u : State K = record w { contexts = w.contexts ++ (n, record { scope = s; target = target; sources = [] }) ∷ [] } in either u w (is_live w s) (law.others w u refl p) p
-      command_on w s polled (Reset n) a p = context_on w n (λ x. record x { sources = [] }) (at w.contexts n) p
-      command_on w s polled (ReadInto n source) a p = context_on w n (λ x. record x { sources = one_more_source x.sources source }) (at w.contexts n) p
-      command_on w s polled (Spawn t b forever isomorphic) a p = spawned_on w polled (if forever then 0 else s) t b isomorphic p
-      command_on w s polled (RemoveFuture t) a p = end_on w t a p
-      command_on w s polled (Wake t) a p = post_on w (Woken t) p
-      command_on w s polled (SetActive t active) a p = activated_on w t active (at w.tasks t) p
-      command_on w s polled (QueueEffect e) a p = law.effects w s e p
-      command_on w s polled (Provide root k v) a p = let r : ℕ = if root then 0 else s in provide_on w r k v (at w.scopes r) p
-      command_on w s polled (Update n) a p = post_on w (Mark n) p
-      command_on w s polled (Throw e) a p = throw_on w s e p
-      command_on w s polled ClearErrors a p = cleared_on w (error_context w s) a p
-      command_on w s polled (Resolved e) a p = registered_on w s e (suspense_context w s) p
-      command_on w s polled Freeze a p = frozen_on w (suspense_context w s) p
-
-      -- these commands are all allowed
-      abbrev pub AllAllowed : List (Command K) → Type 0
-      AllAllowed [] = Unit {0}
-      AllAllowed (c ∷ cs) = allowed c × AllAllowed cs
-
-      pub commands_on : (w : State K) (s : ℕ) (polled : Option ℕ) (cs : List (Command K)) → AllAllowed cs → P w → P (commands app w s polled cs)
-      commands_on w s polled [] a p = p
-      commands_on w s polled (c ∷ cs) a p = commands_on (command app w s polled c) s polled cs a.1 (command_on w s polled c a.0 p)
-
   -- what is so of the record of one scope
 
   pub record Of (b : ℕ) (Q : Scope K → Type 0) (w : State K) : Type 0 where
@@ -151,20 +90,23 @@ module _ {K : Types} where
   pub of_others : (b : ℕ) (Q : Scope K → Type 0) (w v : State K) → v.scopes ≡ w.scopes → Of b Q w → Of b Q v
   of_others b Q w v e h = record { row = h.row; there = ap (λ (es : List (ℕ × Scope K)). at es b) e ∙ h.there; holds = h.holds }
 
+  of_put : (b : ℕ) (Q : Scope K → Type 0) (w : State K) (s : ℕ) (x y : Scope K) → at w.scopes s ≡ Some x → (s ≡ b → Q x → Q y) → Of b Q w → Of b Q (record w { scopes = put w.scopes s y })
+  of_put b Q w s x y e keeps h =
+      by_test (nat_eq s b)
+      (
+      λ q.
+      let found : Some x ≡ Some h.row = sym e ∙ ap (λ (n : ℕ). at w.scopes n) (eqb-true s b q) ∙ h.there in
+      let same : x ≡ h.row = cc in
+      record { row = y; there = at_put_here w.scopes s y b q; holds = keeps (eqb-true s b q) (subst (λ (z : Scope K). Q z) (sym same) h.holds) }
+      )
+      (λ q. record { row = h.row; there = at_put_other w.scopes s y b q ∙ h.there; holds = h.holds })
+
   pub of_change : (b : ℕ) (Q : Scope K → Type 0) (w : State K) (s : ℕ) (f : Scope K → Scope K) → ((x : Scope K) → at w.scopes s ≡ Some x → Q x → Q (f x)) → Of b Q w → Of b Q (change w s f)
   of_change b Q w s f keeps h = on (at w.scopes s) refl
     where
       on : (o : Option (Scope K)) → at w.scopes s ≡ o → Of b Q (changed_scope w s f o)
       on None e = h
-      on (Some x) e =
-          by_test (nat_eq s b)
-          (
-          λ q.
-          let found : Some x ≡ Some h.row = sym e ∙ ap (λ (n : ℕ). at w.scopes n) (eqb-true s b q) ∙ h.there in
-          let same : x ≡ h.row = cc in
-          record { row = f x; there = at_put_here w.scopes s (f x) b q; holds = keeps x e (subst (λ (y : Scope K). Q y) (sym same) h.holds) }
-          )
-          (λ q. record { row = h.row; there = at_put_other w.scopes s (f x) b q ∙ h.there; holds = h.holds })
+      on (Some x) e = of_put b Q w s x (f x) e (λ q k. keeps x e k) h
 
   pub of_released : (b : ℕ) (Q : Scope K → Type 0) (w : State K) (t : ℕ) → ((x : Scope K) → Q x → Q (record x { holders = kept_by (λ h. not (nat_eq h.0 t)) x.holders })) → Of b Q w → Of b Q (record w { scopes = released w.scopes t })
   of_released b Q w t keeps h =
@@ -183,45 +125,146 @@ module _ {K : Types} where
           )
           (λ q. at_there d.0 row (released es t) b q ∙ at_released es x (sym (at_there d.0 d.1 es b q) ∙ e))
 
-  error_at : (w : State K) (b : ℕ) (e : CapturedError) (o : Option (Scope K)) → at w.scopes b ≡ o → elim o as (λ z. Option CapturedError) [ None ↦ None | Some x ↦ x.error ] ≡ Some e
-      → Of b (λ x. x.error ≡ Some e) w
-  error_at w b e None live h = cc
-  error_at w b e (Some x) live h = record { row = x; there = live; holds = h }
+  -- a fact of a scope's hooks, error and holders that small changes keep
+  pub record Bears (b : ℕ) (Q : Scope K → Type 0) (clearable endable : ℕ → Type 0) : Type 0 where
+    pub same : (x y : Scope K) → LastsIn x y → Q x → Q y
+    pub hooks : (x : Scope K) (h : Hook K) → Q x → Q (record x { hooks = x.hooks ++ h ∷ [] })
+    pub joins : (x : Scope K) (t origin : ℕ) → Q x → Q (record x { holders = x.holders ++ (t, origin) ∷ [] })
+    pub throws : (x : Scope K) (e : CapturedError) → x.error ≡ None → Q x → Q (record x { error = Some e })
+    pub clears : (x : Scope K) → clearable b → Q x → Q (record x { error = None })
+    pub ends : (x : Scope K) (t : ℕ) → endable t → Q x → Q (record x { holders = kept_by (λ h. not (nat_eq h.0 t)) x.holders })
 
-  errors_steadfast : (b : ℕ) (e : CapturedError) → Steadfast (λ w. Of b (λ x. x.error ≡ Some e) w) (λ c. ClearsNone c)
-  errors_steadfast b e =
-      let Q : Scope K → Type 0 = λ x. x.error ≡ Some e in
+  at_more : (es : List (ℕ × Scope K)) (n b : ℕ) (x y : Scope K) → at es b ≡ Some y → at (es ++ (n, x) ∷ []) b ≡ Some y
+  at_more [] n b x y h = cc
+  at_more (e ∷ es) n b x y h =
+      by_test (nat_eq e.0 b)
+      (λ q. at_here e.0 e.1 (es ++ (n, x) ∷ []) b q ∙ sym (at_here e.0 e.1 es b q) ∙ h)
+      (λ q. at_there e.0 e.1 (es ++ (n, x) ∷ []) b q ∙ at_more es n b x y (sym (at_there e.0 e.1 es b q) ∙ h))
+
+  mounted_row : (w : State K) (es : List (ℕ × Scope K)) (b : ℕ) (x : Scope K) → at es b ≡ Some x → (y : Scope K) × (at (mounted w es) b ≡ Some y) × LastsIn x y
+  mounted_row w [] b x h = cc
+  mounted_row w (e ∷ es) b x h =
+      let y : Scope K = record (e.1) { mounted = (e.1).mounted || is_shown w e.0 } in
+      by_test (nat_eq e.0 b)
+      (
+      λ q.
+      let found : Some e.1 ≡ Some x = sym (at_here e.0 e.1 es b q) ∙ h in
+      let same : e.1 ≡ x = cc in
+      (y, at_here e.0 y (mounted w es) b q, lasts_all x y (ap (λ (z : Scope K). z.reads) same) (ap (λ (z : Scope K). z.hooks) same) (ap (λ (z : Scope K). z.error) same) (ap (λ (z : Scope K). z.holders) same))
+      )
+      (
+      λ q.
+      let later = mounted_row w es b x (sym (at_there e.0 e.1 es b q) ∙ h) in
+      (later.0, at_there e.0 y (mounted w es) b q ∙ later.1, later.2)
+      )
+
+  pub of_again : (b : ℕ) (Q : Scope K → Type 0) → ((x y : Scope K) → LastsBut x y → Q x → Q y) → Again (λ w. Of b Q w)
+  of_again b Q keeps = λ w s x y e same h. of_put b Q w s x y e (λ q k. keeps x y same k) h
+
+  -- then it lasts of that scope
+  pub of_endures : (b : ℕ) (Q : Scope K → Type 0) (clearable endable : ℕ → Type 0) → Bears b Q clearable endable → Enduring (λ w. Of b Q w) 0 clearable endable (λ s. Other b s)
+  of_endures b Q clearable endable law =
       record {
-        others = λ w v same h. of_others b Q w v same h;
-        hooks = λ w s k h. of_change b Q w s (λ x. record x { hooks = x.hooks ++ k ∷ [] }) (λ x live q. q) h;
-        effects = λ w s f h. of_change b Q w s (λ x. record x { effects = x.effects ++ f ∷ [] }) (λ x live q. q) h;
-        contexts = λ w s k v h. of_change b Q w s (λ x. record x { contexts = put x.contexts k v }) (λ x live q. q) h;
-        callbacks = λ w r s f h. of_change b Q w r (λ x. record x { callbacks = x.callbacks ++ (s, f) ∷ [] }) (λ x live q. q) h;
-        freezes = λ w r h. of_change b Q w r (λ x. record x { frozen = true }) (λ x live q. q) h;
-        throws =
-            λ w r x f live none h.
-            of_change b Q w r (λ y. record y { error = Some f })
-            (
-            λ y there q.
-            let found : Some x ≡ Some y = sym live ∙ there in
-            let same : x ≡ y = cc in
-            let absurdity : None ≡ Some e = sym none ∙ ap (λ (z : Scope K). z.error) same ∙ q in
-            cc
-            ) h;
-        clears = λ w r a h. absurd a;
-        ends = λ w t a h. of_released b Q w t (λ x q. q) h;
+        low = λ w h. from_zero w.next.tasks;
+        others = λ w v scopes tasks next h. of_others b Q w v scopes h;
+        nexts = λ w next low h. of_others b Q w (with_next w next) refl h;
+        rows = λ w s x y e same h. of_put b Q w s x y e (λ q k. law.same x y same k) h;
+        hooks = λ w s x k e h. of_put b Q w s x (record x { hooks = x.hooks ++ k ∷ [] }) e (λ q g. law.hooks x k g) h;
+        joins = λ w s t origin x e h. of_put b Q w s x (record x { holders = x.holders ++ (t, origin) ∷ [] }) e (λ q g. law.joins x t origin g) h;
+        throws = λ w s x f e none h. of_put b Q w s x (record x { error = Some f }) e (λ q g. law.throws x f none g) h;
+        clears = λ w s x e may h. of_put b Q w s x (record x { error = None }) e (λ q g. law.clears x (subst (λ (n : ℕ). clearable n) q may) g) h;
+        ends =
+            λ w t may h.
+            of_others b Q (record w { scopes = released w.scopes t }) (record w { tasks = without w.tasks t; scopes = released w.scopes t }) refl
+            (of_released b Q w t (λ x g. law.ends x t may g) h);
+        spawns = λ w t x low h. of_others b Q w (record w { tasks = w.tasks ++ (t, x) ∷ [] }) refl h;
+        tasks = λ w t x y e h. of_others b Q w (record w { tasks = put w.tasks t y }) refl h;
+        makes = λ w n x h. record { row = h.row; there = at_more w.scopes n b x h.row h.there; holds = h.holds };
+        removes = λ w s other h. record { row = h.row; there = at_without_other w.scopes s b other ∙ h.there; holds = h.holds };
+        mounts =
+            λ w h.
+            let found = mounted_row w w.scopes b h.row h.there in
+            record { row = found.0; there = found.1; holds = law.same h.row found.0 found.2 h.holds };
       }
 
-  none_clears : (app : Application K) (b : ℕ) (e : CapturedError) (cs : List (Command K)) → NoneClears cs → AllAllowed (λ w. Of b (λ x. x.error ≡ Some e) w) (λ c. ClearsNone c) (errors_steadfast b e) app cs
-  none_clears app b e [] h = tt
-  none_clears app b e (c ∷ cs) h = (h.0, none_clears app b e cs h.1)
+-- the first error
+
+module _ {K : Types} (b : ℕ) (first : CapturedError) where
+  abbrev KeepsError : Scope K → Type 0
+  KeepsError x = x.error ≡ Some first
+
+  abbrev ErrorKept : State K → Type 0
+  ErrorKept w = Of b KeepsError w
+
+  errors_bear : Bears {K = K} b KeepsError (λ c. Other b c) Free
+  errors_bear =
+      record {
+        same = λ x y same q. (same.but).error ∙ q;
+        hooks = λ x h q. q;
+        joins = λ x t origin q. q;
+        throws = λ x e none q. let absurdity : None ≡ Some first = sym none ∙ q in cc;
+        clears = λ x may q. let absurdity : true ≡ false = sym (eq_same b) ∙ may in cc;
+        ends = λ x t may q. q;
+      }
+
+  errors_last : Enduring {K = K} (λ w. ErrorKept w) 0 (λ c. Other b c) Free (λ s. Other b s)
+  errors_last = of_endures b KeepsError (λ c. Other b c) Free errors_bear
+
+  errors_again : Again {K = K} (λ w. ErrorKept w)
+  errors_again = of_again b KeepsError (λ x y same q. same.error ∙ q)
+
+  error_at : (w : State K) (o : Option (Scope K)) → at w.scopes b ≡ o → elim o as (λ z. Option CapturedError) [ None ↦ None | Some x ↦ x.error ] ≡ Some first → ErrorKept w
+  error_at w None live h = cc
+  error_at w (Some x) live h = record { row = x; there = live; holds = h }
+
+  error_of : (w : State K) → ErrorKept w → elim (at w.scopes b) as (λ z. Option CapturedError) [ None ↦ None | Some x ↦ x.error ] ≡ Some first
+  error_of w h = ap (λ (o : Option (Scope K)). elim o as (λ z. Option CapturedError) [ None ↦ None | Some x ↦ x.error ]) h.there ∙ h.holds
+
+  module _ (app : Application K) where
+    clears_other : (o : Option ℕ) → IsOther b o → MayClear (λ w. ErrorKept w) 0 (λ c. Other b c) Free (λ s. Other b s) errors_last o
+    clears_other None h = tt
+    clears_other (Some c) h = h
+
+    spared_command : (w : State K) (s : ℕ) (c : Command K) → ClearsOther w s b c → Allowed (λ w. ErrorKept w) 0 (λ c. Other b c) Free (λ s. Other b s) errors_last app w s c
+    spared_command w s ClearErrors h = clears_other (error_context w s) h
+    spared_command w s (Spawn t a forever isomorphic) h = from_zero t
+    spared_command w s (RemoveFuture t) h = tt
+    spared_command w s c h = tt
+
+    spared_commands : (w : State K) (s : ℕ) (polled : Option ℕ) (cs : List (Command K)) → NoneClears app b w s polled cs
+        → AllAllowed (λ w. ErrorKept w) 0 (λ c. Other b c) Free (λ s. Other b s) errors_last app w s polled cs
+    spared_commands w s polled [] h = tt
+    spared_commands w s polled (c ∷ cs) h = (spared_command w s c h.0, spared_commands (command app w s polled c) s polled cs h.1)
+
+    error_stays : (w : State K) (s : ℕ) (polled : Option ℕ) (cs : List (Command K)) → NoneClears app b w s polled cs → ErrorKept w → ErrorKept (commands app w s polled cs)
+    error_stays w s polled cs none h =
+        commands_on (λ w. ErrorKept w) 0 (λ c. Other b c) Free (λ s. Other b s) errors_last app w s polled cs (spared_commands w s polled cs none) h
+
+    spared_on : (limits : Limits) (m v : Machine K) (moves : List Move) (leads : Leads app limits m moves v) → NoneClearsOn app limits b m v moves leads
+        → GoodOn app (λ w. ErrorKept w) 0 (λ c. Other b c) (λ s. Other b s) errors_last errors_again (λ w s polled cs. NoneClears app b w s polled cs) (λ w s polled cs f g. spared_commands w s polled cs g) (draw_anyway app) limits m v moves leads
+    spared_on limits m v [] leads h = tt
+    spared_on limits m v (move ∷ moves) leads h = (h.0, spared_on limits leads.0 v moves leads.2 h.1)
+
+    error_lasts : (limits : Limits) (m v : Machine K) (moves : List Move) (leads : Leads app limits m moves v) → NoneRemoves b (entries moves) → NoneClearsOn app limits b m v moves leads → ErrorKept m.state → ErrorKept v.state
+    error_lasts limits m v moves leads stays none h =
+        moves_on app (λ w. ErrorKept w) 0 (λ c. Other b c) (λ s. Other b s) errors_last errors_again (λ w s polled cs. NoneClears app b w s polled cs) (λ w s polled cs f g. spared_commands w s polled cs g) (draw_anyway app)
+        limits m v moves leads (spared_on limits m v moves leads none)
+        (spares_all app (λ w. ErrorKept w) 0 (λ c. Other b c) (λ s. Other b s) errors_last errors_again (λ w s polled cs. NoneClears app b w s polled cs) (λ w s polled cs f g. spared_commands w s polled cs g) (draw_anyway app) b (λ s q. q) moves stays)
+        h
 
 pub first_error_stays : {K : Types} (app : Application K) → FirstErrorStays app
 first_error_stays {K = K} app w s polled cs b first none h =
-    let end_state : State K = commands app w s polled cs in
-    let stays : Of b (λ x. x.error ≡ Some first) end_state =
-    commands_on (λ v. Of b (λ x. x.error ≡ Some first) v) (λ c. ClearsNone c) (errors_steadfast b first) app w s polled cs (none_clears app b first cs none) (error_at w b first (at w.scopes b) refl h) in
-    ap (λ (o : Option (Scope K)). elim o as (λ z. Option CapturedError) [ None ↦ None | Some x ↦ x.error ]) stays.there ∙ stays.holds
+    error_of b first (commands app w s polled cs) (error_stays b first app w s polled cs none (error_at b first w (at w.scopes b) refl h))
+
+pub first_error_lasts : {K : Types} (app : Application K) → FirstErrorLasts app
+first_error_lasts {K = K} app limits m v moves b first leads stays none h =
+    error_of b first v.state (error_lasts b first app limits m v moves leads stays none (error_at b first m.state (at m.state.scopes b) refl h))
+
+pub logged_first_error_lasts : {K : Types} (app : Application K) → LoggedFirstErrorLasts app
+logged_first_error_lasts app limits m v log b first settled accepted stays h =
+    let found = logs_are_moves app limits m v log settled accepted in
+    let here : NoneRemoves b (entries found.0) = subst (λ (es : List Entry). NoneRemoves b es) (sym found.2) stays in
+    (found.0, found.1, found.2, λ none. first_error_lasts app limits m v found.0 b first found.1 here none h)
 
 -- hooks
 
@@ -234,30 +277,58 @@ module _ {K : Types} (owner index : ℕ) (hook : Hook K) where
   abbrev KeepsHook : Scope K → Type 0
   KeepsHook x = nth x.hooks index ≡ Some hook
 
-  hooks_steadfast : Steadfast {K = K} (λ w. Of owner KeepsHook w) (λ c. Unit {0})
-  hooks_steadfast =
+  abbrev HookKept : State K → Type 0
+  HookKept w = Of owner KeepsHook w
+
+  hooks_bear : Bears {K = K} owner KeepsHook Free Free
+  hooks_bear =
       record {
-        others = λ w v same h. of_others owner KeepsHook w v same h;
-        hooks = λ w s k h. of_change owner KeepsHook w s (λ x. record x { hooks = x.hooks ++ k ∷ [] }) (λ x live q. nth_stays x.hooks index hook k q) h;
-        effects = λ w s f h. of_change owner KeepsHook w s (λ x. record x { effects = x.effects ++ f ∷ [] }) (λ x live q. q) h;
-        contexts = λ w s k v h. of_change owner KeepsHook w s (λ x. record x { contexts = put x.contexts k v }) (λ x live q. q) h;
-        callbacks = λ w r s f h. of_change owner KeepsHook w r (λ x. record x { callbacks = x.callbacks ++ (s, f) ∷ [] }) (λ x live q. q) h;
-        freezes = λ w r h. of_change owner KeepsHook w r (λ x. record x { frozen = true }) (λ x live q. q) h;
-        throws = λ w r x f live none h. of_change owner KeepsHook w r (λ y. record y { error = Some f }) (λ y there q. q) h;
-        clears = λ w r a h. of_change owner KeepsHook w r (λ x. record x { error = None }) (λ x live q. q) h;
-        ends = λ w t a h. of_released owner KeepsHook w t (λ x q. q) h;
+        same = λ x y same q. ap (λ (hs : List (Hook K)). nth hs index) (same.but).hooks ∙ q;
+        hooks = λ x h q. nth_stays x.hooks index hook h q;
+        joins = λ x t origin q. q;
+        throws = λ x e none q. q;
+        clears = λ x may q. q;
+        ends = λ x t may q. q;
       }
 
-  all_allowed : (app : Application K) (cs : List (Command K)) → AllAllowed (λ w. Of owner KeepsHook w) (λ c. Unit {0}) hooks_steadfast app cs
-  all_allowed app [] = tt
-  all_allowed app (c ∷ cs) = (tt, all_allowed app cs)
+  hooks_endure : Enduring {K = K} (λ w. HookKept w) 0 Free Free (λ s. Other owner s)
+  hooks_endure = of_endures owner KeepsHook Free Free hooks_bear
 
-  hook_at : (w : State K) (o : Option (Scope K)) → at w.scopes owner ≡ o → nth (elim o as (λ z. List (Hook K)) [ None ↦ [] | Some x ↦ x.hooks ]) index ≡ Some hook → Of owner KeepsHook w
+  hooks_again : Again {K = K} (λ w. HookKept w)
+  hooks_again = of_again owner KeepsHook (λ x y same q. ap (λ (hs : List (Hook K)). nth hs index) same.hooks ∙ q)
+
+  hook_at : (w : State K) (o : Option (Scope K)) → at w.scopes owner ≡ o → nth (elim o as (λ z. List (Hook K)) [ None ↦ [] | Some x ↦ x.hooks ]) index ≡ Some hook → HookKept w
   hook_at w None e h = cc
   hook_at w (Some x) e h = record { row = x; there = e; holds = h }
 
+  hook_of : (w : State K) → HookKept w → nth (elim (at w.scopes owner) as (λ z. List (Hook K)) [ None ↦ [] | Some x ↦ x.hooks ]) index ≡ Some hook
+  hook_of w h = ap (λ (o : Option (Scope K)). nth (elim o as (λ z. List (Hook K)) [ None ↦ [] | Some x ↦ x.hooks ]) index) h.there ∙ h.holds
+
+  module _ (app : Application K) where
+    freely : (w : State K) (s : ℕ) (polled : Option ℕ) (cs : List (Command K)) → AllFresh app 0 cs → Unit {0} → AllAllowed (λ w. HookKept w) 0 Free Free (λ s. Other owner s) hooks_endure app w s polled cs
+    freely w s polled cs f g = all_allowed (λ w. HookKept w) 0 (λ s. Other owner s) hooks_endure app w s polled cs f
+
+    hook_stays : (w : State K) (s : ℕ) (polled : Option ℕ) (cs : List (Command K)) → HookKept w → HookKept (commands app w s polled cs)
+    hook_stays w s polled cs h =
+        commands_on (λ w. HookKept w) 0 Free Free (λ s. Other owner s) hooks_endure app w s polled cs (freely w s polled cs (fresh_anyway app cs) tt) h
+
+    hook_lasts : (limits : Limits) (m v : Machine K) (moves : List Move) (leads : Leads app limits m moves v) → NoneRemoves owner (entries moves) → HookKept m.state → HookKept v.state
+    hook_lasts limits m v moves leads stays h =
+        moves_on app (λ w. HookKept w) 0 Free (λ s. Other owner s) hooks_endure hooks_again (λ w s polled cs. Unit {0}) (λ w s polled cs f g. freely w s polled cs f g) (draw_anyway app)
+        limits m v moves leads
+        (good_anyway app (λ w. HookKept w) 0 Free (λ s. Other owner s) hooks_endure hooks_again (λ w s polled cs. Unit {0}) (λ w s polled cs f g. freely w s polled cs f g) (draw_anyway app) (λ w s polled cs. tt) limits m v moves leads)
+        (spares_all app (λ w. HookKept w) 0 Free (λ s. Other owner s) hooks_endure hooks_again (λ w s polled cs. Unit {0}) (λ w s polled cs f g. freely w s polled cs f g) (draw_anyway app) owner (λ s q. q) moves stays)
+        h
+
 pub hooks_stay : {K : Types} (app : Application K) → HooksStay app
 hooks_stay {K = K} app w s polled cs owner index hook h =
-    let stays : Of owner (KeepsHook owner index hook) (commands app w s polled cs) =
-    commands_on (λ v. Of owner (KeepsHook owner index hook) v) (λ c. Unit {0}) (hooks_steadfast owner index hook) app w s polled cs (all_allowed owner index hook app cs) (hook_at owner index hook w (at w.scopes owner) refl h) in
-    ap (λ (o : Option (Scope K)). nth (elim o as (λ z. List (Hook K)) [ None ↦ [] | Some x ↦ x.hooks ]) index) stays.there ∙ stays.holds
+    hook_of owner index hook (commands app w s polled cs) (hook_stays owner index hook app w s polled cs (hook_at owner index hook w (at w.scopes owner) refl h))
+
+pub hooks_last : {K : Types} (app : Application K) → HooksLast app
+hooks_last {K = K} app limits m v moves owner index hook leads stays h =
+    hook_of owner index hook v.state (hook_lasts owner index hook app limits m v moves leads stays (hook_at owner index hook m.state (at m.state.scopes owner) refl h))
+
+pub logged_hooks_last : {K : Types} (app : Application K) → LoggedHooksLast app
+logged_hooks_last app limits m v log owner index hook settled accepted stays h =
+    let found = logs_are_moves app limits m v log settled accepted in
+    hooks_last app limits m v found.0 owner index hook found.1 (subst (λ (es : List Entry). NoneRemoves owner es) (sym found.2) stays) h

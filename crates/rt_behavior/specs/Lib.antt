@@ -12,4 +12,6 @@ pub mod Looks
 pub mod Wakes
 pub mod Keeping
 pub mod Holding
+pub mod Deeds
+pub mod Along
 pub mod Once

@@ -1,11 +1,12 @@
-//! What commands and runs leave of a scope.
+//! What commands, runs, moves and logs leave of a scope.
 
+ghost use Rattle.rt_behavior.specs.Along.{FirstErrorLasts, HoldersLast, HooksLast, LoggedFirstErrorLasts, LoggedHoldersLast, LoggedHooksLast};
 ghost use Rattle.rt_behavior.specs.Holding.{EndsRelease, HoldersStay, RunsKeepReads, SuspensionsHold};
 ghost use Rattle.rt_behavior.specs.Keeping.{FirstErrorStays, HooksStay};
 ghost use Rattle.rt_model.specs.OneLog.{types};
 ghost use Rattle.rt_model.specs.World.{Application};
 
-/// The error that a boundary keeps stays, whatever commands are done, unless one clears errors.
+/// The error that a boundary keeps stays, whatever commands are done, unless one clears it.
 pub fn first_error_stays<C, P, V, H, T, E, L>()
     ensures { (app : Application (types C P V H T E L)) → FirstErrorStays app }
 {}
@@ -33,4 +34,35 @@ pub fn holders_stay<C, P, V, H, T, E, L>()
 /// The end of a task releases each boundary that it held, and marks it.
 pub fn ends_release<C, P, V, H, T, E, L>()
     ensures { EndsRelease (types C P V H T E L) }
+{}
+
+/// The error that a boundary keeps stays along moves until a call clears it, or the boundary is
+/// removed.
+pub fn first_error_lasts<C, P, V, H, T, E, L>()
+    ensures { (app : Application (types C P V H T E L)) → FirstErrorLasts app }
+{}
+
+/// A hook stays along moves until its scope is removed.
+pub fn hooks_last<C, P, V, H, T, E, L>()
+    ensures { (app : Application (types C P V H T E L)) → HooksLast app }
+{}
+
+/// A task goes on to hold a boundary along moves until it ends, or the boundary is removed.
+pub fn holders_last<C, P, V, H, T, E, L>()
+    ensures { (app : Application (types C P V H T E L)) → HoldersLast app }
+{}
+
+/// The same holds of first errors along accepted logs.
+pub fn logged_first_error_lasts<C, P, V, H, T, E, L>()
+    ensures { (app : Application (types C P V H T E L)) → LoggedFirstErrorLasts app }
+{}
+
+/// The same holds of hooks along accepted logs.
+pub fn logged_hooks_last<C, P, V, H, T, E, L>()
+    ensures { (app : Application (types C P V H T E L)) → LoggedHooksLast app }
+{}
+
+/// The same holds of holders along accepted logs.
+pub fn logged_holders_last<C, P, V, H, T, E, L>()
+    ensures { (app : Application (types C P V H T E L)) → LoggedHoldersLast app }
 {}

@@ -16,7 +16,9 @@ mod turns;
 pub use ending::{children_go_first, clean_ups_in_turn, effects_in_turn};
 pub use hiding::{effects_are_mounted, hidden_writes_nothing, shown_are_mounted};
 pub use lasting::{
-    ends_release, first_error_stays, holders_stay, hooks_stay, runs_keep_reads, suspensions_hold,
+    ends_release, first_error_lasts, first_error_stays, holders_last, holders_stay, hooks_last,
+    hooks_stay, logged_first_error_lasts, logged_holders_last, logged_hooks_last, runs_keep_reads,
+    suspensions_hold,
 };
 pub use once::no_body_twice;
 pub use owing::{
