@@ -20,3 +20,4 @@ mod Wrote
 mod Entries
 mod Faulted
 mod FromTheStart
+mod Fronts

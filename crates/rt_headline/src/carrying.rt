@@ -1,6 +1,6 @@
 //! The numbers that the edits of units carry.
 
-ghost use Rattle.rt_headline.specs.Carried.{CutUnitsCarryAnew, RerunsCarryAnew, UnitsCarryAnew};
+ghost use Rattle.rt_headline.specs.Carried.{CutUnitsCarryAnew, HeadlinesCarryAnew, RerunsCarryAnew, UnitsCarryAnew};
 ghost use Rattle.rt_model.specs.OneLog.{types};
 ghost use Rattle.rt_model.specs.World.{Application};
 
@@ -18,4 +18,9 @@ pub fn units_carry_anew<C, P, V, H, T, E, L>()
 /// So do the edits of a unit that limits cut, where they refuse the next scope that it would make.
 pub fn cut_units_carry_anew<C, P, V, H, T, E, L>()
     ensures { (app : Application (types C P V H T E L)) → CutUnitsCarryAnew app }
+{}
+
+/// So do the edits of each unit of the reports of a session.
+pub fn headlines_carry_anew<C, P, V, H, T, E, L>()
+    ensures { (app : Application (types C P V H T E L)) → HeadlinesCarryAnew app }
 {}
