@@ -1,6 +1,7 @@
 //! What runs next: marked scopes and woken tasks by height and number, effects last.
 #![tactic(auto)]
 
+mod compared;
 mod dirty;
 mod effects;
 mod line;
@@ -11,6 +12,7 @@ mod roll;
 mod tree;
 mod work;
 
+pub use compared::{dirty_tasks_compare, effects_compare, orders_compare};
 pub use dirty::DirtyTasks;
 pub use effects::Effect;
 pub use order::ScopeOrder;
