@@ -6,3 +6,10 @@ pub mod Faults
 pub mod Entries
 pub mod Reports
 pub mod Items
+mod NamedViews
+mod NamedWrites
+mod NamedRuns
+mod NamedMoves
+mod NamedSessions
+mod NamedAnswers
+mod Plainly

@@ -4,6 +4,7 @@
 #![tactic(auto)]
 
 ghost use Rattle.rt_lines.specs.Told.{LinesTell};
+ghost use Rattle.rt_lines.specs.Named.{SourcesWritePlainly};
 ghost use Rattle.rt_lines.specs.Runs.{ItemsTell, RunsTell, TextsTell, FaultTextsTell, EndsTell};
 
 /// Reports of one number with one line are alike, but for whether a default was prevented.
@@ -35,4 +36,9 @@ pub fn fault_texts_tell()
 /// What a run prints tells whether it came to a fault.
 pub fn ends_tell()
     ensures { EndsTell }
+{}
+
+/// Every session of a source whose views have names writes edits that are printed plainly.
+pub fn sources_write_plainly()
+    ensures { SourcesWritePlainly }
 {}
