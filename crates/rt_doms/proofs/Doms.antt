@@ -12,7 +12,7 @@ use Rattle.rt_model.specs.Document.{Empty, Edit, document_after}
 use Rattle.rt_model.specs.View.{view}
 use Rattle.rt_model.specs.Causes.{Limits, refusal, replay_within, depth_refused, next_height, turns_refused}
 use Rattle.rt_model.specs.Told.{Telling, telling, opens, tell_log, is_settled}
-use Rattle.rt_model.specs.Sentences.{EndsAt, CallComesTo, AllCurrentOrOwed, call_refusal, call_spent, render_ends}
+use Rattle.rt_model.specs.Sentences.{EndsAt, CallComesTo, AllCurrentOrOwed, call_refusal, call_spent, events_end, render_ends}
 use Rattle.rt_model.proofs.Conjunctions.{and-left, and-right}
 use Rattle.rt_model.proofs.ToldReplayed.{log-replays, within-replays}
 use Rattle.rt_moves.specs.Moves.{Move, moves_alone, IsSettled, AtRest, Leads, entries}
@@ -20,6 +20,7 @@ use Rattle.rt_moves.specs.Reached.{Part, ByMoves, ByAside, NonePassed, Comes, Re
 use Rattle.rt_moves.specs.Reports.{ToldSo}
 use Rattle.rt_model.specs.Asides.{Aside, Asked, Marked, AllMarked, Looked, Thinned, Rested, Raised, Passed, Polling, Answered, PassesNone, Allowed, aside_state, set_aside, resting}
 use Rattle.rt_moves.specs.Asides.{IsAside}
+use Rattle.rt_moves.proofs.Joins.{logs_join}
 use Rattle.rt_moves.proofs.Logs.{logs_are_moves}
 use Rattle.rt_moves.proofs.Ways.{comes-append, start_reached, reached_moved, reached_aside, none_more, none_aside}
 use Rattle.rt_moves.proofs.Commanded.{Level, level_refl}
@@ -35,7 +36,7 @@ use Rattle.rt_headline.proofs.Units.{Rest, Ends, rest_ends}
 use Rattle.rt_headline.proofs.Reports.{settled_after, unit_over, one_machine, one_telling}
 use Rattle.rt_behavior.specs.Once.{PollsFirst}
 use Rattle.rt_behavior.proofs.Renders.{no_body_twice}
-use Rattle.rt_doms.specs.Doms.{Until, Events, Renders, Settles, ends_by, left_by, LedTo, AsidesLead, Unended, CallRan, CallStopped, CallHolds, BuildRan, BuildHolds, BuildsHold, HandleRan, HandlesLead, CallsHold, SettledHold, RendersRunOnce, CallsComeTo}
+use Rattle.rt_doms.specs.Doms.{Until, Events, Renders, Settles, ends_by, left_by, LedTo, AsidesLead, Unended, CallRan, CallSpent, CallStopped, CallHolds, RenderRan, RenderStopped, RendersHold, RendersComeTo, SpentHold, BuildRan, BuildHolds, BuildsHold, HandleRan, HandlesLead, CallsHold, SettledHold, RendersRunOnce, CallsComeTo}
 
 alive_of : (o : Option Fault) → not (is_some o) ≡ true → o ≡ None
 alive_of None h = refl
@@ -186,9 +187,9 @@ module _ {K : Types} (app : Application K) where
         level_views w v (reached_unfold app lawful limits props [] (resting w) h.reached refl)
         (reached_unfold app lawful limits props [] (resting v) k.reached refl) level
 
-    came : (until : Until) (w : State K) (log : List Entry) (edits : List Edit) (v : Machine K) → (led : LedTo app limits props whole w)
-        → CallRan app limits until w log edits v → Came w log edits v
-    came until w log edits v led r =
+    came : (w : State K) (log : List Entry) (edits : List Edit) (v : Machine K) → (led : LedTo app limits props whole w)
+        → CallSpent app limits w log edits v → Came w log edits v
+    came w log edits v led r =
         let start_w : State K = look w in
         let m : Machine K = resting start_w in
         let t : Telling K = r.last in
@@ -276,10 +277,15 @@ module _ {K : Types} (app : Application K) where
         → AtRest v → v.built ≡ true → Left v (left_by until v.state)
     left until v reached known rest built = left_at until v reached known rest built (led_there v reached known rest built)
 
+  -- what a call that ended tells of its log
+  ran_told : (limits : Limits) (until : Until) (w : State K) (log : List Entry) (edits : List Edit) (v : Machine K)
+      → CallRan app limits until w log edits v → CallSpent app limits w log edits v
+  ran_told limits until w log edits v r = record { last = r.last; so = r.so; edits_are = r.edits_are; machine = r.machine; quiet = r.quiet }
+
   pub calls_hold : CallsHold app
   calls_hold lawful limits props whole until w log edits v led r =
       let test : State K → Bool = λ x. ends_by until x in
-      let c : Came lawful limits props whole w log edits v = came lawful limits props whole until w log edits v led r in
+      let c : Came lawful limits props whole w log edits v = came lawful limits props whole w log edits v led (ran_told limits until w log edits v r) in
       let x : State K = left_by until v.state in
       let l : Left lawful limits props whole v x = left lawful limits props whole until v c.reached c.known c.rest c.built in
       let there : LedTo app limits props whole v.state = led_there lawful limits props whole v c.reached c.known c.rest c.built in
@@ -288,6 +294,44 @@ module _ {K : Types} (app : Application K) where
             ends_on test log (resting (look w)) v
             (log-replays app log (telling (resting (look w))) r.last r.so.told ∙ ap (λ (y : Machine K). Some y) r.machine)
             r.unended r.quiet r.ended;
+        leads = l.leads;
+        shows = c.shows ∙ ap (λ d. Ok d) (sym (same_view lawful limits props whole v.state x there l.leads l.level));
+        current = all_are_current_or_owed app lawful limits props [] (resting x) (l.leads).reached refl refl refl;
+      }
+
+  pub spent_hold : SpentHold app
+  spent_hold lawful limits props whole w log edits v led r =
+      let c : Came lawful limits props whole w log edits v = came lawful limits props whole w log edits v led r in
+      let x : State K = at_rest v.state in
+      let l : Left lawful limits props whole v x = left lawful limits props whole Settles v c.reached c.known c.rest c.built in
+      let there : LedTo app limits props whole v.state = led_there lawful limits props whole v c.reached c.known c.rest c.built in
+      record {
+        leads = l.leads;
+        shows = c.shows ∙ ap (λ d. Ok d) (sym (same_view lawful limits props whole v.state x there l.leads l.level));
+        current = all_are_current_or_owed app lawful limits props [] (resting x) (l.leads).reached refl refl refl;
+      }
+
+  pub renders_hold : RendersHold app
+  renders_hold lawful limits props whole w log edits v led r =
+      let told : CallSpent app limits w log edits v = record { last = r.last; so = r.so; edits_are = r.edits_are; machine = r.machine; quiet = r.quiet } in
+      let c : Came lawful limits props whole w log edits v = came lawful limits props whole w log edits v led told in
+      let x : State K = left_by Renders v.state in
+      let l : Left lawful limits props whole v x = left lawful limits props whole Renders v c.reached c.known c.rest c.built in
+      let there : LedTo app limits props whole v.state = led_there lawful limits props whole v c.reached c.known c.rest c.built in
+      let m : Machine K = resting (look w) in
+      let all : replay_on app (Some m) log ≡ Some v =
+      log-replays app log (telling m) r.last r.so.told ∙ ap (λ (y : Machine K). Some y) r.machine in
+      let on : replay_on app (Some r.between) r.more ≡ Some v =
+      sym ((logs_join app limits r.first r.more).1 m r.between r.goes) ∙ ap (λ (es : List Entry). replay_on app (Some m) es) r.whole ∙ all in
+      record {
+        ends = record {
+          first = r.first;
+          between = r.between;
+          more = r.more;
+          whole = r.whole;
+          events = ends_on (λ (y : State K). events_end y) r.first m r.between r.goes r.events r.calm r.processed;
+          goes_on = ends_on (λ (y : State K). render_ends y) r.more r.between v on r.renders r.quiet r.ended;
+        };
         leads = l.leads;
         shows = c.shows ∙ ap (λ d. Ok d) (sym (same_view lawful limits props whole v.state x there l.leads l.level));
         current = all_are_current_or_owed app lawful limits props [] (resting x) (l.leads).reached refl refl refl;
@@ -367,7 +411,7 @@ module _ {K : Types} (app : Application K) where
 
   pub settled_hold : SettledHold app
   settled_hold lawful limits props w log edits v led r =
-      let c : Came lawful limits props true w log edits v = came lawful limits props true Settles w log edits v led r in
+      let c : Came lawful limits props true w log edits v = came lawful limits props true w log edits v led (ran_told limits Settles w log edits v r) in
       let over : is_settled v ≡ true = ap (λ (b : Bool). b && not (owes v.state)) r.quiet ∙ r.ended in
       let none : NonePassed c.reached.parts = elim c.known [ inl n ↦ n | inr q ↦ let absurdity : true ≡ false = q in cc ] in (
         settled_are_current app lawful limits props [] v c.reached none c.built over,
@@ -453,6 +497,25 @@ module _ {K : Types} (app : Application K) where
         first_none None later h = refl
         first_none (Some fault) later h = cc
 
+    -- entry by entry to a machine within the limits, and from there
+    way_over : (log : List Entry) (m v : Machine K) → OnWay m → replay_within app limits (Some m) log ≡ Some v → OnWay v
+    way_over [] m v h go = subst (λ (x : Machine K). OnWay x) (one_machine m v go) h
+    way_over (e ∷ log) m v h go =
+        let on = within_on limits m v e log go in
+        way_over log on.1.0 v (way_on m on.1.0 e h on.0 on.1.1) on.1.2
+
+    within_split : (first more : List Entry) (m v : Machine K) → replay_within app limits (Some m) (first ++ more) ≡ Some v
+        → (u : Machine K) × (replay_within app limits (Some m) first ≡ Some u) × (replay_within app limits (Some u) more ≡ Some v)
+    within_split [] more m v go = (m, refl, go)
+    within_split (e ∷ first) more m v go =
+        let on = within_on limits m v e (first ++ more) go in
+        let rest = within_split first more on.1.0 v on.1.2 in
+        let one : replay_within app limits (Some m) (e ∷ first) ≡ replay_within app limits (Some on.1.0) first =
+        ap (λ (o : Option Fault). replay_within app limits (elim o as (λ z. Option (Machine K))
+        [ None ↦ accepts app m e | Some fault ↦ None ]) first) on.0
+        ∙ ap (λ (o : Option (Machine K)). replay_within app limits o first) on.1.1 in
+        (rest.0, one ∙ rest.1, rest.2)
+
   pub calls_come_to : CallsComeTo app
   calls_come_to lawful limits props whole until w log edits fault led r =
       let start_w : State K = look w in
@@ -461,3 +524,27 @@ module _ {K : Types} (app : Application K) where
       stops_on lawful limits props until log m r.last.machine fault
       (record { sound = reached_sound app lawful limits props [] m looked_led.reached; settled = refl; built = λ alive. refl })
       r.so.accepted r.unended r.cause
+
+  pub renders_come_to : RendersComeTo app
+  renders_come_to lawful limits props whole w log edits fault led r =
+      let start_w : State K = look w in
+      let m : Machine K = resting start_w in
+      let looked_led : LedTo app limits props whole start_w = asides_lead limits props whole lawful w Looked led tt (inl tt) in
+      let begun : OnWay lawful limits props Renders m =
+      record { sound = reached_sound app lawful limits props [] m looked_led.reached; settled = refl; built = λ alive. refl } in
+      let go : replay_within app limits (Some m) (r.first ++ r.more) ≡ Some r.last.machine =
+      ap (λ (es : List Entry). replay_within app limits (Some m) es) r.whole ∙ r.so.accepted in
+      let parts = within_split lawful limits props Renders r.first r.more m r.last.machine go in
+      let same : parts.0 ≡ r.between = one_machine parts.0 r.between (sym (within-replays app limits r.first m parts.0 parts.1) ∙ r.goes) in
+      let there : OnWay lawful limits props Renders r.between =
+      subst (λ (x : Machine K). OnWay lawful limits props Renders x) same (way_over lawful limits props Renders r.first m parts.0 begun parts.1) in
+      let on : replay_within app limits (Some r.between) r.more ≡ Some r.last.machine =
+      ap (λ (x : Machine K). replay_within app limits (Some x) r.more) (sym same) ∙ parts.2 in
+      record {
+        first = r.first;
+        between = r.between;
+        more = r.more;
+        whole = r.whole;
+        events = ends_on (λ (y : State K). events_end y) r.first m r.between r.goes r.events r.calm r.processed;
+        comes_to = stops_on lawful limits props Renders r.more r.between r.last.machine fault there on r.renders r.cause;
+      }

@@ -12,6 +12,7 @@ use Rattle.rt_model.specs.View.{view}
 use Rattle.rt_model.specs.Causes.{Limits, edits_at_refusal}
 use Rattle.rt_model.specs.Told.{Telling, opens}
 use Rattle.rt_model.specs.Current.{AllCurrent}
+use Rattle.rt_model.specs.Bodies.{RenderEnds}
 use Rattle.rt_model.specs.Headline.{AllHeldShown}
 use Rattle.rt_model.specs.Sentences.{NoBodyTwice, AllCurrentOrOwed, EndsAt, CallComesTo, call_refusal, events_end, render_ends, settle_ends}
 use Rattle.rt_moves.specs.Moves.{AtRest}
@@ -83,6 +84,100 @@ module _ {K : Types} (app : Application K) where
       pub cause : call_refusal limits (λ (x : State K). ends_by until x) last.machine ≡ Some fault
       pub edits_are : edits_at_refusal app limits last ≡ edits
 
+  module _ (limits : Limits) (w : State K) where
+    -- what code proves of a whole render that ended: its log and its edits, the machine between, up to which events were processed,
+    -- and the machine at its end
+    pub record RenderRan (log : List Entry) (edits : List Edit) (v : Machine K) : Type 0 where
+      pub last : Telling K
+      pub so : ToldSo app limits (resting (aside_state app w Looked)) log last
+      pub edits_are : last.edits ≡ edits
+      pub machine : last.machine ≡ v
+      pub quiet : is_quiet v ≡ true
+      pub first : List Entry
+      pub more : List Entry
+      pub whole : first ++ more ≡ log
+      pub between : Machine K
+      pub goes : replay_on app (Some (resting (aside_state app w Looked))) first ≡ Some between
+      pub events : Unended (λ (x : State K). events_end x) (resting (aside_state app w Looked)) first
+      pub calm : is_quiet between ≡ true
+      pub processed : events_end between.state ≡ true
+      pub renders : Unended (λ (x : State K). render_ends x) between more
+      pub ended : render_ends v.state ≡ true
+
+    -- what code proves of a whole render that came to a fault after events were processed; before that it stops as a call that
+    -- processes events
+    pub record RenderStopped (log : List Entry) (edits : List Edit) (fault : Fault) : Type 0 where
+      pub last : Telling K
+      pub so : ToldSo app limits (resting (aside_state app w Looked)) log last
+      pub edits_are : edits_at_refusal app limits last ≡ edits
+      pub first : List Entry
+      pub more : List Entry
+      pub whole : first ++ more ≡ log
+      pub between : Machine K
+      pub goes : replay_on app (Some (resting (aside_state app w Looked))) first ≡ Some between
+      pub events : Unended (λ (x : State K). events_end x) (resting (aside_state app w Looked)) first
+      pub calm : is_quiet between ≡ true
+      pub processed : events_end between.state ≡ true
+      pub renders : Unended (λ (x : State K). render_ends x) between more
+      pub cause : call_refusal limits (λ (x : State K). render_ends x) last.machine ≡ Some fault
+
+    -- a whole render's log comes to this fault after events were processed
+    pub record RenderComesTo (log : List Entry) (fault : Fault) : Type 0 where
+      pub first : List Entry
+      pub between : Machine K
+      pub more : List Entry
+      pub whole : first ++ more ≡ log
+      pub events : EndsAt app (λ (x : State K). events_end x) (resting (aside_state app w Looked)) first between
+      pub comes_to : CallComesTo app limits (λ (x : State K). render_ends x) between more fault
+
+    -- what code proves of a call that stopped since its units were spent, where nothing is at work
+    pub record CallSpent (log : List Entry) (edits : List Edit) (v : Machine K) : Type 0 where
+      pub last : Telling K
+      pub so : ToldSo app limits (resting (aside_state app w Looked)) log last
+      pub edits_are : last.edits ≡ edits
+      pub machine : last.machine ≡ v
+      pub quiet : is_quiet v ≡ true
+
+  -- what a whole render says, of a lawful application
+  pub record RenderHolds
+      (limits : Limits) (props : K.Props) (whole : Bool) (w : State K)
+      (log : List Entry) (edits : List Edit) (v : Machine K) : Type 0 where
+    -- it begins with a look, processes events, and goes on to the first state in which nothing is seen or queued
+    pub ends : RenderEnds app (resting w) log v
+    -- the program has led to the state that is left
+    pub leads : LedTo app limits props whole (left_by Renders v.state)
+    -- the edits never fault, and make what shows after it of what showed before it
+    pub shows : document_after edits (view w) ≡ Ok (view (left_by Renders v.state))
+    -- each live scope is current, or owed a run
+    pub current : AllCurrentOrOwed app (left_by Renders v.state)
+
+  -- a whole render that ended holds all that
+  abbrev pub RendersHold : Type 0
+  RendersHold =
+      IsLawful K app
+      → (limits : Limits) (props : K.Props) (whole : Bool) (w : State K)
+      → (log : List Entry) (edits : List Edit) (v : Machine K)
+      → LedTo app limits props whole w
+      → RenderRan limits w log edits v
+      → RenderHolds limits props whole w log edits v
+
+  -- what a call says whose units were spent: what is owed stays, and the program goes on from there
+  pub record SpentHolds
+      (limits : Limits) (props : K.Props) (whole : Bool) (w : State K) (edits : List Edit) (v : Machine K) : Type 0 where
+    pub leads : LedTo app limits props whole (at_rest v.state)
+    pub shows : document_after edits (view w) ≡ Ok (view (at_rest v.state))
+    pub current : AllCurrentOrOwed app (at_rest v.state)
+
+  -- a call whose units were spent holds all that
+  abbrev pub SpentHold : Type 0
+  SpentHold =
+      IsLawful K app
+      → (limits : Limits) (props : K.Props) (whole : Bool) (w : State K)
+      → (log : List Entry) (edits : List Edit) (v : Machine K)
+      → LedTo app limits props whole w
+      → CallSpent limits w log edits v
+      → SpentHolds limits props whole w edits v
+
   -- what such a call says, of a lawful application
   pub record CallHolds
       (limits : Limits) (props : K.Props) (whole : Bool) (until : Until) (w : State K)
@@ -135,6 +230,16 @@ module _ {K : Types} (app : Application K) where
       → LedTo app limits props whole w
       → CallStopped limits until w log edits fault
       → CallComesTo app limits (λ (x : State K). ends_by until x) (resting (aside_state app w Looked)) log fault
+
+  -- and a whole render that stopped after events were processed came to its fault
+  abbrev pub RendersComeTo : Type 0
+  RendersComeTo =
+      IsLawful K app
+      → (limits : Limits) (props : K.Props) (whole : Bool) (w : State K)
+      → (log : List Entry) (edits : List Edit) (fault : Fault)
+      → LedTo app limits props whole w
+      → RenderStopped limits w log edits fault
+      → RenderComesTo limits w log fault
 
   -- what code proves of a build that ended: its log and its edits, and the machine at its end
   pub record BuildRan (limits : Limits) (props : K.Props) (log : List Entry) (edits : List Edit) (v : Machine K) : Type 0 where

@@ -7,5 +7,6 @@ mod programs;
 
 pub use programs::{
     asides_lead, builds_hold, calls_come_to, calls_hold, handles_lead, passed_comes_next,
-    renders_run_once, rests_alike, settled_hold, unended_grows,
+    renders_come_to, renders_hold, renders_run_once, rests_alike, settled_hold, spent_hold,
+    unended_grows,
 };

@@ -1,7 +1,7 @@
 //! From what code proves of a call to what stands after it.
 
 ghost use Rattle.rt_doms.specs.Doms.{AsidesLead, BuildsHold, CallsComeTo, CallsHold, HandlesLead};
-ghost use Rattle.rt_doms.specs.Doms.{PassedComesNext, RendersRunOnce, RestsAlike, SettledHold, UnendedGrows};
+ghost use Rattle.rt_doms.specs.Doms.{PassedComesNext, RendersComeTo, RendersHold, RendersRunOnce, RestsAlike, SettledHold, SpentHold, UnendedGrows};
 ghost use Rattle.rt_model.specs.OneLog.{types};
 ghost use Rattle.rt_model.specs.World.{Application};
 
@@ -17,6 +17,17 @@ pub fn calls_hold<C, P, V, H, T, E, L>()
     ensures { (app : Application (types C P V H T E L)) → CallsHold app }
 {}
 
+/// A whole render processes events, and goes on to the first state in which nothing is seen or queued;
+/// its edits make what shows then, and each scope is current or owed a run.
+pub fn renders_hold<C, P, V, H, T, E, L>()
+    ensures { (app : Application (types C P V H T E L)) → RendersHold app }
+{}
+
+/// A call whose units were spent leads on, with what is owed.
+pub fn spent_hold<C, P, V, H, T, E, L>()
+    ensures { (app : Application (types C P V H T E L)) → SpentHold app }
+{}
+
 /// After a call that settles all is current.
 pub fn settled_hold<C, P, V, H, T, E, L>()
     ensures { (app : Application (types C P V H T E L)) → SettledHold app }
@@ -30,6 +41,11 @@ pub fn renders_run_once<C, P, V, H, T, E, L>()
 /// A call that stopped came to its fault.
 pub fn calls_come_to<C, P, V, H, T, E, L>()
     ensures { (app : Application (types C P V H T E L)) → CallsComeTo app }
+{}
+
+/// A whole render that stopped after events were processed came to its fault.
+pub fn renders_come_to<C, P, V, H, T, E, L>()
+    ensures { (app : Application (types C P V H T E L)) → RendersComeTo app }
 {}
 
 /// One more entry, of a unit only where the test fails.
