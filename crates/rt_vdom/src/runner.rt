@@ -1,5 +1,6 @@
 //! A session: the build of an application, and the inputs that follow it.
 ghost use Rattle.std.specs.Prelude.{◌≡◌, ◌≤◌, [], None, Some, map, IfOk, IfErr, OnOk};
+ghost use Rattle.rt_headline.specs.Carried.{CarriesAnew};
 ghost use Rattle.rt_model.specs.Causes.{IsValid};
 ghost use Rattle.rt_reports.specs.Seen.{fault_of, input_of, limits_of, report_of};
 ghost use Rattle.rt_reports.specs.Counted.{edits_in};
@@ -10,7 +11,7 @@ ghost use Rattle.rt_machine.specs.Stands.{RunsAs};
 
 use rt_calls::App;
 use rt_edits::WriteMutations;
-use rt_headline::{finished_hold, ran_is_headline, ran_to_is_came_to};
+use rt_headline::{finished_hold, headlines_carry_anew, ran_is_headline, ran_to_is_came_to};
 use rt_machine::{Ended, Machine};
 use rt_model::ran_is_valid;
 use rt_reports::{Input, Limits, Report, SessionFault};
@@ -35,6 +36,10 @@ pub fn session<A: App, M: WriteMutations>(
         fault_of refused.fault ≡ Some fault →
         CameAt (A.meaning app) root_props (map input_of inputs) (limits_of limits)
         (M.taken sink.old) (M.taken sink.new) (map report_of refused.reports) fault) }
+
+    // No number comes that an earlier edit carried, but those of hidden nodes that are shown again.
+    ensures carried { IfOk result (λ reports.
+        CarriesAnew (A.meaning app) root_props (map input_of inputs) (map report_of reports)) }
 
     // Where memory was wanting, or the sink failed, it took the edits of the reports, those of the
     // units that were finished since, and a front of those of the unit that was cut.
@@ -76,6 +81,15 @@ pub fn session<A: App, M: WriteMutations>(
         A::Payload,
     >();
     finished_hold::<
+        A::Component,
+        A::Props,
+        A::Value,
+        A::Handler,
+        A::TaskState,
+        A::Effect,
+        A::Payload,
+    >();
+    headlines_carry_anew::<
         A::Component,
         A::Props,
         A::Value,

@@ -46,6 +46,13 @@ returns-in-Ok-clause-headline g c =
       headline = c.ran_is_headline.ensures (g.A.App.meaning c.args.app) (g.met.A.App.lawful c.args.app) _ _ _ _ _ done.ran;
     }
 
+-- the numbers of its edits, by the law of the headline's reports
+pub returns-in-Ok-clause-carried : goal.returns-in-Ok-clause-carried
+returns-in-Ok-clause-carried g c =
+    let done = c.in-Ok.ensures.runs in
+    c.headlines_carry_anew.ensures (g.A.App.meaning c.args.app) (g.met.A.App.lawful c.args.app) _ _ _ _ _
+    (c.ran_is_headline.ensures (g.A.App.meaning c.args.app) (g.met.A.App.lawful c.args.app) _ _ _ _ _ done.ran)
+
 pub returns-clause-came_to : goal.returns-clause-came_to
 returns-clause-came_to g c = λ fault why.
     let done = c.in-Err.ensures.runs.0 fault (sym c.fault.ensures.of ∙ why) in
