@@ -14,9 +14,7 @@ use std::rt::Env;
 fn meaning(status: u8) -> Option<&'static str> {
     match status {
         0 => None,
-        2 => Some(
-            "status 2: the words aren't known; they are --units N and --height N, or --make N",
-        ),
+        2 => Some("status 2: the words aren't among --units N, --height N, --make N, --screen W H"),
         3 => Some("status 3: the source is too long, or isn't in the form of an application"),
         4 => Some("status 4: the run ended in the fault that was printed last"),
         5 => Some("status 5: standard input couldn't be read to its end"),

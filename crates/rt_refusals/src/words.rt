@@ -61,7 +61,7 @@ fn of_unknown(alloc: Global, word: &str) -> Result<String, OutOfMemory> {
     let quoted = quoted(alloc, word)?;
     if word.starts_with("-") {
         return Ok(format!(in alloc;
-            "the word {quoted} isn't known; they are --units N and --height N, or --make N"
+            "the word {quoted} isn't known; they are --units N and --height N, or one of {ALONE}"
         )?);
     }
     Ok(format!(in alloc; "the word {quoted} isn't known; the source is read from standard input")?)
@@ -90,6 +90,9 @@ fn of_behind(
 pub fn unknown_word(alloc: Global, words: &[Text]) -> Result<String, OutOfMemory> {
     for pair in words.chunks(2) {
         if let Some(word) = pair.first() {
+            if word.as_str() == "--screen" {
+                return Ok(String::from_str(alloc, SCREEN)?);
+            }
             let Some(one) = find_known(word.as_str()) else {
                 return of_unknown(alloc, word.as_str());
             };
@@ -98,7 +101,12 @@ pub fn unknown_word(alloc: Global, words: &[Text]) -> Result<String, OutOfMemory
             }
         }
     }
-    Ok(String::from_str(alloc, TWICE)?)
+    Ok(format!(in alloc;
+        "wanted each of --units N and --height N at most once, or one of {ALONE}"
+    )?)
 }
 
-const TWICE: &str = "wanted each of --units N and --height N at most once, or --make N alone";
+/// The words that stand alone.
+const ALONE: &str = "--make N and --screen W H alone";
+
+const SCREEN: &str = "wanted --screen W H alone, W and H whole numbers from 1 to 200";

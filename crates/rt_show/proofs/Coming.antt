@@ -1,41 +1,41 @@
 -- What the program comes to, by what its parts come to.
-use Rattle.std.proofs.Common.{◌≡◌, ◌≢◌, ◌⊎◌, ℕ, List, Option, Some, None, Result, Ok, Err, refl, sym, ◌∙◌, inl, inr}
+use Rattle.std.proofs.Common.{◌≡◌, ◌≢◌, ◌⊎◌, ℕ, true, List, Option, Some, None, Result, Ok, Err, refl, sym, ◌∙◌, inl, inr}
 use Rattle.rt_language.specs.Generated.{generated}
 use Rattle.rt_language.specs.Syntax.{Source}
-use Rattle.rt_reports.specs.declared.limits.Limits.{Limits}
-use Rattle.rt_show.specs.Words.{wish_of, AskForSource}
+use Rattle.rt_show.specs.Words.{wish_of, reads_source, AskForSource}
 use Rattle.rt_show.specs.Runs.{Chooses, Reads, Prints, PrintsFront}
 use Rattle.rt_show.specs.Statuses.{Comes, Cut, ReadsAsked}
 use Rattle.rt_show.specs.declared.words.Wish.{Wish}
-use Rattle.rt_show.specs.declared.words.Wish.TheVariants.{Run, Make}
+use Rattle.rt_show.specs.declared.words.Wish.TheVariants.{Make}
 use Rattle.rt_show.specs.declared.reason.Stop.{Stop}
 use Rattle.rt_show.specs.declared.reason.Stop.TheVariants as stops
 
--- a run of the source is asked for
-pub asks : (words : List (List ℕ)) (limits : Limits) → wish_of words ≡ Some (Run limits) → AskForSource words
-asks words limits asked = record { wish = Run limits; asked = asked; reads = refl }
+-- something is asked for, for which the source is read
+pub asks : (words : List (List ℕ)) (wish : Wish) → wish_of words ≡ Some wish → reads_source wish ≡ true → AskForSource words
+asks words wish asked reads = record { wish = wish; asked = asked; reads = reads }
 
 asked_known : (words : List (List ℕ)) (wish : Wish) → wish_of words ≡ Some wish → wish_of words ≢ None
 asked_known words wish asked unknown = absurd (cc (sym asked ∙ unknown))
 
--- the source may be read where a run of it is asked for
-pub reads_run : (words : List (List ℕ)) (limits : Limits) (left after : Option (List ℕ)) (sb sa : ℕ) → wish_of words ≡ Some (Run limits)
-    → ReadsAsked words left after sb sa
-reads_run words limits left after sb sa asked = inl (asks words limits asked)
+-- the source may be read where it is asked for
+pub reads_run : (words : List (List ℕ)) (wish : Wish) (left after : Option (List ℕ)) (sb sa : ℕ) → wish_of words ≡ Some wish
+    → reads_source wish ≡ true → ReadsAsked words left after sb sa
+reads_run words wish left after sb sa asked reads = inl (asks words wish asked reads)
 
 -- else it stays as it was
 pub reads_none : (words : List (List ℕ)) (left after : Option (List ℕ)) (sb sa : ℕ) → after ≡ left → sa ≡ sb → ReadsAsked words left after sb sa
 reads_none words left after sb sa same none = inr (same, none)
 
 -- reading stopped, and nothing was written
-pub comes_reading : (words : List (List ℕ)) (limits : Limits) (left after old new : Option (List ℕ)) (sb sa ob oa : ℕ) (stop : Stop)
-    → wish_of words ≡ Some (Run limits) → Reads left after sb sa stop → new ≡ old → Comes words left after old new sb sa ob oa (Err stop)
-comes_reading words limits left after old new sb sa ob oa stops.Form asked read same = (asks words limits asked, read, same)
-comes_reading words limits left after old new sb sa ob oa stops.Source asked read same = (asks words limits asked, read, same)
-comes_reading words limits left after old new sb sa ob oa stops.OutOfMemory asked read same = (asked_known words (Run limits) asked, inl same)
-comes_reading words limits left after old new sb sa ob oa stops.Words asked read same = absurd read
-comes_reading words limits left after old new sb sa ob oa stops.Fault asked read same = absurd read
-comes_reading words limits left after old new sb sa ob oa stops.Out asked read same = absurd read
+pub comes_reading : (words : List (List ℕ)) (wish : Wish) (left after old new : Option (List ℕ)) (sb sa ob oa : ℕ) (stop : Stop)
+    → wish_of words ≡ Some wish → reads_source wish ≡ true → Reads left after sb sa stop → new ≡ old
+    → Comes words left after old new sb sa ob oa (Err stop)
+comes_reading words wish left after old new sb sa ob oa stops.Form asked reads read same = (asks words wish asked reads, read, same)
+comes_reading words wish left after old new sb sa ob oa stops.Source asked reads read same = (asks words wish asked reads, read, same)
+comes_reading words wish left after old new sb sa ob oa stops.OutOfMemory asked reads read same = (asked_known words wish asked, inl same)
+comes_reading words wish left after old new sb sa ob oa stops.Words asked reads read same = absurd read
+comes_reading words wish left after old new sb sa ob oa stops.Fault asked reads read same = absurd read
+comes_reading words wish left after old new sb sa ob oa stops.Out asked reads read same = absurd read
 
 little : (words : List (List ℕ)) (wish : Wish) (said : Source) (left after old new : Option (List ℕ)) → wish_of words ≡ Some wish
     → Chooses wish said left after → ((new ≡ old) ⊎ PrintsFront wish said old new) → (new ≡ old) ⊎ Cut words left after old new

@@ -55,7 +55,7 @@ writes_first a b old new before after error first = record {
   cause = first.cause;
 }
 
-joined_append : (xs ys : List (List ℕ)) → joined (xs ++ ys) ≡ joined xs ++ joined ys
+pub joined_append : (xs ys : List (List ℕ)) → joined (xs ++ ys) ≡ joined xs ++ joined ys
 joined_append [] ys = refl
 joined_append (x ∷ xs) ys = ap (λ text. x ++ text) (joined_append xs ys) ∙ sym (append_assoc x (joined xs) (joined ys))
 
@@ -91,7 +91,7 @@ line_failed lines at line old mid new before between after error within is first
     (writes_both (joined (take at lines)) line old mid new before between after (Err error) first second))
 
 -- all lines were put
-lines_put : (lines : List (List ℕ)) (at : ℕ) (old new : Option (List ℕ)) (before after : ℕ) → length lines ≤ at →
+pub lines_put : (lines : List (List ℕ)) (at : ℕ) (old new : Option (List ℕ)) (before after : ℕ) → length lines ≤ at →
     Writes (joined (take at lines)) old new before after (Ok tt) → Writes (joined lines) old new before after (Ok tt)
 lines_put lines at old new before after all put =
     subst (λ (text : List ℕ). Writes text old new before after (Ok tt)) (ap joined (take_all at lines all)) put

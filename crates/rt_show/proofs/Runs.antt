@@ -114,7 +114,7 @@ pub headline_generated : (rows : ℕ) (said : Source) (reports : List Report) �
 headline_generated rows said reports is held = subst (λ (s : Source). HasHeadline usual s None (map report_of reports)) is held
 
 -- the same of a session that came to a fault
-came_to : (limits : Limits) (said : Source) (old new : Option (List Edit)) (edits : List Edit) (ended : SessionFault) (shown : List Report) (fault : model.Fault) →
+pub came_to : (limits : Limits) (said : Source) (old new : Option (List Edit)) (edits : List Edit) (ended : SessionFault) (shown : List Report) (fault : model.Fault) →
     old ≡ Some [] → new ≡ Some edits → shown ≡ ended.reports →
     CameAt (meaning_of said) (props_of said) (inputs_of said.inputs) (limits_of limits) old new (map report_of ended.reports) fault →
     HasCome limits said (map edit_of edits) (map report_of shown) fault
@@ -138,7 +138,7 @@ summed_up rows source reports shown said same held is = record {
 }
 
 -- a line that is printed of a fault is that of a fault of the model
-named : (fault : Option model.Fault) (said : List ℕ) → Some said ≡ option_map (λ f. line (fault_text f)) fault → (f : model.Fault) × (fault ≡ Some f) × (said ≡ line (fault_text f))
+pub named : (fault : Option model.Fault) (said : List ℕ) → Some said ≡ option_map (λ f. line (fault_text f)) fault → (f : model.Fault) × (fault ≡ Some f) × (said ≡ line (fault_text f))
 named None said is = absurd (cc is)
 named (Some fault) said is = (fault, refl, cc is)
 

@@ -13,14 +13,15 @@ use Rattle.rt_model.specs.Headline.{CameTo}
 use Rattle.rt_reports.specs.Seen.{limits_of}
 use Rattle.rt_reports.specs.declared.limits.Limits.{Limits}
 use Rattle.rt_sources.specs.Describes.{Describes}
-use Rattle.rt_show.specs.Words.{wish_of, reads_source, AskForSource}
+use Rattle.rt_show.specs.Words.{wish_of, reads_source, usual, AskForSource}
 use Rattle.rt_show.specs.Runs.{DescribedBy, Chooses, IsRefused, IsSafe, IsEndedText, HasCome, SafeInput, CanBeDone}
 use Rattle.rt_sources.specs.declared.reading.TheConstants.{SOURCE_LIMIT}
 use Rattle.rt_show.specs.Statuses.{Comes, Ended, ReadsAsked, status_of, Shows}
 use Rattle.rt_show.specs.declared.words.Wish.{Wish}
-use Rattle.rt_show.specs.declared.words.Wish.TheVariants.{Run, Make}
+use Rattle.rt_show.specs.declared.words.Wish.TheVariants.{Run, Make, Screen}
 use Rattle.rt_show.specs.declared.reason.Stop.{Stop}
 use Rattle.rt_show.specs.declared.reason.Stop.TheVariants as stops
+use Rattle.rt_show.proofs.Viewing.{came_before}
 
 -- words that ask for something are known
 known_asked : (words : List (List ℕ)) (wish : Wish) → wish_of words ≡ Some wish → wish_of words ≢ None
@@ -38,6 +39,7 @@ chosen_read : (wish : Wish) (said : Source) (bytes : List ℕ) (left after : Opt
     reads_source wish ≡ true → left ≡ Some bytes → Chooses wish said left after → ((other : Source) → Describes bytes other → ⊥) → ⊥
 chosen_read (Run own) said bytes left after reads told chosen none = not_described said bytes left after told chosen none
 chosen_read (Make rows) said bytes left after reads told chosen none = absurd (cc)
+chosen_read (Screen size) said bytes left after reads told chosen none = not_described said bytes left after told chosen none
 
 not_chosen : (words : List (List ℕ)) (wish : Wish) (said : Source) (bytes : List ℕ) (left after : Option (List ℕ)) →
     wish_of words ≡ Some wish → AskForSource words → left ≡ Some bytes → Chooses wish said left after → ((other : Source) → Describes bytes other → ⊥) → ⊥
@@ -59,6 +61,7 @@ not_refused limits (Some all) after safe (inr none) =
 asked_refused : (wish : Wish) (left after : Option (List ℕ)) → reads_source wish ≡ true → CanBeDone wish left → IsRefused left after → ⊥
 asked_refused (Run limits) left after reads can refused = not_refused limits left after can refused
 asked_refused (Make rows) left after reads can refused = absurd (cc)
+asked_refused (Screen size) left after reads can refused = not_refused usual left after can refused
 
 read_refused : (words : List (List ℕ)) (wish : Wish) (left after : Option (List ℕ)) → AskForSource words → wish_of words ≡ Some wish → CanBeDone wish left
     → IsRefused left after → ⊥
@@ -85,6 +88,9 @@ ended_text : (wish : Wish) (said : Source) (left after : Option (List ℕ)) (tex
 ended_text (Run limits) said left after text can chosen ended =
     never_came limits said ended.edits ended.reports ended.fault (safe_said limits said left after can chosen) ended.headline
 ended_text (Make rows) said left after text can chosen ended = absurd ended
+ended_text (Screen size) said left after text can chosen ended =
+    never_came usual said ended.edits ended.reports ended.fault (safe_said usual said left after can chosen)
+    (came_before usual said ended.edits ended.reports ended.fault ended.shown ended.headline)
 
 never_ended : (words : List (List ℕ)) (wish : Wish) (left after old new : Option (List ℕ)) → Ended words left after old new
     → wish_of words ≡ Some wish → CanBeDone wish left → ⊥

@@ -17,8 +17,9 @@ use Rattle.rt_reports.specs.declared.limits.Limits.{Limits}
 use Rattle.rt_sources.specs.Describes.{Describes}
 use Rattle.rt_sources.specs.declared.reading.TheConstants.{SOURCE_LIMIT}
 use Rattle.rt_show.specs.Words.{usual}
+use Rattle.rt_show.specs.Pictures.{IsScreenText, IsEndedScreenText}
 use Rattle.rt_show.specs.declared.words.Wish.{Wish}
-use Rattle.rt_show.specs.declared.words.Wish.TheVariants.{Run, Make}
+use Rattle.rt_show.specs.declared.words.Wish.TheVariants.{Run, Make, Screen}
 use Rattle.rt_show.specs.declared.reason.Stop.{Stop}
 use Rattle.rt_show.specs.declared.reason.Stop.TheVariants as stops
 
@@ -42,6 +43,7 @@ IsRefused left after = IsLonger SOURCE_LIMIT left ⊎ DescribesNone left after
 abbrev pub Chooses : Wish → Source → (left after : Option (List ℕ)) → Type 0
 Chooses (Run limits) said left after = DescribedBy said left after
 Chooses (Make rows) said left after = (said ≡ generated rows) × (after ≡ left)
+Chooses (Screen size) said left after = DescribedBy said left after
 
 -- a source has the headline within these limits with these reports and edits, where those are told: replay accepts the logs, the edits never
 -- fault and give what shows after each report, and there every output is current, and fallbacks show just while they are held
@@ -82,11 +84,13 @@ pub record IsSummary (rows : ℕ) (said : Source) (text : List ℕ) : Type 0 whe
 abbrev pub IsDoneText : Wish → Source → List ℕ → Type 0
 IsDoneText (Run limits) said text = IsRunText limits said text
 IsDoneText (Make rows) said text = IsSummary rows said text
+IsDoneText (Screen size) said text = IsScreenText size said text
 
 -- the text of what a fault ended; a run that is only summed up prints nothing then
 abbrev pub IsEndedText : Wish → Source → List ℕ → Type 0
 IsEndedText (Run limits) said text = IsFaultText limits said text
 IsEndedText (Make rows) said text = ⊥
+IsEndedText (Screen size) said text = IsEndedScreenText size said text
 
 -- what was written is a front of the text of a run
 pub record PrintsFront (wish : Wish) (said : Source) (old new : Option (List ℕ)) : Type 0 where
@@ -122,6 +126,7 @@ pub record SafeInput (limits : Limits) (left : Option (List ℕ)) : Type 0 where
 abbrev pub CanBeDone : Wish → Option (List ℕ) → Type 0
 CanBeDone (Run limits) left = SafeInput limits left
 CanBeDone (Make rows) left = Unit {0}
+CanBeDone (Screen size) left = SafeInput usual left
 
 -- what reading comes to, by what is left of the input and its count of failures, before and after: where a read failed, no more than
 -- the limit of bytes had come

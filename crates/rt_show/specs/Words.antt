@@ -1,8 +1,9 @@
 -- What the words of the program ask for.
 use Rattle.std.specs.Prelude.{ℕ, ◌+◌, ◌-◌, ◌*◌, ◌≡◌, ◌≤◌, List, [], ◌∷◌, Bool, true, false, ◌&&◌, ◌==◌, nat_le, if◌then◌else◌, Option, Some, None, option_and_then, option_map, bytes_eq, codes}
 use Rattle.rt_reports.specs.declared.limits.Limits.{Limits}
+use Rattle.rt_show.specs.declared.words.Size.{Size}
 use Rattle.rt_show.specs.declared.words.Wish.{Wish}
-use Rattle.rt_show.specs.declared.words.Wish.TheVariants.{Run, Make}
+use Rattle.rt_show.specs.declared.words.Wish.TheVariants.{Run, Make, Screen}
 
 -- a number, where it is at most so much
 abbrev pub at_most : ℕ → ℕ → Option ℕ
@@ -36,6 +37,20 @@ positive number = if number == 0 then None else Some number
 abbrev pub rows_of : List ℕ → List ℕ → Option ℕ
 rows_of word number = if bytes_eq word (codes "--make") then option_and_then positive (number_of 10000 number) else None
 
+-- how many columns or rows are asked for: from 1 to 200
+abbrev pub lines_of : List ℕ → Option ℕ
+lines_of number = option_and_then positive (number_of 200 number)
+
+-- a screen of so many columns and rows
+abbrev pub sized : ℕ → ℕ → Size
+sized width height = record { width = width; height = height }
+
+-- the size of the screen that a word with its two numbers asks for
+abbrev pub size_of : List ℕ → List ℕ → List ℕ → Option Size
+size_of word width height =
+    if bytes_eq word (codes "--screen") then option_and_then (λ columns. option_map (sized columns) (lines_of height)) (lines_of width)
+    else None
+
 -- limits with so many units, and with such a height
 abbrev pub with_units : Limits → ℕ → Limits
 with_units limits units = record { units = units; height = limits.height; drain = limits.drain }
@@ -62,26 +77,36 @@ abbrev pub pair_of : Option ℕ → List ℕ → List ℕ → Option Wish
 pair_of (Some rows) word number = Some (Make rows)
 pair_of None word number = run_with word number
 
--- what the words ask for, none where they aren't known: nothing, one of the three with its number, or two that limit a run
+-- what the words ask for, none where they aren't known: nothing, one of the three with its number, the one of a screen
+-- with its two, or two that limit a run
 abbrev pub wish_of : List (List ℕ) → Option Wish
 wish_of [] = Some (Run usual)
 wish_of (word ∷ []) = None
 wish_of (word ∷ number ∷ []) = pair_of (rows_of word number) word number
-wish_of (word ∷ number ∷ other ∷ []) = None
+wish_of (word ∷ number ∷ other ∷ []) = option_map Screen (size_of word number other)
 wish_of (word ∷ number ∷ other ∷ second ∷ []) =
     if bytes_eq word other then None
     else option_map Run (option_and_then (λ limits. with_limit limits other second) (with_limit usual word number))
 wish_of (word ∷ number ∷ other ∷ second ∷ more ∷ words) = None
 
--- no more than 10,000 rows are asked for
+-- a screen has from 1 to 200 columns, and as many rows
+abbrev pub IsLines : ℕ → Type 0
+IsLines lines = (1 ≤ lines) × (lines ≤ 200)
+
+abbrev pub IsSize : Size → Type 0
+IsSize size = IsLines size.width × IsLines size.height
+
+-- no more than 10,000 rows are asked for, and no larger screen
 abbrev pub IsFew : Wish → Type 0
 IsFew (Run limits) = Unit {0}
 IsFew (Make rows) = rows ≤ 10000
+IsFew (Screen size) = IsSize size
 
 -- the source is read for what is asked
 abbrev pub reads_source : Wish → Bool
 reads_source (Run limits) = true
 reads_source (Make rows) = false
+reads_source (Screen size) = true
 
 -- the words ask for something for which the source is read
 pub record AskForSource (words : List (List ℕ)) : Type 0 where

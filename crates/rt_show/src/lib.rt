@@ -2,7 +2,9 @@
 //! reports.
 #![tactic(auto)]
 
+mod drawing;
 mod generated;
+mod pictures;
 mod reason;
 mod summary;
 mod top;

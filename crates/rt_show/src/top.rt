@@ -11,6 +11,7 @@ ghost use Rattle.rt_show.specs.Runs.{DescribedBy, HasHeadline, Reads, Prints};
 ghost use Rattle.rt_show.specs.Words.{usual};
 ghost use Rattle.rt_show.specs.Statuses.{Comes, ReadsAsked, Shows};
 
+use crate::drawing::draw;
 use crate::generated::generated;
 use crate::reason::{Stop, fault_said};
 use crate::summary::summary_line;
@@ -37,7 +38,7 @@ fn said_of(alloc: Global, bytes: &[u8]) -> Option<String> {
 }
 
 /// A line that is said beside a status; None where there is no memory for it.
-fn said(line: Result<String, OutOfMemory>) -> Option<String> {
+pub(crate) fn said(line: Result<String, OutOfMemory>) -> Option<String> {
     match line {
         Ok(line) => Some(line),
         Err(OutOfMemory) => None,
@@ -75,15 +76,15 @@ fn read_application<S: Source>(
 }
 
 /// An application that is ready to run.
-struct Prepared {
-    script: Script,
-    props: Props,
-    inputs: List<Input<Script>>,
+pub(crate) struct Prepared {
+    pub(crate) script: Script,
+    pub(crate) props: Props,
+    pub(crate) inputs: List<Input<Script>>,
 }
 
 /// The application of a source, with the props of its root and its inputs.
 #[tactic(auto, using(crate::proofs::Runs::made_of))]
-fn prepare(alloc: Global, described: Described) -> Result<Prepared, OutOfMemory>
+pub(crate) fn prepare(alloc: Global, described: Described) -> Result<Prepared, OutOfMemory>
     ensures made { IfOk result (λ prepared. MadeOf (source_of described)
         prepared.script prepared.props (map input_of prepared.inputs)) }
 {
@@ -100,7 +101,7 @@ fn prepare(alloc: Global, described: Described) -> Result<Prepared, OutOfMemory>
 }
 
 /// A session of a script. What holds of it is said of each source that the script is made of.
-fn run_script<M: WriteMutations>(
+pub(crate) fn run_script<M: WriteMutations>(
     alloc: Global,
     script: Script,
     props: Props,
@@ -214,6 +215,10 @@ fn shown<S: Source, O: Out>(
         Some(Wish::Run(limits)) => {
             let described = read_application(alloc, source, line)?;
             run(alloc, described, limits, out, line)
+        }
+        Some(Wish::Screen(size)) => {
+            let described = read_application(alloc, source, line)?;
+            draw(alloc, described, size, out, line)
         }
     }
 }

@@ -21,6 +21,16 @@ const MOST_UNITS: u64 = 10_000_000;
 /// The greatest height that a word allows.
 const GREATEST_HEIGHT: u64 = 256;
 
+/// The most columns, and the most rows, of a screen.
+const MOST_LINES: u64 = 200;
+
+/// How many columns and rows a screen has.
+#[derive(Clone, Copy, Debug, PartialEq, Eq)]
+pub struct Size {
+    pub width: u32,
+    pub height: u32,
+}
+
 /// What the words ask for.
 #[derive(Clone, Copy, Debug, PartialEq, Eq)]
 pub enum Wish {
@@ -28,6 +38,8 @@ pub enum Wish {
     Run(Limits),
     /// The generated application of so many rows.
     Make(u64),
+    /// The rows of a screen of this size on which the application of the source shows.
+    Screen(Size),
 }
 
 /// The number with one more digit, where it is at most `most`.
@@ -81,6 +93,30 @@ fn rows_of(word: &Text, number: &Text) -> Option<u64>
     }
 }
 
+/// How many columns or rows are asked for.
+fn lines_of(number: &Text) -> Option<u32>
+    ensures lines { result ≡ asked.lines_of number.now }
+    ensures within { IfSome result asked.IsLines }
+{
+    match number_of(number.as_bytes(), MOST_LINES)? {
+        0 => None,
+        lines => Some(lines as u32),
+    }
+}
+
+/// The size of the screen that is asked for, by a word that stands alone with its two numbers.
+fn size_of(word: &Text, width: &Text, height: &Text) -> Option<Size>
+    ensures size { result ≡ asked.size_of word.now width.now height.now }
+    ensures within { IfSome result asked.IsSize }
+{
+    if word.as_str() != "--screen" {
+        return None;
+    }
+    let width = lines_of(width)?;
+    let height = lines_of(height)?;
+    Some(Size { width, height })
+}
+
 /// The limits, but for the one that a word with its number sets.
 fn with_limit(limits: Limits, word: &Text, number: &Text) -> Option<Limits>
     ensures limits { result ≡ asked.with_limit limits word.now number.now }
@@ -109,6 +145,7 @@ pub fn wish_of(words: &[Text]) -> Option<Wish>
             Some(rows) => Some(Wish::Make(rows)),
             None => Some(Wish::Run(with_limit(USUAL, word, number)?)),
         },
+        [word, width, height] => Some(Wish::Screen(size_of(word, width, height)?)),
         [word, number, other, second] => {
             if word.as_str() == other.as_str() {
                 return None;
