@@ -2,6 +2,7 @@
 //! reports.
 #![tactic(auto)]
 
+mod agreements;
 mod drawing;
 mod generated;
 mod pictures;
@@ -11,5 +12,6 @@ mod top;
 mod words;
 mod writing;
 
+pub use agreements::{most_bytes_agree, usual_limits_agree};
 pub use top::{show, show_and_say};
 pub use words::USUAL;
