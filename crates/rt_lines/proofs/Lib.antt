@@ -8,8 +8,10 @@ pub mod Reports
 pub mod Items
 mod NamedViews
 mod NamedWrites
+mod NamedStates
 mod NamedRuns
 mod NamedMoves
 mod NamedSessions
+mod Answering
 mod NamedAnswers
 mod Plainly

@@ -29,7 +29,8 @@ use Rattle.rt_headline.proofs.Levels.{Rests, ended_level, ended_idle, take_level
 use Rattle.rt_headline.proofs.Reports.{settled_after}
 use Rattle.rt_lines.specs.Named.{AnswersNamed}
 use Rattle.rt_lines.proofs.NamedViews.{NamedSide, NamedScope, NamedScopes}
-use Rattle.rt_lines.proofs.NamedRuns.{NamedAt, NamedO, stay_named, level_scopes, new_named, run_named, item_named, removed_named}
+use Rattle.rt_lines.proofs.NamedStates.{NamedAt, NamedO, stay_named, level_scopes, new_named}
+use Rattle.rt_lines.proofs.NamedRuns.{run_named, item_named, removed_named}
 
 module _ {K : Types} where
   -- a machine with names: its scopes, also where a fault ended the run, and its open work
