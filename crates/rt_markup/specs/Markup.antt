@@ -1,0 +1,62 @@
+-- Trees by their parts.
+use Rattle.std.specs.Prelude.{ℕ, List, [], ◌∷◌, codes, None}
+use Rattle.rt_nodes.specs.declared.vnode.VNode.{VNode}
+use Rattle.rt_nodes.specs.declared.vnode.DynamicNode.{DynamicNode}
+use Rattle.rt_nodes.specs.declared.vnode.DynamicNode.TheVariants as slots
+use Rattle.rt_parts.specs.declared.attribute.Attribute.{Attribute}
+use Rattle.rt_parts.specs.declared.attribute.AttributeValue.TheVariants.{Listener}
+use Rattle.rt_parts.specs.declared.template.TemplateAttribute.{TemplateAttribute}
+use Rattle.rt_parts.specs.declared.template.TemplateAttribute.TheVariants as attributes
+use Rattle.rt_parts.specs.declared.template.TemplateNode.{TemplateNode}
+use Rattle.rt_parts.specs.declared.template.TemplateNode.TheVariants as nodes
+
+-- an element of a template, without a namespace
+abbrev pub element : List ℕ → List TemplateAttribute → List TemplateNode → TemplateNode
+element tag attrs children = nodes.Element tag None attrs children
+
+-- a text of a template
+abbrev pub text : List ℕ → TemplateNode
+text words = nodes.Text words
+
+-- a node slot of a template
+abbrev pub slot : ℕ → TemplateNode
+slot k = nodes.Dynamic k
+
+-- an element around a node, with a slot for attributes
+abbrev pub clicked : List ℕ → TemplateNode → TemplateNode
+clicked tag kid = element tag (attributes.Dynamic 0 ∷ []) (kid ∷ [])
+
+module _ {P C Q V H T E L : Type 0} where
+  -- an attribute that hears events, whose handler is called in a scope
+  abbrev pub listens : List ℕ → ℕ → H → Attribute P C Q V H T E L
+  listens name origin handler =
+      record { name = name; namespace = None; value = Listener (record { origin = record { 0 = origin }; handler = handler }) }
+
+  -- a tree: its roots, the paths of its node slots and of its attribute slots, and what stands in them
+  abbrev pub block : List TemplateNode → List (List ℕ) → List (List ℕ) → List (DynamicNode P C Q V H T E L) → List (List (Attribute P C Q V H T E L))
+      → VNode P C Q V H T E L
+  block roots node_paths attr_paths slots attrs =
+      record {
+        template = record { roots = roots; node_paths = node_paths; attr_paths = attr_paths };
+        dynamic_nodes = slots;
+        dynamic_attrs = attrs;
+      }
+
+  -- an element around a text that may change
+  abbrev pub labelled : List ℕ → List ℕ → VNode P C Q V H T E L
+  labelled tag words =
+      block (element tag [] (slot 0 ∷ []) ∷ []) ((0 ∷ 0 ∷ []) ∷ []) [] (slots.Text words ∷ []) []
+
+  -- what stands in a slot for attributes that hears clicks in a scope
+  abbrev pub clicks : ℕ → H → List (List (Attribute P C Q V H T E L))
+  clicks origin handler = (listens (codes "onclick") origin handler ∷ []) ∷ []
+
+  -- the same, whose clicks are heard in a scope
+  abbrev pub clickable : List ℕ → List ℕ → ℕ → H → VNode P C Q V H T E L
+  clickable tag words origin handler =
+      block (clicked tag (slot 0) ∷ []) ((0 ∷ 0 ∷ []) ∷ []) ((0 ∷ []) ∷ []) (slots.Text words ∷ []) (clicks origin handler)
+
+  -- an element around a text, whose clicks are heard in a scope, and a node below it
+  abbrev pub clickable_over : List ℕ → List ℕ → ℕ → H → DynamicNode P C Q V H T E L → VNode P C Q V H T E L
+  clickable_over tag words origin handler below =
+      block (clicked tag (text words) ∷ slot 0 ∷ []) ((1 ∷ []) ∷ []) ((0 ∷ []) ∷ []) (below ∷ []) (clicks origin handler)
