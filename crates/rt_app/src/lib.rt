@@ -16,6 +16,7 @@ pub use rt_nodes::{
     DynamicNode, Element, ErrorBoundaryProps, ErrorHandler, Fallback, FragmentProps,
     SuspenseBoundaryProps, VComponent, VNode,
 };
+pub use rt_pages::{Bodied, Bodies, Paged, Pages, read_all, write_all};
 pub use rt_parts::{
     Attribute, AttributeValue, CapturedError, Event, ListenerCallback, Parts, RenderError,
     SuspendedFuture, Template, TemplateAttribute, TemplateNode,
