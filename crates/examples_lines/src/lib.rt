@@ -1,0 +1,56 @@
+//! What the example programs share: a click, and the lines that a session prints.
+#![tactic(auto)]
+
+use rt_app::{
+    App, ElementId, Input, Limits, List, Mutations, OutOfMemory, SessionFault, Text, session,
+};
+use rt_print::{edit_line, fault_line, report_line};
+use std::alloc::Global;
+
+/// What the program of the JSON language allows a session, where its words ask for nothing else.
+const LIMITS: Limits = Limits {
+    units: 10_000,
+    height: 128,
+    drain: 1_024,
+};
+
+/// A click at an element.
+pub fn click<A: App>(
+    alloc: Global,
+    payload: A::Payload,
+    element: u64,
+) -> Result<Input<A>, OutOfMemory> {
+    Ok(Input::Event {
+        name: Text::from_str(alloc, "click")?,
+        payload,
+        element: ElementId(element),
+        bubbles: true,
+    })
+}
+
+/// The lines of a session: its edits, its reports, and its fault where there is one.
+pub fn lines<A: App>(
+    alloc: Global,
+    app: A,
+    props: A::Props,
+    inputs: List<Input<A>>,
+) -> Result<List<u8>, OutOfMemory> {
+    let mut sink = Mutations::default_list(alloc);
+    let ended = session(alloc, app, props, inputs, &mut sink, LIMITS);
+    let mut lines = List::new(alloc);
+    for edit in sink.edits() {
+        lines.append(edit_line(alloc, edit)?)?;
+    }
+    let (reports, fault) = match ended {
+        Ok(reports) => (reports, None),
+        Err(SessionFault { fault, reports }) => (reports, fault_line(alloc, fault)?),
+    };
+    let told = reports.as_slice();
+    for number in 0..told.len() {
+        lines.append(report_line(alloc, number as u64, &told[number])?)?;
+    }
+    if let Some(line) = fault {
+        lines.append(line)?;
+    }
+    Ok(lines)
+}

@@ -1,0 +1,82 @@
+-- What the component and its listener are, and that the tests decide.
+use Rattle.std.proofs.Common.{refl}
+use Rattle.std.specs.Prelude.{ℕ, ◌+◌, true, codes, decimal, min, nat_eq, List, [], ◌∷◌, Option, Some, None}
+use Rattle.std.specs.List.{slice_get}
+use Rattle.rt_programs.proofs.Lawful.{plain_tests}
+use Rattle.rt_app.specs.Cells.{Keeping}
+use Rattle.rt_app.specs.Markup.{clickable}
+use Rattle.rt_app.specs.Means.{AllDecide}
+use Rattle.rt_app.specs.Mirror.{tree_of}
+use Rattle.rt_app.specs.Nothing.{Nothing}
+use Rattle.rt_app.specs.OneLog.{types}
+use Rattle.rt_app.specs.Paged.{Paged}
+use Rattle.rt_app.specs.Pages.{Page, Reply, Pages}
+use Rattle.rt_app.specs.Shown.{placeholder_tree}
+use Rattle.rt_app.specs.Tree.{Types}
+use Rattle.rt_nodes.specs.declared.vnode.VNode.{VNode}
+use Rattle.rt_app.specs.World.{Event, last_number}
+use Rattle.examples_template.specs.declared.application.Application.{Application}
+
+abbrev pub OwnTypes : Types
+OwnTypes = types Nothing Nothing ℕ ℕ Nothing Nothing Nothing
+
+-- the one component, and its props
+abbrev pub nothing : Nothing
+nothing = record {}
+
+-- hooks keep the numbers of cells as they are
+abbrev pub keeping : Keeping ℕ
+keeping = record { kind = 0; keeps = λ n. n; kept = λ n. Some n }
+
+-- a tree of the application
+abbrev pub OwnTree : Type 0
+OwnTree = VNode (Paged Application Nothing Nothing ℕ ℕ Nothing Nothing Nothing) Nothing Nothing ℕ ℕ Nothing Nothing Nothing
+
+-- a button of a scope that shows a number and raises its cell
+abbrev pub button : ℕ → ℕ → ℕ → OwnTree
+button scope cell number = clickable (codes "button") (decimal number) scope cell
+
+-- the button, where its cell has a value
+abbrev pub shown : ℕ → Option ℕ → Option (Option ℕ) → OwnTree
+shown scope (Some cell) (Some (Some number)) = button scope cell number
+shown scope _ _ = placeholder_tree
+
+-- the component
+abbrev pub page : Page OwnTypes
+page =
+    record {
+      cells = 0 ∷ [];
+      reads = λ own. own;
+      shows = λ scope own values. tree_of (shown scope (slice_get own 0) (slice_get values 0));
+    }
+
+-- one more, up to the greatest number
+abbrev pub raised : ℕ → Option (Option ℕ) → List (ℕ × ℕ)
+raised cell (Some (Some number)) = (cell, min (number + 1) last_number) ∷ []
+raised cell _ = []
+
+-- the listener
+abbrev pub reply : ℕ → Event OwnTypes → Reply OwnTypes
+reply cell event = record { reads = cell ∷ []; writes = λ values. raised cell (slice_get values 0); leaves = event }
+
+-- the whole application
+abbrev pub answers : Pages OwnTypes
+answers =
+    record {
+      root = nothing;
+      same_component = λ a b. true;
+      same_props = λ a b. true;
+      same_value = nat_eq;
+      same_handler = nat_eq;
+      page = λ c p. page;
+      reply = reply;
+    }
+
+pub decides : AllDecide OwnTypes answers
+decides =
+    record {
+      components = (λ a b h. refl, λ a. refl);
+      props = (λ a b h. refl, λ a. refl);
+      values = plain_tests.numbers;
+      handlers = plain_tests.numbers;
+    }
