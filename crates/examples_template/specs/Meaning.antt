@@ -13,7 +13,7 @@ use Rattle.rt_app.specs.Paged.{Paged}
 use Rattle.rt_app.specs.Pages.{Page, Reply, Pages}
 use Rattle.rt_app.specs.Shown.{placeholder_tree}
 use Rattle.rt_app.specs.Tree.{Types}
-use Rattle.rt_nodes.specs.declared.vnode.VNode.{VNode}
+use Rattle.rt_app.specs.VNode.{VNode}
 use Rattle.rt_app.specs.World.{Event, last_number}
 use Rattle.examples_template.specs.declared.application.Application.{Application}
 
