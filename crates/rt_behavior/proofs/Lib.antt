@@ -28,4 +28,5 @@ mod Since
 mod Orders
 mod NoneAgain
 mod Entries
+mod Entering
 pub mod Renders

@@ -1,4 +1,5 @@
 pub mod Comes
+pub mod Orders
 pub mod Absent
 pub mod Nearest
 pub mod Marking

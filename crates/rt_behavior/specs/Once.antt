@@ -37,3 +37,14 @@ RendersOnce {K = K} app =
     → EndsAt app (λ (w : State K). render_ends w) (call_begun m) log v
     → PollsFirst log
     → NoBodyTwice log
+
+-- the same from a machine as it is, without a look
+abbrev pub RendersOnceFrom : {K : Types} → Application K → Type 0
+RendersOnceFrom {K = K} app =
+    IsLawful K app
+    → (limits : Limits) (props : K.Props) (inputs : List (Input K)) (m v : Machine K) (log : List Entry)
+    → Reached app limits props inputs m
+    → AtRest m
+    → EndsAt app (λ (w : State K). render_ends w) m log v
+    → PollsFirst log
+    → NoBodyTwice log

@@ -16,7 +16,7 @@ use Rattle.rt_model.proofs.Conjunctions.{and-left}
 use Rattle.rt_model.proofs.Maps.{by_test, pick_true, pick_false}
 use Rattle.rt_headline.proofs.Reports.{one_machine}
 use Rattle.rt_doms.specs.Doms.{Until, Events, Renders, Settles, ends_by, left_by, Unended, UnendedGrows, RestsAlike, PassedComesNext}
-use Rattle.rt_doms.proofs.Doms.{accepted_on, owing}
+use Rattle.rt_doms.proofs.Leading.{accepted_on, owing}
 
 one_of : {K : Types} (u v : Machine K) → Some u ≡ Some v → u ≡ v
 one_of u v h = cc
@@ -52,7 +52,7 @@ module _ {K : Types} where
   dropped_then go w None h = refl
   dropped_then go w (Some t) h = h (record w { queued = drop_number w.queued t })
 
-  drop_posted_is : (qs : List ℕ) (w : State K) → (drops qs w).posted ≡ w.posted
+  pub drop_posted_is : (qs : List ℕ) (w : State K) → (drops qs w).posted ≡ w.posted
   drop_posted_is [] w = refl
   drop_posted_is (q ∷ qs) w = dropped_then (λ v. drops qs v) w (paused w (found w)) (λ v. drop_posted_is qs v)
 
@@ -70,7 +70,10 @@ module _ {K : Types} where
       look_on_posted ps (if is_some (at w.tasks t) then record w { queued = join w.queued t } else w) ∙
       if_posted w (record w { queued = join w.queued t }) (is_some (at w.tasks t)) refl
 
-  no_posted : (w : State K) → w.posted ≡ [] → look w ≡ w
+  pub look_posted : (w : State K) → (look w).posted ≡ []
+  look_posted w = look_on_posted w.posted (record w { posted = [] })
+
+  pub no_posted : (w : State K) → w.posted ≡ [] → look w ≡ w
   no_posted w h =
       let there : look w ≡ record w { posted = [] } = ap (λ (ps : List Posted). look_on ps (record w { posted = [] })) h in
       let back : record w { posted = [] } ≡ w = ap (λ (ps : List Posted). record w { posted = ps }) (sym h) in

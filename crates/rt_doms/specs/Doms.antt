@@ -12,15 +12,14 @@ use Rattle.rt_model.specs.View.{view}
 use Rattle.rt_model.specs.Causes.{Limits, edits_at_refusal}
 use Rattle.rt_model.specs.Told.{Telling, opens}
 use Rattle.rt_model.specs.Current.{AllCurrent}
-use Rattle.rt_model.specs.Bodies.{RenderEnds}
+use Rattle.rt_model.specs.Bodies.{RenderEnds, NoneAfterRerun, OthersMadeOrFed}
 use Rattle.rt_model.specs.Headline.{AllHeldShown}
-use Rattle.rt_model.specs.Sentences.{NoBodyTwice, AllCurrentOrOwed, EndsAt, CallComesTo, call_refusal, events_end, render_ends, settle_ends}
+use Rattle.rt_model.specs.Sentences.{NoBodyTwice, AllCurrentOrOwed, EndsAt, CallComesTo, call_refusal, events_end, render_ends, settle_ends, call_begun}
 use Rattle.rt_moves.specs.Moves.{AtRest}
 use Rattle.rt_moves.specs.Reached.{NonePassed, Reached}
 use Rattle.rt_moves.specs.Reports.{ToldSo}
 use Rattle.rt_model.specs.Asides.{Aside, Looked, Raised, PassesNone, Allowed, aside_state, set_aside, resting}
 use Rattle.rt_model.specs.Lists.{Text}
-use Rattle.rt_behavior.specs.Once.{PollsFirst}
 
 -- up to where a call takes unit after unit
 pub data Until : Type 0 where
@@ -210,16 +209,23 @@ module _ {K : Types} (app : Application K) where
       → CallRan limits Settles w log edits v
       → AllCurrent app v.state × AllHeldShown v.state
 
-  -- a render that polls no task after its first rerun runs no body twice
+  -- a whole render that polls no task after its first rerun runs no body twice
   abbrev pub RendersRunOnce : Type 0
   RendersRunOnce =
       IsLawful K app
       → (limits : Limits) (props : K.Props) (whole : Bool) (w : State K)
       → (log : List Entry) (edits : List Edit) (v : Machine K)
       → LedTo app limits props whole w
-      → CallRan limits Renders w log edits v
-      → PollsFirst log
+      → RenderRan limits w log edits v
+      → NoneAfterRerun log
       → NoBodyTwice log
+
+  -- every body that a whole render runs without rerunning its scope is made, or fed what memoize refuses
+  abbrev pub RendersMakeOrFeed : Type 0
+  RendersMakeOrFeed =
+      (limits : Limits) (w : State K) (log : List Entry) (edits : List Edit) (v : Machine K)
+      → RenderRan limits w log edits v
+      → OthersMadeOrFed app (call_begun (resting w)) log
 
   -- a call that stopped came to its fault
   abbrev pub CallsComeTo : Type 0
@@ -283,6 +289,31 @@ module _ {K : Types} (app : Application K) where
       → LedTo app limits props whole w
       → HandleRan limits w (Raised name payload element bubbles) log edits v
       → LedTo app limits props whole v.state × (document_after edits (view w) ≡ Ok (view v.state))
+
+  -- what a render while suspended may not take is passed over, and shows nothing new; from then on a way isn't whole
+  abbrev pub PassedLeads : Type 0
+  PassedLeads =
+      IsLawful K app
+      → (limits : Limits) (props : K.Props) (w : State K)
+      → LedTo app limits props false w
+      → LedTo app limits props false (rendering_rest w) × (view (rendering_rest w) ≡ view w)
+
+  -- what code proves of one unit of a render while suspended: from where the rest was passed over it goes on to where none is at work
+  pub record UnitRan (limits : Limits) (w : State K) (log : List Entry) (edits : List Edit) (v : Machine K) : Type 0 where
+    pub last : Telling K
+    pub so : ToldSo app limits (resting (rendering_rest w)) log last
+    pub edits_are : last.edits ≡ edits
+    pub machine : last.machine ≡ v
+    pub quiet : is_quiet v ≡ true
+
+  -- such a unit leads on, and its edits make what shows after it; so units lead on one after another
+  abbrev pub UnitsLead : Type 0
+  UnitsLead =
+      IsLawful K app
+      → (limits : Limits) (props : K.Props) (w : State K) (log : List Entry) (edits : List Edit) (v : Machine K)
+      → LedTo app limits props false w
+      → UnitRan limits w log edits v
+      → LedTo app limits props false v.state × (document_after edits (view w) ≡ Ok (view v.state))
 
   -- one more entry: a unit's where the test fails
   abbrev pub UnendedGrows : Type 0

@@ -7,6 +7,6 @@ mod programs;
 
 pub use programs::{
     asides_lead, builds_hold, calls_come_to, calls_hold, handles_lead, passed_comes_next,
-    renders_come_to, renders_hold, renders_run_once, rests_alike, settled_hold, spent_hold,
-    unended_grows,
+    passed_leads, renders_come_to, renders_hold, renders_make_or_feed, renders_run_once,
+    rests_alike, settled_hold, spent_hold, unended_grows, units_lead,
 };

@@ -1,7 +1,8 @@
 //! From what code proves of a call to what stands after it.
 
 ghost use Rattle.rt_doms.specs.Doms.{AsidesLead, BuildsHold, CallsComeTo, CallsHold, HandlesLead};
-ghost use Rattle.rt_doms.specs.Doms.{PassedComesNext, RendersComeTo, RendersHold, RendersRunOnce, RestsAlike, SettledHold, SpentHold, UnendedGrows};
+ghost use Rattle.rt_doms.specs.Doms.{PassedComesNext, PassedLeads, RendersComeTo, RendersHold, RendersMakeOrFeed, RendersRunOnce};
+ghost use Rattle.rt_doms.specs.Doms.{RestsAlike, SettledHold, SpentHold, UnendedGrows, UnitsLead};
 ghost use Rattle.rt_model.specs.OneLog.{types};
 ghost use Rattle.rt_model.specs.World.{Application};
 
@@ -33,9 +34,15 @@ pub fn settled_hold<C, P, V, H, T, E, L>()
     ensures { (app : Application (types C P V H T E L)) → SettledHold app }
 {}
 
-/// A render that polls no task after its first rerun runs no body twice.
+/// A whole render that polls no task after its first rerun runs no body twice.
 pub fn renders_run_once<C, P, V, H, T, E, L>()
     ensures { (app : Application (types C P V H T E L)) → RendersRunOnce app }
+{}
+
+/// Every body that a whole render runs without rerunning its scope is made, or fed what memoize
+/// refuses.
+pub fn renders_make_or_feed<C, P, V, H, T, E, L>()
+    ensures { (app : Application (types C P V H T E L)) → RendersMakeOrFeed app }
 {}
 
 /// A call that stopped came to its fault.
@@ -71,4 +78,14 @@ pub fn passed_comes_next<C, P, V, H, T, E, L>()
 /// An event that was handled, until no listener waits, leads on.
 pub fn handles_lead<C, P, V, H, T, E, L>()
     ensures { (app : Application (types C P V H T E L)) → HandlesLead app }
+{}
+
+/// What a render while suspended passes over leads on, and shows nothing new.
+pub fn passed_leads<C, P, V, H, T, E, L>()
+    ensures { (app : Application (types C P V H T E L)) → PassedLeads app }
+{}
+
+/// One unit of a render while suspended leads on, and its edits make what shows after it.
+pub fn units_lead<C, P, V, H, T, E, L>()
+    ensures { (app : Application (types C P V H T E L)) → UnitsLead app }
 {}

@@ -15,3 +15,5 @@ mod NamedSessions
 mod Answering
 mod NamedAnswers
 mod Plainly
+mod ReadViews
+mod ReadSources

@@ -6,6 +6,7 @@
 ghost use Rattle.rt_lines.specs.Told.{LinesTell};
 ghost use Rattle.rt_lines.specs.Named.{SourcesWritePlainly};
 ghost use Rattle.rt_lines.specs.Runs.{ItemsTell, RunsTell, TextsTell, FaultTextsTell, EndsTell};
+ghost use Rattle.rt_lines.specs.Read.{DescribedHaveNames, DescribedWritePlainly, DoneTell, EndedTell, SortsTell};
 
 /// Reports of one number with one line are alike, but for whether a default was prevented.
 pub fn lines_tell()
@@ -41,4 +42,23 @@ pub fn ends_tell()
 /// Every session of a source whose views have names writes edits that are printed plainly.
 pub fn sources_write_plainly()
     ensures { SourcesWritePlainly }
+{}
+
+/// The views of every source that bytes describe have names.
+pub fn described_have_names()
+    ensures { DescribedHaveNames }
+{}
+
+/// So the edits of its sessions are printed plainly: of those that were done, and of those that
+/// came to a fault.
+pub fn described_write_plainly()
+    ensures { DescribedWritePlainly }
+{}
+
+/// What sessions of such sources print tells their edits and their reports, whether they came to a
+/// fault, and which.
+pub fn sessions_tell()
+    ensures done { DoneTell }
+    ensures ended { EndedTell }
+    ensures sorts { SortsTell }
 {}

@@ -1,4 +1,4 @@
-use Rattle.rt_doms.proofs.Doms.{asides_lead}
+use Rattle.rt_doms.proofs.Leading.{asides_lead}
 use Rattle.rt_doms.proofs.programs.asides_lead.Goals as goal
 
 pub returns : goal.returns

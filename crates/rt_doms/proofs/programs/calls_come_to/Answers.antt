@@ -1,4 +1,4 @@
-use Rattle.rt_doms.proofs.Doms.{calls_come_to}
+use Rattle.rt_doms.proofs.Stopping.{calls_come_to}
 use Rattle.rt_doms.proofs.programs.calls_come_to.Goals as goal
 
 pub returns : goal.returns

@@ -1,4 +1,4 @@
-use Rattle.rt_doms.proofs.Doms.{renders_come_to}
+use Rattle.rt_doms.proofs.Stopping.{renders_come_to}
 use Rattle.rt_doms.proofs.programs.renders_come_to.Goals as goal
 
 pub returns : goal.returns

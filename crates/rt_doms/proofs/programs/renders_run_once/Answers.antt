@@ -1,4 +1,4 @@
-use Rattle.rt_doms.proofs.Doms.{renders_run_once}
+use Rattle.rt_doms.proofs.Once.{renders_run_once}
 use Rattle.rt_doms.proofs.programs.renders_run_once.Goals as goal
 
 pub returns : goal.returns
