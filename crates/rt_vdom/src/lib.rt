@@ -3,7 +3,13 @@
 #![tactic(auto)]
 
 pub mod app;
+mod meeting;
+mod merges;
+mod posted;
 mod runner;
+mod sitting;
 
+pub use merges::merges_agree;
+pub use posted::{Posted, PostedFault, session_posted};
 pub use rt_reports::{Counter, Entry, Fault, Input, Limits, Msg, Post, Report, SessionFault};
 pub use runner::session;
