@@ -93,6 +93,12 @@ pub fn unknown_word(alloc: Global, words: &[Text]) -> Result<String, OutOfMemory
             if word.as_str() == "--screen" {
                 return Ok(String::from_str(alloc, SCREEN)?);
             }
+            if word.as_str() == "--audit" {
+                return Ok(String::from_str(alloc, AUDIT)?);
+            }
+            if word.as_str() == "--posters" {
+                return Ok(String::from_str(alloc, POSTERS)?);
+            }
             let Some(one) = find_known(word.as_str()) else {
                 return of_unknown(alloc, word.as_str());
             };
@@ -107,6 +113,10 @@ pub fn unknown_word(alloc: Global, words: &[Text]) -> Result<String, OutOfMemory
 }
 
 /// The words that stand alone.
-const ALONE: &str = "--make N and --screen W H alone";
+const ALONE: &str = "--make N, --screen W H, --audit and --posters alone";
 
 const SCREEN: &str = "wanted --screen W H alone, W and H whole numbers from 1 to 200";
+
+const AUDIT: &str = "wanted --audit alone";
+
+const POSTERS: &str = "wanted --posters alone";

@@ -75,7 +75,7 @@ props_complete params d props are count =
     ap (option_and_then (just params)) are ∙ ap (λ b. if b then Some props else None) (eq-eqb (length props) params count)
 
 -- what is read of a value is what it says
-value_sound : (d : Data) (s : Source) → source_in d ≡ Some s → IsSource d (source_of s)
+pub value_sound : (d : Data) (s : Source) → source_in d ≡ Some s → IsSource d (source_of s)
 unfolding source_in source_with
 value_sound d s h =
     let keyed = held (is_object_of top_keys d) (option_and_then (source_named d) (names_in d)) s h in
@@ -106,7 +106,7 @@ value_sound d s h =
     })
 
 -- what a value says is read of it
-value_complete : (d : Data) (l : language.Source) → IsSource d l → option_map source_of (source_in d) ≡ Some l
+pub value_complete : (d : Data) (l : language.Source) → IsSource d l → option_map source_of (source_in d) ≡ Some l
 unfolding source_in source_with
 value_complete d l h =
     let names = h.names in

@@ -9,3 +9,4 @@ mod whole;
 
 pub use reading::{SOURCE_LIMIT, read_source};
 pub use signatures::names_in;
+pub use whole::source_in;

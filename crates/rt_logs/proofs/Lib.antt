@@ -1,0 +1,4 @@
+mod Numbers
+mod Named
+mod Items
+mod Runs
