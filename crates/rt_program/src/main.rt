@@ -2,19 +2,24 @@
 //! reports.
 #![tactic(auto)]
 
-use rt_show::show_and_say;
+use rt_inbox::NoGate;
+use rt_show::{asks_for_posters, show_and_say, show_posted_and_say};
 use rt_streams::{StandardIn, StandardOut};
 use rt_values::Text;
 use std::env;
-use std::io::{Error, ErrorKind};
+use std::io::{Error, ErrorKind, Read};
 use std::process::ExitCode;
 use std::rt::Env;
+use std::sync::Wait;
+use std::thread::Threads;
 
 /// What a status means, where it isn't 0.
 fn meaning(status: u8) -> Option<&'static str> {
     match status {
         0 => None,
-        2 => Some("status 2: the words aren't among --units N, --height N, --make N, --screen W H"),
+        2 => Some(
+            "status 2: the words aren't among --units N, --height N, --make N, --screen W H, --audit, --posters",
+        ),
         3 => Some("status 3: the source is too long, or isn't in the form of an application"),
         4 => Some("status 4: the run ended in the fault that was printed last"),
         5 => Some("status 5: standard input couldn't be read to its end"),
@@ -46,21 +51,43 @@ fn words_given<R: Env + AllocGlobal>(rt: &R) -> Result<Vec<Text>, u8> {
     Ok(given)
 }
 
-/// The whole program over the standard streams. The answer is the status; of a source that isn't in
-/// the form, `refusal` is where and what was wanted there.
-fn run(rt: &HostRuntime, refusal: &mut Option<String>) -> u8 {
-    let words = match words_given(rt) {
-        Ok(words) => words,
-        Err(status) => return status,
-    };
+/// The whole program without threads over the standard streams. The answer is the status; of a
+/// source that isn't in the form, `refusal` is where and what was wanted there.
+fn run(rt: &HostRuntime, words: &[Text], refusal: &mut Option<String>) -> u8 {
     let mut source = StandardIn::new(rt.reader());
     let mut out = StandardOut::new(rt);
-    show_and_say(rt.alloc(), words.as_slice(), &mut source, &mut out, refusal)
+    show_and_say(rt.alloc(), words, &mut source, &mut out, refusal)
+}
+
+/// The same with threads that post.
+fn run_posted<R: Threads + Wait + Sync + Print + AllocGlobal, I: Read + Drop>(
+    rt: &R,
+    reader: I,
+    words: &[Text],
+    refusal: &mut Option<String>,
+) -> u8 {
+    let mut source = StandardIn::new(reader);
+    let mut out = StandardOut::new(rt);
+    show_posted_and_say(
+        rt,
+        rt.alloc(),
+        words,
+        &mut source,
+        &mut out,
+        &NoGate,
+        refusal,
+    )
 }
 
 fn main(rt: HostRuntime) -> ExitCode {
     let mut refusal = None;
-    let status = run(&rt, &mut refusal);
+    let status = match words_given(&rt) {
+        Ok(words) if asks_for_posters(words.as_slice()) => {
+            run_posted(&rt, rt.reader(), words.as_slice(), &mut refusal)
+        }
+        Ok(words) => run(&rt, words.as_slice(), &mut refusal),
+        Err(status) => status,
+    };
     if let Some(line) = refusal {
         let _ = eprintln!(rt; "status {status}: {line}");
     } else if let Some(text) = meaning(status) {

@@ -1,9 +1,9 @@
 -- What the program comes to, by what its parts come to.
 use Rattle.std.proofs.Common.{◌≡◌, ◌≢◌, ◌⊎◌, ℕ, true, List, Option, Some, None, Result, Ok, Err, refl, sym, ◌∙◌, inl, inr}
 use Rattle.rt_language.specs.Generated.{generated}
-use Rattle.rt_language.specs.Syntax.{Source}
+use Rattle.rt_show.specs.Asked.{Asked, Lacks, alone}
 use Rattle.rt_show.specs.Words.{wish_of, reads_source, AskForSource}
-use Rattle.rt_show.specs.Runs.{Chooses, Reads, Prints, PrintsFront}
+use Rattle.rt_show.specs.Runs.{Chooses, ReadsFor, Prints, PrintsFront}
 use Rattle.rt_show.specs.Statuses.{Comes, Cut, ReadsAsked}
 use Rattle.rt_show.specs.declared.words.Wish.{Wish}
 use Rattle.rt_show.specs.declared.words.Wish.TheVariants.{Make}
@@ -28,8 +28,9 @@ reads_none words left after sb sa same none = inr (same, none)
 
 -- reading stopped, and nothing was written
 pub comes_reading : (words : List (List ℕ)) (wish : Wish) (left after old new : Option (List ℕ)) (sb sa ob oa : ℕ) (stop : Stop)
-    → wish_of words ≡ Some wish → reads_source wish ≡ true → Reads left after sb sa stop → new ≡ old
+    → wish_of words ≡ Some wish → reads_source wish ≡ true → ReadsFor (Lacks wish) left after sb sa stop → new ≡ old
     → Comes words left after old new sb sa ob oa (Err stop)
+unfolding asks
 comes_reading words wish left after old new sb sa ob oa stops.Form asked reads read same = (asks words wish asked reads, read, same)
 comes_reading words wish left after old new sb sa ob oa stops.Source asked reads read same = (asks words wish asked reads, read, same)
 comes_reading words wish left after old new sb sa ob oa stops.OutOfMemory asked reads read same = (asked_known words wish asked, inl same)
@@ -37,14 +38,14 @@ comes_reading words wish left after old new sb sa ob oa stops.Words asked reads 
 comes_reading words wish left after old new sb sa ob oa stops.Fault asked reads read same = absurd read
 comes_reading words wish left after old new sb sa ob oa stops.Out asked reads read same = absurd read
 
-little : (words : List (List ℕ)) (wish : Wish) (said : Source) (left after old new : Option (List ℕ)) → wish_of words ≡ Some wish
+little : (words : List (List ℕ)) (wish : Wish) (said : Asked) (left after old new : Option (List ℕ)) → wish_of words ≡ Some wish
     → Chooses wish said left after → ((new ≡ old) ⊎ PrintsFront wish said old new) → (new ≡ old) ⊎ Cut words left after old new
 little words wish said left after old new asked chosen (inl same) = inl same
 little words wish said left after old new asked chosen (inr front) =
     inr (record { wish = wish; asked = asked; said = said; chosen = chosen; prints = front })
 
 -- what was chosen was done, or stopped
-pub comes_printing : (words : List (List ℕ)) (wish : Wish) (said : Source) (left after old new : Option (List ℕ)) (sb sa ob oa : ℕ)
+pub comes_printing : (words : List (List ℕ)) (wish : Wish) (said : Asked) (left after old new : Option (List ℕ)) (sb sa ob oa : ℕ)
     (result : Result (Unit {0}) Stop)
     → wish_of words ≡ Some wish → Chooses wish said left after → Prints wish said old new ob oa result
     → Comes words left after old new sb sa ob oa result
@@ -61,7 +62,7 @@ comes_printing words wish said left after old new sb sa ob oa (Err stops.Form) a
 comes_printing words wish said left after old new sb sa ob oa (Err stops.Source) asked chosen prints = absurd prints
 
 -- the generated application is chosen without a read
-pub chooses_made : (rows : ℕ) (left after : Option (List ℕ)) → after ≡ left → Chooses (Make rows) (generated rows) left after
+pub chooses_made : (rows : ℕ) (left after : Option (List ℕ)) → after ≡ left → Chooses (Make rows) (alone (generated rows)) left after
 chooses_made rows left after same = (refl, same)
 
 pub ruleset comings = (asks, reads_run, reads_none, comes_reading, comes_printing, chooses_made)

@@ -6,3 +6,7 @@ pub mod Runs
 pub mod Viewing
 pub mod Shown
 pub mod Coming
+pub mod Messages
+pub mod Drained
+pub mod Postings
+pub mod Judged

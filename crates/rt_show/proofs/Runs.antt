@@ -28,6 +28,7 @@ use Rattle.rt_script.specs.Applications.{meaning_of_script, props_of_script}
 use Rattle.rt_script.specs.Laws.{MeansSource}
 use Rattle.rt_script.specs.declared.script.Script.{Script}
 use Rattle.rt_machine.specs.Sessions.{Headlined, CameAt}
+use Rattle.rt_show.specs.Asked.{Asked}
 use Rattle.rt_show.specs.Outs.{stop_of}
 use Rattle.rt_show.specs.Ready.{IsMeant, MadeOf}
 use Rattle.rt_show.specs.Words.{usual}
@@ -36,11 +37,11 @@ use Rattle.rt_show.specs.Runs.{HasHeadline, HasCome, IsRunText, IsFaultText, IsS
 use Rattle.rt_show.specs.declared.words.Wish.{Wish}
 
 -- a text of a run that was not written whole stops the program where the out says
-pub cut_done : (wish : Wish) (said : Source) (text : List ℕ) (old new : Option (List ℕ)) (before now : ℕ) (error : OutError) → IsDoneText wish said text → Writes text old new before now (Err error) → Prints wish said old new before now (Err (stop_of error))
+pub cut_done : (wish : Wish) (said : Asked) (text : List ℕ) (old new : Option (List ℕ)) (before now : ℕ) (error : OutError) → IsDoneText wish said text → Writes text old new before now (Err error) → Prints wish said old new before now (Err (stop_of error))
 cut_done wish said text old new before now errors.Failed run put = (put.cause refl, record { text = text; run = inl run; front = put.front })
 cut_done wish said text old new before now errors.OutOfMemory run put = inr (record { text = text; run = inl run; front = put.front })
 
-pub cut_ended : (wish : Wish) (said : Source) (text : List ℕ) (old new : Option (List ℕ)) (before now : ℕ) (error : OutError) → IsEndedText wish said text → Writes text old new before now (Err error) → Prints wish said old new before now (Err (stop_of error))
+pub cut_ended : (wish : Wish) (said : Asked) (text : List ℕ) (old new : Option (List ℕ)) (before now : ℕ) (error : OutError) → IsEndedText wish said text → Writes text old new before now (Err error) → Prints wish said old new before now (Err (stop_of error))
 cut_ended wish said text old new before now errors.Failed run put = (put.cause refl, record { text = text; run = inr run; front = put.front })
 cut_ended wish said text old new before now errors.OutOfMemory run put = inr (record { text = text; run = inr run; front = put.front })
 
@@ -76,7 +77,7 @@ of_source Holds said script props inputs made holds =
     (subst (λ (i : List (Input SourceTypes)). Holds (meaning_of_script script) props i) made.inputs_are holds))
 
 -- what holds of a session of a source, into a sink that began with nothing, holds of the edits that the sink tells
-holds_of :
+pub holds_of :
     (Holds : List documents.Edit → List sessions.Report → Type 0)
     (old new : Option (List Edit)) (edits wrote : List Edit) (reports shown : List Report)
     → old ≡ Some [] → new ≡ Some edits → shown ≡ reports → new ≡ sinks.grown old wrote

@@ -13,12 +13,15 @@ use Rattle.rt_model.specs.Headline.{CameTo}
 use Rattle.rt_reports.specs.Seen.{limits_of}
 use Rattle.rt_reports.specs.declared.limits.Limits.{Limits}
 use Rattle.rt_sources.specs.Describes.{Describes}
+use Rattle.rt_logs.specs.Recorded.{DescribesRun}
+use Rattle.rt_show.specs.Asked.{Asked, Lacks, RecordsNone}
+use Rattle.rt_show.specs.Judged.{RecordedBy, RecordedInput}
 use Rattle.rt_show.specs.Words.{wish_of, reads_source, usual, AskForSource}
-use Rattle.rt_show.specs.Runs.{DescribedBy, Chooses, IsRefused, IsSafe, IsEndedText, HasCome, SafeInput, CanBeDone}
+use Rattle.rt_show.specs.Runs.{DescribedBy, Chooses, IsRefused, IsUnfit, IsSafe, IsEndedText, HasCome, SafeInput, CanBeDone}
 use Rattle.rt_sources.specs.declared.reading.TheConstants.{SOURCE_LIMIT}
 use Rattle.rt_show.specs.Statuses.{Comes, Ended, ReadsAsked, status_of, Shows}
 use Rattle.rt_show.specs.declared.words.Wish.{Wish}
-use Rattle.rt_show.specs.declared.words.Wish.TheVariants.{Run, Make, Screen}
+use Rattle.rt_show.specs.declared.words.Wish.TheVariants.{Run, Make, Screen, Audit}
 use Rattle.rt_show.specs.declared.reason.Stop.{Stop}
 use Rattle.rt_show.specs.declared.reason.Stop.TheVariants as stops
 use Rattle.rt_show.proofs.Viewing.{came_before}
@@ -34,18 +37,26 @@ not_described said bytes (Some all) after told is none =
     let same : is.bytes ≡ bytes = cc (told, is.whole.1) in
     none said (subst (λ (read : List ℕ). Describes read said) same is.described)
 
--- where the source is asked for, none is chosen that the bytes don't say
-chosen_read : (wish : Wish) (said : Source) (bytes : List ℕ) (left after : Option (List ℕ)) →
-    reads_source wish ≡ true → left ≡ Some bytes → Chooses wish said left after → ((other : Source) → Describes bytes other → ⊥) → ⊥
-chosen_read (Run own) said bytes left after reads told chosen none = not_described said bytes left after told chosen none
-chosen_read (Make rows) said bytes left after reads told chosen none = absurd (cc)
-chosen_read (Screen size) said bytes left after reads told chosen none = not_described said bytes left after told chosen none
+-- nor is a recorded run
+not_recorded : (said : Asked) (bytes : List ℕ) (left after : Option (List ℕ)) → left ≡ Some bytes → RecordedBy said left after → RecordsNone bytes → ⊥
+not_recorded said bytes None after told is none = absurd (cc)
+not_recorded said bytes (Some all) after told is none =
+    let same : is.bytes ≡ bytes = cc (told, is.whole.1) in
+    none said.source said.log (subst (λ (read : List ℕ). DescribesRun read said.source said.log) same is.described)
 
-not_chosen : (words : List (List ℕ)) (wish : Wish) (said : Source) (bytes : List ℕ) (left after : Option (List ℕ)) →
-    wish_of words ≡ Some wish → AskForSource words → left ≡ Some bytes → Chooses wish said left after → ((other : Source) → Describes bytes other → ⊥) → ⊥
+-- where the source is asked for, none is chosen that the bytes don't say
+chosen_read : (wish : Wish) (said : Asked) (bytes : List ℕ) (left after : Option (List ℕ)) →
+    reads_source wish ≡ true → left ≡ Some bytes → Chooses wish said left after → Lacks wish bytes → ⊥
+chosen_read (Run own) said bytes left after reads told chosen none = not_described said.source bytes left after told chosen none
+chosen_read (Make rows) said bytes left after reads told chosen none = absurd (cc)
+chosen_read (Screen size) said bytes left after reads told chosen none = not_described said.source bytes left after told chosen none
+chosen_read Audit said bytes left after reads told chosen none = not_recorded said bytes left after told chosen none
+
+not_chosen : (words : List (List ℕ)) (wish : Wish) (said : Asked) (bytes : List ℕ) (left after : Option (List ℕ)) →
+    wish_of words ≡ Some wish → (ask : AskForSource words) → left ≡ Some bytes → Chooses wish said left after → Lacks ask.wish bytes → ⊥
 not_chosen words wish said bytes left after asked ask told chosen none =
     let is : ask.wish ≡ wish = cc (sym ask.asked ∙ asked) in
-    chosen_read wish said bytes left after (subst (λ (w : Wish). reads_source w ≡ true) is ask.reads) told chosen none
+    chosen_read wish said bytes left after (subst (λ (w : Wish). reads_source w ≡ true) is ask.reads) told chosen (subst (λ (w : Wish). Lacks w bytes) is none)
 
 -- a source that can be run isn't refused
 not_refused : (limits : Limits) (left after : Option (List ℕ)) → SafeInput limits left → IsRefused left after → ⊥
@@ -58,16 +69,28 @@ not_refused limits (Some all) after safe (inr none) =
     let same : safe.bytes ≡ none.bytes = cc (sym safe.told, (none.whole).1) in
     none.none safe.said (subst (λ (bytes : List ℕ). Describes bytes safe.said) same safe.described)
 
-asked_refused : (wish : Wish) (left after : Option (List ℕ)) → reads_source wish ≡ true → CanBeDone wish left → IsRefused left after → ⊥
+-- nor is a recorded run
+run_not_refused : (left after : Option (List ℕ)) → RecordedInput left → IsUnfit RecordsNone left after → ⊥
+run_not_refused None after can refused = let wrong : None ≡ Some can.bytes = can.told in absurd (cc)
+run_not_refused (Some all) after can (inl longer) =
+    let same : all ≡ can.bytes = cc (can.told) in
+    let size : length can.bytes ≤ SOURCE_LIMIT = (can.described).size in
+    absurd (omega (arith, longer, subst (λ (bytes : List ℕ). length bytes ≤ SOURCE_LIMIT) (sym same) size))
+run_not_refused (Some all) after can (inr none) =
+    let same : can.bytes ≡ none.bytes = cc (sym can.told, (none.whole).1) in
+    none.none can.source can.log (subst (λ (bytes : List ℕ). DescribesRun bytes can.source can.log) same can.described)
+
+asked_refused : (wish : Wish) (left after : Option (List ℕ)) → reads_source wish ≡ true → CanBeDone wish left → IsUnfit (Lacks wish) left after → ⊥
 asked_refused (Run limits) left after reads can refused = not_refused limits left after can refused
 asked_refused (Make rows) left after reads can refused = absurd (cc)
 asked_refused (Screen size) left after reads can refused = not_refused usual left after can refused
+asked_refused Audit left after reads can refused = run_not_refused left after can refused
 
-read_refused : (words : List (List ℕ)) (wish : Wish) (left after : Option (List ℕ)) → AskForSource words → wish_of words ≡ Some wish → CanBeDone wish left
-    → IsRefused left after → ⊥
+read_refused : (words : List (List ℕ)) (wish : Wish) (left after : Option (List ℕ)) → (ask : AskForSource words) → wish_of words ≡ Some wish → CanBeDone wish left
+    → IsUnfit (Lacks ask.wish) left after → ⊥
 read_refused words wish left after ask asked can refused =
     let is : ask.wish ≡ wish = cc (sym ask.asked ∙ asked) in
-    asked_refused wish left after (subst (λ (w : Wish). reads_source w ≡ true) is ask.reads) can refused
+    asked_refused wish left after (subst (λ (w : Wish). reads_source w ≡ true) is ask.reads) can (subst (λ (w : Wish). IsUnfit (Lacks w) left after) is refused)
 
 -- a source that is safe comes to no fault
 never_came : (limits : Limits) (said : Source) (edits : List Edit) (reports : List Report) (fault : Fault) → IsSafe limits said → HasCome limits said edits reports fault → ⊥
@@ -83,14 +106,15 @@ safe_said limits said (Some all) after safe chosen =
     let same : chosen.bytes ≡ safe.bytes = cc (safe.told, (chosen.whole).1) in
     safe.safe said (subst (λ (bytes : List ℕ). Describes bytes said) same chosen.described)
 
-ended_text : (wish : Wish) (said : Source) (left after : Option (List ℕ)) (text : List ℕ) → CanBeDone wish left → Chooses wish said left after
+ended_text : (wish : Wish) (said : Asked) (left after : Option (List ℕ)) (text : List ℕ) → CanBeDone wish left → Chooses wish said left after
     → IsEndedText wish said text → ⊥
 ended_text (Run limits) said left after text can chosen ended =
-    never_came limits said ended.edits ended.reports ended.fault (safe_said limits said left after can chosen) ended.headline
+    never_came limits said.source ended.edits ended.reports ended.fault (safe_said limits said.source left after can chosen) ended.headline
 ended_text (Make rows) said left after text can chosen ended = absurd ended
+ended_text Audit said left after text can chosen ended = absurd ended
 ended_text (Screen size) said left after text can chosen ended =
-    never_came usual said ended.edits ended.reports ended.fault (safe_said usual said left after can chosen)
-    (came_before usual said ended.edits ended.reports ended.fault ended.shown ended.headline)
+    never_came usual said.source ended.edits ended.reports ended.fault (safe_said usual said.source left after can chosen)
+    (came_before usual said.source ended.edits ended.reports ended.fault ended.shown ended.headline)
 
 never_ended : (words : List (List ℕ)) (wish : Wish) (left after old new : Option (List ℕ)) → Ended words left after old new
     → wish_of words ≡ Some wish → CanBeDone wish left → ⊥

@@ -17,9 +17,11 @@ use Rattle.rt_reports.specs.declared.limits.Limits.{Limits}
 use Rattle.rt_sources.specs.Describes.{Describes}
 use Rattle.rt_sources.specs.declared.reading.TheConstants.{SOURCE_LIMIT}
 use Rattle.rt_show.specs.Words.{usual}
+use Rattle.rt_show.specs.Asked.{Asked, SaysNone}
+use Rattle.rt_show.specs.Judged.{IsVerdictText, RecordedBy, RecordedInput}
 use Rattle.rt_show.specs.Pictures.{IsScreenText, IsEndedScreenText}
 use Rattle.rt_show.specs.declared.words.Wish.{Wish}
-use Rattle.rt_show.specs.declared.words.Wish.TheVariants.{Run, Make, Screen}
+use Rattle.rt_show.specs.declared.words.Wish.TheVariants.{Run, Make, Screen, Audit}
 use Rattle.rt_show.specs.declared.reason.Stop.{Stop}
 use Rattle.rt_show.specs.declared.reason.Stop.TheVariants as stops
 
@@ -29,21 +31,27 @@ pub record DescribedBy (said : Source) (left after : Option (List ℕ)) : Type 0
   pub whole : IsWhole bytes left after
   pub described : Describes bytes said
 
--- an input was read to its end, and its bytes describe no source
-pub record DescribesNone (left after : Option (List ℕ)) : Type 0 where
+-- an input was read to its end, and its bytes describe nothing that is asked for
+pub record DescribesNone (Lack : List ℕ → Type 0) (left after : Option (List ℕ)) : Type 0 where
   pub bytes : List ℕ
   pub whole : IsWhole bytes left after
-  pub none : (said : Source) → Describes bytes said → ⊥
+  pub none : Lack bytes
+
+-- an input is too long, or describes nothing that is asked for
+abbrev pub IsUnfit : (List ℕ → Type 0) → Option (List ℕ) → Option (List ℕ) → Type 0
+IsUnfit Lack left after = IsLonger SOURCE_LIMIT left ⊎ DescribesNone Lack left after
 
 -- an input is too long, or describes no source
 abbrev pub IsRefused : Option (List ℕ) → Option (List ℕ) → Type 0
-IsRefused left after = IsLonger SOURCE_LIMIT left ⊎ DescribesNone left after
+IsRefused left after = IsUnfit SaysNone left after
 
--- which source is run: that which the input describes, or that of so many rows, for which no input is read
-abbrev pub Chooses : Wish → Source → (left after : Option (List ℕ)) → Type 0
-Chooses (Run limits) said left after = DescribedBy said left after
-Chooses (Make rows) said left after = (said ≡ generated rows) × (after ≡ left)
-Chooses (Screen size) said left after = DescribedBy said left after
+-- which source is run, and which log is judged: those that the input describes, or the source of so many rows, for which no input is
+-- read
+abbrev pub Chooses : Wish → Asked → (left after : Option (List ℕ)) → Type 0
+Chooses (Run limits) said left after = DescribedBy said.source left after
+Chooses (Make rows) said left after = (said.source ≡ generated rows) × (after ≡ left)
+Chooses (Screen size) said left after = DescribedBy said.source left after
+Chooses Audit said left after = RecordedBy said left after
 
 -- a source has the headline within these limits with these reports and edits, where those are told: replay accepts the logs, the edits never
 -- fault and give what shows after each report, and there every output is current, and fallbacks show just while they are held
@@ -81,31 +89,33 @@ pub record IsSummary (rows : ℕ) (said : Source) (text : List ℕ) : Type 0 whe
   pub printed : text ≡ summary_line rows reports
 
 -- the text of what was done: what each wish says of a source and of bytes
-abbrev pub IsDoneText : Wish → Source → List ℕ → Type 0
-IsDoneText (Run limits) said text = IsRunText limits said text
-IsDoneText (Make rows) said text = IsSummary rows said text
-IsDoneText (Screen size) said text = IsScreenText size said text
+abbrev pub IsDoneText : Wish → Asked → List ℕ → Type 0
+IsDoneText (Run limits) said text = IsRunText limits said.source text
+IsDoneText (Make rows) said text = IsSummary rows said.source text
+IsDoneText (Screen size) said text = IsScreenText size said.source text
+IsDoneText Audit said text = IsVerdictText said text
 
--- the text of what a fault ended; a run that is only summed up prints nothing then
-abbrev pub IsEndedText : Wish → Source → List ℕ → Type 0
-IsEndedText (Run limits) said text = IsFaultText limits said text
+-- the text of what a fault ended; a run that is only summed up, or that a log is held against, prints nothing then
+abbrev pub IsEndedText : Wish → Asked → List ℕ → Type 0
+IsEndedText (Run limits) said text = IsFaultText limits said.source text
 IsEndedText (Make rows) said text = ⊥
-IsEndedText (Screen size) said text = IsEndedScreenText size said text
+IsEndedText (Screen size) said text = IsEndedScreenText size said.source text
+IsEndedText Audit said text = ⊥
 
 -- what was written is a front of the text of a run
-pub record PrintsFront (wish : Wish) (said : Source) (old new : Option (List ℕ)) : Type 0 where
+pub record PrintsFront (wish : Wish) (said : Asked) (old new : Option (List ℕ)) : Type 0 where
   pub text : List ℕ
   pub run : IsDoneText wish said text ⊎ IsEndedText wish said text
   pub front : AddsFront old new text
 
 -- what was written is this text of a run that was done
-pub record PrintsDone (wish : Wish) (said : Source) (old new : Option (List ℕ)) : Type 0 where
+pub record PrintsDone (wish : Wish) (said : Asked) (old new : Option (List ℕ)) : Type 0 where
   pub text : List ℕ
   pub run : IsDoneText wish said text
   pub written : new ≡ grown old text
 
 -- what was written is this text of a run that a fault ended
-pub record PrintsEnded (wish : Wish) (said : Source) (old new : Option (List ℕ)) : Type 0 where
+pub record PrintsEnded (wish : Wish) (said : Asked) (old new : Option (List ℕ)) : Type 0 where
   pub text : List ℕ
   pub run : IsEndedText wish said text
   pub written : new ≡ grown old text
@@ -127,19 +137,24 @@ abbrev pub CanBeDone : Wish → Option (List ℕ) → Type 0
 CanBeDone (Run limits) left = SafeInput limits left
 CanBeDone (Make rows) left = Unit {0}
 CanBeDone (Screen size) left = SafeInput usual left
+CanBeDone Audit left = RecordedInput left
 
--- what reading comes to, by what is left of the input and its count of failures, before and after: where a read failed, no more than
--- the limit of bytes had come
+-- what reading comes to, by what the bytes may lack, what is left of the input and its count of failures, before and after: where a read
+-- failed, no more than the limit of bytes had come
+abbrev pub ReadsFor : (List ℕ → Type 0) → (left after : Option (List ℕ)) → (before now : ℕ) → Stop → Type 0
+ReadsFor Lack left after before now stops.Form = IsUnfit Lack left after
+ReadsFor Lack left after before now stops.Source = (before < now) × Advances MOST_BYTES left after
+ReadsFor Lack left after before now stops.OutOfMemory = Unit {0}
+ReadsFor Lack left after before now stops.Words = ⊥
+ReadsFor Lack left after before now stops.Fault = ⊥
+ReadsFor Lack left after before now stops.Out = ⊥
+
+-- what reading a source comes to
 abbrev pub Reads : (left after : Option (List ℕ)) → (before now : ℕ) → Stop → Type 0
-Reads left after before now stops.Form = IsRefused left after
-Reads left after before now stops.Source = (before < now) × Advances MOST_BYTES left after
-Reads left after before now stops.OutOfMemory = Unit {0}
-Reads left after before now stops.Words = ⊥
-Reads left after before now stops.Fault = ⊥
-Reads left after before now stops.Out = ⊥
+Reads left after before now stop = ReadsFor SaysNone left after before now stop
 
 -- what a run comes to, by what is written and the out's count of failures, before and after
-abbrev pub Prints : Wish → Source → (old new : Option (List ℕ)) → (before now : ℕ) → Result (Unit {0}) Stop → Type 0
+abbrev pub Prints : Wish → Asked → (old new : Option (List ℕ)) → (before now : ℕ) → Result (Unit {0}) Stop → Type 0
 Prints wish said old new before now (Ok u) = PrintsDone wish said old new
 Prints wish said old new before now (Err stops.Fault) = PrintsEnded wish said old new
 Prints wish said old new before now (Err stops.Out) = (before < now) × PrintsFront wish said old new

@@ -1,11 +1,10 @@
 -- What each status of the program says.
 use Rattle.std.specs.Prelude.{◌≡◌, ◌≢◌, ◌↔◌, ◌⊎◌, ℕ, ◌<◌, ◌≤◌, List, Option, Some, None, Result, Ok, Err}
-use Rattle.rt_language.specs.Syntax.{Source}
-use Rattle.rt_sources.specs.Describes.{Describes}
+use Rattle.rt_show.specs.Asked.{Asked, Lacks}
 use Rattle.rt_streams.specs.Reads.{Advances}
 use Rattle.rt_streams.specs.declared.reading.TheConstants.{MOST_BYTES}
 use Rattle.rt_show.specs.Words.{wish_of, AskForSource}
-use Rattle.rt_show.specs.Runs.{CanBeDone, Chooses, IsRefused, PrintsDone, PrintsEnded, PrintsFront}
+use Rattle.rt_show.specs.Runs.{CanBeDone, Chooses, IsUnfit, PrintsDone, PrintsEnded, PrintsFront}
 use Rattle.rt_show.specs.declared.words.Wish.{Wish}
 use Rattle.rt_show.specs.declared.reason.Stop.{Stop}
 use Rattle.rt_show.specs.declared.reason.Stop.TheVariants as stops
@@ -24,7 +23,7 @@ status_of (Err stops.OutOfMemory) = 7
 pub record Done (words : List (List ℕ)) (left after old new : Option (List ℕ)) : Type 0 where
   pub wish : Wish
   pub asked : wish_of words ≡ Some wish
-  pub said : Source
+  pub said : Asked
   pub chosen : Chooses wish said left after
   pub prints : PrintsDone wish said old new
 
@@ -32,7 +31,7 @@ pub record Done (words : List (List ℕ)) (left after old new : Option (List ℕ
 pub record Ended (words : List (List ℕ)) (left after old new : Option (List ℕ)) : Type 0 where
   pub wish : Wish
   pub asked : wish_of words ≡ Some wish
-  pub said : Source
+  pub said : Asked
   pub chosen : Chooses wish said left after
   pub prints : PrintsEnded wish said old new
 
@@ -40,7 +39,7 @@ pub record Ended (words : List (List ℕ)) (left after old new : Option (List �
 pub record Cut (words : List (List ℕ)) (left after old new : Option (List ℕ)) : Type 0 where
   pub wish : Wish
   pub asked : wish_of words ≡ Some wish
-  pub said : Source
+  pub said : Asked
   pub chosen : Chooses wish said left after
   pub prints : PrintsFront wish said old new
 
@@ -51,7 +50,7 @@ abbrev pub Comes :
 Comes words left after old new source_before source_after out_before out_after (Ok u) = Done words left after old new
 Comes words left after old new source_before source_after out_before out_after (Err stops.Words) = (wish_of words ≡ None) × (new ≡ old)
 Comes words left after old new source_before source_after out_before out_after (Err stops.Form) =
-    AskForSource words × IsRefused left after × (new ≡ old)
+    (ask : AskForSource words) × IsUnfit (Lacks ask.wish) left after × (new ≡ old)
 Comes words left after old new source_before source_after out_before out_after (Err stops.Fault) = Ended words left after old new
 Comes words left after old new source_before source_after out_before out_after (Err stops.Source) =
     AskForSource words × ((source_before < source_after) × Advances MOST_BYTES left after) × (new ≡ old)
@@ -77,10 +76,10 @@ pub record Shows
   -- 2: exactly where the words aren't known
   pub unlisted : (status ≡ 2) ↔ (wish_of words ≡ None)
   -- 3: the source is asked for, and the input is too long, or describes none
-  pub refused : status ≡ 3 → AskForSource words × IsRefused left after
+  pub refused : status ≡ 3 → (ask : AskForSource words) × IsUnfit (Lacks ask.wish) left after
   -- it comes wherever the source is asked for and an input that tells its bytes describes none, unless a read fails or memory is wanted
   pub refuses :
-      AskForSource words → (bytes : List ℕ) → left ≡ Some bytes → ((said : Source) → Describes bytes said → ⊥)
+      (ask : AskForSource words) → (bytes : List ℕ) → left ≡ Some bytes → Lacks ask.wish bytes
       → (status ≡ 3) ⊎ ((status ≡ 5) ⊎ (status ≡ 7))
   -- 4: a run came to a fault, whose line was written after what went before it
   pub faulted : status ≡ 4 → Ended words left after old new

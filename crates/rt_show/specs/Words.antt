@@ -3,7 +3,7 @@ use Rattle.std.specs.Prelude.{ℕ, ◌+◌, ◌-◌, ◌*◌, ◌≡◌, ◌≤�
 use Rattle.rt_reports.specs.declared.limits.Limits.{Limits}
 use Rattle.rt_show.specs.declared.words.Size.{Size}
 use Rattle.rt_show.specs.declared.words.Wish.{Wish}
-use Rattle.rt_show.specs.declared.words.Wish.TheVariants.{Run, Make, Screen}
+use Rattle.rt_show.specs.declared.words.Wish.TheVariants.{Run, Make, Screen, Audit}
 
 -- a number, where it is at most so much
 abbrev pub at_most : ℕ → ℕ → Option ℕ
@@ -77,11 +77,11 @@ abbrev pub pair_of : Option ℕ → List ℕ → List ℕ → Option Wish
 pair_of (Some rows) word number = Some (Make rows)
 pair_of None word number = run_with word number
 
--- what the words ask for, none where they aren't known: nothing, one of the three with its number, the one of a screen
--- with its two, or two that limit a run
+-- what the words ask for, none where they aren't known: nothing, the one for a recorded run, one of the three with its number, the one of
+-- a screen with its two, or two that limit a run
 abbrev pub wish_of : List (List ℕ) → Option Wish
 wish_of [] = Some (Run usual)
-wish_of (word ∷ []) = None
+wish_of (word ∷ []) = if bytes_eq word (codes "--audit") then Some Audit else None
 wish_of (word ∷ number ∷ []) = pair_of (rows_of word number) word number
 wish_of (word ∷ number ∷ other ∷ []) = option_map Screen (size_of word number other)
 wish_of (word ∷ number ∷ other ∷ second ∷ []) =
@@ -101,12 +101,14 @@ abbrev pub IsFew : Wish → Type 0
 IsFew (Run limits) = Unit {0}
 IsFew (Make rows) = rows ≤ 10000
 IsFew (Screen size) = IsSize size
+IsFew Audit = Unit {0}
 
 -- the source is read for what is asked
 abbrev pub reads_source : Wish → Bool
 reads_source (Run limits) = true
 reads_source (Make rows) = false
 reads_source (Screen size) = true
+reads_source Audit = true
 
 -- the words ask for something for which the source is read
 pub record AskForSource (words : List (List ℕ)) : Type 0 where

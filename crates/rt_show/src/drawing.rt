@@ -1,6 +1,7 @@
 //! A run that is shown on a screen.
 ghost use Rattle.rt_syntax.specs.Mirror.{source_of};
 ghost use Rattle.rt_show.specs.declared.words.Wish.TheVariants as wishes;
+ghost use Rattle.rt_show.specs.Asked.{alone};
 ghost use Rattle.rt_show.specs.Runs.{Prints};
 ghost use Rattle.rt_show.specs.Words.{IsSize};
 
@@ -25,7 +26,7 @@ pub(crate) fn draw<O: Out>(
     line: &mut Option<String>,
 ) -> Result<(), Stop>
     requires size { IsSize size }
-    ensures prints { Prints (wishes.Screen size) (source_of described)
+    ensures prints { Prints (wishes.Screen size) (alone (source_of described))
         (O.written out.old) (O.written out.new) (O.faults out.old) (O.faults out.new) result }
 {
     let Prepared {

@@ -6,12 +6,16 @@ mod agreements;
 mod drawing;
 mod generated;
 mod pictures;
+mod posted;
 mod reason;
+mod recorded;
 mod summary;
+mod taking;
 mod top;
 mod words;
 mod writing;
 
 pub use agreements::{most_bytes_agree, usual_limits_agree};
+pub use posted::{asks_for_posters, show_posted, show_posted_and_say};
 pub use top::{show, show_and_say};
 pub use words::USUAL;

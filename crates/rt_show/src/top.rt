@@ -6,6 +6,7 @@ ghost use Rattle.rt_reports.specs.Seen.{fault_of, input_of, limits_of, report_of
 ghost use Rattle.rt_syntax.specs.Mirror.{source_of};
 ghost use Rattle.rt_machine.specs.Sessions.{CameAt, Headlined};
 ghost use Rattle.rt_show.specs.declared.words.Wish.TheVariants as wishes;
+ghost use Rattle.rt_show.specs.Asked.{alone};
 ghost use Rattle.rt_show.specs.Ready.{MadeOf};
 ghost use Rattle.rt_show.specs.Runs.{DescribedBy, HasHeadline, Reads, Prints};
 ghost use Rattle.rt_show.specs.Words.{usual};
@@ -14,6 +15,7 @@ ghost use Rattle.rt_show.specs.Statuses.{Comes, ReadsAsked, Shows};
 use crate::drawing::draw;
 use crate::generated::generated;
 use crate::reason::{Stop, fault_said};
+use crate::recorded::{judge, read_recorded};
 use crate::summary::summary_line;
 use crate::words::{USUAL, Wish, wish_of};
 use crate::writing::{put_ended_run, put_run};
@@ -31,7 +33,12 @@ use std::alloc::Global;
 
 /// Where bytes break the form, and what was wanted there; None where there is no memory to say it.
 fn said_of(alloc: Global, bytes: &[u8]) -> Option<String> {
-    match refusal(alloc, bytes) {
+    said_where(refusal(alloc, bytes))
+}
+
+/// A line that may be said beside a status; None where there is no memory for it.
+pub(crate) fn said_where(line: Result<Option<String>, OutOfMemory>) -> Option<String> {
+    match line {
         Ok(line) => line,
         Err(OutOfMemory) => None,
     }
@@ -46,7 +53,7 @@ pub(crate) fn said(line: Result<String, OutOfMemory>) -> Option<String> {
 }
 
 /// The application that a source describes. Where it is in another form, `line` says why.
-fn read_application<S: Source>(
+pub(crate) fn read_application<S: Source>(
     alloc: Global,
     source: &mut S,
     line: &mut Option<String>,
@@ -128,7 +135,7 @@ fn run<O: Out>(
     out: &mut O,
     line: &mut Option<String>,
 ) -> Result<(), Stop>
-    ensures prints { Prints (wishes.Run limits) (source_of described) (O.written out.old) (O.written out.new)
+    ensures prints { Prints (wishes.Run limits) (alone (source_of described)) (O.written out.old) (O.written out.new)
         (O.faults out.old) (O.faults out.new) result }
 {
     let Prepared {
@@ -182,7 +189,7 @@ fn make(alloc: Global, rows: u64) -> Result<List<Report>, OutOfMemory>
 #[tactic(auto, using(crate::proofs::Runs::summed_up))]
 fn sum_up<O: Out>(alloc: Global, rows: u64, out: &mut O) -> Result<(), Stop>
     requires few { rows ≤ 10000 }
-    ensures prints { Prints (wishes.Make rows) (language.generated rows) (O.written out.old) (O.written out.new)
+    ensures prints { Prints (wishes.Make rows) (alone (language.generated rows)) (O.written out.old) (O.written out.new)
         (O.faults out.old) (O.faults out.new) result }
 {
     let reports = make(alloc, rows)?;
@@ -212,6 +219,10 @@ fn shown<S: Source, O: Out>(
             Err(Stop::Words)
         }
         Some(Wish::Make(rows)) => sum_up(alloc, rows, out),
+        Some(Wish::Audit) => {
+            let run = read_recorded(alloc, source, line)?;
+            judge(alloc, run, out)
+        }
         Some(Wish::Run(limits)) => {
             let described = read_application(alloc, source, line)?;
             run(alloc, described, limits, out, line)

@@ -40,6 +40,8 @@ pub enum Wish {
     Make(u64),
     /// The rows of a screen of this size on which the application of the source shows.
     Screen(Size),
+    /// The verdict on the recorded run of the source.
+    Audit,
 }
 
 /// The number with one more digit, where it is at most `most`.
@@ -141,6 +143,13 @@ pub fn wish_of(words: &[Text]) -> Option<Wish>
 {
     match words {
         [] => Some(Wish::Run(USUAL)),
+        [word] => {
+            if word.as_str() == "--audit" {
+                Some(Wish::Audit)
+            } else {
+                None
+            }
+        }
         [word, number] => match rows_of(word, number) {
             Some(rows) => Some(Wish::Make(rows)),
             None => Some(Wish::Run(with_limit(USUAL, word, number)?)),

@@ -4,6 +4,7 @@ use Rattle.std.specs.Prelude.{option_map}
 use Rattle.rt_language.specs.Lines.{line, fault_text}
 use Rattle.rt_reports.specs.Seen.{fault_of}
 use Rattle.rt_syntax.specs.Mirror.{source_of}
+use Rattle.rt_show.specs.Asked.{alone}
 use Rattle.rt_show.specs.Outs.{stop_of}
 use Rattle.rt_show.specs.Pictures.{screen_text}
 use Rattle.rt_show.specs.declared.words.Wish.TheVariants.{Screen}
@@ -29,7 +30,7 @@ returns-in_err-put_screens-in-Ok g c =
     let held = views (source_of c.args.described) _ _ c.edits.result.now c.in-Ok.reports c.as_slice.result.now
     c.default_list-sink.ensures.taken c.edits.ensures.taken (search rules) (c.in-Ok.ensures.headline (source_of c.args.described) c.in_ok-script.ensures.made) in
     record {
-      prints = rw stopped (cut_done (Screen c.args.size) (source_of c.args.described) _ _ _ _ _ c.in_err-put_screens-in-Ok.field-0.0
+      prints = rw stopped (cut_done (Screen c.args.size) (alone (source_of c.args.described)) _ _ _ _ _ c.in_err-put_screens-in-Ok.field-0.0
           (screen_of c.args.size (source_of c.args.described) c.edits.result.now c.as_slice.result.now held.0 held.1)
           (c.in_err-put_screens-in-Ok.ensures.writes held.0 held.2));
     }
@@ -43,7 +44,7 @@ returns-in_err-put_ended_screens-in-Err g c =
     c.default_list-sink.ensures.taken c.edits-in-Err.ensures.taken (search rules)
     (c.in-Err.ensures.came_to (source_of c.args.described) c.in_ok-script.ensures.made) names in
     record {
-      prints = rw stopped (cut_ended (Screen c.args.size) (source_of c.args.described) _ _ _ _ _ c.in_err-put_ended_screens-in-Err.field-0.0
+      prints = rw stopped (cut_ended (Screen c.args.size) (alone (source_of c.args.described)) _ _ _ _ _ c.in_err-put_ended_screens-in-Err.field-0.0
           ended.run (c.in_err-put_ended_screens-in-Err.ensures.writes ended.seen ended.shows));
     }
 

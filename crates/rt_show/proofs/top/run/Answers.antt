@@ -5,6 +5,7 @@ use Rattle.rt_language.specs.Lines.{line, fault_text}
 use Rattle.rt_mirror.specs.Mirror.{edit_of}
 use Rattle.rt_reports.specs.Seen.{fault_of, report_of}
 use Rattle.rt_syntax.specs.Mirror.{source_of}
+use Rattle.rt_show.specs.Asked.{alone}
 use Rattle.rt_show.specs.Outs.{stop_of}
 use Rattle.rt_show.specs.Texts.{text_of}
 use Rattle.rt_show.specs.Runs.{HasHeadline, IsRunText, IsFaultText}
@@ -29,7 +30,7 @@ returns-in_err-put_run-in-Ok g c =
     c.default_list-sink.ensures.taken c.edits.ensures.taken (search rules) (c.in-Ok.ensures.headline (source_of c.args.described) c.in_ok-script.ensures.made) in
     let run : IsRunText c.args.limits (source_of c.args.described) (text_of c.edits.result.now c.as_slice.result.now) =
     run_of c.args.limits (source_of c.args.described) c.edits.result.now c.as_slice.result.now held in
-    record { prints = rw stopped (cut_done (Run c.args.limits) (source_of c.args.described) _ _ _ _ _ c.in_err-put_run-in-Ok.field-0.0 run c.in_err-put_run-in-Ok.ensures.writes) }
+    record { prints = rw stopped (cut_done (Run c.args.limits) (alone (source_of c.args.described)) _ _ _ _ _ c.in_err-put_run-in-Ok.field-0.0 run c.in_err-put_run-in-Ok.ensures.writes) }
 
 pub returns-in_err-put_ended_run-in-Err : goal.returns-in_err-put_ended_run-in-Err
 returns-in_err-put_ended_run-in-Err g c =
@@ -40,7 +41,7 @@ returns-in_err-put_ended_run-in-Err g c =
     ended_by c.args.limits (source_of c.args.described) _ _ c.edits-in-Err.result.now c.in-Err.field-0 c.as_slice-in-Err.result.now c.as_slice-in-Err-2.result.now
     c.default_list-sink.ensures.taken c.edits-in-Err.ensures.taken (search rules)
     (c.in-Err.ensures.came_to (source_of c.args.described) c.in_ok-script.ensures.made) names in
-    record { prints = rw stopped (cut_ended (Run c.args.limits) (source_of c.args.described) _ _ _ _ _ c.in_err-put_ended_run-in-Err.field-0.0 run c.in_err-put_ended_run-in-Err.ensures.writes) }
+    record { prints = rw stopped (cut_ended (Run c.args.limits) (alone (source_of c.args.described)) _ _ _ _ _ c.in_err-put_ended_run-in-Err.field-0.0 run c.in_err-put_ended_run-in-Err.ensures.writes) }
 
 pub returns : goal.returns
 returns g c =

@@ -1,0 +1,16 @@
+-- Bytes that are no recorded run describe none.
+use Rattle.std.proofs.Common.{rules, ◌≡◌, ℕ, List, Option, None, subst, inr}
+use Rattle.rt_logs.specs.Runs.{ReadsBytes}
+use Rattle.rt_logs.specs.declared.reading.Run.{Run}
+use Rattle.rt_show.specs.Asked.{RecordsNone}
+use Rattle.rt_show.proofs.recorded.read_recorded.Goals as goal
+
+unsaid : (given bytes : List ℕ) (read : Option Run) → given ≡ bytes → read ≡ None → ReadsBytes given read → RecordsNone bytes
+unsaid given bytes read same none h = subst (λ (b : List ℕ). RecordsNone b) same (subst (λ (r : Option Run). ReadsBytes given r) none h)
+
+pub returns-in-Ok-None-clause-reads : goal.returns-in-Ok-None-clause-reads
+returns-in-Ok-None-clause-reads g c = inr (record {
+  bytes = c.in-Ok.bytes;
+  whole = search rules;
+  none = unsaid c.as_slice.result.now c.in-Ok.bytes c.in-Ok-None.field-0 (search rules) c.in-Ok-None.field-0-is c.in-Ok-None.ensures.described;
+})

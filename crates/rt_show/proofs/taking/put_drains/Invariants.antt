@@ -1,0 +1,10 @@
+-- The lines so far have been put.
+use Rattle.std.proofs.Common.{take, Ok}
+use Rattle.rt_model.specs.Lists.{joined}
+use Rattle.rt_show.proofs.Messages.{lines_from}
+use Rattle.rt_streams.specs.Writes.{Writes}
+use Rattle.rt_show.proofs.taking.put_drains.Given as goal
+
+abbrev pub invariant-loop-at : goal.invariant-loop-at
+invariant-loop-at g l =
+    Writes (joined (take l.at (lines_from 1 l.drains))) (g.O.Out.written l.fn.out) (g.O.Out.written l.out) (g.O.Out.faults l.fn.out) (g.O.Out.faults l.out) (Ok tt)
