@@ -16,6 +16,7 @@ pub use Rattle.rt_model.specs.Tree
 pub use Rattle.rt_model.specs.World
 pub use Rattle.rt_nodes.specs.Shown
 pub use Rattle.rt_pages.specs.Bodies
+pub use Rattle.rt_present.specs.First
 pub use Rattle.rt_programs.specs.Author
 pub use Rattle.rt_programs.specs.Came
 pub use Rattle.rt_programs.specs.Cells

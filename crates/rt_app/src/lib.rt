@@ -21,6 +21,7 @@ pub use rt_parts::{
     Attribute, AttributeValue, CapturedError, Event, ListenerCallback, Parts, RenderError,
     SuspendedFuture, Template, TemplateAttribute, TemplateNode,
 };
+pub use rt_present::first_pages_show;
 pub use rt_programs::{
     coded_tests, current_pages_show, heard_from_below, memoized_are_lawful, pages_are_lawful,
     pages_show_present_values, pair_tests, plain_tests, programs_come_to_their_meaning,

@@ -1,0 +1,135 @@
+-- What the router shows, what its calls are, and that its tests decide.
+use Rattle.std.proofs.Common.{zero, suc, refl}
+use Rattle.std.specs.Prelude.{ℕ, false, List, [], ◌∷◌, codes, nat_eq, ◌≡◌, Option, Some, None, if◌then◌else◌}
+use Rattle.rt_programs.proofs.Lawful.{coded_tests, plain_tests}
+use Rattle.rt_app.specs.Bodied.{Bodied}
+use Rattle.rt_app.specs.Bodies.{ProgramsDecide}
+use Rattle.rt_app.specs.Cells.{Keeping, own_cell}
+use Rattle.rt_nodes.specs.declared.vnode.DynamicNode.{DynamicNode}
+use Rattle.rt_nodes.specs.declared.vnode.DynamicNode.TheVariants as slots
+use Rattle.rt_app.specs.Markup.{block, clickable, labelled, slot}
+use Rattle.rt_app.specs.Mirror.{tree_of}
+use Rattle.rt_app.specs.Nothing.{Nothing}
+use Rattle.rt_app.specs.OneLog.{types}
+use Rattle.rt_app.specs.Program.{Program, done, current_scope, read, write, provide, consume_context, Programs}
+use Rattle.rt_app.specs.Sequence.{go_on}
+use Rattle.rt_app.specs.Shown.{placeholder_tree}
+use Rattle.rt_app.specs.Tree.{Types, Element, rendered}
+use Rattle.rt_nodes.specs.declared.vnode.VComponent.TheVariants.{App}
+use Rattle.rt_nodes.specs.declared.vnode.VNode.{VNode}
+use Rattle.rt_app.specs.World.{Event, nothing, ready}
+use Rattle.examples_router.specs.declared.router.Component.{Component}
+use Rattle.examples_router.specs.declared.router.Component.TheVariants.{Top, Link, Page}
+use Rattle.examples_router.specs.declared.router.Router.{Router}
+
+abbrev pub RouterTypes : Types
+RouterTypes = types Component ℕ ℕ ℕ Nothing Nothing Nothing
+
+-- hooks keep the numbers of cells as they are
+abbrev pub keeping : Keeping ℕ
+keeping = record { kind = 0; keeps = λ n. n; kept = λ n. Some n }
+
+-- the application, and a tree of it
+abbrev pub Own : Type 0
+Own = Bodied Router Component ℕ ℕ ℕ Nothing Nothing Nothing
+
+abbrev pub RouterTree : Type 0
+RouterTree = VNode Own Component ℕ ℕ ℕ Nothing Nothing Nothing
+
+-- the name of a route
+abbrev pub name_of : ℕ → List ℕ → List ℕ
+name_of route other = if nat_eq route 0 then codes "Home" else if nat_eq route 1 then codes "Plants" else other
+
+-- a component in a slot
+abbrev pub standing : Component → ℕ → DynamicNode Own Component ℕ ℕ ℕ Nothing Nothing Nothing
+standing c props = slots.Component (App c props)
+
+-- three links, and the page below them
+abbrev pub all : RouterTree
+all =
+    block
+    (slot 0 ∷ slot 1 ∷ slot 2 ∷ slot 3 ∷ [])
+    ((0 ∷ []) ∷ (1 ∷ []) ∷ (2 ∷ []) ∷ (3 ∷ []) ∷ [])
+    []
+    (standing Link 0 ∷ standing Link 1 ∷ standing Link 2 ∷ standing Page 0 ∷ [])
+    []
+
+-- a link of a scope to a route
+abbrev pub link : ℕ → ℕ → RouterTree
+link scope to = clickable (codes "a") (name_of to (codes "Nowhere")) scope to
+
+-- the page of a route
+abbrev pub heading : ℕ → RouterTree
+heading route = labelled (codes "h1") (name_of route (codes "Not found"))
+
+-- a body's answer
+abbrev pub tree : RouterTree → Program RouterTypes (Element RouterTypes)
+tree t = done (rendered (tree_of t))
+
+-- the cell is provided, and all is shown
+abbrev pub with_cell : Option ℕ → Program RouterTypes (Element RouterTypes)
+with_cell None = tree placeholder_tree
+with_cell (Some cell) = provide false 0 cell (tree all)
+
+-- the page of the route that was read
+abbrev pub of_route : Option ℕ → Program RouterTypes (Element RouterTypes)
+of_route None = tree placeholder_tree
+of_route (Some route) = tree (heading route)
+
+-- the page of the cell
+abbrev pub of_cell : Option ℕ → Program RouterTypes (Element RouterTypes)
+of_cell None = tree placeholder_tree
+of_cell (Some cell) = read cell (λ route. of_route route)
+
+-- the body of a component
+abbrev pub body : Component → ℕ → Program RouterTypes (Element RouterTypes)
+body Top props = go_on (own_cell keeping 0) (λ cell. with_cell cell)
+body Link props = current_scope (λ scope. tree (link scope props))
+body Page props = consume_context None 0 (λ cell. of_cell cell)
+
+-- a route is written to the cell
+abbrev pub gone : ℕ → Event RouterTypes → Option ℕ → Program RouterTypes (Event RouterTypes)
+gone to event None = done event
+gone to event (Some cell) = write cell to (done event)
+
+-- components by number, and back
+abbrev pub number : Component → ℕ
+number Top = 0
+number Link = 1
+number Page = 2
+
+abbrev component : ℕ → Component
+component zero = Top
+component (suc zero) = Link
+component (suc (suc n)) = Page
+
+back : (c : Component) → component (number c) ≡ c
+back Top = refl
+back Link = refl
+back Page = refl
+
+-- its calls
+abbrev pub programs : Programs RouterTypes
+programs =
+    record {
+      root = Top;
+      same_component = λ a b. nat_eq (number a) (number b);
+      same_props = nat_eq;
+      same_value = nat_eq;
+      same_handler = nat_eq;
+      memoize = λ c p q. nat_eq p q;
+      body = body;
+      poll = λ s. done ready;
+      effect = λ e. done nothing;
+      handle = λ to event. consume_context None 0 (λ cell. gone to event cell);
+    }
+
+pub decides : ProgramsDecide RouterTypes programs
+decides =
+    record {
+      memoized = λ c p q. refl;
+      components = coded_tests number component nat_eq back plain_tests.numbers;
+      props = plain_tests.numbers;
+      values = plain_tests.numbers;
+      handlers = plain_tests.numbers;
+    }

@@ -1,0 +1,196 @@
+//! The router's components and its links.
+ghost use Rattle.std.specs.Prelude.{◌≡◌, ◌<◌, ◌-◌, IfOk, OnOk};
+ghost use Rattle.rt_app.specs.Answers.{event_of, step_of};
+ghost use Rattle.rt_app.specs.Comes.{ComesIfRemembered};
+ghost use Rattle.rt_app.specs.Mirror.{element_of};
+ghost use Rattle.rt_app.specs.World.{nothing};
+ghost use Rattle.examples_router.specs.Meaning as meaning;
+ghost use Rattle.examples_router.specs.Meaning.{body, programs, decides};
+ghost use Rattle.examples_router.specs.declared.router.Component.TheVariants as components;
+
+use crate::trees::{all, heading, link};
+use rt_app::{
+    Bodied, Bodies, BodyCx, Cx, Element, Event, KeepsCells, Nothing, OutOfMemory, Part, Parts,
+    TaskStep, VNode, own_cell, remembered,
+};
+use std::alloc::Global;
+
+/// The kind of the context that provides the cell of the route.
+const PATH: u32 = 0;
+
+/// What the application is made of.
+#[derive(Drop)]
+pub struct Router;
+
+/// The application.
+pub type Routed = Bodied<Router>;
+
+/// A component.
+#[derive(Clone, Copy, PartialEq, Eq)]
+pub enum Component {
+    /// The links, with the page below them.
+    Top,
+    /// A link to the route that its props name.
+    Link,
+    /// The page of the present route.
+    Page,
+}
+
+impl Part for Component {
+    fn same(&self, other: &Component) -> bool {
+        *self == *other
+    }
+
+    fn copy(&self, _alloc: Global) -> Result<Component, OutOfMemory> {
+        Ok(*self)
+    }
+}
+
+/// The body at the top.
+#[tactic(auto, using(rt_bodies::proofs::Refused::hooking, rt_programs::proofs::Steps::at_provide))]
+fn top(alloc: Global, cx: &mut BodyCx<'_, Routed>) -> Result<Element<Routed>, OutOfMemory>
+    ensures came { IfOk result (λ answer.
+        ComesIfRemembered cx.old cx.new (body components.Top 0) (element_of answer)) }
+    ensures world { cx.new.world ≡ cx.old.world }
+{
+    let Some(cell) = own_cell(alloc, cx, 0)? else {
+        return Ok(VNode::empty(alloc)?);
+    };
+    remembered(cx.provide_context(PATH, cell))?;
+    Ok(Ok(all(alloc)?))
+}
+
+/// The body of the page.
+#[tactic(auto, using(rt_bodies::proofs::Refused::hooking, rt_programs::proofs::Steps::looking))]
+fn page(alloc: Global, cx: &mut BodyCx<'_, Routed>) -> Result<Element<Routed>, OutOfMemory>
+    ensures came { IfOk result (λ answer.
+        ComesIfRemembered cx.old cx.new (body components.Page 0) (element_of answer)) }
+    ensures world { cx.new.world ≡ cx.old.world }
+{
+    let Some(cell) = remembered(cx.try_consume_context(alloc, PATH))? else {
+        return Ok(VNode::empty(alloc)?);
+    };
+    match remembered(cx.read(alloc, cell))? {
+        Some(route) => Ok(Ok(heading(alloc, route)?)),
+        None => Ok(VNode::empty(alloc)?),
+    }
+}
+
+impl Parts for Router {
+    type Component = Component;
+
+    /// The route of a link.
+    type Props = u64;
+
+    /// A route, or the number of the cell that keeps it.
+    type Value = u64;
+
+    /// The route that a link leads to.
+    type Handler = u64;
+
+    type TaskState = Nothing;
+
+    type Effect = Nothing;
+
+    type Payload = Nothing;
+}
+
+impl KeepsCells for Router {
+    ghost keeping = { meaning.keeping };
+
+    fn cell_kind() -> u32 {
+        0
+    }
+
+    fn keep_cell(_alloc: Global, cell: u64) -> Result<u64, OutOfMemory> {
+        Ok(cell)
+    }
+
+    fn cell_in(value: &u64) -> Option<u64> {
+        Some(*value)
+    }
+}
+
+impl Bodies for Router {
+    ghost programs = { λ _. programs };
+
+    ghost props_of_none = { λ _. 0 };
+
+    ghost decide = { λ _. decides };
+
+    fn root(&self, _alloc: Global) -> Result<Component, OutOfMemory> {
+        Ok(Component::Top)
+    }
+
+    fn empty_props(&self, _alloc: Global) -> Result<u64, OutOfMemory> {
+        Ok(0)
+    }
+
+    #[tactic(auto, using(rt_bodies::proofs::Refused::hooking, rt_programs::proofs::Steps::looking))]
+    fn body(
+        &self,
+        alloc: Global,
+        component: &Component,
+        props: &u64,
+        cx: &mut BodyCx<'_, Routed>,
+    ) -> Result<Element<Routed>, OutOfMemory>
+        ensures came { IfOk result (λ answer. ComesIfRemembered cx.old cx.new
+            (body component.now props.now) (element_of answer)) }
+        ensures world { cx.new.world ≡ cx.old.world }
+    {
+        match component {
+            Component::Top => top(alloc, cx),
+            Component::Link => {
+                let scope = cx.current_scope_id();
+                Ok(Ok(link(alloc, scope, *props)?))
+            }
+            Component::Page => page(alloc, cx),
+        }
+    }
+
+    #[tactic(auto, using(rt_bodies::proofs::Refused::hooking))]
+    fn step(
+        &self,
+        _alloc: Global,
+        state: Nothing,
+        cx: &mut Cx<'_, Routed>,
+    ) -> Result<TaskStep<Nothing>, OutOfMemory>
+        ensures came { IfOk result (λ step. ComesIfRemembered cx.old cx.new
+            (programs.poll state) (step_of step)) }
+        ensures world { cx.new.world ≡ cx.old.world }
+    {
+        Ok(TaskStep::Ready)
+    }
+
+    #[tactic(auto, using(rt_bodies::proofs::Refused::hooking))]
+    fn effect(
+        &self,
+        _alloc: Global,
+        effect: &Nothing,
+        cx: &mut Cx<'_, Routed>,
+    ) -> Result<(), OutOfMemory>
+        ensures came { OnOk result (ComesIfRemembered cx.old cx.new
+            (programs.effect effect.now) nothing) }
+        ensures world { cx.new.world ≡ cx.old.world }
+    {
+        Ok(())
+    }
+
+    #[tactic(auto, using(rt_bodies::proofs::Refused::hooking, rt_programs::proofs::Steps::looking))]
+    fn hear(
+        &self,
+        alloc: Global,
+        handler: &u64,
+        event: &mut Event<Nothing>,
+        cx: &mut Cx<'_, Routed>,
+    ) -> Result<(), OutOfMemory>
+        ensures came { OnOk result (ComesIfRemembered cx.old cx.new
+            (programs.handle handler.now (event_of event.old)) (event_of event.new)) }
+        ensures world { cx.new.world ≡ cx.old.world }
+    {
+        match remembered(cx.try_consume_context(alloc, PATH))? {
+            Some(cell) => remembered(cx.write(cell, *handler)),
+            None => Ok(()),
+        }
+    }
+}

@@ -1,0 +1,7 @@
+//! Signals over cells: to be read, to be set, and to be read in a reactive context, so that a task
+//! derives another signal of them. For every application.
+#![tactic(auto)]
+
+mod signal;
+
+pub use signal::{Signal, waking};
