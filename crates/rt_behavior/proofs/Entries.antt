@@ -18,7 +18,7 @@ use Rattle.rt_model.proofs.Maps.{by_test, pick_true, pick_false, eq_same}
 use Rattle.rt_model.proofs.Among.{Among}
 use Rattle.rt_model.proofs.MachineFrames.{rest_later, with_props_later}
 use Rattle.rt_model.proofs.StepFrames.{removed_follows}
-use Rattle.rt_model.proofs.RunFrames.{state_of}
+use Rattle.rt_model.proofs.TourCalls.{state_of}
 use Rattle.rt_model.proofs.SideRuns.{rest_stay}
 use Rattle.rt_model.proofs.Stands.{Stands}
 use Rattle.rt_model.proofs.NumbersStand.{child_among}
@@ -35,7 +35,8 @@ use Rattle.rt_moves.proofs.Everywhere.{ReadyAt}
 use Rattle.rt_behavior.proofs.Unlooked.{Sees, changes, removed_sees}
 use Rattle.rt_behavior.proofs.Lines.{turns, Ahead}
 use Rattle.rt_behavior.proofs.Since.{Early, Since, since_rest, fades_unseen, calm_since, feed_fits}
-use Rattle.rt_behavior.proofs.Orders.{left_in, taken_out, next_seen, unlooked}
+use Rattle.rt_model.proofs.Members.{number_left, number_gone}
+use Rattle.rt_behavior.proofs.Orders.{next_seen, unlooked}
 use Rattle.rt_behavior.proofs.NoneAgain.{OneMore, fades_same, fades_left, not_both, behind_feed, others_of, SinceOn, ended_since, run_since}
 
 some_side : (a b : SideName) → Some a ≡ Some b → a ≡ b
@@ -45,7 +46,7 @@ apart : (n t : ℕ) → t < n → nat_eq n t ≡ false
 apart n t low = by_test (nat_eq n t) (λ q. let same : n ≡ t = eqb-true n t q in absurd (omega (arith, same, low))) (λ q. q)
 
 module _ {K : Types} where
-  live_low : (w : State K) (t : ℕ) → IsRooted w → is_live w t ≡ true → t < w.next_scope
+  pub live_low : (w : State K) (t : ℕ) → IsRooted w → is_live w t ≡ true → t < w.next_scope
   live_low w t r live =
       by_test (nat_lt t w.next_scope) (λ l. grind (arith, l))
       (λ l. let high : w.next_scope ≤ t = grind (arith, l) in not_both (is_live w t) live (ap (λ (o : Option (Scope K)). is_some o) (r.drawn t high)))
@@ -136,7 +137,7 @@ module _ {K : Types} where
         by_test (nat_eq l t)
         (
         λ e.
-        let out : has v.seen t ≡ false = sym (ap (λ (m : ℕ). has v.seen m) (eqb-true l t e)) ∙ ap (λ (xs : List ℕ). has xs l) seen ∙ taken_out w.seen l in
+        let out : has v.seen t ≡ false = sym (ap (λ (m : ℕ). has v.seen m) (eqb-true l t e)) ∙ ap (λ (xs : List ℕ). has xs l) seen ∙ number_gone w.seen l in
         not_both (has v.seen t) q out
         )
         (λ e. e)
@@ -149,7 +150,7 @@ module _ {K : Types} where
     gone_early : (t : ℕ) → is_live v t ≡ true → Early w work t → Early v work t
     gone_early t live e =
         let here = height_by w v t (same_else t (lives_else t live)) in (
-          λ y q. let there = height_by w v y (same_else y (seen_else y q)) in let low = e.0 y (left_in w.seen l y (sym (ap (λ (xs : List ℕ). has xs y) seen) ∙ q)) in omega (arith, here, there, low),
+          λ y q. let there = height_by w v y (same_else y (seen_else y q)) in let low = e.0 y ((number_left w.seen l y (sym (ap (λ (xs : List ℕ). has xs y) seen) ∙ q)).0) in omega (arith, here, there, low),
           λ j i. let there = height_by w v (owner j) (same_else (owner j) (lives_else (owner j) (owner_lives work j stack i))) in let low = e.1 j i in omega (arith, here, there, low),
         )
 

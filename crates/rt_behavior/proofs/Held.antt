@@ -13,7 +13,7 @@ use Rattle.rt_model.specs.Run.{with_next, joins, suspends_on}
 use Rattle.rt_model.specs.Replay.{Entry, Machine, mounted_state}
 use Rattle.rt_model.specs.Causes.{Limits}
 use Rattle.rt_model.proofs.Maps.{by_test, pick_true, pick_false, eq_same, at_here, at_there, at_put_here, at_put_none, at_without_here, at_without_none, at_append_none}
-use Rattle.rt_model.proofs.Frames.{AllFresh}
+use Rattle.rt_model.proofs.Tour.{AllFresh}
 use Rattle.rt_moves.specs.Moves.{Move, entries, Leads}
 use Rattle.rt_moves.proofs.Logs.{logs_are_moves}
 use Rattle.rt_behavior.specs.Marking.{IsPosted}

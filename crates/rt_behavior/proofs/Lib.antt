@@ -1,5 +1,6 @@
 pub mod Firsts
 pub mod Coming
+mod Queued
 mod Unfound
 mod Ignored
 mod Climbs
@@ -30,3 +31,8 @@ mod NoneAgain
 mod Entries
 mod Entering
 pub mod Renders
+mod Sorting
+mod Seen
+mod Turning
+mod Ordering
+pub mod InTurn

@@ -12,7 +12,7 @@ use Rattle.rt_model.specs.Run.{fault_of, plain, error_tree, children_tree, root_
 use Rattle.rt_model.specs.Boundary.{tree_or_placeholder, children_of, counts_render, counted_render, fallback_answered, called_back, row_step, boundary_step}
 use Rattle.rt_model.specs.Removal.{tasks_in, cell_sources, cells_in, read_contexts, end_all, tell_all, clean_ups, without_scope, gone, stopped, cleaned_in, removed}
 use Rattle.rt_model.specs.Replay.{numbered, draw_number, with_child, with_new_scope, made_in, made, with_props, keeps, handed, left_by_poll, polled_to, polled_at, polled, poll_meant, batch_then, effects_run}
-use Rattle.rt_model.proofs.Frames.{AllFresh}
+use Rattle.rt_model.proofs.Tour.{AllFresh}
 use Rattle.rt_behavior.specs.Deeds.{Deed, deeds_on, deed_of, poll_finds, effect_deeds, hook_deeds, hooks_deeds, after_deeds, answered_deeds, body_deeds, answer_deeds, run_as_deeds, run_deeds, callback_deeds, row_deeds, clean_deeds, removed_deeds, batch_deeds, poll_deeds}
 use Rattle.rt_behavior.proofs.Enduring.{LastsBut, LastsIn, lasts_but, lasts_all, Again, Enduring, either, post_on, tell_on, change_on, throw_on, end_on, AllAllowed, commands_on}
 use Rattle.rt_behavior.proofs.Calling.{Free, all_first, all_last, AllDraw, fresh_both, body_draws}

@@ -11,9 +11,10 @@ use Rattle.rt_model.specs.Next.{Work, RerunScope, PollTask, RunEffects, is_activ
 use Rattle.rt_model.specs.Run.{with_next, called_once}
 use Rattle.rt_model.specs.Replay.{Post, MarkScope, WakeTask, AllDirty, Message, mounted, mounted_state, post_all, post_message, post_messages}
 use Rattle.rt_model.proofs.Maps.{by_test, pick_true, pick_false, at_here, at_there}
+use Rattle.rt_model.proofs.Members.{clash, number_stays, join_keeps, join_has}
 use Rattle.rt_behavior.specs.Marking.{IsPosted}
 use Rattle.rt_behavior.specs.Owed.{IsMarked, IsWoken, OwesRun, OwesPoll}
-use Rattle.rt_behavior.proofs.Stays.{clash, number_stays, join_keeps, join_has, Stays, stays_refl, stays_then, stays_to, quiet, post_stays, rest_stays}
+use Rattle.rt_behavior.proofs.Stays.{Stays, stays_refl, stays_then, stays_to, quiet, post_stays, rest_stays}
 
 module _ {K : Types} where
   -- the same of a change that isn't cut

@@ -14,13 +14,14 @@ use Rattle.rt_model.specs.Removal.{next_removed, removed}
 use Rattle.rt_model.specs.Replay.{Entry, Build, Taken, Heard, Rerun, Poll, Effects, Made, Fed, Kept, Removed, Input, EventAt, WakeOf, WriteOf, MarkOf, Drain, Machine, ended_by, if_live, waiting, looked_where_quiet, then_looked, taken_in, take_next, one_more_unit, fed_child, keeps, with_props, handed, due_work, due_heard, due_item, due, polled, effects_run, further, heard_event, heard_first, rested, outcome_of, change_by}
 use Rattle.rt_model.specs.Causes.{Limits}
 use Rattle.rt_model.proofs.Maps.{by_test}
+use Rattle.rt_model.proofs.Members.{clash}
 use Rattle.rt_moves.specs.Moves.{Move, Silent, Closed, Logged, entries, is_silent, Leads}
 use Rattle.rt_moves.proofs.Insides.{alive_before, live_due, made_due, fed_due, fed_change}
 use Rattle.rt_moves.proofs.Logs.{logs_are_moves}
 use Rattle.rt_behavior.specs.Comes.{emptied, NothingLeft}
 use Rattle.rt_behavior.specs.Owed.{runs_in, polled_in, OwesRun, OwesPoll, MarksAreRun, WakesArePolled, LoggedMarksAreRun, LoggedWakesArePolled}
 use Rattle.rt_behavior.proofs.Coming.{none_is_left}
-use Rattle.rt_behavior.proofs.Stays.{clash, Stays, stays_refl, stays_then, stays_to, post_stays, written_stays, commands_stay, rest_stays}
+use Rattle.rt_behavior.proofs.Stays.{Stays, stays_refl, stays_then, stays_to, post_stays, written_stays, commands_stay, rest_stays}
 use Rattle.rt_behavior.proofs.Looking.{StaysO, look_stays, rest_is_kept, messages_stay, mounts_stay}
 use Rattle.rt_behavior.proofs.Running.{numbered_stays, run_stays, step_stays, made_stays, fed_stays, kept_child_stays, removed_stays, polled_stays, effects_stay}
 

@@ -22,7 +22,7 @@ use Rattle.rt_moves.proofs.Everywhere.{ReadyAt}
 use Rattle.rt_behavior.proofs.Unlooked.{Sees, changes, run_sees, row_sees}
 use Rattle.rt_behavior.proofs.Lines.{turns, Line, OfTurn, Any, clear_others, clear_step, Lined, run_lined, row_lined}
 use Rattle.rt_behavior.proofs.Since.{Fades, Early, Since, Shift, put_shift, since_rest, fades_unseen, calm_since, opened_since, opens_shift}
-use Rattle.rt_behavior.proofs.Orders.{left_in, taken_out}
+use Rattle.rt_model.proofs.Members.{number_left, number_gone}
 
 -- one more scope ran
 abbrev pub OneMore : (ℕ → Type 0) → ℕ → ℕ → Type 0
@@ -36,7 +36,7 @@ module _ {K : Types} where
   fades_same w v e x h = sym (ap (λ (xs : List ℕ). has xs x) e) ∙ h
 
   pub fades_left : (w v : State K) (s : ℕ) → v.seen ≡ drop_number w.seen s → Fades w v
-  fades_left w v s e x h = left_in w.seen s x (sym (ap (λ (xs : List ℕ). has xs x) e) ∙ h)
+  fades_left w v s e x h = (number_left w.seen s x (sym (ap (λ (xs : List ℕ). has xs x) e) ∙ h)).0
 
   drawn_is : (w u v : State K) (work : List (Item K)) (fault : Fault) (b : Bool) → (if b then Cut w fault else Done u []) ≡ Done v work → (u ≡ v) × ([] ≡ work)
   drawn_is w u v work fault true e = cc
@@ -44,7 +44,7 @@ module _ {K : Types} where
 
   more_unseen : (ran : ℕ → Type 0) (w v : State K) (s : ℕ) → v.seen ≡ drop_number w.seen s → ((u : ℕ) → ran u → has w.seen u ≡ false) → (u : ℕ) → OneMore ran s u → has v.seen u ≡ false
   more_unseen ran w v s e h u (inl r) = fades_unseen ran w v (fades_left w v s e) h u r
-  more_unseen ran w v s e h u (inr same) = ap (λ (n : ℕ). has v.seen n) same ∙ ap (λ (xs : List ℕ). has xs s) e ∙ taken_out w.seen s
+  more_unseen ran w v s e h u (inr same) = ap (λ (n : ℕ). has v.seen n) same ∙ ap (λ (xs : List ℕ). has xs s) e ∙ number_gone w.seen s
 
   -- what comes behind a feed is of other scopes than the child
   pub behind_feed : (w : State K) (s t : ℕ) (a : SideName) (p : Place) (c : VComponent K) (rest : List (Item K)) → height_of w.scopes t ≡ height_of w.scopes s + 1 → AllByRecursion (λ (j : Item K). After w (Feed s a p c) j) rest

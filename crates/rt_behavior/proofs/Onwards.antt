@@ -14,7 +14,7 @@ use Rattle.rt_model.specs.Removal.{next_removed, removed}
 use Rattle.rt_model.specs.Heard.{Listener}
 use Rattle.rt_model.specs.Replay.{Entry, Build, Taken, Heard, Rerun, Poll, Effects, Made, Fed, Kept, Removed, Post, MarkScope, WakeTask, AllDirty, Message, Input, EventAt, WakeOf, WriteOf, MarkOf, Drain, Machine, ended_by, mounted_state, if_live, waiting, post_all, post_message, post_messages, looked_where_quiet, then_looked, taken_in, take_next, one_more_unit, fed_child, keeps, due_item, due_heard, due_work, due, outcome_of, polled, effects_run, further, heard_event, heard_first, rested, change_by}
 use Rattle.rt_model.specs.Causes.{Limits}
-use Rattle.rt_model.proofs.Frames.{AllFresh}
+use Rattle.rt_model.proofs.Tour.{AllFresh}
 use Rattle.rt_model.proofs.Maps.{by_test, pick_true, pick_false}
 use Rattle.rt_moves.specs.Moves.{Move, Silent, Closed, Logged, is_silent, entries, Moves, Leads}
 use Rattle.rt_moves.proofs.Insides.{alive_before, live_due, made_due, fed_due, fed_change}

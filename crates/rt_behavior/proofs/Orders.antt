@@ -8,36 +8,8 @@ use Rattle.rt_model.specs.State.{Scope, State, height_of}
 use Rattle.rt_model.specs.Next.{Work, RerunScope, PollTask, RunEffects, least_from, least, is_before, scope_of_task, first_task, first_seen, chosen, found, paused, drop_then, drops, looked, at_rest, with_effects, or_effects, next}
 use Rattle.rt_model.specs.Sentences.{render_ends}
 use Rattle.rt_model.proofs.Maps.{eq_same}
+use Rattle.rt_model.proofs.Members.{or_left, or_right, by_either}
 use Rattle.rt_moves.proofs.Lists.{some_number}
-
-either_true : {P : Type 0} (b c : Bool) → b || c ≡ true → (b ≡ true → P) → (c ≡ true → P) → P
-either_true true c h f g = f refl
-either_true false c h f g = g h
-
-first_true : (b c : Bool) → b ≡ true → b || c ≡ true
-first_true true c h = refl
-first_true false c h = cc
-
-second_true : (b c : Bool) → c ≡ true → b || c ≡ true
-second_true true c h = refl
-second_true false c h = h
-
--- what is left after a number was taken out was there, and isn't that number
-pub left_in : (xs : List ℕ) (s x : ℕ) → has (drop_number xs s) x ≡ true → has xs x ≡ true
-left_in [] s x h = h
-left_in (y ∷ xs) s x h = one (nat_eq y s) (λ g. left_in xs s x g) h
-  where
-    one : (b : Bool) → (has (drop_number xs s) x ≡ true → has xs x ≡ true) → has (if b then drop_number xs s else y ∷ drop_number xs s) x ≡ true → has (y ∷ xs) x ≡ true
-    one true go g = second_true (nat_eq y x) (has xs x) (go g)
-    one false go g = either_true (nat_eq y x) (has (drop_number xs s) x) g (λ e. first_true (nat_eq y x) (has xs x) e) (λ e. second_true (nat_eq y x) (has xs x) (go e))
-
-pub taken_out : (xs : List ℕ) (s : ℕ) → has (drop_number xs s) s ≡ false
-taken_out [] s = refl
-taken_out (y ∷ xs) s = one (nat_eq y s) (taken_out xs s) refl
-  where
-    one : (b : Bool) → has (drop_number xs s) s ≡ false → nat_eq y s ≡ b → has (if b then drop_number xs s else y ∷ drop_number xs s) s ≡ false
-    one true go e = go
-    one false go e = ap (λ (b : Bool). b || has (drop_number xs s) s) e ∙ go
 
 picked : (b : Bool) (s t r : ℕ) → (if b then Some (RerunScope s) else Some (PollTask t)) ≡ Some (RerunScope r) → s ≡ r
 picked true s t r h = cc
@@ -61,8 +33,8 @@ module _ {K : Types} where
   least_low : (scopes : List (ℕ × Scope K)) (x : ℕ) (xs : List ℕ) → Least scopes (x ∷ xs) (least_from (λ s t. is_before scopes s t) x xs)
   least_low scopes x [] =
       record {
-        there = first_true (nat_eq x x) false (eq_same x);
-        low = λ y h. either_true (nat_eq x y) false h (λ e. let same : height_of scopes x ≡ height_of scopes y = ap (λ (n : ℕ). height_of scopes n) (eqb-true x y e) in omega (arith, same)) (λ e. let absurdity : false ≡ true = e in cc);
+        there = or_left (nat_eq x x) false (eq_same x);
+        low = λ y h. by_either (nat_eq x y) false h (λ e. let same : height_of scopes x ≡ height_of scopes y = ap (λ (n : ℕ). height_of scopes n) (eqb-true x y e) in omega (arith, same)) (λ e. let absurdity : false ≡ true = e in cc);
       }
   least_low scopes x (t ∷ xs) = one (is_before scopes t x) (least_low scopes t xs) (least_low scopes x xs) refl
     where
@@ -71,26 +43,26 @@ module _ {K : Types} where
           let r : ℕ = least_from (λ s u. is_before scopes s u) t xs in
           let rest : Least scopes (t ∷ xs) r = rest_t in
           let near = level scopes t x e in
-          let first = rest.low t (first_true (nat_eq t t) (has xs t) (eq_same t)) in
+          let first = rest.low t (or_left (nat_eq t t) (has xs t) (eq_same t)) in
           record {
-            there = second_true (nat_eq x r) (has (t ∷ xs) r) rest.there;
-            low = λ y h. either_true (nat_eq x y) (has (t ∷ xs) y) h (λ q. let same : height_of scopes x ≡ height_of scopes y = ap (λ (n : ℕ). height_of scopes n) (eqb-true x y q) in omega (arith, same, near, first)) (λ q. rest.low y q);
+            there = or_right (nat_eq x r) (has (t ∷ xs) r) rest.there;
+            low = λ y h. by_either (nat_eq x y) (has (t ∷ xs) y) h (λ q. let same : height_of scopes x ≡ height_of scopes y = ap (λ (n : ℕ). height_of scopes n) (eqb-true x y q) in omega (arith, same, near, first)) (λ q. rest.low y q);
           }
       one false rest_t rest_x e =
           let r : ℕ = least_from (λ s u. is_before scopes s u) x xs in
           let rest : Least scopes (x ∷ xs) r = rest_x in
           let near = not_level scopes t x e in
-          let first = rest.low x (first_true (nat_eq x x) (has xs x) (eq_same x)) in
+          let first = rest.low x (or_left (nat_eq x x) (has xs x) (eq_same x)) in
           record {
-            there = either_true (nat_eq x r) (has xs r) rest.there (λ q. first_true (nat_eq x r) (has (t ∷ xs) r) q) (λ q. second_true (nat_eq x r) (has (t ∷ xs) r) (second_true (nat_eq t r) (has xs r) q));
+            there = by_either (nat_eq x r) (has xs r) rest.there (λ q. or_left (nat_eq x r) (has (t ∷ xs) r) q) (λ q. or_right (nat_eq x r) (has (t ∷ xs) r) (or_right (nat_eq t r) (has xs r) q));
             low =
                 λ y h.
-                either_true (nat_eq x y) (has (t ∷ xs) y) h (λ q. rest.low y (first_true (nat_eq x y) (has xs y) q))
+                by_either (nat_eq x y) (has (t ∷ xs) y) h (λ q. rest.low y (or_left (nat_eq x y) (has xs y) q))
                 (
                 λ g.
-                either_true (nat_eq t y) (has xs y) g
+                by_either (nat_eq t y) (has xs y) g
                 (λ q. let same : height_of scopes t ≡ height_of scopes y = ap (λ (n : ℕ). height_of scopes n) (eqb-true t y q) in omega (arith, same, near, first))
-                (λ q. rest.low y (second_true (nat_eq x y) (has xs y) q))
+                (λ q. rest.low y (or_right (nat_eq x y) (has xs y) q))
                 );
           }
 
@@ -99,7 +71,7 @@ module _ {K : Types} where
   least_of scopes (x ∷ xs) s h =
       subst (λ (r : ℕ). Least scopes (x ∷ xs) r) (some_number (least_from (λ a b. is_before scopes a b) x xs) s h) (least_low scopes x xs)
 
-  came_up : (w : State K) (o : Option Work) (s : ℕ) → or_effects w o ≡ Some (RerunScope s) → o ≡ Some (RerunScope s)
+  pub came_up : (w : State K) (o : Option Work) (s : ℕ) → or_effects w o ≡ Some (RerunScope s) → o ≡ Some (RerunScope s)
   came_up w (Some x) s h = h
   came_up w None s h = absurd (rerun_of (least (λ a b. is_before w.scopes a b) (with_effects w.scopes)) s h)
 
@@ -120,7 +92,7 @@ module _ {K : Types} where
   dropped_seen go w None h = refl
   dropped_seen go w (Some t) h = h (record w { queued = drop_number w.queued t })
 
-  drops_seen : (qs : List ℕ) (w : State K) → (drops qs w).seen ≡ w.seen
+  pub drops_seen : (qs : List ℕ) (w : State K) → (drops qs w).seen ≡ w.seen
   drops_seen [] w = refl
   drops_seen (q ∷ qs) w = dropped_seen (λ v. drops qs v) w (paused w (found w)) (λ v. drops_seen qs v)
 

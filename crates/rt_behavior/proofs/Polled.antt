@@ -9,7 +9,7 @@ use Rattle.rt_model.specs.Commands.{unqueued, commands}
 use Rattle.rt_model.specs.Next.{Work, look_on, look, found, paused, drop_then, drops, looked, at_rest}
 use Rattle.rt_model.specs.Run.{fault_of, with_next, called_once, acted}
 use Rattle.rt_model.specs.Replay.{left_by_poll, polled_to, polled_at, polled, batch_then, effects_run}
-use Rattle.rt_model.proofs.Frames.{AllFresh}
+use Rattle.rt_model.proofs.Tour.{AllFresh}
 use Rattle.rt_behavior.specs.Deeds.{Deed, deeds_on, poll_finds, effect_deeds, batch_deeds, poll_deeds}
 use Rattle.rt_behavior.proofs.Enduring.{lasts_all, Again, Enduring, either, end_on, AllAllowed}
 use Rattle.rt_behavior.proofs.Calling.{Free, AllDraw}

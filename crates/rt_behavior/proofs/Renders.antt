@@ -83,11 +83,11 @@ module _ {K : Types} (app : Application K) (lawful : IsLawful K app) where
       let after = tail_since (After ran d) limits moves z u none leads.2 next_ready before in
       subst (λ (x : Entry). Stepped ran x u) entry (record { since = after.0; ready = after.1; new = first.1 })
 
-  accepted : (b : Bool) (x u : Machine K) → (if b then Some x else None) ≡ Some u → (b ≡ true) × (x ≡ u)
+  pub accepted : (b : Bool) (x u : Machine K) → (if b then Some x else None) ≡ Some u → (b ≡ true) × (x ≡ u)
   accepted true x u h = (refl, cc)
   accepted false x u h = cc
 
-  alive_by : (m : Machine K) (o : Option Fault) (e : Entry) → m.dead ≡ o → is_due app (due app m) e ≡ true → m.dead ≡ None
+  pub alive_by : (m : Machine K) (o : Option Fault) (e : Entry) → m.dead ≡ o → is_due app (due app m) e ≡ true → m.dead ≡ None
   alive_by m None e is h = is
   alive_by m (Some fault) e is h =
       let none : due app m ≡ None = ap (λ (o : Option Fault). if_live m.state (elim o as (λ z. Option Entry) [ None ↦ (if m.built then due_item app m m.work else Some Build) | Some f ↦ None ])) is in
@@ -95,14 +95,14 @@ module _ {K : Types} (app : Application K) (lawful : IsLawful K app) where
       cc
 
   -- what an accepted entry gives: moves that leave it alone in the log
-  record Accepted (m u : Machine K) (e : Entry) : Type 0 where
-    alive : m.dead ≡ None
-    moves : List Move
-    leads : Leads app (ample m) m moves u
-    same : entries moves ≡ e ∷ []
-    settled : IsSettled u
+  pub record Accepted (m u : Machine K) (e : Entry) : Type 0 where
+    pub alive : m.dead ≡ None
+    pub moves : List Move
+    pub leads : Leads app (ample m) m moves u
+    pub same : entries moves ≡ e ∷ []
+    pub settled : IsSettled u
 
-  accepted_as : (m u : Machine K) (e : Entry) → IsSettled m → accepts app m e ≡ Some u → Accepted m u e
+  pub accepted_as : (m u : Machine K) (e : Entry) → IsSettled m → accepts app m e ≡ Some u → Accepted m u e
   accepted_as m u e settled acc =
       let is = accepted (is_due app (due app m) e) (step app m e) u acc in
       let alive = alive_by m m.dead e refl is.0 in

@@ -13,7 +13,8 @@ use Rattle.rt_model.specs.Boundary.{tree_or_placeholder, children_of, counts_ren
 use Rattle.rt_model.specs.Removal.{tasks_in, cell_sources, cells_in, read_contexts, end_all, tell_all, clean_ups, without_scope, gone, stopped, cleaned_in, removed}
 use Rattle.rt_model.specs.Replay.{numbered, draw_number, with_child, with_new_scope, made_in, made, with_props, left_by_poll, polled_to, polled_at, polled, batch_then, effects_run}
 use Rattle.rt_model.proofs.Maps.{by_test, eq_same, at_without_here, at_without_none, at_append_none}
-use Rattle.rt_behavior.proofs.Stays.{clash, Stays, stays_refl, stays_then, stays_to, stays_if, quiet, put_stays, change_stays, post_stays, tell_stays, rest_stays, task_put, end_stays, unmarked_stays, unqueued_stays, throw_stays, commands_stay}
+use Rattle.rt_model.proofs.Members.{clash}
+use Rattle.rt_behavior.proofs.Stays.{Stays, stays_refl, stays_then, stays_to, stays_if, quiet, put_stays, change_stays, post_stays, tell_stays, rest_stays, task_put, end_stays, unmarked_stays, unqueued_stays, throw_stays, commands_stay}
 use Rattle.rt_behavior.proofs.Looking.{StaysO, onward_stays, from_stays, stays_o_to, stays_o_if, next_stays, once_stays, look_stays}
 
 module _ {K : Types} where

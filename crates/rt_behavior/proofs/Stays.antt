@@ -10,6 +10,7 @@ use Rattle.rt_model.specs.Commands.{same_posted, drop_posted, holding, released,
 use Rattle.rt_model.specs.Next.{is_active}
 use Rattle.rt_model.specs.Run.{unmarked}
 use Rattle.rt_model.proofs.Maps.{by_test, pick_true, pick_false, eq_same, at_here, at_there, at_put_here, at_put_other, at_without_here, at_without_other, at_append_none}
+use Rattle.rt_model.proofs.Members.{clash, turned_round, number_stays}
 use Rattle.rt_behavior.specs.Marking.{IsPosted}
 use Rattle.rt_behavior.specs.Owed.{IsMarked, IsWoken, OwesRun, OwesPoll}
 use Rattle.rt_behavior.proofs.Readers.{posted_first, posted_last, Posts, post_posts, tell_posts}
@@ -17,66 +18,6 @@ use Rattle.rt_behavior.proofs.Readers.{posted_first, posted_last, Posts, post_po
 abbrev pub is_it : Option ℕ → ℕ → Bool
 is_it None n = false
 is_it (Some m) n = nat_eq m n
-
-pub clash : {P : Type 0} {b : Bool} → b ≡ true → b ≡ false → P
-clash h g = cc
-
-either_true : {P : Type 0} (a b : Bool) → a || b ≡ true → (a ≡ true → P) → (b ≡ true → P) → P
-either_true true b h f g = f refl
-either_true false b h f g = g h
-
-left_true : (a b : Bool) → a ≡ true → a || b ≡ true
-left_true true b h = refl
-left_true false b h = cc
-
-right_true : (a b : Bool) → b ≡ true → a || b ≡ true
-right_true true b h = refl
-right_true false b h = h
-
-turned : (a b : ℕ) → nat_eq a b ≡ false → nat_eq b a ≡ false
-turned a b h = grind (arith, h)
-
-pub number_stays : (xs : List ℕ) (n s : ℕ) → nat_eq n s ≡ false → has xs s ≡ true → has (drop_number xs n) s ≡ true
-number_stays [] n s other h = h
-number_stays (x ∷ xs) n s other h =
-    by_test (nat_eq x n)
-    (
-    λ q.
-    let apart : nat_eq x s ≡ false = ap (λ (k : ℕ). nat_eq k s) (eqb-true x n q) ∙ other in
-    ap (λ (ys : List ℕ). has ys s) (pick_true (drop_number xs n) (x ∷ drop_number xs n) q)
-    ∙ number_stays xs n s other (either_true (nat_eq x s) (has xs s) h (λ g. clash g apart) (λ g. g))
-    )
-    (
-    λ q.
-    ap (λ (ys : List ℕ). has ys s) (pick_false (drop_number xs n) (x ∷ drop_number xs n) q)
-    ∙ either_true (nat_eq x s) (has xs s) h
-    (λ g. left_true (nat_eq x s) (has (drop_number xs n) s) g)
-    (λ g. right_true (nat_eq x s) (has (drop_number xs n) s) (number_stays xs n s other g))
-    )
-
-has_first : (xs ys : List ℕ) (s : ℕ) → has xs s ≡ true → has (xs ++ ys) s ≡ true
-has_first [] ys s h = clash h refl
-has_first (x ∷ xs) ys s h =
-    either_true (nat_eq x s) (has xs s) h
-    (λ g. left_true (nat_eq x s) (has (xs ++ ys) s) g)
-    (λ g. right_true (nat_eq x s) (has (xs ++ ys) s) (has_first xs ys s g))
-
-has_last : (xs : List ℕ) (s : ℕ) → has (xs ++ s ∷ []) s ≡ true
-has_last [] s = left_true (nat_eq s s) false (eq_same s)
-has_last (x ∷ xs) s = right_true (nat_eq x s) (has (xs ++ s ∷ []) s) (has_last xs s)
-
-pub join_keeps : (xs : List ℕ) (n s : ℕ) → has xs s ≡ true → has (join xs n) s ≡ true
-join_keeps xs n s h = keeps (has xs n)
-  where
-    keeps : (b : Bool) → has (if b then xs else xs ++ n ∷ []) s ≡ true
-    keeps true = h
-    keeps false = has_first xs (n ∷ []) s h
-
-pub join_has : (xs : List ℕ) (s : ℕ) → has (join xs s) s ≡ true
-join_has xs s =
-    by_test (has xs s)
-    (λ q. ap (λ (ys : List ℕ). has ys s) (pick_true xs (xs ++ s ∷ []) q) ∙ q)
-    (λ q. ap (λ (ys : List ℕ). has ys s) (pick_false xs (xs ++ s ∷ []) q) ∙ has_last xs s)
 
 kept_posted : (b : Bool) (q p : Posted) (ps rest : List Posted) → (q ≡ p → b ≡ true) → (IsPosted ps p → IsPosted rest p) → IsPosted (q ∷ ps) p → IsPosted (if b then q ∷ rest else rest) p
 kept_posted true q p ps rest f go (inl h) = inl h
@@ -302,7 +243,7 @@ module _ {K : Types} where
             (
             λ q.
             elim (h (ap (λ (o : Option (TaskRow K)). active_in o) (sym (at_without_other w.tasks t u q)) ∙ active)) [
-              | inl a ↦ inl (posted_first (drop_posted w.posted (Woken t)) (holding w.scopes t) (Woken u) (posted_stays w.posted (Woken t) (Woken u) (turned t u q) a))
+              | inl a ↦ inl (posted_first (drop_posted w.posted (Woken t)) (holding w.scopes t) (Woken u) (posted_stays w.posted (Woken t) (Woken u) (turned_round t u q) a))
               | inr a ↦ inr (number_stays w.queued t u q a)
             ]
             );
@@ -318,7 +259,7 @@ module _ {K : Types} where
         runs =
             λ t p h live.
             elim (h live) [
-              | inl a ↦ inl (posted_stays w.posted (Mark s) (Mark t) (turned s t p) a)
+              | inl a ↦ inl (posted_stays w.posted (Mark s) (Mark t) (turned_round s t p) a)
               | inr a ↦ inr (number_stays w.seen s t p a)
             ];
         polls = λ t p h active. elim (h active) [ inl a ↦ inl (posted_stays w.posted (Mark s) (Woken t) refl a) | inr a ↦ inr a ];
@@ -332,7 +273,7 @@ module _ {K : Types} where
         polls =
             λ u p h active.
             elim (h active) [
-              | inl a ↦ inl (posted_stays w.posted (Woken t) (Woken u) (turned t u p) a)
+              | inl a ↦ inl (posted_stays w.posted (Woken t) (Woken u) (turned_round t u p) a)
               | inr a ↦ inr (number_stays w.queued t u p a)
             ];
       }

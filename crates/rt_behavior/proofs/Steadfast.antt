@@ -13,7 +13,7 @@ use Rattle.rt_model.specs.Run.{with_next}
 use Rattle.rt_model.specs.Replay.{Entry, Machine, mounted, mounted_state}
 use Rattle.rt_model.specs.Causes.{Limits}
 use Rattle.rt_model.proofs.Maps.{by_test, eq_same, none_some, at_here, at_there, at_put_here, at_put_other, at_without_other}
-use Rattle.rt_model.proofs.Frames.{AllFresh}
+use Rattle.rt_model.proofs.Tour.{AllFresh}
 use Rattle.rt_model.proofs.RunFrames.{fresh, numbered_rises}
 use Rattle.rt_moves.specs.Moves.{Move, entries, Leads}
 use Rattle.rt_moves.proofs.Logs.{logs_are_moves}

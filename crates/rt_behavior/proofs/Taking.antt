@@ -6,9 +6,9 @@ use Rattle.rt_model.specs.Tree.{Types}
 use Rattle.rt_model.specs.State.{Posted, Mark, Woken, State, is_live}
 use Rattle.rt_model.specs.Next.{look_on}
 use Rattle.rt_model.proofs.Maps.{by_test, pick_true, pick_false}
+use Rattle.rt_model.proofs.Members.{clash, join_keeps, join_has}
 use Rattle.rt_behavior.specs.Marking.{IsPosted}
 use Rattle.rt_behavior.specs.Looks.{LooksTakeAll}
-use Rattle.rt_behavior.proofs.Stays.{clash, join_keeps, join_has}
 
 module _ {K : Types} where
   taken_posted : (ps : List Posted) (w : State K) → w.posted ≡ [] → (look_on ps w).posted ≡ []

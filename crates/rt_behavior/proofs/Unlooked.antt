@@ -32,7 +32,7 @@ module _ {K : Types} where
   sees_onward seen (Done v work) f h g = g v h
   sees_onward seen (Cut v fault) f h g = tt
 
-  posts : (w : State K) (p : Posted) → Unlooked w (post w p)
+  pub posts : (w : State K) (p : Posted) → Unlooked w (post w p)
   posts w (Mark s) = either (is_live w s) w (record w { posted = w.posted ++ Mark s ∷ [] }) w refl refl
   posts w (Woken t) = either (is_some (at w.tasks t)) w (record w { posted = w.posted ++ Woken t ∷ [] }) w refl refl
 
@@ -47,10 +47,10 @@ module _ {K : Types} where
       let u : State K = post_target w (e.1).target in
       context_tells i es (if b then u else w) ∙ either b w u w (targets w (e.1).target) refl
 
-  tells : (w : State K) (i : Source) → Unlooked w (tell w i)
+  pub tells : (w : State K) (i : Source) → Unlooked w (tell w i)
   tells w i = context_tells i w.contexts (record w { posted = w.posted ++ readers i w.scopes })
 
-  all_tell : (w : State K) (xs : List Source) → Unlooked w (tell_all w xs)
+  pub all_tell : (w : State K) (xs : List Source) → Unlooked w (tell_all w xs)
   all_tell w [] = refl
   all_tell w (x ∷ xs) = all_tell (tell w x) xs ∙ tells w x
 
@@ -64,7 +64,7 @@ module _ {K : Types} where
   change_tells : (w : State K) (s : ℕ) (f : Scope K → Scope K) (i : Source) → Unlooked w (tell (change w s f) i)
   change_tells w s f i = tells (change w s f) i ∙ changes w s f
 
-  writes : (w : State K) (n : ℕ) (v : K.Value) (o : Option (CellRow K)) → Unlooked w (written_at w n v o)
+  pub writes : (w : State K) (n : ℕ) (v : K.Value) (o : Option (CellRow K)) → Unlooked w (written_at w n v o)
   writes w n v None = refl
   writes w n v (Some old) = tells (record w { cells = put w.cells n (record old { value = v }) }) (Cell n)
 
@@ -84,7 +84,7 @@ module _ {K : Types} where
   clears w None = refl
   clears w (Some b) = change_tells w b (λ x. record x { error = None }) (Error b)
 
-  ends : (w : State K) (t : ℕ) → Unlooked w (end w t)
+  pub ends : (w : State K) (t : ℕ) → Unlooked w (end w t)
   ends w t =
       either (is_some (at w.tasks t)) w
       (record w { tasks = without w.tasks t; posted = drop_posted w.posted (Woken t) ++ holding w.scopes t; queued = drop_number w.queued t; scopes = released w.scopes t }) w refl refl
@@ -184,7 +184,7 @@ module _ {K : Types} (app : Application K) where
   one_command w s polled (Resolved e) = registers w s e (suspense_context w s)
   one_command w s polled Freeze = freezes w (suspense_context w s)
 
-  all_commands : (w : State K) (s : ℕ) (polled : Option ℕ) (cs : List (Command K)) → Unlooked w (commands app w s polled cs)
+  pub all_commands : (w : State K) (s : ℕ) (polled : Option ℕ) (cs : List (Command K)) → Unlooked w (commands app w s polled cs)
   all_commands w s polled [] = refl
   all_commands w s polled (c ∷ cs) = all_commands (command app w s polled c) s polled cs ∙ one_command w s polled c
 
@@ -192,7 +192,7 @@ module _ {K : Types} (app : Application K) where
   acts_by w s m None = all_commands (with_next w m.next) s None m.commands
   acts_by w s m (Some f) = tt
 
-  acts : (w : State K) (s : ℕ) (e : K.Effect) (rendering : Bool) → Sees w.seen (acted app w s e rendering)
+  pub acts : (w : State K) (s : ℕ) (e : K.Effect) (rendering : Bool) → Sees w.seen (acted app w s e rendering)
   acts w s e rendering = let u : State K = called_once w in let m : Meaning K Nothing = app.effect e (world_of w s None rendering) in acts_by u s m m.fault
 
   hook : (seen : List ℕ) (w : State K) (s : ℕ) (h : Hook K) → w.seen ≡ seen → Sees seen (hook_called app w s h)

@@ -6,6 +6,7 @@ use Rattle.rt_model.specs.World.{Application}
 use Rattle.rt_model.specs.Laws.{IsLawful}
 use Rattle.rt_model.specs.State.{State}
 use Rattle.rt_model.specs.Replay.{Entry, Rerun, Poll, Made, Fed, Kept, Removed, Input, Machine}
+use Rattle.rt_model.specs.Bodies.{RerunsTheSeen}
 use Rattle.rt_model.specs.Causes.{Limits}
 use Rattle.rt_model.specs.Sentences.{NoBodyTwice, render_ends, call_begun, EndsAt}
 use Rattle.rt_moves.specs.Moves.{AtRest}
@@ -48,3 +49,15 @@ RendersOnceFrom {K = K} app =
     → EndsAt app (λ (w : State K). render_ends w) m log v
     → PollsFirst log
     → NoBodyTwice log
+
+-- a render that polls no task after its first rerun reruns the scopes that are seen then, in their order, but for those that it
+-- removes or feeds before their turn
+abbrev pub RerunsInTurn : {K : Types} → Application K → Type 0
+RerunsInTurn {K = K} app =
+    IsLawful K app
+    → (limits : Limits) (props : K.Props) (inputs : List (Input K)) (m v : Machine K) (log : List Entry)
+    → Reached app limits props inputs m
+    → AtRest m
+    → EndsAt app (λ (w : State K). render_ends w) m log v
+    → PollsFirst log
+    → RerunsTheSeen app m log

@@ -20,7 +20,7 @@ pub use lasting::{
     hooks_stay, logged_first_error_lasts, logged_holders_last, logged_hooks_last, runs_keep_reads,
     suspensions_hold,
 };
-pub use once::{no_body_twice, no_body_twice_from};
+pub use once::{no_body_twice, no_body_twice_from, reruns_in_turn};
 pub use owing::{
     logged_marks_are_run, logged_wakes_are_polled, looks_take_all, marks_are_run, wakes_are_polled,
     wakes_are_posted,
@@ -29,4 +29,4 @@ pub use reaching::{
     nearest_is_found, nearest_provides, provides_post_readers, throws_fill_once, ways_are_short,
     writes_post_only_readers, writes_post_readers,
 };
-pub use turns::{absent_changes_nothing, next_in_turn, none_is_left, orders_agree};
+pub use turns::{absent_changes_nothing, next_in_turn, none_is_left, orders_agree, queues_agree};

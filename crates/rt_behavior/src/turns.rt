@@ -2,7 +2,7 @@
 
 ghost use Rattle.rt_behavior.specs.Absent.{AbsentChangesNothing};
 ghost use Rattle.rt_behavior.specs.Comes.{NextInTurn, NoneIsLeft};
-ghost use Rattle.rt_behavior.specs.Orders.{OrdersAgree};
+ghost use Rattle.rt_behavior.specs.Orders.{OrdersAgree, QueuesAgree};
 ghost use Rattle.rt_model.specs.OneLog.{types};
 ghost use Rattle.rt_model.specs.World.{Application};
 
@@ -14,6 +14,11 @@ pub fn next_in_turn<C, P, V, H, T, E, L>()
 /// The order by which it comes is that of `rt_sched::ScopeOrder`.
 pub fn orders_agree<C, P, V, H, T, E, L>()
     ensures { OrdersAgree (types C P V H T E L) }
+{}
+
+/// What `rt_sched::Queues` would answer next, of all that is seen and queued, is what comes up.
+pub fn queues_agree<C, P, V, H, T, E, L>()
+    ensures { QueuesAgree (types C P V H T E L) }
 {}
 
 /// Where nothing comes next nothing is posted, seen or queued, and no mounted scope has effects.

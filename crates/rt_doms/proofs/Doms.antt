@@ -166,8 +166,8 @@ module _ {K : Types} (app : Application K) where
       )
 
   pub handles_lead : HandlesLead app
-  handles_lead lawful limits props whole w name payload element bubbles log edits v led r =
-      let a : Aside K = Raised name payload element bubbles in
+  handles_lead lawful limits props whole w name payload element bubbles prevented log edits v led r =
+      let a : Aside K = Raised name payload element bubbles prevented in
       let on =
       after_aside lawful limits props whole w a led tt (inl tt) (set_aside app (resting w) a) refl refl refl refl refl log v r.last r.so r.machine r.quiet
       in

@@ -15,7 +15,7 @@ use Rattle.rt_model.specs.Sentences.{EndsAt}
 use Rattle.rt_model.proofs.Conjunctions.{and-left, and-right}
 use Rattle.rt_moves.specs.Moves.{Move, IsSettled, AtRest, entries}
 use Rattle.rt_moves.specs.Reached.{Part, ByMoves, ByAside, NonePassed, Comes, Reached}
-use Rattle.rt_model.specs.Asides.{Aside, Asked, Marked, AllMarked, Looked, Thinned, Rested, Raised, Passed, Polling, Answered, PassesNone, Allowed, aside_state, set_aside, resting}
+use Rattle.rt_model.specs.Asides.{Aside, Asked, Marked, AllMarked, Looked, Thinned, Rested, Raised, Passed, Polling, Answered, Advanced, PassesNone, Allowed, aside_state, set_aside, resting}
 use Rattle.rt_moves.specs.Asides.{IsAside}
 use Rattle.rt_moves.proofs.Logs.{logs_are_moves}
 use Rattle.rt_moves.proofs.Ways.{comes-append, none_more, none_aside}
@@ -128,7 +128,9 @@ module _ {K : Types} (app : Application K) where
       rest_leads lawful limits props whole (resting w) Polling (λ v. refl) h.reached h.known (rest_at w) refl allowed p
   asides_lead limits props whole lawful w Answered h allowed p =
       rest_leads lawful limits props whole (resting w) Answered (λ v. refl) h.reached h.known (rest_at w) refl allowed p
-  asides_lead limits props whole lawful w (Raised name payload element bubbles) h allowed p = h
+  asides_lead limits props whole lawful w (Advanced t) h allowed p =
+      rest_leads lawful limits props whole (resting w) (Advanced t) (λ v. refl) h.reached h.known (rest_at w) refl allowed p
+  asides_lead limits props whole lawful w (Raised name payload element bubbles prevented) h allowed p = h
 
   -- entry by entry: where the log leads, and where no unit began too late, it ends at its machine
   pub accepted_on : (m v : Machine K) (e : Entry) (log : List Entry) → replay_on app (Some m) (e ∷ log) ≡ Some v

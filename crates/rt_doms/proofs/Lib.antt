@@ -3,4 +3,7 @@ pub mod Doms
 pub mod Stopping
 pub mod Loops
 mod Calling
+mod Quick
 pub mod Once
+pub mod Counting
+pub mod Polls

@@ -5,17 +5,18 @@ use Rattle.rt_model.specs.Tree.{Types}
 use Rattle.rt_model.specs.World.{Application}
 use Rattle.rt_model.specs.State.{Posted, Mark, Woken, TaskRow, State, is_live}
 use Rattle.rt_model.specs.Lists.{at, join, drop_number}
-use Rattle.rt_model.specs.Next.{Work, RerunScope, PollTask, RunEffects, or_effects, found, paused, drop_then, drops, look_on, look, looked, at_rest, owes}
+use Rattle.rt_model.specs.Next.{Work, RerunScope, PollTask, RunEffects, chosen, first_task, first_seen, or_effects, found, paused, drop_then, drops, look_on, look, looked, at_rest, owes}
 use Rattle.rt_model.specs.Replay.{Entry, Machine, accepts, replay_on}
 use Rattle.rt_model.specs.Told.{opens}
 use Rattle.rt_behavior.specs.Comes.{IsFirst, task_before, ComesToRerun}
 use Rattle.rt_behavior.proofs.Firsts.{shorter}
 use Rattle.rt_behavior.proofs.Coming.{no_number, found_turn, paused_none, drops_done}
-use Rattle.rt_model.specs.Rendering.{runs_suspended, may_poll, may_rerun, pass_over, passes, rendering_rest, rendering_next}
+use Rattle.rt_model.specs.Rendering.{runs_suspended, may_poll, may_rerun, pass_over, passes, rendering_rest, rendering_next, tasks_passed, polling_rest, polling_next}
 use Rattle.rt_model.proofs.Conjunctions.{and-left}
 use Rattle.rt_model.proofs.Maps.{by_test, pick_true, pick_false}
 use Rattle.rt_headline.proofs.Reports.{one_machine}
 use Rattle.rt_doms.specs.Doms.{Until, Events, Renders, Settles, ends_by, left_by, Unended, UnendedGrows, RestsAlike, PassedComesNext}
+use Rattle.rt_doms.specs.Polls.{PolledComesNext}
 use Rattle.rt_doms.proofs.Leading.{accepted_on, owing}
 
 one_of : {K : Types} (u v : Machine K) → Some u ≡ Some v → u ≡ v
@@ -161,3 +162,77 @@ passed_comes_next w x h =
     let calm : paused u (found u) ≡ None = passes_still (length v.seen + length v.queued) v low in
     let rests : at_rest u ≡ u = rest_at_once u calm ∙ ap (λ (o : Option Work). looked u o) h in
     (rests, ap (λ (z : State _). or_effects z (found z)) rests ∙ ap (λ (o : Option Work). or_effects u o) h)
+
+-- the same of a poll of suspended work, which goes on while no scope is seen
+
+module _ {K : Types} where
+  -- where no scope is seen none comes up
+  none_up : {P : Type 0} (v : State K) (s : ℕ) → first_seen v ≡ None → found v ≡ Some (RerunScope s) → P
+  none_up {P = P} v s unseen e = by (first_task v) (sym (ap (λ (o : Option ℕ). chosen v (first_task v) o) unseen) ∙ e)
+    where
+      by : (o : Option ℕ) → chosen v o None ≡ Some (RerunScope s) → P
+      by None h = cc
+      by (Some t) h = cc
+
+  tasks_over : (go : State K → State K) (n : ℕ) (v : State K) (o : Option Work)
+      → ((z : State K) → length z.queued ≤ n → first_seen (go z) ≡ None → paused (go z) (found (go z)) ≡ None)
+      → found v ≡ o
+      → first_seen v ≡ None
+      → length v.queued ≤ suc n
+      → first_seen (pass_over go v o) ≡ None
+      → paused (pass_over go v o) (found (pass_over go v o)) ≡ None
+  tasks_over go n v None h e unseen low none = still_as v None e refl
+  tasks_over go n v (Some (RunEffects s)) h e unseen low none = still_as v (Some (RunEffects s)) e refl
+  tasks_over go n v (Some (RerunScope s)) h e unseen low none = none_up v s unseen e
+  tasks_over go n v (Some (PollTask t)) h e unseen low none =
+      let z : State K = record v { queued = drop_number v.queued t } in
+      let f : IsFirst (λ a b. task_before v a b) t v.queued = (found_turn v (PollTask t) e).0 in
+      let less : length (drop_number v.queued t) + 1 ≤ length v.queued = subst (λ (xs : List ℕ). length (drop_number xs t) + 1 ≤ length xs)
+      (sym f.stands) (shorter f.front f.back t) in
+      let small : length z.queued ≤ n = omega (arith, less, low) in
+      by_test (may_poll v t)
+      (
+      λ q.
+      subst (λ (x : State K). paused x (found x) ≡ None) (sym (pick_true v (go z) q))
+      (still_as v (Some (PollTask t)) e (pick_true None (Some t) (may_is_active (at v.tasks t) q)))
+      )
+      (
+      λ q.
+      subst (λ (x : State K). paused x (found x) ≡ None) (sym (pick_false v (go z) q))
+      (h z small (sym (ap (λ (x : State K). first_seen x) (pick_false v (go z) q)) ∙ none))
+      )
+
+  tasks_still : (n : ℕ) (v : State K) → length v.queued ≤ n → first_seen (tasks_passed n v) ≡ None
+      → paused (tasks_passed n v) (found (tasks_passed n v)) ≡ None
+  tasks_still zero v low none = paused_none v (no_number v.queued low) (found v) refl
+  tasks_still (suc n) v low none = by (λ z few unseen. tasks_still n z few unseen) (first_seen v) refl none
+    where
+      by : ((z : State K) → length z.queued ≤ n → first_seen (tasks_passed n z) ≡ None
+          → paused (tasks_passed n z) (found (tasks_passed n z)) ≡ None)
+          → (o : Option ℕ) → first_seen v ≡ o
+          → first_seen (elim o as (λ z. State K) [ None ↦ pass_over (λ z. tasks_passed n z) v (found v) | Some s ↦ v ]) ≡ None
+          → paused (elim o as (λ z. State K) [ None ↦ pass_over (λ z. tasks_passed n z) v (found v) | Some s ↦ v ])
+          (found (elim o as (λ z. State K) [ None ↦ pass_over (λ z. tasks_passed n z) v (found v) | Some s ↦ v ]))
+          ≡ None
+      by on None is unseen = tasks_over (λ z. tasks_passed n z) n v (found v) on refl is low unseen
+      by on (Some s) is unseen = let absurdity : Some s ≡ None = sym is ∙ unseen in cc
+
+  -- what such a poll takes comes up while no scope is seen
+  pub polling_is : (w : State K) (x : Work) → polling_next w ≡ Some x → (first_seen (polling_rest w) ≡ None) × (found (polling_rest w) ≡ Some x)
+  polling_is w x h = by (first_seen (polling_rest w)) refl h
+    where
+      by : (o : Option ℕ) → first_seen (polling_rest w) ≡ o
+          → (elim o as (λ z. Option Work) [ None ↦ found (polling_rest w) | Some s ↦ None ]) ≡ Some x
+          → (first_seen (polling_rest w) ≡ None) × (found (polling_rest w) ≡ Some x)
+      by None is g = (is, g)
+      by (Some s) is g = cc
+
+pub polled_comes_next : {K : Types} → PolledComesNext K
+polled_comes_next w x h =
+    let v = look w in
+    let u = polling_rest w in
+    let is = polling_is w x h in
+    let low : length v.queued ≤ length v.queued = omega arith in
+    let calm : paused u (found u) ≡ None = tasks_still (length v.queued) v low is.0 in
+    let rests : at_rest u ≡ u = rest_at_once u calm ∙ ap (λ (o : Option Work). looked u o) is.1 in
+    (rests, ap (λ (z : State _). or_effects z (found z)) rests ∙ ap (λ (o : Option Work). or_effects u o) is.1)

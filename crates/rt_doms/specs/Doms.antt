@@ -1,18 +1,18 @@
 -- A built runtime that a program keeps and calls: which state it stands for, and what a call that takes unit after unit does.
-use Rattle.std.specs.Prelude.{ℕ, Bool, true, false, ◌&&◌, nat_eq, List, [], ◌∷◌, ◌++◌, length, Option, Some, None, Ok, ◌≡◌, ◌⊎◌}
+use Rattle.std.specs.Prelude.{ℕ, ◌+◌, Bool, true, false, ◌&&◌, nat_eq, List, [], ◌∷◌, ◌++◌, length, Option, Some, None, Ok, ◌≡◌, ◌⊎◌}
 use Rattle.rt_model.specs.Tree.{Types}
 use Rattle.rt_model.specs.World.{Application}
 use Rattle.rt_model.specs.Laws.{IsLawful}
 use Rattle.rt_model.specs.State.{Fault, State}
 use Rattle.rt_model.specs.Next.{Work, drops, at_rest, next, owes}
-use Rattle.rt_model.specs.Rendering.{rendering_rest, rendering_next}
+use Rattle.rt_model.specs.Rendering.{rendering_rest, rendering_next, renders_within}
 use Rattle.rt_model.specs.Replay.{Entry, Machine, accepts, replay_on, is_quiet, start}
 use Rattle.rt_model.specs.Document.{Empty, Edit, document_after}
 use Rattle.rt_model.specs.View.{view}
-use Rattle.rt_model.specs.Causes.{Limits, edits_at_refusal}
+use Rattle.rt_model.specs.Causes.{Limits, replay_within, edits_at_refusal}
 use Rattle.rt_model.specs.Told.{Telling, opens}
 use Rattle.rt_model.specs.Current.{AllCurrent}
-use Rattle.rt_model.specs.Bodies.{RenderEnds, NoneAfterRerun, OthersMadeOrFed}
+use Rattle.rt_model.specs.Bodies.{RenderEnds, NoneAfterRerun, OthersMadeOrFed, RerunsTheSeen}
 use Rattle.rt_model.specs.Headline.{AllHeldShown}
 use Rattle.rt_model.specs.Sentences.{NoBodyTwice, AllCurrentOrOwed, EndsAt, CallComesTo, call_refusal, events_end, render_ends, settle_ends, call_begun}
 use Rattle.rt_moves.specs.Moves.{AtRest}
@@ -29,6 +29,11 @@ pub data Until : Type 0 where
   Renders : Until
   -- up to the first state that owes nothing
   Settles : Until
+
+-- no entry of a log begins a unit
+abbrev pub NoneOpens : List Entry → Type 0
+NoneOpens [] = Unit {0}
+NoneOpens (e ∷ log) = (opens e ≡ false) × NoneOpens log
 
 module _ {K : Types} where
   -- the call ends here
@@ -220,6 +225,17 @@ module _ {K : Types} (app : Application K) where
       → NoneAfterRerun log
       → NoBodyTwice log
 
+  -- it reruns the scopes that are seen when the first rerun is taken, in their order, but for those removed or fed before their turn
+  abbrev pub RendersRerunInTurn : Type 0
+  RendersRerunInTurn =
+      IsLawful K app
+      → (limits : Limits) (props : K.Props) (whole : Bool) (w : State K)
+      → (log : List Entry) (edits : List Edit) (v : Machine K)
+      → LedTo app limits props whole w
+      → RenderRan limits w log edits v
+      → NoneAfterRerun log
+      → RerunsTheSeen app (call_begun (resting w)) log
+
   -- every body that a whole render runs without rerunning its scope is made, or fed what memoize refuses
   abbrev pub RendersMakeOrFeed : Type 0
   RendersMakeOrFeed =
@@ -284,10 +300,10 @@ module _ {K : Types} (app : Application K) where
   HandlesLead =
       IsLawful K app
       → (limits : Limits) (props : K.Props) (whole : Bool) (w : State K)
-      → (name : Text) (payload : K.Payload) (element : ℕ) (bubbles : Bool)
+      → (name : Text) (payload : K.Payload) (element : ℕ) (bubbles prevented : Bool)
       → (log : List Entry) (edits : List Edit) (v : Machine K)
       → LedTo app limits props whole w
-      → HandleRan limits w (Raised name payload element bubbles) log edits v
+      → HandleRan limits w (Raised name payload element bubbles prevented) log edits v
       → LedTo app limits props whole v.state × (document_after edits (view w) ≡ Ok (view v.state))
 
   -- what a render while suspended may not take is passed over, and shows nothing new; from then on a way isn't whole
@@ -314,6 +330,17 @@ module _ {K : Types} (app : Application K) where
       → LedTo app limits props false w
       → UnitRan limits w log edits v
       → LedTo app limits props false v.state × (document_after edits (view w) ≡ Ok (view v.state))
+
+  -- and it is one more unit of that render, which counts its units together
+  abbrev pub UnitsFollow : Type 0
+  UnitsFollow =
+      (limits : Limits) (w x : State K) (units : ℕ) (log more : List Entry) (e : Entry) (work : Work) (v : Machine K)
+      → renders_within app limits (Some (resting w)) log ≡ Some (record (resting x) { units = units })
+      → nat_eq units limits.units ≡ false
+      → rendering_next x ≡ Some work
+      → NoneOpens more
+      → replay_within app limits (Some (resting (rendering_rest x))) (e ∷ more) ≡ Some v
+      → renders_within app limits (Some (resting w)) (log ++ e ∷ more) ≡ Some (record v { units = units + 1 })
 
   -- one more entry: a unit's where the test fails
   abbrev pub UnendedGrows : Type 0

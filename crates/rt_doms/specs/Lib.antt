@@ -1,1 +1,2 @@
 pub mod Doms
+pub mod Polls

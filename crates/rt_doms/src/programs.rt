@@ -1,8 +1,10 @@
 //! From what code proves of a call to what stands after it.
 
 ghost use Rattle.rt_doms.specs.Doms.{AsidesLead, BuildsHold, CallsComeTo, CallsHold, HandlesLead};
-ghost use Rattle.rt_doms.specs.Doms.{PassedComesNext, PassedLeads, RendersComeTo, RendersHold, RendersMakeOrFeed, RendersRunOnce};
-ghost use Rattle.rt_doms.specs.Doms.{RestsAlike, SettledHold, SpentHold, UnendedGrows, UnitsLead};
+ghost use Rattle.rt_doms.specs.Doms.{PassedComesNext, PassedLeads, RendersComeTo, RendersHold, RendersMakeOrFeed};
+ghost use Rattle.rt_doms.specs.Doms.{RendersRerunInTurn, RendersRunOnce};
+ghost use Rattle.rt_doms.specs.Doms.{RestsAlike, SettledHold, SpentHold, UnendedGrows, UnitsFollow, UnitsLead};
+ghost use Rattle.rt_doms.specs.Polls.{PolledComesNext, PollingLeads, PollsFollow, PollsLead};
 ghost use Rattle.rt_model.specs.OneLog.{types};
 ghost use Rattle.rt_model.specs.World.{Application};
 
@@ -37,6 +39,11 @@ pub fn settled_hold<C, P, V, H, T, E, L>()
 /// A whole render that polls no task after its first rerun runs no body twice.
 pub fn renders_run_once<C, P, V, H, T, E, L>()
     ensures { (app : Application (types C P V H T E L)) → RendersRunOnce app }
+{}
+
+/// Such a render reruns the scopes that are seen when the first rerun is taken, in their order.
+pub fn renders_rerun_in_turn<C, P, V, H, T, E, L>()
+    ensures { (app : Application (types C P V H T E L)) → RendersRerunInTurn app }
 {}
 
 /// Every body that a whole render runs without rerunning its scope is made, or fed what memoize
@@ -88,4 +95,29 @@ pub fn passed_leads<C, P, V, H, T, E, L>()
 /// One unit of a render while suspended leads on, and its edits make what shows after it.
 pub fn units_lead<C, P, V, H, T, E, L>()
     ensures { (app : Application (types C P V H T E L)) → UnitsLead app }
+{}
+
+/// Such a unit is one more unit of that render, which counts its units together.
+pub fn units_follow<C, P, V, H, T, E, L>()
+    ensures { (app : Application (types C P V H T E L)) → UnitsFollow app }
+{}
+
+/// What a poll of suspended work takes next is what comes next, once the rest was passed over.
+pub fn polled_comes_next<C, P, V, H, T, E, L>()
+    ensures { PolledComesNext (types C P V H T E L) }
+{}
+
+/// The tasks that a poll of suspended work passes over lead on, and show nothing new.
+pub fn polling_leads<C, P, V, H, T, E, L>()
+    ensures { (app : Application (types C P V H T E L)) → PollingLeads app }
+{}
+
+/// One poll of suspended work, by itself, leads on and shows nothing new.
+pub fn polls_lead<C, P, V, H, T, E, L>()
+    ensures { (app : Application (types C P V H T E L)) → PollsLead app }
+{}
+
+/// It is one more unit of a poll of suspended work, which counts its units together.
+pub fn polls_follow<C, P, V, H, T, E, L>()
+    ensures { (app : Application (types C P V H T E L)) → PollsFollow app }
 {}

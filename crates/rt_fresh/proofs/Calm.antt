@@ -9,8 +9,8 @@ use Rattle.rt_model.specs.World.{Source, Cell, Error, Context}
 use Rattle.rt_model.specs.State.{Posted, Mark, Scope, LastCall, CellRow, TaskRow, State, is_live, is_held, values_of}
 use Rattle.rt_model.specs.Commands.{names_source}
 use Rattle.rt_model.proofs.Maps.{by_test, pick_true, pick_false, at_put_none, at_there, none_some}
+use Rattle.rt_model.proofs.Members.{clash}
 use Rattle.rt_moves.specs.Heeds.{HasMark, is_past, Leavings, leavings, Marked, SameOf, Heeds}
-use Rattle.rt_fresh.proofs.Marks.{clash}
 
 -- what quiet changes leave of a scope
 abbrev pub Standing : Types → Type 0

@@ -10,9 +10,10 @@ use Rattle.rt_model.specs.Laws.{Tests}
 use Rattle.rt_model.specs.State.{Mark, Woken, Scope, CellRow, ContextRow, State, is_live, changed_scope, change, error_context, suspense_context}
 use Rattle.rt_model.specs.Commands.{one_more_source, post, tell, written_at, drop_cell_row, caught_at, thrown_to, throw_error, cleared_at, activated, spawned, registered, frozen_at, provided_at, command, commands}
 use Rattle.rt_model.proofs.Maps.{by_test, eq_same, at_put_here, at_put_other, at_append_none, at_without_other}
+use Rattle.rt_model.proofs.Members.{clash, turned_round}
 use Rattle.rt_moves.specs.Heeds.{Low, leavings, SameOf, Heeds}
 use Rattle.rt_fresh.specs.Heeds.{NewFrom, AllFrom}
-use Rattle.rt_fresh.proofs.Marks.{clash, turned_round, from_apart}
+use Rattle.rt_fresh.proofs.Marks.{from_apart}
 use Rattle.rt_fresh.proofs.Told.{post_quiet, change_quiet, Turned, turned_calm, put_by}
 use Rattle.rt_fresh.proofs.Calm.{error_of, context_of, holders_of, cell_in, held_by, unique_put, listed_same, Calm, calm_then, calm_if, calm_refl, Quiet, quiet_rest, quiet_refl, quiet_calm, no_fall}
 use Rattle.rt_fresh.proofs.Tasks.{end_calm, activated_quiet, spawned_quiet}

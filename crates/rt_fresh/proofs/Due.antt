@@ -11,12 +11,12 @@ use Rattle.rt_model.specs.Heard.{Listener}
 use Rattle.rt_model.specs.Replay.{Entry, Build, Taken, Heard, Rerun, Poll, Effects, Input, Machine, names_live, if_live, waiting, due_item, due_heard, due_work, due_any, due}
 use Rattle.rt_model.specs.Causes.{Limits}
 use Rattle.rt_model.proofs.Maps.{by_test, pick_true, eq_same, at_here, at_there}
+use Rattle.rt_model.proofs.Members.{clash, or_left, or_right, by_either}
 use Rattle.rt_moves.specs.Moves.{is_silent}
 use Rattle.rt_moves.specs.Reached.{Reached}
 use Rattle.rt_moves.proofs.Insides.{live_due}
 use Rattle.rt_moves.proofs.Served.{due_is_served}
 use Rattle.rt_fresh.specs.Due.{DueIsAny}
-use Rattle.rt_fresh.proofs.Marks.{clash, or_left, or_right, by_either}
 use Rattle.rt_fresh.proofs.Calm.{leavings_by, live_by, quiet_calm}
 use Rattle.rt_fresh.proofs.Looks.{rest_quiet}
 use Rattle.rt_fresh.proofs.Moved.{reached_holds}

@@ -10,8 +10,9 @@ use Rattle.rt_model.specs.State.{Scope, LastCall, CellRow, ContextRow, State}
 use Rattle.rt_model.specs.Commands.{names_source, tell}
 use Rattle.rt_model.specs.Removal.{kinds_in, cell_sources, context_sources, cells_in, tell_all, kinds_of_scopes, kinds_of_contexts, read_contexts, without_scope, gone}
 use Rattle.rt_model.proofs.Maps.{by_test, pick_true, pick_false, at_without_none, eq_same, at_here, at_there, at_without_here, at_without_other, none_some}
+use Rattle.rt_model.proofs.Members.{clash, or_left, or_right, by_either, number_stays, number_left}
 use Rattle.rt_moves.specs.Heeds.{leavings, Marked, SameOf, Heeds}
-use Rattle.rt_fresh.proofs.Marks.{number_left, number_stays, clash, or_left, or_right, by_either, source_is}
+use Rattle.rt_fresh.proofs.Marks.{source_is}
 use Rattle.rt_fresh.proofs.Told.{tell_quiet, tell_marks}
 use Rattle.rt_fresh.proofs.Calm.{error_of, context_of, holders_of, cell_in, there_of, leavings_by, reads_by, held_stays, same_scope, HoldersLive, Unique, listed_then, listed_to, live_by, Calm, Quiet, quiet_then, quiet_refl, same_quiet, holders_by, holders_stay}
 

@@ -16,9 +16,10 @@ use Rattle.rt_model.specs.Replay.{Post, MarkScope, WakeTask, AllDirty, Message, 
 use Rattle.rt_model.specs.Heard.{Listener}
 use Rattle.rt_model.proofs.Maps.{by_test, pick_true, eq_same, at_here, at_there, at_put_here, at_put_other, none_some}
 use Rattle.rt_model.proofs.RunFrames.{numbered_rises}
+use Rattle.rt_model.proofs.Members.{turned_round, number_stays, join_keeps, join_has, number_left, join_left}
 use Rattle.rt_moves.specs.Heeds.{HasMark, leavings, Marked, SameOf}
 use Rattle.rt_fresh.specs.Heeds.{AllFrom}
-use Rattle.rt_fresh.proofs.Marks.{number_left, join_left, turned_round, mark_last, mark_stays, number_stays, join_keeps, join_has}
+use Rattle.rt_fresh.proofs.Marks.{mark_last, mark_stays}
 use Rattle.rt_fresh.proofs.Told.{post_quiet, change_quiet, put_by, CalmO, calm_o_if}
 use Rattle.rt_fresh.proofs.Calm.{standing, error_of, context_of, holders_of, leavings_by, holders_by, there_of, held_by, same_then, same_quiet, HoldersLive, Unique, unique_put, listed_same, listed_then, live_by, Calm, calm_then, calm_if, calm_refl, Quiet, quiet_then, quiet_rest, quiet_refl, quiet_calm, no_fall, held_stays, holders_stay}
 use Rattle.rt_fresh.proofs.Commanded.{written_calm}

@@ -28,7 +28,7 @@ use Rattle.rt_moves.specs.Moves.{Move, Silent, Closed, Logged, IsSettled, AtWork
 use Rattle.rt_moves.specs.Reached.{Part, ByMoves, ByAside, NonePassed, Comes, Reached}
 use Rattle.rt_model.specs.Rendering.{polling_rest, nothing_resolved}
 use Rattle.rt_fresh.proofs.Passed.{rendering_holds, polling_holds}
-use Rattle.rt_model.specs.Asides.{Aside, Asked, Marked, AllMarked, Looked, Thinned, Rested, Raised, Passed, Polling, Answered, PassesNone, Allowed, aside_state}
+use Rattle.rt_model.specs.Asides.{Aside, Asked, Marked, AllMarked, Looked, Thinned, Rested, Raised, Passed, Polling, Answered, Advanced, PassesNone, Allowed, aside_state}
 use Rattle.rt_moves.specs.Asides.{IsAside}
 use Rattle.rt_moves.proofs.Asides.{aside_stay, aside_later, asks, Beside, beside}
 use Rattle.rt_model.specs.Sentences.{marked_now, all_marked_now}
@@ -43,7 +43,7 @@ use Rattle.rt_moves.proofs.Everywhere.{WovenOn, batch_quiet, heard_stays, ReadyA
 use Rattle.rt_fresh.proofs.Told.{CalmO}
 use Rattle.rt_fresh.proofs.Calm.{holders_of, Orderly, Calm, calm_refl, Quiet, quiet_refl, quiet_rest, quiet_then, quiet_calm, no_fall}
 use Rattle.rt_fresh.proofs.Looks.{look_on_quiet, look_quiet, drops_quiet, rest_quiet, mounted_quiet, take_calm}
-use Rattle.rt_fresh.proofs.Ran.{called_calm, polled_calm, effects_calm, heard_calm}
+use Rattle.rt_fresh.proofs.Ran.{called_calm, polled_calm, advanced_calm, effects_calm, heard_calm}
 use Rattle.rt_fresh.proofs.ChildKinds.{Kinds}
 use Rattle.rt_fresh.proofs.Moving.{Scheduled, Holding, HoldingOn, HoldingO, ended, level, calm_holding, run_holding, run_alone, silent_holds, make_holds, drop_holds}
 use Rattle.rt_fresh.proofs.Handed.{feed_holds}
@@ -256,9 +256,10 @@ module _ {K : Types} (app : Application K) (lawful : IsLawful K app) (Q : Type 0
   aside_calm w Looked p h = quiet_calm None w.next.cells w (look w) (look_quiet w)
   aside_calm w Thinned p h = quiet_calm None w.next.cells w (drops w.queued w) (drops_quiet w.queued w)
   aside_calm w Rested p h = quiet_calm None w.next.cells w (at_rest w) (rest_quiet w)
-  aside_calm w (Raised name payload element bubbles) p h = calm_refl None w.next.cells w
+  aside_calm w (Raised name payload element bubbles prevented) p h = calm_refl None w.next.cells w
   aside_calm w Passed p h = absurd p
   aside_calm w Polling p h = absurd p
+  aside_calm w (Advanced t) p h = advanced_calm app lawful w.next.cells w t (no_fall w)
   aside_calm w Answered p h = quiet_calm None w.next.cells w (nothing_resolved w) (quiet_rest w (nothing_resolved w) refl refl refl refl refl refl refl refl (no_fall w))
 
   calm_holds : (w : State K) (work : List (Item K)) (a : Aside K) → PassesNone a → Allowed w a → Holding app lawful Q w work → Holding app lawful Q (aside_state app w a) work
@@ -272,12 +273,14 @@ module _ {K : Types} (app : Application K) (lawful : IsLawful K app) (Q : Type 0
   state_holds w work Looked k h held = calm_holds w work Looked tt h held
   state_holds w work Thinned k h held = calm_holds w work Thinned tt h held
   state_holds w work Rested k h held = calm_holds w work Rested tt h held
-  state_holds w work (Raised name payload element bubbles) k h held = calm_holds w work (Raised name payload element bubbles) tt h held
+  state_holds w work (Raised name payload element bubbles prevented) k h held =
+      calm_holds w work (Raised name payload element bubbles prevented) tt h held
   state_holds w work Passed (inl none) h held = absurd none
   state_holds w work Passed (inr known) h held = rendering_holds app lawful Q known w work held
   state_holds w work Polling (inl none) h held = absurd none
   state_holds w work Polling (inr known) h held = polling_holds app lawful Q known w work held
   state_holds w work Answered k h held = calm_holds w work Answered tt h held
+  state_holds w work (Advanced t) k h held = calm_holds w work (Advanced t) tt h held
 
   aside_holds : (m u : Machine K) (a : Aside K) → PassesNone a ⊎ Q → IsAside app m a u → HoldingOn app lawful Q m → HoldingOn app lawful Q u
   aside_holds m u a k h held =

@@ -16,10 +16,10 @@ use Rattle.rt_model.proofs.RunFrames.{rises_refl, Later, later_trans, later_same
 use Rattle.rt_model.proofs.SideFrames.{Stay, stay_trans, stay_rest}
 use Rattle.rt_model.proofs.SideRuns.{look_stay}
 use Rattle.rt_model.proofs.StepFrames.{look_same}
+use Rattle.rt_model.proofs.Members.{number_stays, join_keeps, join_has, number_left}
 use Rattle.rt_moves.proofs.Twigs.{SameTwigs}
 use Rattle.rt_moves.proofs.Opens.{calm_twigs}
 use Rattle.rt_moves.specs.Heeds.{SameOf}
-use Rattle.rt_fresh.proofs.Marks.{number_left, number_stays, join_keeps, join_has}
 use Rattle.rt_fresh.proofs.Calm.{Pending, quiet_calm}
 use Rattle.rt_fresh.proofs.Looks.{look_quiet, unqueue}
 use Rattle.rt_fresh.proofs.Owed.{rows_of, Called, BodyCurrent, OwesAs}

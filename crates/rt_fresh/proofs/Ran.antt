@@ -8,12 +8,14 @@ use Rattle.rt_model.specs.Laws as laws
 use Rattle.rt_model.specs.Laws.{IsNumbered, IsLawful}
 use Rattle.rt_model.specs.State.{Woken, TaskRow, State, Outcome, Done, Cut, onward, is_live, change, hooks_of, world_of, effects_of}
 use Rattle.rt_model.specs.Commands.{unqueued, end, commands}
-use Rattle.rt_model.specs.Next.{look}
+use Rattle.rt_model.specs.Asides.{left_of}
+use Rattle.rt_model.specs.Next.{is_active, look}
 use Rattle.rt_model.specs.Run.{fault_of, with_next, called_once, is_kind, acted, hook_called, hooks_called, after_hooks, settled_answer}
 use Rattle.rt_model.specs.Boundary.{counted_render, called_back}
-use Rattle.rt_model.specs.Replay.{Machine, then_looked, left_by_poll, polled_to, polled_at, polled, batch, effects_run, further, heard_event}
+use Rattle.rt_model.specs.Replay.{Machine, then_looked, left_by_poll, polled_to, polled_at, polled, poll_meant, polled_apart_at, polled_apart, polled_now, batch, effects_run, further, heard_event}
 use Rattle.rt_model.specs.Heard.{Listener}
-use Rattle.rt_fresh.proofs.Marks.{number_left, mark_stays}
+use Rattle.rt_model.proofs.Members.{number_left}
+use Rattle.rt_fresh.proofs.Marks.{mark_stays}
 use Rattle.rt_fresh.proofs.Told.{change_quiet, CalmO, onward_calm, from_calm, calm_o_if}
 use Rattle.rt_fresh.proofs.Calm.{Calm, calm_then, calm_refl, Quiet, quiet_calm, no_fall}
 use Rattle.rt_fresh.proofs.Commanded.{throw_calm, commands_calm}
@@ -122,6 +124,38 @@ module _ {K : Types} (app : Application K) (lawful : IsLawful K app) where
   polled_calm n w t low =
       let v : State K = unqueued w t in
       from_calm None n w v (polled app w t) (quiet_calm None n w v (unqueued_quiet w t)) (polled_at_calm n v t (at w.tasks t) low)
+
+  -- a task that is polled at once
+  apart_by_calm : (n : ℕ) (w : State K) (t : ℕ) (x : TaskRow K) (m : Meaning K (TaskStep K)) (o : Option CallFault) → n ≤ w.next.cells
+      → IsNumbered w.next m.commands m.next
+      → CalmO None n w (elim o as (λ z. Outcome K) [
+        | None ↦ Done (left_by_poll app (with_next w m.next) t x m m.answer) []
+        | Some f ↦ Cut (with_next w m.next) (fault_of f)
+      ])
+  apart_by_calm n w t x m None low numbered = left_calm n w t x m m.answer low numbered
+  apart_by_calm n w t x m (Some f) low numbered = tt
+
+  apart_at_calm : (n : ℕ) (w : State K) (t : ℕ) (o : Option (TaskRow K)) → n ≤ w.next.cells → CalmO None n w (polled_apart_at app w t o)
+  apart_at_calm n w t None low = calm_refl None n w
+  apart_at_calm n w t (Some x) low =
+      let u : State K = called_once w in
+      let m : Meaning K (TaskStep K) = poll_meant app w t x in
+      from_calm None n w u (polled_apart_at app w t (Some x)) (quiet_calm None n w u (once_quiet w))
+      (apart_by_calm n u t x m m.fault low (lawful.polls_number x.state (world_of w x.scope (Some t) false)))
+
+  apart_calm : (n : ℕ) (w : State K) (t : ℕ) → n ≤ w.next.cells → CalmO None n w (polled_apart app w t)
+  apart_calm n w t low =
+      let v : State K = unqueued w t in
+      from_calm None n w v (polled_apart app w t) (quiet_calm None n w v (unqueued_quiet w t)) (apart_at_calm n v t (at w.tasks t) low)
+
+  pub advanced_calm : (n : ℕ) (w : State K) (t : ℕ) → n ≤ w.next.cells → Calm None n w (left_of w (polled_now app w t))
+  advanced_calm n w t low =
+      left (polled_now app w t)
+      (calm_o_if None n w (is_active w t) (polled_apart app w t) (Done w []) (apart_calm n w t low) (calm_refl None n w))
+    where
+      left : (o : Outcome K) → CalmO None n w o → Calm None n w (left_of w o)
+      left (Done v work) h = h
+      left (Cut v fault) h = calm_refl None n w
 
   batch_calm : (n : ℕ) (w : State K) (s : ℕ) (es : List K.Effect) → n ≤ w.next.cells → CalmO None n w (batch app w s es)
   batch_calm n w s [] low = quiet_calm None n w (look w) (look_quiet w)

@@ -8,7 +8,7 @@ use Rattle.rt_model.specs.State.{Mark, Woken, Posted, ClientOnly, Isomorphic, Sc
 use Rattle.rt_model.specs.Commands.{drop_posted, holding, released, one_more_source, post, post_target, names_source, readers, tell_contexts, tell, end, written_at, caught_at, thrown_to, cleared_at, activated, spawned, registered, frozen_at, provided_at, command, commands}
 use Rattle.rt_model.specs.Run.{fault_of, with_next, called_once, unmarked}
 use Rattle.rt_model.specs.Removal.{tasks_in, cell_sources, cells_in, read_contexts, end_all, tell_all, clean_ups, without_scope, gone, stopped, cleaned, removed}
-use Rattle.rt_fresh.proofs.Marks.{number_gone}
+use Rattle.rt_model.proofs.Members.{number_gone}
 use Rattle.rt_fresh.proofs.Alone.{Then}
 
 module _ {K : Types} where

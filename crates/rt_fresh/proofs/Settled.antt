@@ -18,9 +18,9 @@ use Rattle.rt_model.specs.Headline.{HeldIsShown, AllHeldShown}
 use Rattle.rt_model.specs.Sentences.{is_marked, is_open, CurrentOrOwed}
 use Rattle.rt_model.proofs.Maps.{by_test, eq_same, at_here, at_there, none_some}
 use Rattle.rt_model.proofs.Conjunctions.{and-left, and-right}
+use Rattle.rt_model.proofs.Members.{clash, or_left, or_right}
 use Rattle.rt_moves.specs.Heeds.{HasMark, Marked}
 use Rattle.rt_fresh.specs.Settled.{OthersAreCurrentOrOwed, AllAreCurrentOrOwed, SettledAreCurrent, SettledShowHeld}
-use Rattle.rt_fresh.proofs.Marks.{or_left, or_right, clash}
 use Rattle.rt_fresh.proofs.Calm.{Pending, there_of, leavings_by, holders_of, Unique, Quiet}
 use Rattle.rt_fresh.proofs.Again.{means_again}
 use Rattle.rt_fresh.proofs.Looks.{look_quiet, drops_quiet}

@@ -9,8 +9,9 @@ use Rattle.rt_model.specs.World.{Source, Cell, Error, Context}
 use Rattle.rt_model.specs.State.{Woken, ClientOnly, Isomorphic, Scope, TaskRow, State, is_live, is_held, holds}
 use Rattle.rt_model.specs.Commands.{drop_posted, holding, post, released, end, activated, spawned}
 use Rattle.rt_model.proofs.Maps.{by_test, at_here, at_there, at_put_here, at_put_other, at_without_other, none_some}
+use Rattle.rt_model.proofs.Members.{clash, turned_round, number_left}
 use Rattle.rt_moves.specs.Heeds.{HasMark, leavings, Marked, SameOf}
-use Rattle.rt_fresh.proofs.Marks.{clash, number_left, turned_round, mark_first, mark_last, mark_stays}
+use Rattle.rt_fresh.proofs.Marks.{mark_first, mark_last, mark_stays}
 use Rattle.rt_fresh.proofs.Told.{post_quiet}
 use Rattle.rt_fresh.proofs.Calm.{error_of, context_of, holders_of, mark_where, held_by, same_scope, HoldersLive, Unique, listed_same, Calm, calm_if, calm_refl, Quiet, quiet_then, quiet_if, quiet_refl, no_fall}
 

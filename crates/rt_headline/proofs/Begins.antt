@@ -28,7 +28,8 @@ use Rattle.rt_moves.proofs.Woods.{move_sound, moves_sound, aside_sound, reached_
 use Rattle.rt_moves.proofs.Commanded.{Level, level_trans, level_refl}
 use Rattle.rt_moves.proofs.Called.{rest_level}
 use Rattle.rt_headline.specs.Calm.{is_calm}
-use Rattle.rt_headline.proofs.Levels.{take_level, take_unit, ended_level, ended_idle, polled_rests, effects_rest, heard_level, heard_unit}
+use Rattle.rt_rerun.proofs.Calm.{take_level}
+use Rattle.rt_headline.proofs.Levels.{take_unit, ended_level, ended_idle, polled_rests, effects_rest, heard_level, heard_unit}
 
 and_false : (a b : Bool) → b ≡ false → a && b ≡ false
 and_false true b h = h

@@ -25,7 +25,8 @@ use Rattle.rt_moves.proofs.Called.{rest_level, mounted_level}
 use Rattle.rt_moves.proofs.Everywhere.{heard_stays}
 use Rattle.rt_moves.proofs.Logs.{logs_are_moves}
 use Rattle.rt_fresh.proofs.Limited.{some_limits}
-use Rattle.rt_headline.proofs.Levels.{Rests, ended_level, ended_idle, take_level, polled_rests, effects_rest, heard_level}
+use Rattle.rt_rerun.proofs.Calm.{take_level}
+use Rattle.rt_headline.proofs.Levels.{ended_level, ended_idle, polled_rests, effects_rest, heard_level}
 use Rattle.rt_headline.proofs.Reports.{settled_after}
 use Rattle.rt_lines.specs.Named.{AnswersNamed}
 use Rattle.rt_lines.proofs.NamedViews.{NamedSide, NamedScope, NamedScopes}

@@ -2,12 +2,11 @@
 use Rattle.std.proofs.Common.{ℕ, List, [], ◌∷◌, ◌≡◌, sym, subst, map}
 use Rattle.std.specs.Prelude.{Option, Some, None, option_and_then, codes}
 use Rattle.std.specs.List.{AllByRecursion}
-use Rattle.std.proofs.lemmas.Option.{same_Some, option_and_then_some}
+use Rattle.std.proofs.lemmas.Option.{option_and_then_some}
 use Rattle.serde_json.specs.Data.{Data}
-use Rattle.serde_json.specs.Find.{get, as_object}
+use Rattle.serde_json.specs.Find.{get}
 use Rattle.rt_fields.specs.Keys.{is_object_of}
 use Rattle.rt_fields.specs.Fields.{list_at, list_or_empty}
-use Rattle.rt_fields.specs.Lists.{read_members}
 use Rattle.rt_expressions.specs.declared.names.Names.{Names}
 use Rattle.rt_statements.specs.declared.forms.Place.TheVariants.{Body}
 use Rattle.rt_statements.specs.Statements.{block_in}
@@ -16,7 +15,7 @@ use Rattle.rt_syntax.specs.declared.source.ComponentSource.{ComponentSource}
 use Rattle.rt_syntax.specs.declared.view.ViewNode.{ViewNode}
 use Rattle.rt_syntax.specs.Mirror.{component_of, view_of}
 use Rattle.rt_views.specs.Views.{view_in}
-use Rattle.rt_sources.specs.Signatures.{params_in, each_member}
+use Rattle.rt_sources.specs.Signatures.{params_in}
 use Rattle.rt_sources.specs.Definitions.{shown, component_in, components_at}
 use Rattle.rt_sources.specs.Describes.{IsSource, Describes}
 use Rattle.rt_model.specs.Lists.{joined}
@@ -34,7 +33,7 @@ use Rattle.rt_lines.specs.Read.{DescribedHaveNames, DescribedWritePlainly, AreSm
 use Rattle.rt_lines.proofs.Items.{texts_tell, fault_texts_tell, ends_tell}
 use Rattle.rt_lines.proofs.NamedWrites.{EditsPlain, both_plain}
 use Rattle.rt_lines.proofs.Plainly.{sources_write_plainly}
-use Rattle.rt_lines.proofs.ReadViews.{mapped, held, members_read, view_named}
+use Rattle.rt_lines.proofs.ReadViews.{mapped, held, there_read, view_named}
 
 -- what a component of code shows has names
 abbrev ComponentNamed : ComponentSource → Type 0
@@ -56,13 +55,6 @@ component_named names d c e =
     (λ params was further. option_and_then_some (shown names d) (option_and_then (block_in names Body params) (list_or_empty (codes "do") d)) c further
     (λ both read gives. shown_named names d both c gives)))
 
-there_components : (names : Names) (o : Option Data) (components : List ComponentSource) → each_member (λ name. component_in names) o ≡ Some components
-    → AllByRecursion ComponentNamed components
-there_components names None components e = subst (λ (cs : List ComponentSource). AllByRecursion ComponentNamed cs) (same_Some [] components e) tt
-there_components names (Some d) components e =
-    option_and_then_some (read_members (λ name. component_in names)) (as_object d) components e
-    (λ members was gives. members_read ComponentNamed (λ name. component_in names) (λ key x c is. component_named names x c is) members components gives)
-
 in_language : (components : List ComponentSource) → AllByRecursion ComponentNamed components
     → AllByRecursion (λ (c : language.ComponentSource). NamedView c.view) (map component_of components)
 in_language [] h = tt
@@ -73,7 +65,8 @@ unfolding components_at
 source_named d s h =
     mapped (map component_of) (components_at h.names d) s.components h.components
     (λ components was is. subst (λ (cs : List language.ComponentSource). AllByRecursion (λ (c : language.ComponentSource). NamedView c.view) cs) is
-    (in_language components (there_components h.names (get (codes "components") d) components was)))
+    (in_language components
+    (there_read ComponentNamed (λ name. component_in h.names) (λ key x c is. component_named h.names x c is) (get (codes "components") d) components was)))
 
 pub described_have_names : DescribedHaveNames
 described_have_names bytes s h = source_named h.value s h.form

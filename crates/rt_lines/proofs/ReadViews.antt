@@ -8,7 +8,7 @@ use Rattle.serde_json.specs.Find.{get, at, as_str, as_array, as_object}
 use Rattle.rt_model.proofs.Conjunctions.{and-left, and-right}
 use Rattle.rt_fields.specs.Keys.{is_object_of}
 use Rattle.rt_fields.specs.Fields.{text_at, list_at, list_or_empty, is_zero_at}
-use Rattle.rt_fields.specs.Lists.{in_front, read_each, read_members}
+use Rattle.rt_fields.specs.Lists.{in_front, read_each, read_members, each_member}
 use Rattle.rt_fields.specs.Names.{is_name_byte, is_name}
 use Rattle.rt_expressions.specs.declared.names.Names.{Names}
 use Rattle.rt_expressions.specs.Expressions.{expression_in}
@@ -31,7 +31,7 @@ use Rattle.rt_views.specs.declared.forms.Leaf.TheVariants as leaves
 use Rattle.rt_views.specs.declared.forms.Form.{Form}
 use Rattle.rt_views.specs.declared.forms.Form.TheVariants as forms
 use Rattle.rt_views.specs.Forms.{form_in}
-use Rattle.rt_views.specs.Attributes.{static_or, attribute_in, listener_in, members_or_none, attributes_at, listeners_at, all_in}
+use Rattle.rt_views.specs.Attributes.{static_or, attribute_in, listener_in, attributes_at, listeners_at, all_in}
 use Rattle.rt_views.specs.Parts.{component_use, use_at, leaf_of, named, name_or_none, namespace_in}
 use Rattle.rt_views.specs.Views.{views_of, kids_of, element_with, element_of, list_of, view_at, picked, pick_of, fragment_of, boundary_with, boundary_of, formed, text_or, node_of, view_in}
 use Rattle.rt_lines.specs.Plain.{IsName, IsNamespace}
@@ -69,11 +69,18 @@ module _ {A : Type 0} (P : A → Type 0) where
   each_read reading one (item d rest) xs e = front_all (reading d) (read_each reading rest) xs e (one d) (each_read reading one rest)
 
   -- all members of an object, likewise
-  pub members_read : (reading : List ℕ → Data → Option A) → ((key : List ℕ) (d : Data) (x : A) → reading key d ≡ Some x → P x) → (members : Members) (xs : List A)
+  members_read : (reading : List ℕ → Data → Option A) → ((key : List ℕ) (d : Data) (x : A) → reading key d ≡ Some x → P x) → (members : Members) (xs : List A)
       → read_members reading members ≡ Some xs → AllByRecursion P xs
   unfolding read_members
   members_read reading one no_members xs e = subst (λ (zs : List A). AllByRecursion P zs) (same_Some [] xs e) tt
   members_read reading one (member key d rest) xs e = front_all (reading key d) (read_members reading rest) xs e (one key d) (members_read reading one rest)
+
+  -- all that may stand somewhere, likewise
+  pub there_read : (reading : List ℕ → Data → Option A) → ((key : List ℕ) (d : Data) (x : A) → reading key d ≡ Some x → P x) → (o : Option Data) (xs : List A)
+      → each_member reading o ≡ Some xs → AllByRecursion P xs
+  there_read reading one None xs e = subst (λ (zs : List A). AllByRecursion P zs) (same_Some [] xs e) tt
+  there_read reading one (Some d) xs e =
+      option_and_then_some (read_members reading) (as_object d) xs e (λ members was gives. members_read reading one members xs gives)
 
   all_joined : (xs ys : List A) → AllByRecursion P xs → AllByRecursion P ys → AllByRecursion P (xs ++ ys)
   all_joined [] ys h k = k
@@ -125,12 +132,6 @@ listener_named names variables name d a e =
     unheld (not (is_name name) || other) (option_map listens call) a e
     (λ known gives. mapped listens call a gives (λ c was is. subst (λ (x : ViewAttribute). AttributeNamed x) is (text_named name (named_first (is_name name) other known))))
 
-there_attributes : (reading : List ℕ → Data → Option ViewAttribute) → ((key : List ℕ) (d : Data) (a : ViewAttribute) → reading key d ≡ Some a → AttributeNamed a)
-    → (o : Option Data) (attributes : List ViewAttribute) → members_or_none reading o ≡ Some attributes → AllByRecursion AttributeNamed attributes
-there_attributes reading one None attributes e = subst (λ (xs : List ViewAttribute). AllByRecursion AttributeNamed xs) (same_Some [] attributes e) tt
-there_attributes reading one (Some d) attributes e =
-    option_and_then_some (read_members reading) (as_object d) attributes e (λ members was gives. members_read AttributeNamed reading one members attributes gives)
-
 in_language : (attributes : List ViewAttribute) → AllByRecursion AttributeNamed attributes → AllByRecursion NamedAttribute (map attribute_of attributes)
 in_language [] h = tt
 in_language (a ∷ attributes) h = (h.0, in_language attributes h.1)
@@ -144,8 +145,8 @@ attributes_named names variables d attributes e =
     (λ first was gives. mapped (λ listeners. first ++ listeners) second attributes gives
     (λ listeners came is. subst (λ (xs : List ViewAttribute). AllByRecursion AttributeNamed xs) is
     (all_joined AttributeNamed first listeners
-    (there_attributes (attribute_in names variables) (attribute_named names variables) (get (codes "attrs") d) first was)
-    (there_attributes (listener_in names variables) (listener_named names variables) (get (codes "on") d) listeners came)))))
+    (there_read AttributeNamed (attribute_in names variables) (attribute_named names variables) (get (codes "attrs") d) first was)
+    (there_read AttributeNamed (listener_in names variables) (listener_named names variables) (get (codes "on") d) listeners came)))))
 
 -- ---- nodes and slots of code as those of the language
 

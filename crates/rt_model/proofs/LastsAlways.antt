@@ -16,7 +16,8 @@ use Rattle.rt_model.specs.Replay.{Entry, Build, Taken, Heard, Rerun, Poll, Effec
 use Rattle.rt_model.specs.Lasting.{Rises, Names, Polls, MadeFrom, IsRooted, Lasts}
 use Rattle.rt_model.proofs.Maps.{by_test, none_some, at_here, at_there}
 use Rattle.rt_model.proofs.Frames.{shape}
-use Rattle.rt_model.proofs.RunFrames.{rises_refl, rises_trans, state_of, run_later}
+use Rattle.rt_model.proofs.TourCalls.{state_of}
+use Rattle.rt_model.proofs.RunFrames.{rises_refl, rises_trans, run_later}
 use Rattle.rt_model.proofs.StepFrames.{none_by_shape, Follows, IsGone, removed_gone}
 use Rattle.rt_model.proofs.MachineFrames.{by_order, parent_or, settled_later, step_follows}
 use Rattle.rt_model.proofs.OneLogOnly.{same_entry-true, fork}

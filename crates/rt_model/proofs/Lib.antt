@@ -2,8 +2,12 @@ pub mod OneLogOnly
 pub mod Decides
 pub mod Numbers
 pub mod Maps
+pub mod Members
 pub mod Refusals
 pub mod Lawful
+pub mod Tour
+pub mod TourLooks
+pub mod TourCalls
 pub mod Frames
 pub mod RunFrames
 pub mod StepFrames

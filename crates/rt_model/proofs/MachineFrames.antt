@@ -1,23 +1,26 @@
 -- What each entry of a log leaves as it was.
-use Rattle.std.proofs.Common.{ℕ, zero, suc, Bool, true, false, List, [], ◌∷◌, ◌++◌, ◌≡◌, ◌≤◌, ◌<◌, ◌+◌, ◌||◌, not, refl, sym, ap, ◌∙◌, arith, subst, nat_eq, nat_lt}
+use Rattle.std.proofs.Common.{ℕ, zero, suc, Bool, true, false, List, [], ◌∷◌, ◌++◌, ◌≡◌, ◌≤◌, ◌<◌, ◌+◌, not, refl, sym, ap, ◌∙◌, arith, subst, nat_eq, nat_lt}
 use Rattle.std.proofs.lemmas.Bool.{eqb-true}
 use Rattle.std.specs.Prelude.{Option, Some, None, if◌then◌else◌}
 use Rattle.rt_model.specs.Lists.{at, put}
 use Rattle.rt_model.specs.Tree.{Types, VComponent, Place, Kind}
-use Rattle.rt_model.specs.World.{Scopes, Elements, Firsts, at_end, CallFault, Event, Meaning, TaskStep, pending, ready, Application}
+use Rattle.rt_model.specs.World.{Scopes, Elements, Firsts, at_end, CallFault, Event, Meaning, Application}
 use Rattle.rt_model.specs.Laws.{IsNumbered, IsLawful}
-use Rattle.rt_model.specs.State.{SideName, MainSide, ChildrenSide, FallbackSide, Posted, Mark, Woken, Fault, IdsExhausted, Side, Scope, TaskRow, State, Item, Draw, Row, Feed, Make, Drop, Outcome, Done, Cut, side_of, with_side, new_scope, change, is_shown, world_of, effects_of}
-use Rattle.rt_model.specs.Commands.{post, write_cell, unqueued, end, commands}
+use Rattle.rt_model.specs.State.{SideName, MainSide, ChildrenSide, FallbackSide, Posted, Mark, Woken, Fault, IdsExhausted, Side, Scope, State, Item, Draw, Row, Feed, Make, Drop, Outcome, Done, Cut, side_of, with_side, new_scope, world_of}
+use Rattle.rt_model.specs.Commands.{post, write_cell, end, commands}
 use Rattle.rt_model.specs.Next.{look, at_rest}
-use Rattle.rt_model.specs.Run.{fault_of, with_next, acted, run, called_once}
+use Rattle.rt_model.specs.Run.{fault_of, with_next, run, called_once}
 use Rattle.rt_model.specs.Boundary.{boundary_step}
 use Rattle.rt_model.specs.Removal.{removed}
 use Rattle.rt_model.specs.Heard.{Listener}
-use Rattle.rt_model.specs.Replay.{Entry, Build, Taken, Heard, Rerun, Poll, Effects, Made, Fed, Kept, Removed, Post, MarkScope, WakeTask, AllDirty, Message, Input, EventAt, WakeOf, WriteOf, MarkOf, Drain, Machine, ended_by, numbered, draws, rows_left, mounted, mounted_state, closed_at, closed, waiting, post_all, post_message, post_messages, looked_where_quiet, then_looked, taken_in, take_next, one_more_unit, with_child, with_new_scope, row_first, row_next, served, settled, made_in, made, with_props, polled_to, polled_at, polled, batch, effects_run, further, heard_event, heard_first, rested, rerun, change_by, step, drawn_on, fed_child, keeps, handed}
+use Rattle.rt_model.specs.Replay.{Entry, Build, Taken, Heard, Rerun, Poll, Effects, Made, Fed, Kept, Removed, Post, MarkScope, WakeTask, AllDirty, Message, Input, EventAt, WakeOf, WriteOf, MarkOf, Drain, Machine, ended_by, numbered, draws, rows_left, mounted_state, closed_at, closed, waiting, post_all, post_message, post_messages, looked_where_quiet, then_looked, taken_in, take_next, one_more_unit, with_child, with_new_scope, row_first, row_next, served, settled, made_in, made, with_props, polled, effects_run, further, heard_event, heard_first, rested, rerun, change_by, step, drawn_on, fed_child, keeps, handed}
 use Rattle.rt_model.specs.Lasting.{Rises, IsRooted}
-use Rattle.rt_model.proofs.Maps.{by_test, eq_same, none_some, at_here, at_there, at_append_none, at_append_here, at_put_here}
-use Rattle.rt_model.proofs.Frames.{shape, same_rest, with_put, change_same, post_same, end_same, write_same, task_same}
-use Rattle.rt_model.proofs.RunFrames.{rises_refl, Later, later_refl, later_trans, after_next, later_same, state_of, LaterO, onward_later, change_later, called, next_later, acted_later, run_later, step_later, from_later, once_later}
+use Rattle.rt_model.proofs.Maps.{by_test, eq_same, none_some, at_append_none, at_append_here, at_put_here}
+use Rattle.rt_model.proofs.TourLooks.{mounted_kept}
+use Rattle.rt_model.proofs.TourCalls as tour
+use Rattle.rt_model.proofs.TourCalls.{state_of}
+use Rattle.rt_model.proofs.Frames.{shape, shape_steady, with_put, change_same, post_same, write_same}
+use Rattle.rt_model.proofs.RunFrames.{rises_refl, tasks_from, later_goes, later_calls, Later, later_refl, later_trans, after_next, later_same, LaterO, change_later, called, next_later, run_later, step_later, from_later, once_later}
 use Rattle.rt_model.proofs.StepFrames.{look_same, rest_same, Follows, follows_later, follows_trans, follows_refl, removed_follows}
 
 -- numbers that differ
@@ -97,24 +100,8 @@ module _ {K : Types} where
   draws_later (Make s side p c ∷ rest) m = later_refl m.state
   draws_later (Drop t s side ∷ rest) m = later_refl m.state
 
-  mounted_shapes : (w : State K) (es : List (ℕ × Scope K)) (s : ℕ) → shape (at (mounted w es) s) ≡ shape (at es s)
-  mounted_shapes w [] s = refl
-  mounted_shapes w (e ∷ es) s =
-      by_test (nat_eq e.0 s)
-      (
-      λ q.
-      ap (λ (o : Option (Scope K)). shape o) (at_here e.0 (record (e.1) { mounted = (e.1).mounted || is_shown w e.0 }) (mounted w es) s q)
-      ∙ sym (ap (λ (o : Option (Scope K)). shape o) (at_here e.0 e.1 es s q))
-      )
-      (
-      λ q.
-      ap (λ (o : Option (Scope K)). shape o) (at_there e.0 (record (e.1) { mounted = (e.1).mounted || is_shown w e.0 }) (mounted w es) s q)
-      ∙ mounted_shapes w es s
-      ∙ sym (ap (λ (o : Option (Scope K)). shape o) (at_there e.0 e.1 es s q))
-      )
-
   pub mounted_later : (w : State K) → Later w (mounted_state w)
-  mounted_later w = record { shapes = mounted_shapes w w.scopes; ended = λ t l e. e; rises = rises_refl w.next; next_scope = refl }
+  mounted_later w = later_same w (mounted_state w) (mounted_kept shape shape_steady w.next.tasks w)
 
   closed_at_later : (m : Machine K) (work : List (Item K)) (unit : Bool) → Later m.state (closed_at m work unit).state
   closed_at_later m [] true = mounted_later m.state
@@ -290,45 +277,11 @@ module _ {K : Types} (app : Application K) (lawful : IsLawful K app) where
   made_follows : (w : State K) (s : ℕ) (side : SideName) (p : Place) (c : VComponent K) → Follows w (state_of (made app w s side p c))
   made_follows w s side p c = made_at_follows w s side p c (at w.scopes s) refl
 
-  polled_to_later : (w : State K) (t : ℕ) (x : TaskRow K) (m : Meaning K (TaskStep K)) (a : TaskStep K) → IsNumbered w.next m.commands m.next → at w.tasks t ≡ Some x
-      → Later w (polled_to app (with_next w m.next) t x m a)
-  polled_to_later w t x m (pending a) n h =
-      let v : State K = record w { tasks = put w.tasks t (record x { state = a }) } in
-      let kept : Later w v = later_same w v (task_same w.next.tasks w t x (record x { state = a }) h) in
-      let done : State K = commands app (with_next v m.next) x.scope (Some t) m.commands in
-      later_trans w v (look done) kept (later_trans v done (look done) (called app lawful v x.scope (Some t) m n) (look_later done))
-  polled_to_later w t x m ready n h =
-      let done : State K = commands app (with_next w m.next) x.scope (Some t) m.commands in
-      later_trans w done (look (end done t)) (called app lawful w x.scope (Some t) m n)
-      (later_trans done (end done t) (look (end done t)) (later_same done (end done t) (end_same done.next.tasks done t)) (look_later (end done t)))
-
-  polled_by_later : (w : State K) (t : ℕ) (x : TaskRow K) (m : Meaning K (TaskStep K)) (o : Option CallFault) → IsNumbered w.next m.commands m.next → at w.tasks t ≡ Some x
-      → LaterO w (elim o as (λ z. Outcome K) [
-        | None ↦ Done (polled_to app (with_next w m.next) t x m m.answer) []
-        | Some f ↦ Cut (with_next w m.next) (fault_of f)
-      ])
-  polled_by_later w t x m None n h = polled_to_later w t x m m.answer n h
-  polled_by_later w t x m (Some f) n h = next_later app lawful w m n
-
-  polled_at_later : (w : State K) (t : ℕ) (o : Option (TaskRow K)) → at w.tasks t ≡ o → LaterO w (polled_at app w t o)
-  polled_at_later w t None h = later_refl w
-  polled_at_later w t (Some x) h =
-      let m : Meaning K (TaskStep K) = app.poll x.state (world_of w x.scope (Some t) false) in
-      from_later w (called_once w) (polled_at app w t (Some x)) (once_later app lawful w) (polled_by_later (called_once w) t x m m.fault (lawful.polls_number x.state (world_of w x.scope (Some t) false)) h)
-
   pub polled_later : (w : State K) (t : ℕ) → LaterO w (polled app w t)
-  polled_later w t =
-      let v : State K = unqueued w t in
-      later_trans w v (state_of (polled_at app v t (at w.tasks t))) (later_same w v (same_rest w.next.tasks w v refl refl refl refl)) (polled_at_later v t (at w.tasks t) refl)
-
-  batch_later : (w : State K) (s : ℕ) (es : List K.Effect) → LaterO w (batch app w s es)
-  batch_later w s [] = look_later w
-  batch_later w s (e ∷ es) = onward_later w (acted app w s e false) (λ v. batch app v s es) (acted_later app lawful w s e false) (λ v. batch_later v s es)
+  polled_later w t = tour.polled_goes shape Later tasks_from shape_steady later_goes app (λ f cs g. IsNumbered f cs g) (later_calls app lawful) w t
 
   pub effects_later : (w : State K) (s : ℕ) → LaterO w (effects_run app w s)
-  effects_later w s =
-      let v : State K = change w s (λ x. record x { effects = [] }) in
-      later_trans w v (state_of (batch app v s (effects_of w s))) (change_later w s (λ x. record x { effects = [] }) (λ x. refl)) (batch_later v s (effects_of w s))
+  effects_later w s = tour.effects_goes shape Later tasks_from shape_steady later_goes app (λ f cs g. IsNumbered f cs g) (later_calls app lawful) w s
 
   heard_at_later : (m : Machine K) (l : Listener K) (ls : List (Listener K)) (meaning : Meaning K (Event K)) (o : Option CallFault) → IsNumbered m.state.next meaning.commands meaning.next
       → Later m.state (elim o as (λ z. Machine K) [

@@ -1,17 +1,20 @@
 -- What a run and the steps of a boundary leave as it was.
 use Rattle.std.proofs.Common.{ℕ, Bool, true, false, List, [], ◌∷◌, ◌++◌, ◌≡◌, ◌≤◌, ◌<◌, ◌+◌, refl, sym, ◌∙◌, arith, subst}
 use Rattle.std.specs.Prelude.{Option, Some, None, if◌then◌else◌, flat_map}
-use Rattle.rt_model.specs.Lists.{at, put, without, drop_number}
+use Rattle.rt_model.specs.Lists.{at, without, drop_number}
 use Rattle.rt_model.specs.Tree.{Types, CapturedError, Tree, placeholder_tree, VComponent, Own, Root, Fragment, ErrorBoundary, SuspenseBoundary, Element, rendered, failed, suspended, spots}
-use Rattle.rt_model.specs.World.{Source, Error, Renders, Firsts, at_end, before_render_kind, after_render_kind, CallFault, Hook, HookValue, HookEffect, Command, Spawn, World, Meaning, Nothing, Application}
+use Rattle.rt_model.specs.World.{Source, Error, Firsts, before_render_kind, CallFault, Hook, Command, Spawn, World, Meaning, Application}
 use Rattle.rt_model.specs.Laws as laws
 use Rattle.rt_model.specs.Laws.{CountUp, IsNumbered, IsLawful}
-use Rattle.rt_model.specs.State.{SideName, MainSide, ChildrenSide, FallbackSide, Mark, SuspendedTask, IdsExhausted, BadNode, RowStep, PatchChildren, MadeChildren, RunFallback, ShowFallback, ShowChildren, DropFallback, Resolve, Side, Scope, TaskRow, State, Outcome, Done, Cut, onward, empty_side, side_of, with_side, is_live, change, location, is_held, holds, hooks_of, renders_of, world_of}
-use Rattle.rt_model.specs.Commands.{post, commands, throw_error}
-use Rattle.rt_model.specs.Run.{fault_of, plain, error_tree, root_tree, children_tree, with_next, answer_fits, kept_call, is_kind, spots_of, raised, joins, suspends_on, unmarked, has_output, row_of, runs_fallback, row_items, caught, body_of, acted, hook_called, hooks_called, after_hooks, call_body, patched, start_agenda, settled_answer, new_output, after_answer, boundary_run, run_as, run, called_once, called_where, is_own, answered_with}
+use Rattle.rt_model.specs.State.{SideName, MainSide, ChildrenSide, FallbackSide, BadNode, RowStep, PatchChildren, MadeChildren, RunFallback, ShowFallback, ShowChildren, DropFallback, Resolve, Side, Scope, State, Outcome, Done, Cut, onward, empty_side, side_of, with_side, change, is_held, world_of}
+use Rattle.rt_model.specs.Commands.{commands}
+use Rattle.rt_model.specs.Run.{fault_of, plain, error_tree, root_tree, children_tree, with_next, answer_fits, kept_call, spots_of, unmarked, has_output, row_of, runs_fallback, row_items, caught, body_of, acted, hooks_called, after_hooks, call_body, patched, start_agenda, settled_answer, new_output, after_answer, boundary_run, run_as, run, called_once, called_where, is_own, answered_with}
 use Rattle.rt_model.specs.Boundary.{tree_or_placeholder, children_of, counts_render, counted_render, fallback_answered, called_back, row_step, boundary_step}
 use Rattle.rt_model.specs.Lasting.{Rises}
-use Rattle.rt_model.proofs.Frames.{shape, Same, same_refl, same_trans, same_rest, with_put, change_same, post_same, throw_same, task_same, AllFresh, commands_same}
+use Rattle.rt_model.proofs.Tour.{AllFresh}
+use Rattle.rt_model.proofs.TourCalls as tour
+use Rattle.rt_model.proofs.TourCalls.{state_of, Goes, Calls}
+use Rattle.rt_model.proofs.Frames.{shape, shape_steady, Same, same_refl, same_trans, same_rest, with_put, change_same, commands_same}
 
 pub rises_refl : (f : Firsts) → Rises f f
 rises_refl f =
@@ -70,21 +73,23 @@ module _ {K : Types} where
   -- next numbers rise, and then nothing but what commands may change does
   pub after_next : (w : State K) (n : Firsts) (v : State K) → Rises w.next n → Same w.next.tasks (with_next w n) v → Later w v
   after_next w n v r s =
-      record { shapes = s.shapes; ended = s.ended; rises = subst (λ (f : Firsts). Rises w.next f) (sym s.next) r; next_scope = s.next_scope }
+      record { shapes = s.seen; ended = s.ended; rises = subst (λ (f : Firsts). Rises w.next f) (sym s.next) r; next_scope = s.next_scope }
 
   pub later_same : (w v : State K) → Same w.next.tasks w v → Later w v
   later_same w v s = after_next w w.next v (rises_refl w.next) s
 
-  abbrev pub state_of : Outcome K → State K
-  state_of (Done w work) = w
-  state_of (Cut w fault) = w
-
   abbrev pub LaterO : State K → Outcome K → Type 0
   LaterO w o = Later w (state_of o)
 
+  -- what is seen of a scope is its parent and height
+  abbrev pub tasks_from : State K → ℕ
+  tasks_from w = w.next.tasks
+
+  pub later_goes : Goes shape Later tasks_from
+  later_goes = record { after = later_trans; small = later_same }
+
   pub onward_later : (w : State K) (o : Outcome K) (f : State K → Outcome K) → LaterO w o → ((v : State K) → LaterO v (f v)) → LaterO w (onward o f)
-  onward_later w (Done v work) f h g = later_trans w v (state_of (f v)) h (g v)
-  onward_later w (Cut v fault) f h g = h
+  onward_later w o f h g = tour.onward_goes shape Later tasks_from shape_steady later_goes w o f h g
 
   pub later_either : (w : State K) (c : Bool) (x y : Outcome K) → LaterO w x → LaterO w y → LaterO w (if c then x else y)
   later_either w true x y h g = h
@@ -101,38 +106,6 @@ module _ {K : Types} where
   plain_numbered w reads answer =
       let none : w.given.next.errors ≤ w.given.next.errors = omega arith in
       record { cells = refl; contexts = refl; tasks = refl; elements = refl; errors = none }
-
-  raised_later : (w : State K) (s : ℕ) → LaterO w (raised w s)
-  raised_later w s =
-      later_either w (at_end (renders_of w s)) (Cut w (IdsExhausted Renders)) (Done (change w s (λ x. record x { renders = x.renders + 1 })) [])
-      (later_refl w)
-      (change_later w s (λ x. record x { renders = x.renders + 1 }) (λ x. refl))
-
-  joined_at : (w : State K) (origin t b : ℕ) (o : Option (Scope K)) → Later w (elim o [
-    | None ↦ w
-    | Some x ↦ if holds x t then w else post (change w b (λ y. record y { holders = y.holders ++ (t, origin) ∷ [] })) (Mark b)
-  ])
-  joined_at w origin t b None = later_refl w
-  joined_at w origin t b (Some x) = either (holds x t)
-    where
-      either : (c : Bool) → Later w (if c then w else post (change w b (λ y. record y { holders = y.holders ++ (t, origin) ∷ [] })) (Mark b))
-      either true = later_refl w
-      either false =
-          let h = change w b (λ y. record y { holders = y.holders ++ (t, origin) ∷ [] }) in
-          later_same w (post h (Mark b))
-          (same_trans w.next.tasks w h (post h (Mark b)) (change_same w.next.tasks w b (λ y. record y { holders = y.holders ++ (t, origin) ∷ [] }) (λ y. refl)) (post_same w.next.tasks h (Mark b)))
-
-  joins_later : (w : State K) (origin t : ℕ) (o : Option (ℕ × SideName)) → Later w (joins w origin t o)
-  joins_later w origin t None = later_refl w
-  joins_later w origin t (Some (b, MainSide)) = later_refl w
-  joins_later w origin t (Some (b, FallbackSide)) = later_refl w
-  joins_later w origin t (Some (b, ChildrenSide)) = joined_at w origin t b (at w.scopes b)
-
-  suspends_later : (w : State K) (s origin t : ℕ) (o : Option (TaskRow K)) → at w.tasks t ≡ o → LaterO w (suspends_on w s origin t o)
-  suspends_later w s origin t None h = later_refl w
-  suspends_later w s origin t (Some x) h =
-      let v : State K = record w { tasks = put w.tasks t (record x { kind = SuspendedTask }) } in
-      later_trans w v _ (later_same w v (task_same w.next.tasks w t x (record x { kind = SuspendedTask }) h)) (joins_later v origin t (location w s))
 
   pub unmarked_later : (w : State K) (s : ℕ) → Later w (unmarked w s)
   unmarked_later w s = later_same w (unmarked w s) (same_rest w.next.tasks w (unmarked w s) refl refl refl refl)
@@ -173,29 +146,17 @@ module _ {K : Types} (app : Application K) (lawful : IsLawful K app) where
   pub once_later : (w : State K) → Later w (called_once w)
   once_later w = later_same w (called_once w) (same_rest w.next.tasks w (called_once w) refl refl refl refl)
 
-  acted_at : (w : State K) (s : ℕ) (m : Meaning K Nothing) (o : Option CallFault) → IsNumbered w.next m.commands m.next
-      → LaterO w (elim o [ None ↦ Done (commands app (with_next w m.next) s None m.commands) [] | Some f ↦ Cut (with_next w m.next) (fault_of f) ])
-  acted_at w s m None n = called w s None m n
-  acted_at w s m (Some f) n = next_later w m n
+  pub later_calls : Calls shape Later tasks_from shape_steady later_goes app (λ f cs g. IsNumbered f cs g)
+  later_calls = record { effects = lawful.effects_number; polls = lawful.polls_number; next = next_later; called = called }
 
   pub acted_later : (w : State K) (s : ℕ) (e : K.Effect) (rendering : Bool) → LaterO w (acted app w s e rendering)
-  acted_later w s e rendering =
-      let m = app.effect e (world_of w s None rendering) in
-      from_later w (called_once w) (acted app w s e rendering) (once_later w) (acted_at (called_once w) s m m.fault (lawful.effects_number e (world_of w s None rendering)))
-
-  hook_later : (w : State K) (s : ℕ) (h : Hook K) → LaterO w (hook_called app w s h)
-  hook_later w s (HookValue k v) = later_refl w
-  hook_later w s (HookEffect k e) = acted_later w s e true
+  acted_later w s e rendering = tour.acted_goes shape Later tasks_from shape_steady later_goes app (λ f cs g. IsNumbered f cs g) later_calls w s e rendering
 
   pub hooks_later : (kind : ℕ) (w : State K) (s : ℕ) (hs : List (Hook K)) → LaterO w (hooks_called app kind w s hs)
-  hooks_later kind w s [] = later_refl w
-  hooks_later kind w s (h ∷ hs) =
-      later_either w (is_kind kind h) (onward (hook_called app w s h) (λ v. hooks_called app kind v s hs)) (hooks_called app kind w s hs)
-      (onward_later w (hook_called app w s h) (λ v. hooks_called app kind v s hs) (hook_later w s h) (λ v. hooks_later kind v s hs))
-      (hooks_later kind w s hs)
+  hooks_later kind w s hs = tour.hooks_goes shape Later tasks_from shape_steady later_goes app (λ f cs g. IsNumbered f cs g) later_calls kind w s hs
 
   pub after_hooks_later : (w : State K) (s : ℕ) → LaterO w (after_hooks app w s)
-  after_hooks_later w s = hooks_later after_render_kind w s (hooks_of w s)
+  after_hooks_later w s = tour.after_hooks_goes shape Later tasks_from shape_steady later_goes app (λ f cs g. IsNumbered f cs g) later_calls w s
 
   caught_numbered : (children : Element K) (handler : Option (K.Component × K.Props)) (w : World K) (o : Option CapturedError) → IsNumbered w.given.next (caught app children handler w o).commands (caught app children handler w o).next
   caught_numbered children handler w None = plain_numbered w (Error w.given.scope ∷ []) (rendered (children_tree children))
@@ -258,9 +219,7 @@ module _ {K : Types} (app : Application K) (lawful : IsLawful K app) where
   agenda_later w s side tree = agenda_at w s side tree (at w.scopes s) refl
 
   pub settled_later : (w : State K) (s : ℕ) (a : Element K) → LaterO w (settled_answer app w s a)
-  settled_later w s (rendered tree) = raised_later w s
-  settled_later w s (failed e) = later_same w (throw_error w s e) (throw_same w.next.tasks w s e)
-  settled_later w s (suspended origin t) = suspends_later w s origin t (at w.tasks t) refl
+  settled_later w s a = tour.settled_answer_goes shape Later tasks_from shape_steady later_goes app w s a
 
   output_later : (w : State K) (s : ℕ) (a : Element K) → LaterO w (new_output app w s a)
   output_later w s (rendered tree) = agenda_later w s MainSide tree
@@ -300,8 +259,7 @@ module _ {K : Types} (app : Application K) (lawful : IsLawful K app) where
   run_later w s = run_at w s (at w.scopes s)
 
   pub counted_later : (w : State K) (b : ℕ) (c : Bool) → LaterO w (counted_render app w b c)
-  counted_later w b true = raised_later w b
-  counted_later w b false = later_refl w
+  counted_later w b c = tour.counted_goes shape Later tasks_from shape_steady later_goes app w b c
 
   fallback_later : (w : State K) (b : ℕ) (c : VComponent K) (a : Element K) → LaterO w (fallback_answered app w b c a)
   fallback_later w b c a =
@@ -310,11 +268,7 @@ module _ {K : Types} (app : Application K) (lawful : IsLawful K app) where
       (λ v. agenda_later v b FallbackSide (tree_or_placeholder a))
 
   pub called_back_later : (w : State K) (es : List (ℕ × K.Effect)) → LaterO w (called_back app w es)
-  called_back_later w [] = later_refl w
-  called_back_later w (e ∷ es) =
-      later_either w (is_live w e.0) (onward (acted app w e.0 e.1 false) (λ v. called_back app v es)) (called_back app w es)
-      (onward_later w (acted app w e.0 e.1 false) (λ v. called_back app v es) (acted_later w e.0 e.1 false) (λ v. called_back_later v es))
-      (called_back_later w es)
+  called_back_later w es = tour.called_back_goes shape Later tasks_from shape_steady later_goes app (λ f cs g. IsNumbered f cs g) later_calls w es
 
   row_later : (w : State K) (b : ℕ) (x : Scope K) (step : RowStep) → LaterO w (row_step app w b x step)
   row_later w b x PatchChildren = agenda_later w b ChildrenSide (children_of x.component)

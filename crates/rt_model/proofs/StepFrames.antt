@@ -1,20 +1,23 @@
 -- What one entry leaves as it was.
 use Rattle.std.proofs.Common.{ℕ, true, List, [], ◌∷◌, ◌++◌, ◌≡◌, ◌≤◌, ◌<◌, ◌+◌, refl, sym, ap, ◌∙◌, arith, subst, nat_eq}
-use Rattle.std.specs.Prelude.{Option, Some, None, if◌then◌else◌, is_some}
-use Rattle.rt_model.specs.Lists.{at, drop_number, join}
+use Rattle.std.specs.Prelude.{Option, Some, None}
+use Rattle.rt_model.specs.Lists.{at}
 use Rattle.rt_model.specs.Tree.{Types}
-use Rattle.rt_model.specs.World.{Source, Error, Firsts, CallFault, Command, Meaning, Nothing, Application}
+use Rattle.rt_model.specs.World.{Firsts, CallFault, Command, Meaning, Nothing, Application}
 use Rattle.rt_model.specs.Laws.{IsNumbered, IsLawful}
-use Rattle.rt_model.specs.State.{Posted, Mark, Woken, Scope, State, Outcome, Done, Cut, is_live, hooks_of, world_of}
-use Rattle.rt_model.specs.Commands.{tell, end, commands}
-use Rattle.rt_model.specs.Next.{Work, look_on, look, found, paused, drop_then, drops, looked, at_rest}
-use Rattle.rt_model.specs.Run.{fault_of, with_next, unmarked, called_once}
-use Rattle.rt_model.specs.Removal.{tasks_in, end_all, clean_ups, tell_all, cells_in, cell_sources, read_contexts, without_scope, gone, stopped, cleaned, removed}
+use Rattle.rt_model.specs.State.{Scope, State, Outcome, Done, Cut, hooks_of, world_of}
+use Rattle.rt_model.specs.Commands.{commands}
+use Rattle.rt_model.specs.Next.{look, at_rest}
+use Rattle.rt_model.specs.Run.{fault_of, with_next, called_once}
+use Rattle.rt_model.specs.Removal.{clean_ups, without_scope, gone, stopped, cleaned, removed}
 use Rattle.rt_model.specs.Replay.{waiting}
 use Rattle.rt_model.specs.Lasting.{Rises, IsRooted}
 use Rattle.rt_model.proofs.Maps.{by_test, eq_same, none_some, at_without_here, at_without_other}
-use Rattle.rt_model.proofs.Frames.{shape, Same, same_refl, same_trans, same_rest, same_either, change_same, tell_same, end_same, AllFresh, commands_same}
-use Rattle.rt_model.proofs.RunFrames.{rises_refl, rises_trans, numbered_rises, Later, later_refl, later_trans, later_same, state_of, unmarked_later, fresh, next_later, once_later}
+use Rattle.rt_model.proofs.Tour.{AllFresh}
+use Rattle.rt_model.proofs.TourLooks.{look_kept, rest_kept, gone_kept, stopped_kept}
+use Rattle.rt_model.proofs.Frames.{shape, shape_steady, Same, commands_same}
+use Rattle.rt_model.proofs.TourCalls.{state_of}
+use Rattle.rt_model.proofs.RunFrames.{rises_refl, rises_trans, numbered_rises, Later, later_refl, later_same, fresh, next_later, once_later}
 
 -- facts of shapes
 abbrev parent_in_shape : Option (Option ℕ × ℕ) → Option ℕ
@@ -26,38 +29,11 @@ height_in_shape None = 0
 height_in_shape (Some p) = p.1
 
 module _ {K : Types} where
-  look_on_same : (b : ℕ) (ps : List Posted) (w : State K) → Same b w (look_on ps w)
-  look_on_same b [] w = same_refl b w
-  look_on_same b (Mark s ∷ ps) w =
-      let v : State K = if is_live w s then record w { seen = join w.seen s } else w in
-      same_trans b w v (look_on ps v) (same_either b w (record w { seen = join w.seen s }) w (is_live w s) (same_rest b w (record w { seen = join w.seen s }) refl refl refl refl) (same_refl b w)) (look_on_same b ps v)
-  look_on_same b (Woken t ∷ ps) w =
-      let v : State K = if is_some (at w.tasks t) then record w { queued = join w.queued t } else w in
-      same_trans b w v (look_on ps v) (same_either b w (record w { queued = join w.queued t }) w (is_some (at w.tasks t)) (same_rest b w (record w { queued = join w.queued t }) refl refl refl refl) (same_refl b w)) (look_on_same b ps v)
-
   pub look_same : (b : ℕ) (w : State K) → Same b w (look w)
-  look_same b w =
-      let v : State K = record w { posted = [] } in
-      same_trans b w v (look_on w.posted v) (same_rest b w v refl refl refl refl) (look_on_same b w.posted v)
-
-  drop_then_same : (b : ℕ) (go : State K → State K) (w : State K) (o : Option ℕ) → ((v : State K) → Same b v (go v)) → Same b w (drop_then go w o)
-  drop_then_same b go w None g = same_refl b w
-  drop_then_same b go w (Some t) g =
-      let v : State K = record w { queued = drop_number w.queued t } in
-      same_trans b w v (go v) (same_rest b w v refl refl refl refl) (g v)
-
-  drops_same : (b : ℕ) (qs : List ℕ) (w : State K) → Same b w (drops qs w)
-  drops_same b [] w = same_refl b w
-  drops_same b (q ∷ qs) w = drop_then_same b (λ v. drops qs v) w (paused w (found w)) (λ v. drops_same b qs v)
-
-  looked_same : (b : ℕ) (w : State K) (o : Option Work) → Same b w (looked w o)
-  looked_same b w (Some x) = same_refl b w
-  looked_same b w None = same_trans b w (look w) (drops (look w).queued (look w)) (look_same b w) (drops_same b (look w).queued (look w))
+  look_same b w = look_kept shape b w
 
   pub rest_same : (b : ℕ) (w : State K) → Same b w (at_rest w)
-  rest_same b w =
-      let v : State K = drops w.queued w in
-      same_trans b w v (looked v (found v)) (drops_same b w.queued w) (looked_same b v (found v))
+  rest_same b w = rest_kept shape b w
 
   pub none_by_shape : (o : Option (Scope K)) → shape o ≡ None → o ≡ None
   none_by_shape None h = refl
@@ -141,7 +117,7 @@ module _ {K : Types} where
   thin_same : (b : ℕ) (w v u : State K) → Thinner b w v → Same b v u → Thinner b w u
   thin_same b w v u h g =
       record {
-        thin = λ s x e. let old = some_by_shape (at v.scopes s) x (sym (g.shapes s) ∙ ap (λ (z : Option (Scope K)). shape z) e) in h.thin s old.0 old.1 ∙ sym (g.shapes s ∙ ap (λ (z : Option (Scope K)). shape z) old.1) ∙ ap (λ (z : Option (Scope K)). shape z) e;
+        thin = λ s x e. let old = some_by_shape (at v.scopes s) x (sym (g.seen s) ∙ ap (λ (z : Option (Scope K)). shape z) e) in h.thin s old.0 old.1 ∙ sym (g.seen s ∙ ap (λ (z : Option (Scope K)). shape z) old.1) ∙ ap (λ (z : Option (Scope K)). shape z) e;
         ended = λ t l e. g.ended t l (h.ended t l e);
         rises = subst (λ (f : Firsts). Rises w.next f) (sym g.next) h.rises;
         next_scope = g.next_scope ∙ h.next_scope;
@@ -172,27 +148,14 @@ module _ {K : Types} where
         next_scope = refl;
       }
 
-  pub tell_all_same : (b : ℕ) (w : State K) (xs : List Source) → Same b w (tell_all w xs)
-  tell_all_same b w [] = same_refl b w
-  tell_all_same b w (x ∷ xs) = same_trans b w (tell w x) (tell_all (tell w x) xs) (tell_same b w x) (tell_all_same b (tell w x) xs)
-
   pub gone_same : (b : ℕ) (w : State K) (s : ℕ) → Same b (without_scope w s) (gone w s)
-  gone_same b w s =
-      let v : State K = tell_all (without_scope w s) (cell_sources (cells_in s w.cells)) in
-      same_trans b (without_scope w s) v (gone w s) (tell_all_same b (without_scope w s) (cell_sources (cells_in s w.cells))) (tell_all_same b v (Error s ∷ read_contexts v s))
+  gone_same b w s = gone_kept shape b w s
 
   gone_thin : (b : ℕ) (w : State K) (s : ℕ) → Thinner b w (gone w s)
   gone_thin b w s = thin_same b w (without_scope w s) (gone w s) (without_thin b w s) (gone_same b w s)
 
-  pub end_all_same : (b : ℕ) (w : State K) (ts : List ℕ) → Same b w (end_all w ts)
-  end_all_same b w [] = same_refl b w
-  end_all_same b w (t ∷ ts) = same_trans b w (end w t) (end_all (end w t) ts) (end_same b w t) (end_all_same b (end w t) ts)
-
   pub stopped_later : (w : State K) (s : ℕ) → Later w (stopped w s)
-  stopped_later w s =
-      let v : State K = end_all w (tasks_in s w.tasks) in
-      later_trans w v (stopped w s) (later_same w v (end_all_same w.next.tasks w (tasks_in s w.tasks)))
-      (later_trans v (unmarked v s) (stopped w s) (unmarked_later v s) (later_same (unmarked v s) (stopped w s) (change_same v.next.tasks (unmarked v s) s (λ x. record x { effects = [] }) (λ x. refl))))
+  stopped_later w s = later_same w (stopped w s) (stopped_kept shape shape_steady w.next.tasks w s)
 
   -- where a removal isn't cut the scope is gone
   abbrev pub IsGone : ℕ → Outcome K → Type 0
@@ -222,7 +185,7 @@ module _ {K : Types} (app : Application K) (lawful : IsLawful K app) where
       let c : Same b (gone w s) (commands app (gone w s) s None waiting) = commands_same app b (gone w s) s None waiting f in (
         thin_same b w (gone w s) (commands app (gone w s) s None waiting) (gone_thin b w s) c,
         none_by_shape (at (commands app (gone w s) s None waiting).scopes s)
-            (c.shapes s ∙ (gone_same b w s).shapes s ∙ ap (λ (z : Option (Scope K)). shape z) (at_without_here w.scopes s s (eq_same s))),
+            (c.seen s ∙ (gone_same b w s).seen s ∙ ap (λ (z : Option (Scope K)). shape z) (at_without_here w.scopes s s (eq_same s))),
       )
   cleaned_thin b s (e ∷ es) w waiting f l =
       let m : Meaning K Nothing = app.effect e (world_of w s None true) in

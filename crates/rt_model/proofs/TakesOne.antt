@@ -1,16 +1,17 @@
 -- A removal takes its scope alone: every other one stands as it was framed.
-use Rattle.std.proofs.Common.{ℕ, true, false, List, [], ◌∷◌, ◌++◌, ◌≡◌, refl, sym, ap, ◌∙◌, subst, nat_eq, arith}
+use Rattle.std.proofs.Common.{ℕ, true, false, List, [], ◌∷◌, ◌++◌, ◌≡◌, refl, sym, ap, ◌∙◌, subst, nat_eq}
 use Rattle.std.specs.Prelude.{Option, Some, None}
 use Rattle.rt_model.specs.Lists.{at}
 use Rattle.rt_model.specs.Tree.{Types}
-use Rattle.rt_model.specs.World.{CallFault, Command, Spawn, Meaning, Nothing, Application}
+use Rattle.rt_model.specs.World.{CallFault, Command, Meaning, Nothing, Application}
 use Rattle.rt_model.specs.State.{Scope, State, Outcome, Cut, hooks_of, world_of}
 use Rattle.rt_model.specs.Run.{fault_of, with_next, called_once}
 use Rattle.rt_model.specs.Removal.{clean_ups, gone, stopped, cleaned, removed}
 use Rattle.rt_model.specs.Framed.{framed, RemovalTakesOne}
 use Rattle.rt_model.proofs.Maps.{at_without_other}
-use Rattle.rt_model.proofs.Frames.{shape, AllFresh, commands_same}
-use Rattle.rt_model.proofs.RunFrames.{state_of}
+use Rattle.rt_model.proofs.Tour.{all_fresh}
+use Rattle.rt_model.proofs.Frames.{shape, commands_same}
+use Rattle.rt_model.proofs.TourCalls.{state_of}
 use Rattle.rt_model.proofs.StepFrames.{none_by_shape, gone_same, stopped_later, IsGone, removed_gone}
 use Rattle.rt_model.proofs.SideFrames.{Stay}
 use Rattle.rt_model.proofs.SideRuns.{StayO, removed_stay}
@@ -23,11 +24,6 @@ module _ {K : Types} where
   framed_at (Some x) p same h = sym (h x refl)
 
 module _ {K : Types} (app : Application K) where
-  fresh_from_none : (cs : List (Command K)) → AllFresh app 0 cs
-  fresh_from_none [] = tt
-  fresh_from_none (Spawn t a forever isomorphic ∷ cs) = (omega arith, fresh_from_none cs)
-  fresh_from_none (c ∷ cs) = (tt, fresh_from_none cs)
-
   -- the other scopes live on, with their parents and heights
 
   cleaned_shapes_at : (s t : ℕ) (es : List K.Effect) (w : State K) (waiting : List (Command K)) (m : Meaning K Nothing) (o : Option CallFault)
@@ -38,8 +34,8 @@ module _ {K : Types} (app : Application K) where
 
   cleaned_shapes : (s t : ℕ) → nat_eq s t ≡ false → (es : List K.Effect) (w : State K) (waiting : List (Command K)) → shape (at (state_of (cleaned app s es w waiting)).scopes t) ≡ shape (at w.scopes t)
   cleaned_shapes s t q [] w waiting =
-      (commands_same app 0 (gone w s) s None waiting (fresh_from_none waiting)).shapes t
-      ∙ (gone_same 0 w s).shapes t
+      (commands_same app 0 (gone w s) s None waiting (all_fresh app waiting)).seen t
+      ∙ (gone_same 0 w s).seen t
       ∙ ap (λ (z : Option (Scope K)). shape z) (at_without_other w.scopes s t q)
   cleaned_shapes s t q (e ∷ es) w waiting =
       let m : Meaning K Nothing = app.effect e (world_of w s None true) in

@@ -4,12 +4,12 @@ use Rattle.rt_model.specs.Lists.{Text}
 use Rattle.rt_model.specs.Tree.{Types}
 use Rattle.rt_model.specs.World.{Firsts, Command, Application}
 use Rattle.rt_model.specs.Laws.{IsNumbered}
-use Rattle.rt_model.specs.State.{State}
+use Rattle.rt_model.specs.State.{State, Outcome, Done, Cut}
 use Rattle.rt_model.specs.Run.{with_next}
 use Rattle.rt_model.specs.Commands.{commands}
 use Rattle.rt_model.specs.Next.{look, drops, at_rest}
 use Rattle.rt_model.specs.Heard.{heard}
-use Rattle.rt_model.specs.Replay.{Machine}
+use Rattle.rt_model.specs.Replay.{Machine, polled_now}
 use Rattle.rt_model.specs.Sentences.{marked_now, all_marked_now}
 use Rattle.rt_model.specs.Rendering.{rendering_rest, polling_rest, nothing_resolved}
 
@@ -27,14 +27,16 @@ pub data Aside (K : Types) : Type 0 where
   Thinned : Aside K
   -- the test for what is next
   Rested : Aside K
-  -- an event comes to those that hear it
-  Raised : (name : Text) → (payload : K.Payload) → (element : ℕ) → (bubbles : Bool) → Aside K
+  -- an event comes to those that hear it, its default prevented or not
+  Raised : (name : Text) → (payload : K.Payload) → (element : ℕ) → (bubbles : Bool) → (prevented : Bool) → Aside K
   -- a render while suspended looks, and passes over what it may not take
   Passed : Aside K
   -- a poll of suspended work looks, and passes over the tasks that it may not poll
   Polling : Aside K
   -- the answer of such a render was taken
   Answered : Aside K
+  -- a task is polled at once, and no look follows
+  Advanced : (task : ℕ) → Aside K
 
 module _ {K : Types} where
   -- it passes over nothing
@@ -67,6 +69,11 @@ module _ {K : Types} where
         refused = None;
       }
 
+  -- the state that a change leaves; where it was cut it leaves all
+  abbrev pub left_of : State K → Outcome K → State K
+  left_of w (Done v work) = v
+  left_of w (Cut v fault) = w
+
 module _ {K : Types} (app : Application K) where
   -- the state after it
   abbrev pub aside_state : State K → Aside K → State K
@@ -76,17 +83,18 @@ module _ {K : Types} (app : Application K) where
   aside_state w Looked = look w
   aside_state w Thinned = drops w.queued w
   aside_state w Rested = at_rest w
-  aside_state w (Raised name payload element bubbles) = w
+  aside_state w (Raised name payload element bubbles prevented) = w
   aside_state w Passed = rendering_rest w
   aside_state w Polling = polling_rest w
   aside_state w Answered = nothing_resolved w
+  aside_state w (Advanced t) = left_of w (polled_now app w t)
 
   -- the machine after it: nothing of an earlier call is left but the state
   abbrev pub set_aside : Machine K → Aside K → Machine K
-  set_aside m (Raised name payload element bubbles) =
+  set_aside m (Raised name payload element bubbles prevented) =
       record (resting m.state) {
         listeners = heard m.state name element bubbles;
-        event = Some (record { payload = payload; propagates = bubbles; prevented = false });
+        event = Some (record { payload = payload; propagates = bubbles; prevented = prevented });
         bubbles = bubbles;
       }
   set_aside m a = resting (aside_state m.state a)

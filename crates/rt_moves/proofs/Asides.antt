@@ -4,21 +4,24 @@ use Rattle.std.specs.Prelude.{Option, Some, None, if◌then◌else◌}
 use Rattle.rt_model.specs.Lists.{drop_number, join}
 use Rattle.rt_model.specs.Tree.{Types}
 use Rattle.rt_model.specs.World.{Nothing, nothing, Meaning, Application}
-use Rattle.rt_model.specs.Laws.{IsLawful}
+use Rattle.rt_model.specs.Laws.{IsNumbered, IsLawful}
 use Rattle.rt_model.specs.State.{Scope, State, is_live}
 use Rattle.rt_model.specs.Rendering.{may_poll, may_rerun, pass_over, passes, rendering_rest, tasks_passed, polling_rest, nothing_resolved}
 use Rattle.rt_model.specs.Next.{Work, RerunScope, PollTask, RunEffects, first_seen, look, drop_then, drops, paused, found, at_rest}
 use Rattle.rt_model.specs.Sentences.{marked_now, all_marked_now}
 use Rattle.rt_model.specs.Replay.{Machine}
-use Rattle.rt_model.proofs.Frames.{same_rest}
-use Rattle.rt_model.proofs.RunFrames.{Later, later_refl, later_trans, later_same, called}
+use Rattle.rt_model.proofs.Frames.{shape, shape_steady, same_rest}
+use Rattle.rt_model.proofs.RunFrames.{Later, later_refl, later_trans, later_same, tasks_from, later_goes, later_calls, called}
 use Rattle.rt_model.proofs.StepFrames.{look_same}
 use Rattle.rt_model.proofs.MachineFrames.{rest_later}
-use Rattle.rt_model.proofs.SideFrames.{Stay, stay_refl, stay_trans, stay_rest, stay_either}
-use Rattle.rt_model.proofs.SideRuns.{look_stay, rest_stay, called_stay}
+use Rattle.rt_model.specs.Framed.{framed}
+use Rattle.rt_model.proofs.SideFrames.{Stay, framed_steady, stay_refl, stay_trans, stay_rest, stay_either}
+use Rattle.rt_model.proofs.SideRuns.{look_stay, rest_stay, next_stay, called_stay, stay_goes}
+use Rattle.rt_model.proofs.TourCalls.{Calls}
 use Rattle.rt_moves.specs.Moves.{AtRest}
-use Rattle.rt_model.specs.Asides.{Aside, Asked, Marked, AllMarked, Looked, Thinned, Rested, Raised, Passed, Polling, Answered, Allowed, aside_state, set_aside}
+use Rattle.rt_model.specs.Asides.{Aside, Asked, Marked, AllMarked, Looked, Thinned, Rested, Raised, Passed, Polling, Answered, Advanced, Allowed, aside_state, set_aside}
 use Rattle.rt_moves.specs.Asides.{IsAside}
+use Rattle.rt_moves.proofs.Advanced.{advanced_goes}
 
 module _ {K : Types} where
   later_either : (w x y : State K) (c : Bool) → Later w x → Later w y → Later w (if c then x else y)
@@ -116,6 +119,10 @@ module _ {K : Types} (app : Application K) where
   asks scope _ = record { answer = nothing; reads = []; aside = []; commands = []; next = record { tasks = 0; cells = 0; contexts = 0; elements = 0; errors = 0 }; fault = None }
 
 module _ {K : Types} (app : Application K) (lawful : IsLawful K app) where
+  -- a call's next numbers and its commands leave the sides
+  sides_calls : Calls framed Stay (λ (w : State K). 0) framed_steady stay_goes app (λ f cs g. IsNumbered f cs g)
+  sides_calls = record { effects = lawful.effects_number; polls = lawful.polls_number; next = next_stay app lawful; called = called_stay app lawful }
+
   pub aside_stay : (w : State K) (a : Aside K) → Allowed w a → Stay w (aside_state app w a)
   aside_stay w (Asked s next cs) h = called_stay app lawful w s None (asks app s (Asked s next cs)) h
   aside_stay w (Marked s) h = marked_stay w s
@@ -123,10 +130,11 @@ module _ {K : Types} (app : Application K) (lawful : IsLawful K app) where
   aside_stay w Looked h = look_stay w
   aside_stay w Thinned h = drops_stay w.queued w
   aside_stay w Rested h = rest_stay w
-  aside_stay w (Raised name payload element bubbles) h = stay_refl w
+  aside_stay w (Raised name payload element bubbles prevented) h = stay_refl w
   aside_stay w Passed h = let v : State K = look w in stay_trans w v (rendering_rest w) (look_stay w) (passes_stay (length v.seen + length v.queued) v)
   aside_stay w Polling h = let v : State K = look w in stay_trans w v (polling_rest w) (look_stay w) (tasks_stay (length v.queued) v)
   aside_stay w Answered h = stay_rest w (nothing_resolved w) refl refl refl
+  aside_stay w (Advanced t) h = advanced_goes framed Stay (λ v. 0) framed_steady stay_goes app (λ f cs g. IsNumbered f cs g) sides_calls w t
 
   pub aside_later : (w : State K) (a : Aside K) → Allowed w a → Later w (aside_state app w a)
   aside_later w (Asked s next cs) h = called app lawful w s None (asks app s (Asked s next cs)) h
@@ -135,10 +143,11 @@ module _ {K : Types} (app : Application K) (lawful : IsLawful K app) where
   aside_later w Looked h = later_same w (look w) (look_same w.next.tasks w)
   aside_later w Thinned h = drops_later w.queued w
   aside_later w Rested h = rest_later w
-  aside_later w (Raised name payload element bubbles) h = later_refl w
+  aside_later w (Raised name payload element bubbles prevented) h = later_refl w
   aside_later w Passed h = let v : State K = look w in later_trans w v (rendering_rest w) (look_later w) (passes_later (length v.seen + length v.queued) v)
   aside_later w Polling h = let v : State K = look w in later_trans w v (polling_rest w) (look_later w) (tasks_later (length v.queued) v)
   aside_later w Answered h = later_same w (nothing_resolved w) (same_rest w.next.tasks w (nothing_resolved w) refl refl refl refl)
+  aside_later w (Advanced t) h = advanced_goes shape Later tasks_from shape_steady later_goes app (λ f cs g. IsNumbered f cs g) (later_calls app lawful) w t
 
   -- it changes the state alone, and forgets units and listeners
   pub record Beside (m u : Machine K) (w : State K) : Type 0 where
@@ -158,7 +167,8 @@ module _ {K : Types} (app : Application K) (lawful : IsLawful K app) where
   beside_of m Passed r b = record { state = refl; work = sym r.idle; built = sym b; unit = sym r.unit; dead = sym r.alive }
   beside_of m Polling r b = record { state = refl; work = sym r.idle; built = sym b; unit = sym r.unit; dead = sym r.alive }
   beside_of m Answered r b = record { state = refl; work = sym r.idle; built = sym b; unit = sym r.unit; dead = sym r.alive }
-  beside_of m (Raised name payload element bubbles) r b = record { state = refl; work = sym r.idle; built = sym b; unit = sym r.unit; dead = sym r.alive }
+  beside_of m (Advanced t) r b = record { state = refl; work = sym r.idle; built = sym b; unit = sym r.unit; dead = sym r.alive }
+  beside_of m (Raised name payload element bubbles prevented) r b = record { state = refl; work = sym r.idle; built = sym b; unit = sym r.unit; dead = sym r.alive }
 
   pub beside : (m u : Machine K) (a : Aside K) → IsAside app m a u → Beside m u (aside_state app m.state a)
   beside m u a h = subst (λ (x : Machine K). Beside m x (aside_state app m.state a)) (sym h.gives) (beside_of m a h.rest h.built)

@@ -14,6 +14,7 @@ pub mod Insides
 pub mod ChildByChild
 pub mod Reports
 pub mod Always
+mod Advanced
 pub mod Asides
 pub mod Ways
 pub mod Woods

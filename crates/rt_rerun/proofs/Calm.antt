@@ -1,21 +1,21 @@
--- What polls, effects, inputs and listeners leave as it was: what shows of each scope.
+-- What inputs, listeners and calls that log no entry leave as it was: what shows of each scope.
 use Rattle.std.proofs.Common.{zero, suc, length, ℕ, ◌+◌, true, false, not, List, [], ◌∷◌, refl}
 use Rattle.std.specs.Prelude.{Option, Some, None}
-use Rattle.rt_model.specs.Lists.{at, put, join, drop_number}
+use Rattle.rt_model.specs.Lists.{join, drop_number}
 use Rattle.rt_model.specs.Tree.{Types}
-use Rattle.rt_model.specs.World.{CallFault, Event, Meaning, TaskStep, pending, ready, Application}
-use Rattle.rt_model.specs.State.{Mark, Woken, Scope, TaskRow, State, Outcome, Done, Cut, is_live, change, world_of, effects_of}
-use Rattle.rt_model.specs.Commands.{post, unqueued, end, commands}
-use Rattle.rt_model.specs.Next.{Work, RerunScope, PollTask, RunEffects, first_seen, found, look, drops, at_rest}
-use Rattle.rt_model.specs.Run.{fault_of, with_next, called_once, acted}
+use Rattle.rt_model.specs.World.{CallFault, Event, Meaning, Application}
+use Rattle.rt_model.specs.State.{Mark, Woken, Scope, State, is_live, world_of}
+use Rattle.rt_model.specs.Commands.{post, commands}
+use Rattle.rt_model.specs.Next.{Work, RerunScope, PollTask, RunEffects, first_seen, found, look}
+use Rattle.rt_model.specs.Run.{fault_of, with_next, called_once}
 use Rattle.rt_model.specs.Heard.{Listener}
-use Rattle.rt_model.specs.Replay.{Post, MarkScope, WakeTask, AllDirty, Message, Input, EventAt, WakeOf, WriteOf, MarkOf, Drain, Machine, waiting, post_all, post_message, post_messages, looked_where_quiet, then_looked, taken_in, take_next, polled_to, polled_at, polled, batch, effects_run, further, heard_event}
-use Rattle.rt_model.specs.Asides.{Aside, Asked, Marked, AllMarked, Looked, Thinned, Rested, Raised, Passed, Polling, Answered, aside_state}
+use Rattle.rt_model.specs.Replay.{Post, MarkScope, WakeTask, AllDirty, Message, Input, EventAt, WakeOf, WriteOf, MarkOf, Drain, Machine, waiting, post_all, post_message, post_messages, looked_where_quiet, then_looked, taken_in, take_next, further, heard_event}
+use Rattle.rt_model.specs.Asides.{Aside, Asked, Marked, AllMarked, Looked, Thinned, Rested, Raised, Passed, Polling, Answered, Advanced, aside_state}
 use Rattle.rt_model.specs.Rendering.{may_poll, may_rerun, pass_over, passes, rendering_rest, tasks_passed, polling_rest, nothing_resolved}
 use Rattle.rt_moves.proofs.Asides.{asks}
 use Rattle.rt_model.specs.Sentences.{marked_now, all_marked_now}
-use Rattle.rt_moves.proofs.Commanded.{Level, level_trans, level_refl, level_rest, level_either, change_level, post_level, end_level, write_level}
-use Rattle.rt_moves.proofs.Called.{LevelO, from_level, onward_level, look_level, drops_level, rest_level, next_level, once_level, called_level, acted_level}
+use Rattle.rt_moves.proofs.Commanded.{Level, level_trans, level_refl, level_rest, level_either, post_level, write_level}
+use Rattle.rt_moves.proofs.Called.{look_level, drops_level, rest_level, next_level, once_level, called_level, advanced_level}
 
 module _ {K : Types} where
   post_all_level : (es : List (ℕ × Scope K)) (w : State K) → Level w (post_all es w)
@@ -83,44 +83,6 @@ module _ {K : Types} where
       level_trans m.state v.state (then_looked v).state (taken_level u i) (looked_level v)
 
 module _ {K : Types} (app : Application K) where
-  polled_to_level : (w : State K) (t : ℕ) (x : TaskRow K) (m : Meaning K (TaskStep K)) (a : TaskStep K) → Level w (polled_to app (with_next w m.next) t x m a)
-  polled_to_level w t x m (pending a) =
-      let v : State K = record w { tasks = put w.tasks t (record x { state = a }) } in
-      let done : State K = commands app (with_next v m.next) x.scope (Some t) m.commands in
-      level_trans w v (look done) (level_rest w v refl refl) (level_trans v done (look done) (called_level app v x.scope (Some t) m) (look_level done))
-  polled_to_level w t x m ready =
-      let done : State K = commands app (with_next w m.next) x.scope (Some t) m.commands in
-      level_trans w done (look (end done t)) (called_level app w x.scope (Some t) m) (level_trans done (end done t) (look (end done t)) (end_level done t) (look_level (end done t)))
-
-  polled_by_level : (w : State K) (t : ℕ) (x : TaskRow K) (m : Meaning K (TaskStep K)) (o : Option CallFault)
-      → LevelO w (elim o as (λ z. Outcome K) [
-        | None ↦ Done (polled_to app (with_next w m.next) t x m m.answer) []
-        | Some f ↦ Cut (with_next w m.next) (fault_of f)
-      ])
-  polled_by_level w t x m None = polled_to_level w t x m m.answer
-  polled_by_level w t x m (Some f) = next_level w m.next
-
-  polled_at_level : (w : State K) (t : ℕ) (o : Option (TaskRow K)) → LevelO w (polled_at app w t o)
-  polled_at_level w t None = level_refl w
-  polled_at_level w t (Some x) =
-      let m : Meaning K (TaskStep K) = app.poll x.state (world_of w x.scope (Some t) false) in
-      from_level w (called_once w) (polled_at app w t (Some x)) (once_level w) (polled_by_level (called_once w) t x m m.fault)
-
-  -- a poll
-  pub polled_level : (w : State K) (t : ℕ) → LevelO w (polled app w t)
-  polled_level w t =
-      let v : State K = unqueued w t in from_level w v (polled_at app v t (at w.tasks t)) (level_rest w v refl refl) (polled_at_level v t (at w.tasks t))
-
-  batch_level : (w : State K) (s : ℕ) (es : List K.Effect) → LevelO w (batch app w s es)
-  batch_level w s [] = look_level w
-  batch_level w s (e ∷ es) = onward_level w (acted app w s e false) (λ v. batch app v s es) (acted_level app w s e false) (λ v. batch_level v s es)
-
-  -- the effects of a scope
-  pub effects_level : (w : State K) (s : ℕ) → LevelO w (effects_run app w s)
-  effects_level w s =
-      let v : State K = change w s (λ x. record x { effects = [] }) in
-      from_level w v (batch app v s (effects_of w s)) (change_level w s (λ x. record x { effects = [] }) (λ x. refl)) (batch_level v s (effects_of w s))
-
   heard_at : (m : Machine K) (l : Listener K) (ls : List (Listener K)) (meaning : Meaning K (Event K)) (o : Option CallFault)
       → Level m.state (elim o as (λ z. Machine K) [
         | None ↦
@@ -159,7 +121,8 @@ module _ {K : Types} (app : Application K) where
   aside_level w Looked = look_level w
   aside_level w Thinned = drops_level w.queued w
   aside_level w Rested = rest_level w
-  aside_level w (Raised name payload element bubbles) = level_refl w
+  aside_level w (Raised name payload element bubbles prevented) = level_refl w
   aside_level w Passed = let v : State K = look w in level_trans w v (rendering_rest w) (look_level w) (passes_level (length v.seen + length v.queued) v)
   aside_level w Polling = let v : State K = look w in level_trans w v (polling_rest w) (look_level w) (tasks_level (length v.queued) v)
   aside_level w Answered = level_rest w (nothing_resolved w) refl refl
+  aside_level w (Advanced t) = advanced_level app w t

@@ -10,9 +10,7 @@ use Rattle.rt_model.proofs.Maps.{pick_true, pick_false, by_test}
 use Rattle.rt_model.proofs.SamePlaces.{numbers-true, option-true}
 use Rattle.rt_model.proofs.Among.{numbers_same}
 use Rattle.rt_model.proofs.Conjunctions.{and-left, and-right}
-
-clash : {P : Type 0} {b : Bool} → b ≡ true → b ≡ false → P
-clash h k = cc
+use Rattle.rt_model.proofs.Members.{clash}
 
 -- a total order of keys, with a test of their equality
 record Order {Q : Type 0} (eq lt : Q → Q → Bool) : Type 0 where

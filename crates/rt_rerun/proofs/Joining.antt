@@ -15,7 +15,7 @@ use Rattle.rt_model.proofs.Among.{Among}
 use Rattle.rt_model.proofs.NumbersStand.{child_among}
 use Rattle.rt_model.proofs.TakesOne.{removal_takes_one}
 use Rattle.rt_model.proofs.StepFrames.{Follows, removed_follows}
-use Rattle.rt_model.proofs.RunFrames.{state_of}
+use Rattle.rt_model.proofs.TourCalls.{state_of}
 use Rattle.rt_moves.proofs.Twigs.{twig, twig_side, up, below, kids, found_live}
 use Rattle.rt_moves.proofs.Woven.{owner, Climb}
 use Rattle.rt_moves.proofs.Lists.{every_among}

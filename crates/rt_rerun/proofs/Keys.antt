@@ -9,10 +9,7 @@ use Rattle.rt_model.proofs.Maps.{pick_true, pick_false, by_test}
 use Rattle.rt_model.proofs.SamePlaces.{numbers-true, option-true}
 use Rattle.rt_model.proofs.Among.{numbers_same}
 use Rattle.rt_model.proofs.Conjunctions.{and-left, and-right}
-
--- a test can't say both
-pub clash : {P : Type 0} {b : Bool} → b ≡ true → b ≡ false → P
-clash h k = cc
+use Rattle.rt_model.proofs.Members.{clash}
 
 space_same : (a : Option Text) → same_option same_numbers a a ≡ true
 space_same None = refl

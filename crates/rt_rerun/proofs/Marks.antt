@@ -9,10 +9,11 @@ use Rattle.rt_model.specs.View.{one_attribute, one_listener, given_attributes, g
 use Rattle.rt_model.specs.Caused.{listens}
 use Rattle.rt_model.proofs.Maps.{pick_true, pick_false, by_test, eq_same}
 use Rattle.rt_model.proofs.Among.{numbers_same}
+use Rattle.rt_model.proofs.Members.{clash}
 use Rattle.rt_moves.specs.Settings.{altered_once, and_altered, altered}
 use Rattle.rt_rerun.specs.Entries.{NoneNamed}
 use Rattle.rt_rerun.proofs.Entries.{attributes_commute, listeners_commute, attribute_goes, attribute_differs}
-use Rattle.rt_rerun.proofs.Keys.{clash, Beside, turned, AllBeside, flat, key_same}
+use Rattle.rt_rerun.proofs.Keys.{Beside, turned, AllBeside, flat, key_same}
 
 -- an element's attributes, and the names that it listens to
 pub record Marks : Type 0 where

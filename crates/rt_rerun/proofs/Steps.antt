@@ -39,8 +39,8 @@ use Rattle.rt_moves.proofs.Woven.{Woven, woven_same}
 use Rattle.rt_moves.proofs.Opens.{calm_twigs}
 use Rattle.rt_moves.proofs.Everywhere.{ReadyAt, Anything, work_state, move_ready, moves_ready, aside_ready, start_ready, batch_quiet}
 use Rattle.rt_moves.proofs.Commanded.{Level}
-use Rattle.rt_moves.proofs.Called.{LevelO, rest_level, mounted_level}
-use Rattle.rt_rerun.proofs.Calm.{take_level, polled_level, effects_level, heard_level, aside_level}
+use Rattle.rt_moves.proofs.Called.{LevelO, rest_level, mounted_level, polled_level, effects_level}
+use Rattle.rt_rerun.proofs.Calm.{take_level, heard_level, aside_level}
 
 module _ {K : Types} where
   -- numbers, heights and the open work fit the tree of scopes
