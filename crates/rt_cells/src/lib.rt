@@ -3,6 +3,7 @@
 #![tactic(auto)]
 
 mod cells;
+mod compared;
 mod contexts;
 mod faults;
 mod links;
@@ -13,6 +14,7 @@ mod sources;
 mod subscribers;
 
 pub use cells::Cells;
+pub use compared::{readers_compare, sources_compare};
 pub use contexts::ReactiveContext;
 pub use faults::CellsFault;
 pub use rt_values::{

@@ -65,7 +65,8 @@ BoundaryHookRow =
     ∷ codes "replace #2 \"ok\"#4"
     ∷ codes "text #1 \"ababa\""
     ∷ codes "text #1 \"abababa\""
-    ∷ codes "report 0 units 4 bodies 9 edits 3 log build made:1 made:2 made:3 made:4 made:5 poll:1 rerun:3 kept:4 rerun:4 kept:5 rerun:3 kept:4"
+    ∷ (codes "report 0 units 4 bodies 9 edits 3 log build made:1 made:2 made:3 made:4 made:5"
+    ++ codes " poll:1 rerun:3 kept:4 rerun:4 kept:5 rerun:3 kept:4")
     ∷ codes "report 1 units 4 bodies 3 edits 3 log input:1 poll:1 rerun:4 kept:5 rerun:5 rerun:3 kept:4"
     ∷ codes "report 2 units 2 bodies 2 edits 1 log input:2 rerun:4 kept:5 rerun:3 kept:4"
     ∷ []))
@@ -269,7 +270,8 @@ HiddenTurnRow =
     (codes "append #0 \"...\"#4"
     ∷ codes "replace #4 _#1 \"ok\"#5"
     ∷ codes "replace #1 \"ok\"#6"
-    ∷ codes "report 0 units 4 bodies 10 edits 1 log build made:1 made:2 made:3 made:4 made:5 made:6 made:7 poll:1 poll:2 rerun:4 kept:5 kept:6 rerun:6 kept:7"
+    ∷ (codes "report 0 units 4 bodies 10 edits 1 log build made:1 made:2 made:3 made:4 made:5 made:6 made:7"
+    ++ codes " poll:1 poll:2 rerun:4 kept:5 kept:6 rerun:6 kept:7")
     ∷ codes "report 1 units 3 bodies 2 edits 0 log input:1 poll:2 rerun:6 kept:7 rerun:7"
     ∷ codes "report 2 units 3 bodies 2 edits 2 log input:2 poll:1 rerun:4 kept:5 kept:6 rerun:5"
     ∷ []))

@@ -71,7 +71,8 @@ TwoBoundariesRow =
     ∷ codes "replace #4 _#3"
     ∷ codes "replace #1 \"ok\"#5"
     ∷ codes "replace #3 \"ok\"#6"
-    ∷ codes "report 0 units 3 bodies 10 edits 1 log build made:1 made:2 made:3 made:4 made:5 made:6 made:7 poll:1 rerun:4 kept:5 rerun:6 kept:7"
+    ∷ (codes "report 0 units 3 bodies 10 edits 1 log build made:1 made:2 made:3 made:4 made:5 made:6 made:7"
+    ++ codes " poll:1 rerun:4 kept:5 rerun:6 kept:7")
     ∷ codes "report 1 units 5 bodies 4 edits 4 log input:1 poll:1 rerun:4 kept:5 rerun:6 kept:7 rerun:5 rerun:7"
     ∷ []))
 

@@ -55,7 +55,8 @@ NumberRow =
     ∷ []))
     polled_and_marked
     (lines
-    (codes "append #0 \"9223372036854775807\"#1 \"-9223372036854775808\"#2 \"\"#3 \"1\"#4 \"\"#5 \"1\"#6 \"0\"#7 \"1\"#8 \"0\"#9 \"1\"#10 _#11"
+    ((codes "append #0 \"9223372036854775807\"#1 \"-9223372036854775808\"#2 \"\"#3"
+    ++ codes " \"1\"#4 \"\"#5 \"1\"#6 \"0\"#7 \"1\"#8 \"0\"#9 \"1\"#10 _#11")
     ∷ codes "report 0 units 1 bodies 4 edits 1 log build made:1 made:2 made:3 poll:1"
     ∷ codes "report 1 units 1 bodies 1 edits 0 log input:1 rerun:3"
     ∷ []))

@@ -3,7 +3,7 @@ use Rattle.std.specs.Prelude.{ℕ, List, [], length, Option, Some, None, option_
 use Rattle.serde_json.specs.Data.{Data}
 use Rattle.serde_json.specs.Find.{get, as_object}
 use Rattle.rt_fields.specs.Fields.{list_or_empty}
-use Rattle.rt_fields.specs.Lists.{read_members}
+use Rattle.rt_fields.specs.Lists.{each_member}
 use Rattle.rt_fields.specs.Names.{distinct_texts}
 use Rattle.rt_expressions.specs.declared.names.Signature.{Signature}
 use Rattle.rt_expressions.specs.declared.names.Names.{Names}
@@ -16,11 +16,6 @@ params_in d = option_and_then distinct_texts (list_or_empty (codes "params") d)
 -- a name with the count of params under it
 abbrev pub signature_in : List ℕ → Data → Option Signature
 signature_in name d = option_map (λ params. record { name = name; params = length params }) (params_in d)
-
--- what is read of each member of an object, or nothing where nothing stands
-abbrev pub each_member : {A : Type 0} → (List ℕ → Data → Option A) → Option Data → Option (List A)
-each_member reading None = Some []
-each_member reading (Some d) = option_and_then (read_members reading) (as_object d)
 
 -- the names in an object at a key, in order
 abbrev pub signatures_at : List ℕ → Data → Option (List Signature)

@@ -3,7 +3,7 @@ use Rattle.std.specs.Prelude.{ℕ, List, [], ◌∷◌, ◌++◌, ◌||◌, not,
 use Rattle.serde_json.specs.Data.{Data, Members}
 use Rattle.serde_json.specs.Find.{get, as_str, as_object}
 use Rattle.rt_fields.specs.Keys.{is_object_of}
-use Rattle.rt_fields.specs.Lists.{read_members}
+use Rattle.rt_fields.specs.Lists.{each_member}
 use Rattle.rt_fields.specs.Names.{is_name}
 use Rattle.rt_expressions.specs.declared.names.Names.{Names}
 use Rattle.rt_expressions.specs.Expressions.{expression_in}
@@ -27,18 +27,13 @@ listener_in names variables name d =
     if not (is_name name) || not (is_object_of (codes "do" ∷ codes "args" ∷ []) d) then None
     else option_map (λ call. Listener name call.0 call.1) (call_at names variables names.actions (codes "do") d)
 
--- what is read of the members of an object, or nothing where nothing stands
-abbrev pub members_or_none : (List ℕ → Data → Option ViewAttribute) → Option Data → Option (List ViewAttribute)
-members_or_none reading None = Some []
-members_or_none reading (Some d) = option_and_then (read_members reading) (as_object d)
-
 -- the attributes in order of name
 abbrev pub attributes_at : Names → List (List ℕ) → Data → Option (List ViewAttribute)
-attributes_at names variables d = members_or_none (attribute_in names variables) (get (codes "attrs") d)
+attributes_at names variables d = each_member (attribute_in names variables) (get (codes "attrs") d)
 
 -- the listeners in order of name
 abbrev pub listeners_at : Names → List (List ℕ) → Data → Option (List ViewAttribute)
-listeners_at names variables d = members_or_none (listener_in names variables) (get (codes "on") d)
+listeners_at names variables d = each_member (listener_in names variables) (get (codes "on") d)
 
 -- the attributes in order of name, then the listeners in order of name
 abbrev pub all_in : Names → List (List ℕ) → Data → Option (List ViewAttribute)

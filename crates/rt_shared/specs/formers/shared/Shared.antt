@@ -102,7 +102,8 @@ module _ (X Y : Type 0) (change : X → Y) where
   natural None = refl
   natural (Some owner) = refl
 
-keeps : (X : Type 0) (owner : Option (Rc (Vec X Global) Global)) → held (list this) X (items_in owner) ≡ held field X (record { items = owner })
+keeps : (X : Type 0) (owner : Option (Rc (Vec X Global) Global))
+    → held (list this) X (items_in owner) ≡ held field X (record { items = owner })
 keeps X None = refl
 keeps X (Some owner) = refl
 
@@ -131,19 +132,32 @@ vec_of X = vec.the_row X allocator.the_row ghosts
 module _ (From To : RattleType) (change : From.Denot → To.Denot) where
   variant : (owner : Option (Rc (Vec From.Denot Global) Global))
       → (option.enum (rc_of (vec_of To))).as_values (over_owners From.Denot To.Denot change owner)
-      ≡ eachs (option.enum (rc_of (vec_of From))).parts (option.enum (rc_of (vec_of To))).parts (tt, ((over_owner From.Denot To.Denot change, tt), tt)) ((option.enum (rc_of (vec_of From))).as_values owner)
+      ≡ eachs (option.enum (rc_of (vec_of From))).parts (option.enum (rc_of (vec_of To))).parts
+      (tt, ((over_owner From.Denot To.Denot change, tt), tt)) ((option.enum (rc_of (vec_of From))).as_values owner)
   variant None = refl
   variant (Some owner) = refl
 
   -- No owner or one lies in memory as its items do.
-  owners_places : Alike From To change → Alike (option.the_row (rc_of (vec_of From))) (option.the_row (rc_of (vec_of To))) (over_owners From.Denot To.Denot change)
-  owners_places alike = enum_places (option.enum (rc_of (vec_of From))) (option.enum (rc_of (vec_of To))) (tt, ((over_owner From.Denot To.Denot change, tt), tt))
-      (over_owners From.Denot To.Denot change) variant refl
-      (tt, ((laid _ _ _ (rc_places (vec_of From) (vec_of To) (vector.mapped change) (vector.the_places allocator.the_row ghosts From To change alike)), tt), tt))
+  owners_places : Alike From To change
+      → Alike (option.the_row (rc_of (vec_of From))) (option.the_row (rc_of (vec_of To))) (over_owners From.Denot To.Denot change)
+  owners_places alike = enum_places (option.enum (rc_of (vec_of From))) (option.enum (rc_of (vec_of To)))
+      (tt, ((over_owner From.Denot To.Denot change, tt), tt))
+      (over_owners From.Denot To.Denot change) variant refl (
+        tt,
+        (
+          (
+            laid _ _ _ (rc_places (vec_of From) (vec_of To) (vector.mapped change)
+                (vector.the_places allocator.the_row ghosts From To change alike)),
+            tt,
+          ),
+          tt,
+        ),
+      )
 
   -- A list lies in memory as its items do.
   pub the_places : Alike From To change → Alike (Outer.the_row From) (Outer.the_row To) ((the_former this).map From.Denot To.Denot change)
-  the_places alike = view_places field (list this) view (λ X Y k inside. natural X Y k inside.items) (λ X inside. keeps X inside.items) From.Denot To.Denot change
+  the_places alike = view_places field (list this) view (λ X Y k inside. natural X Y k inside.items)
+      (λ X inside. keeps X inside.items) From.Denot To.Denot change
       (Outer.the_row From).coded (Outer.the_row To).coded (invariant From.Denot) (invariant To.Denot)
       (λ inside p q. refl) (λ inside p q. refl) (λ inside held. tt) (λ inside held. tt) (over (Inner.the_row From))
       (over (Inner.the_row To))
