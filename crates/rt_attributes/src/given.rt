@@ -9,7 +9,7 @@ use crate::slot::{come, left};
 use rt_edits::Edit;
 use rt_nodes::VNode;
 use rt_parts::{Attribute, Parts, Template, TemplateAttribute};
-use rt_places::{Kind, Numbered, Piece, Place, pieces_of, place_inside};
+use rt_places::{Kind, Numbers, Piece, Place, pieces_of, place_inside};
 use rt_shared::Shared;
 use rt_values::{List, OutOfMemory};
 use rt_work::number_at;
@@ -35,7 +35,7 @@ pub(crate) struct Entries {
 /// first what is no longer there, then what is new or differs.
 pub fn attributes_written<P: Parts>(
     alloc: Global,
-    numbers: &[Numbered],
+    numbers: &Numbers,
     above: &Place,
     new: &VNode<P>,
     old: &VNode<P>,
@@ -70,7 +70,7 @@ pub fn attributes_written<P: Parts>(
 #[tactic(auto, using(crate::proofs::Passes::elements))]
 fn elements_in(
     alloc: Global,
-    numbers: &[Numbered],
+    numbers: &Numbers,
     above: &Place,
     template: &Template,
 ) -> Result<List<Entries>, OutOfMemory>
@@ -88,7 +88,7 @@ fn elements_in(
 #[tactic(auto, using(crate::proofs::Passes::elements))]
 fn add_element(
     alloc: Global,
-    numbers: &[Numbered],
+    numbers: &Numbers,
     above: &Place,
     template: &Template,
     piece: &Piece,

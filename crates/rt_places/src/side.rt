@@ -4,10 +4,12 @@ ghost use Rattle.std.specs.Prelude.{◌≡◌};
 ghost use Rattle.rt_model.specs.State.{empty_side};
 ghost use Rattle.rt_places.specs.Places.{side_of};
 
+use crate::children::Children;
+use crate::numbers::Numbers;
 use crate::place::{Kind, Place};
 use rt_nodes::VNode;
 use rt_parts::Parts;
-use rt_values::{List, OutOfMemory, Part};
+use rt_values::{OutOfMemory, Part};
 use std::alloc::Global;
 
 /// A suspense boundary has the sides of its children and of its fallback, any other scope has one.
@@ -38,8 +40,8 @@ pub struct Child {
 pub struct Side<P: Parts> {
     /// The tree that was rendered last, if any was.
     pub output: Option<VNode<P>>,
-    pub numbers: List<Numbered>,
-    pub children: List<Child>,
+    pub numbers: Numbers,
+    pub children: Children,
 }
 
 impl<P: Parts> Side<P> {
@@ -49,8 +51,8 @@ impl<P: Parts> Side<P> {
     {
         Side {
             output: None,
-            numbers: List::new(alloc),
-            children: List::new(alloc),
+            numbers: Numbers::new(alloc),
+            children: Children::new(alloc),
         }
     }
 }

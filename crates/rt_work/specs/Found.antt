@@ -9,22 +9,12 @@ use Rattle.rt_model.specs.Laws.{Tests}
 use Rattle.rt_model.specs.Values.{is_same_component}
 use Rattle.rt_model.specs.Tree as model
 use Rattle.rt_model.specs.Tree.{Place, Kind, Own, Root, Fragment, ErrorBoundary, SuspenseBoundary, is_suspense_boundary, is_error_boundary}
-use Rattle.rt_model.specs.Heard.{number_at}
-use Rattle.rt_model.specs.Run.{child_at, has_node, component_in, is_fed}
+use Rattle.rt_model.specs.Run.{has_node, component_in, is_fed}
 use Rattle.rt_mirror.specs.Sealed.{component_of}
 use Rattle.rt_places.specs.declared.spot.Spot.{Spot}
-use Rattle.rt_places.specs.declared.side.Numbered.{Numbered}
-use Rattle.rt_places.specs.declared.side.Child.{Child}
-use Rattle.rt_places.specs.Places.{number_of, child_of, spot_of}
+pub use Rattle.rt_places.specs.Numbers.{child_in, number_in}
+use Rattle.rt_places.specs.Places.{spot_of}
 use Rattle.rt_places.specs.Spots.{tree_spots}
-
--- the number of a place
-abbrev pub number_in : List Numbered → Place → Kind → ℕ
-number_in numbers p k = number_at (map number_of numbers) p k
-
--- the child scope at a place
-abbrev pub child_in : List Child → Place → Option ℕ
-child_in children p = child_at (map child_of children) p
 
 module _ {K : model.Types} where
   -- whether a component is a fragment

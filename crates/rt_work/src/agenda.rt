@@ -15,7 +15,7 @@ use crate::near::{has_node_near, stays_near, was_near};
 use crate::order::{Listed, in_order};
 use rt_nodes::VComponent;
 use rt_parts::Parts;
-use rt_places::{Child, Kind, Place, SideName, Spot};
+use rt_places::{Children, Kind, Place, SideName, Spot};
 use rt_values::{List, OutOfMemory, Part, both};
 use std::alloc::Global;
 
@@ -118,7 +118,7 @@ pub fn drops_of<P: Parts>(
     scope: u64,
     side: SideName,
     new: &[Spot<P>],
-    children: &[Child],
+    children: &Children,
     old: &[Spot<P>],
 ) -> Result<List<Item<P>>, OutOfMemory>
     ensures { IfOk result (λ work.
@@ -139,7 +139,7 @@ fn drop_spot<P: Parts>(
     side: SideName,
     new: &Listed<'_, P>,
     at: &mut usize,
-    children: &[Child],
+    children: &Children,
     spot: &Spot<P>,
     work: &mut List<Item<P>>,
 ) -> Result<(), OutOfMemory>

@@ -8,34 +8,24 @@ use crate::component::is_same_component;
 use crate::like::is_at;
 use rt_nodes::{VComponent, VNode};
 use rt_parts::Parts;
-use rt_places::{Child, Kind, Numbered, Spot, Step, is_same_kind, spots};
+use rt_places::{Children, Kind, Numbers, Spot, Step, is_same_kind, spots};
 use rt_values::{List, OutOfMemory};
 use std::alloc::Global;
 
 /// The number of a place, 0 where it has none.
 #[tactic(auto, using(crate::proofs::Founds::founds))]
-pub fn number_at(numbers: &[Numbered], place: &[Step], kind: Kind) -> u64
+pub fn number_at(numbers: &Numbers, place: &[Step], kind: Kind) -> u64
     ensures { result ≡ number_in numbers.now (place_of place.now) (kind_of kind) }
 {
-    for numbered in numbers {
-        if is_same_kind(numbered.kind, kind) && is_at(numbered.place.as_slice(), place) {
-            return numbered.number;
-        }
-    }
-    0
+    numbers.number_at(place, kind)
 }
 
 /// The child scope at a place.
 #[tactic(auto, using(crate::proofs::Founds::founds))]
-pub fn child_at(children: &[Child], place: &[Step]) -> Option<u64>
+pub fn child_at(children: &Children, place: &[Step]) -> Option<u64>
     ensures { result ≡ child_in children.now (place_of place.now) }
 {
-    for child in children {
-        if is_at(child.place.as_slice(), place) {
-            return Some(child.scope);
-        }
-    }
-    None
+    children.child_at(place)
 }
 
 /// The spots of an output, none where there is no output.

@@ -8,8 +8,8 @@ ghost use Rattle.rt_work.specs.Order.{InOrder};
 use crate::near::{has_node_near, is_fed_near};
 use crate::order::{Listed, in_order};
 use rt_parts::Parts;
-use rt_places::{Child, Numbered, Spot};
-use rt_values::{List, OutOfMemory, Part};
+use rt_places::{Child, Children, Numbered, Numbers, Spot};
+use rt_values::{OutOfMemory, Part};
 use std::alloc::Global;
 
 /// The numbers of places that the new tree has too.
@@ -18,12 +18,12 @@ pub fn kept_numbers<P: Parts>(
     alloc: Global,
     new: &[Spot<P>],
     numbers: &[Numbered],
-) -> Result<List<Numbered>, OutOfMemory>
+) -> Result<Numbers, OutOfMemory>
     ensures { IfOk result (λ kept. map number_of kept ≡ numbers_kept new.now numbers.now) }
 {
     let is = in_order(new);
     let mut at = 0;
-    let mut kept = List::new(alloc);
+    let mut kept = Numbers::new(alloc);
     for numbered in numbers {
         keep_number(alloc, &is, &mut at, numbered, &mut kept)?;
     }
@@ -36,7 +36,7 @@ fn keep_number<P: Parts>(
     new: &Listed<'_, P>,
     at: &mut usize,
     numbered: &Numbered,
-    kept: &mut List<Numbered>,
+    kept: &mut Numbers,
 ) -> Result<(), OutOfMemory>
     requires { InOrder new.now }
     ensures { OnOk result (map number_of kept.new
@@ -55,7 +55,7 @@ pub fn kept_children<P: Parts>(
     old: &[Spot<P>],
     new: &[Spot<P>],
     children: &[Child],
-) -> Result<List<Child>, OutOfMemory>
+) -> Result<Children, OutOfMemory>
     ensures { IfOk result (λ kept.
         KeepsChildren (map child_of kept) old.now new.now children.now) }
 {
@@ -63,7 +63,7 @@ pub fn kept_children<P: Parts>(
     let is = in_order(new);
     let mut old_at = 0;
     let mut new_at = 0;
-    let mut kept = List::new(alloc);
+    let mut kept = Children::new(alloc);
     for child in children {
         keep_child(alloc, &was, &mut old_at, &is, &mut new_at, child, &mut kept)?;
     }
@@ -78,7 +78,7 @@ fn keep_child<P: Parts>(
     new: &Listed<'_, P>,
     new_at: &mut usize,
     child: &Child,
-    kept: &mut List<Child>,
+    kept: &mut Children,
 ) -> Result<(), OutOfMemory>
     requires old { InOrder old.now }
     requires new { InOrder new.now }
