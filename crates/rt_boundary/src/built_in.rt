@@ -3,7 +3,9 @@ ghost use Rattle.std.specs.Prelude.{◌≡◌, IsSome, IfSome};
 ghost use Rattle.std.specs.Option.{option_copied};
 ghost use Rattle.rt_model.specs.Lists.{at};
 ghost use Rattle.rt_model.specs.Run.{call_body};
-ghost use Rattle.rt_mirror.specs.Sealed.{component_of};
+ghost use Rattle.rt_mirror.specs.Sealed.{component_of, element_of};
+ghost use Rattle.rt_model.specs.Tree as model;
+ghost use Rattle.rt_nodes.specs.declared.vnode.VComponent.TheVariants as components;
 ghost use Rattle.rt_scopes.specs.Bodies.{Answers};
 ghost use Rattle.rt_boundary.specs.Seen.{children_in};
 
@@ -17,6 +19,8 @@ use rt_values::ScopeId;
 /// The body of a fragment, which answers its children.
 pub fn Fragment<P: Parts>(props: FragmentProps<P>) -> Element<P>
     ensures children { result ≡ children_in props }
+    // At the mirror the component is a fragment of what is answered.
+    ensures meant { component_of (components.Fragment props) ≡ model.Fragment (element_of result) }
 {
     let FragmentProps { children } = props;
     children.into_inner()

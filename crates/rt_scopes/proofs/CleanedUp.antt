@@ -1,7 +1,7 @@
 -- A clean-up, by what its call means.
 use Rattle.std.proofs.Math.ListN.{drop_of_length-le}
-use Rattle.std.proofs.Common.{◌≡◌, ◌<◌, ◌≤◌, ◌+◌, ◌-◌, ◌^◌, ℕ, length, get_or, drop, ◌++◌, List, [], ◌∷◌, map, Some, None, refl, ap, sym, ◌∙◌}
-use Rattle.std.specs.Prelude.{true, false, min}
+use Rattle.std.proofs.Common.{◌≡◌, ◌<◌, ◌≤◌, ◌+◌, ◌-◌, ◌^◌, ℕ, Bool, length, get_or, drop, ◌++◌, List, [], ◌∷◌, map, Some, None, refl, ap, sym, ◌∙◌}
+use Rattle.std.specs.Prelude.{false, min}
 use Rattle.rt_model.specs.Tree.{Types}
 use Rattle.rt_model.specs.OneLog.{types}
 use Rattle.rt_model.specs.World.{Application, CallFault, Command, Meaning, Nothing}
@@ -10,7 +10,7 @@ use Rattle.rt_model.specs.State.{Outcome, Done, Cut, hooks_of, world_of}
 use Rattle.rt_model.specs.Commands.{commands}
 use Rattle.rt_model.specs.Run as run
 use Rattle.rt_model.specs.Run.{called_once, with_next}
-use Rattle.rt_model.specs.Removal.{clean_ups, cleaned, cleaned_by, gone, removed, stopped}
+use Rattle.rt_model.specs.Removal.{clean_ups, cleaned_by, cleaned_in, gone, stopped}
 use Rattle.rt_calls.specs.Answers.{no_answer}
 use Rattle.rt_calls.specs.Calls as calls
 use Rattle.rt_calls.specs.Calls.{command_of, hook_of, meaning_of, refusal_of}
@@ -25,7 +25,7 @@ use Rattle.rt_state.specs.declared.names.Stop.{Stop}
 use Rattle.rt_state.specs.declared.state.State as code
 use Rattle.rt_state.specs.Mirror.{Unkept, counts, state_of}
 use Rattle.rt_scopes.specs.Counts.{Counts, CountsCut}
-use Rattle.rt_scopes.specs.CleanUps.{one_cleaned}
+use Rattle.rt_scopes.specs.CleanUps.{one_cleaned, removed_where}
 use Rattle.rt_scopes.specs.Outcomes.{CutBy, stop_of}
 use Rattle.rt_scopes.proofs.Counted.{counted_once, counts_cut}
 use Rattle.rt_scopes.proofs.Onward.{refused}
@@ -47,26 +47,27 @@ module _ {K : Types} (app : Application K) where
   cleaned_cut w v before m f go some moved = rw some (ap (λ (u : model.State K). Cut u (run.fault_of f)) (sym moved))
 
   -- a removal, by what its scope's clean-ups are
-  pub removed_as : (w v : model.State K) (s : ℕ) (es : List K.Effect) → v ≡ stopped w s → es ≡ clean_ups (hooks_of v s) [] → removed app w s ≡ cleaned app s es v []
-  removed_as w v s es stops are =
-      ap (λ (u : model.State K). cleaned app s (clean_ups (hooks_of u s) []) u []) (sym stops) ∙ ap (λ (xs : List K.Effect). cleaned app s xs v []) (sym are)
+  pub removed_as : (patching : Bool) (w v : model.State K) (s : ℕ) (es : List K.Effect) → v ≡ stopped w s → es ≡ clean_ups (hooks_of v s) []
+      → removed_where app patching w s ≡ cleaned_in app patching s es v []
+  removed_as patching w v s es stops are =
+      ap (λ (u : model.State K). cleaned_in app patching s (clean_ups (hooks_of u s) []) u []) (sym stops) ∙ ap (λ (xs : List K.Effect). cleaned_in app patching s xs v []) (sym are)
 
   -- the clean-ups from one on
-  pub next_cleaned : (w : model.State K) (s : ℕ) (es : List K.Effect) (i : ℕ) (e : K.Effect) (waiting : List (Command K)) → i < length es → e ≡ get_or es i e
-      → cleaned app s (drop i es) w waiting ≡ one_cleaned app s e (λ v cs. cleaned app s (drop (i + 1) es) v cs) w waiting
-  next_cleaned w s es i e waiting low is = ap (λ (xs : List K.Effect). cleaned app s xs w waiting) (next_drop es i e low is)
+  pub next_cleaned : (patching : Bool) (w : model.State K) (s : ℕ) (es : List K.Effect) (i : ℕ) (e : K.Effect) (waiting : List (Command K)) → i < length es → e ≡ get_or es i e
+      → cleaned_in app patching s (drop i es) w waiting ≡ one_cleaned app patching s e (λ v cs. cleaned_in app patching s (drop (i + 1) es) v cs) w waiting
+  next_cleaned patching w s es i e waiting low is = ap (λ (xs : List K.Effect). cleaned_in app patching s xs w waiting) (next_drop es i e low is)
 
   -- all of them were called
-  pub last_cleaned : (w : model.State K) (s : ℕ) (es : List K.Effect) (i : ℕ) (waiting : List (Command K)) → length es ≤ i → cleaned app s (drop i es) w waiting ≡ Done (commands app (gone w s) s None waiting) []
-  last_cleaned w s es i waiting end = ap (λ (xs : List K.Effect). cleaned app s xs w waiting) (drop_of_length-le es end)
+  pub last_cleaned : (patching : Bool) (w : model.State K) (s : ℕ) (es : List K.Effect) (i : ℕ) (waiting : List (Command K)) → length es ≤ i → cleaned_in app patching s (drop i es) w waiting ≡ Done (commands app (gone w s) s None waiting) []
+  last_cleaned patching w s es i waiting end = ap (λ (xs : List K.Effect). cleaned_in app patching s xs w waiting) (drop_of_length-le es end)
 
 module _ {P C Q V H T E L : Type 0} where
   -- a clean-up whose call met no refusal, by what the code kept of it
   pub cleaned_ok : (app : Application (types C Q V H T E L)) (d mid : code.State P C Q V H T E L) (cx : Call P C Q V H T E L) (seen : CallWorld P C Q V H T E L)
-      (m : left.Meaning P C Q V H T E L (Unit {0})) (s : ℕ) (e : E) (before given after : List (code_command.Command P C Q V H T E L)) (next : Firsts) (old new : ℕ) (kept : Unkept (types C Q V H T E L))
+      (m : left.Meaning P C Q V H T E L (Unit {0})) (patching : Bool) (s : ℕ) (e : E) (before given after : List (code_command.Command P C Q V H T E L)) (next : Firsts) (old new : ℕ) (kept : Unkept (types C Q V H T E L))
       → new ≡ min (old + 1) (2 ^ 64 - 1)
       → cx ≡ begun false seen
-      → calls.world_of seen ≡ world_of (state_of kept d) s None true
+      → calls.world_of seen ≡ world_of (state_of kept d) s None patching
       → (HadMemory m → meaning_of no_answer m ≡ app.effect e (calls.world_of cx.world))
       → m.fault ≡ None
       → given ≡ m.commands
@@ -74,11 +75,11 @@ module _ {P C Q V H T E L : Type 0} where
       → next ≡ m.next
       → after ≡ before ++ given
       → (h : Unkept (types C Q V H T E L))
-      × ((go : model.State (types C Q V H T E L) → List (Command (types C Q V H T E L)) → Outcome (types C Q V H T E L)) → one_cleaned app s e go (state_of kept d) (map command_of before) ≡ go (state_of h mid) (map command_of after))
+      × ((go : model.State (types C Q V H T E L) → List (Command (types C Q V H T E L)) → Outcome (types C Q V H T E L)) → one_cleaned app patching s e go (state_of kept d) (map command_of before) ≡ go (state_of h mid) (map command_of after))
       × (Counts old kept.calls → Counts new h.calls)
-  cleaned_ok app d mid cx seen m s e before given after next old new kept raised begins world means none commands_are moved numbers more =
+  cleaned_ok app d mid cx seen m patching s e before given after next old new kept raised begins world means none commands_are moved numbers more =
       let had : HadMemory m = λ (wanting : m.fault ≡ Some refusals.OutOfMemory). cc in
-      let meant : meaning_of no_answer m ≡ app.effect e (world_of (state_of kept d) s None true) =
+      let meant : meaning_of no_answer m ≡ app.effect e (world_of (state_of kept d) s None patching) =
       means had ∙ ap (λ (c : Call P C Q V H T E L). app.effect e (calls.world_of c.world)) begins ∙ ap (λ w. app.effect e w) world in (
         counts kept,
         λ go.
@@ -92,25 +93,25 @@ module _ {P C Q V H T E L : Type 0} where
 
   -- a clean-up whose call met a refusal
   pub cleaned_no : (app : Application (types C Q V H T E L)) (d mid : code.State P C Q V H T E L) (cx : Call P C Q V H T E L) (seen : CallWorld P C Q V H T E L)
-      (m : left.Meaning P C Q V H T E L (Unit {0})) (s : ℕ) (e : E) (before : List (code_command.Command P C Q V H T E L)) (refusal : CxFault) (stop : Stop) (next : Firsts) (old new : ℕ) (kept : Unkept (types C Q V H T E L))
+      (m : left.Meaning P C Q V H T E L (Unit {0})) (patching : Bool) (s : ℕ) (e : E) (before : List (code_command.Command P C Q V H T E L)) (refusal : CxFault) (stop : Stop) (next : Firsts) (old new : ℕ) (kept : Unkept (types C Q V H T E L))
       → new ≡ min (old + 1) (2 ^ 64 - 1)
       → cx ≡ begun false seen
-      → calls.world_of seen ≡ world_of (state_of kept d) s None true
+      → calls.world_of seen ≡ world_of (state_of kept d) s None patching
       → (HadMemory m → meaning_of no_answer m ≡ app.effect e (calls.world_of cx.world))
       → m.fault ≡ Some refusal
       → mid ≡ record d { next = next }
       → next ≡ m.next
       → stop ≡ stop_of refusal
       → (h : Unkept (types C Q V H T E L))
-      × ((go : model.State (types C Q V H T E L) → List (Command (types C Q V H T E L)) → Outcome (types C Q V H T E L)) → CutBy (one_cleaned app s e go (state_of kept d) (map command_of before)) (state_of h mid) stop)
+      × ((go : model.State (types C Q V H T E L) → List (Command (types C Q V H T E L)) → Outcome (types C Q V H T E L)) → CutBy (one_cleaned app patching s e go (state_of kept d) (map command_of before)) (state_of h mid) stop)
       × CountsCut old kept.calls new h.calls stop
-  cleaned_no app d mid cx seen m s e before refusal stop next old new kept raised begins world means some moved numbers is = (
+  cleaned_no app d mid cx seen m patching s e before refusal stop next old new kept raised begins world means some moved numbers is = (
     counts kept,
     λ go.
         refused _ _ refusal stop is
         (λ f not_memory fault.
         let had : HadMemory m = λ (wanting : m.fault ≡ Some refusals.OutOfMemory). not_memory cc in
-        let meant : meaning_of no_answer m ≡ app.effect e (world_of (state_of kept d) s None true) =
+        let meant : meaning_of no_answer m ≡ app.effect e (world_of (state_of kept d) s None patching) =
         means had ∙ ap (λ (c : Call P C Q V H T E L). app.effect e (calls.world_of c.world)) begins ∙ ap (λ w. app.effect e w) world in
         ap (λ (x : Meaning (types C Q V H T E L) _). cleaned_by app go (called_once (state_of kept d)) (map command_of before) x) (sym meant)
         ∙ cleaned_cut app (called_once (state_of kept d)) (state_of (counts kept) mid) (map command_of before) (meaning_of no_answer m) f go (ap refusal_of some ∙ fault)

@@ -1,5 +1,5 @@
 -- A poll, by what its call means.
-use Rattle.std.proofs.Common.{◌≡◌, ℕ, ◌+◌, ◌-◌, ◌^◌, false, List, [], map, Option, Some, None, refl, ap, sym, ◌∙◌}
+use Rattle.std.proofs.Common.{◌≡◌, ℕ, ◌+◌, ◌-◌, ◌^◌, Bool, true, false, ◌&&◌, List, [], map, Option, Some, None, IsTrue, ◌↔◌, refl, ap, sym, ◌∙◌}
 use Rattle.std.specs.Prelude.{is_some, min, option_map}
 use Rattle.rt_model.specs.Tree.{Types}
 use Rattle.rt_model.specs.OneLog.{types}
@@ -8,10 +8,10 @@ use Rattle.rt_model.specs.World.{Application, CallFault, Command, Meaning, TaskS
 use Rattle.rt_model.specs.State as model
 use Rattle.rt_model.specs.State.{Outcome, Done, Cut, TaskRow, world_of}
 use Rattle.rt_model.specs.Commands.{commands, end, unqueued}
-use Rattle.rt_model.specs.Next.{look, scope_of_task}
+use Rattle.rt_model.specs.Next.{is_active, look, scope_of_task}
 use Rattle.rt_model.specs.Run as run
 use Rattle.rt_model.specs.Run.{called_once, with_next}
-use Rattle.rt_model.specs.Replay.{left_by_poll, polled, polled_at, polled_by}
+use Rattle.rt_model.specs.Replay.{is_ready, left_by_poll, poll_meant, polled, polled_apart, polled_apart_at, polled_apart_by, polled_at, polled_by, ready_at, ready_now}
 use Rattle.rt_calls.specs.Answers.{step_of}
 use Rattle.rt_calls.specs.Calls as calls
 use Rattle.rt_calls.specs.Calls.{command_of, firsts_of, meaning_of, refusal_of}
@@ -19,11 +19,14 @@ use Rattle.rt_calls.specs.Turn as left
 use Rattle.rt_calls.specs.Turn.{Call, HadMemory, begun}
 use Rattle.rt_calls.specs.World.{CallWorld}
 use Rattle.rt_calls.specs.declared.application.TaskStep as code_step
+use Rattle.rt_calls.specs.declared.application.TaskStep.TheVariants as steps
 use Rattle.rt_calls.specs.declared.command.Command as code_command
 use Rattle.rt_calls.specs.declared.faults.CxFault.{CxFault}
 use Rattle.rt_calls.specs.declared.faults.CxFault.TheVariants as refusals
 use Rattle.rt_calls.specs.declared.world.Firsts.{Firsts}
+use Rattle.rt_state.specs.Names.{fault_of}
 use Rattle.rt_state.specs.declared.names.Stop.{Stop}
+use Rattle.rt_state.specs.declared.names.Stop.TheVariants as stops
 use Rattle.rt_state.specs.declared.state.State as code
 use Rattle.rt_state.specs.Mirror.{Unkept, change_task, changed_task, counts, state_of}
 use Rattle.rt_scopes.specs.Counts.{Counts, CountsCut}
@@ -83,25 +86,114 @@ module _ {K : Types} (app : Application K) where
       ∙ ap (λ (n : ℕ). end (commands app w n (Some t) asked) t) (sym own)
       ∙ ap (λ (cs : List (Command K)). end (commands app w x.scope (Some t) cs) t) (sym are)
 
+  -- the poll without the look of a task that stands
+  pub apart_as : (w u : model.State K) (t s : ℕ) (a : K.TaskState) (x : TaskRow K) → unqueued w t ≡ u → StandsWith u s t a x
+      → polled_apart app w t ≡ polled_apart_by app (called_once u) t x (app.poll a (world_of u s (Some t) false))
+  apart_as w u t s a x same stands =
+      ap (λ (v : model.State K). polled_apart_at app v t (at v.tasks t)) same
+      ∙ ap (λ (o : Option (TaskRow K)). polled_apart_at app u t o) stands.found
+      ∙ ap (λ (b : K.TaskState). polled_apart_by app (called_once u) t x (app.poll b (world_of u x.scope (Some t) false))) stands.was
+      ∙ ap (λ (n : ℕ). polled_apart_by app (called_once u) t x (app.poll a (world_of u n (Some t) false))) stands.own
+
+  -- and of one that is gone
+  pub apart_gone : (w u : model.State K) (t : ℕ) → unqueued w t ≡ u → is_some (at u.tasks t) ≡ false → polled_apart app w t ≡ Done u []
+  apart_gone w u t same gone =
+      ap (λ (v : model.State K). polled_apart_at app v t (at v.tasks t)) same
+      ∙ ap (λ (o : Option (TaskRow K)). polled_apart_at app u t o) (not_found (at u.tasks t) gone)
+
+  -- a task that is gone counts as ready
+  pub ready_gone : (w u : model.State K) (t : ℕ) → unqueued w t ≡ u → is_some (at u.tasks t) ≡ false → true ≡ ready_now app w t
+  ready_gone w u t same gone =
+      sym (ap (λ (v : model.State K). ready_at app v t (at v.tasks t)) same ∙ ap (λ (o : Option (TaskRow K)). ready_at app u t o) (not_found (at u.tasks t) gone))
+
+  -- what the poll of an active task that stands tells of it
+  pub ready_as : (w u : model.State K) (t s : ℕ) (a : K.TaskState) (x : TaskRow K) → unqueued w t ≡ u → StandsWith u s t a x → is_active w t ≡ true
+      → is_ready app (app.poll a (world_of u s (Some t) false)).answer ≡ ready_now app w t
+  ready_as w u t s a x same stands active =
+      let on : x.active ≡ true =
+      sym (ap (λ (v : model.State K). is_active v t) same ∙ ap (λ (o : Option (TaskRow K)). elim o as (λ _. Bool) [ None ↦ false | Some y ↦ y.active ]) stands.found) ∙ active in
+      sym
+      (ap (λ (v : model.State K). ready_at app v t (at v.tasks t)) same
+      ∙ ap (λ (o : Option (TaskRow K)). ready_at app u t o) stands.found
+      ∙ ap (λ b. b && is_ready app (poll_meant app u t x).answer) on
+      ∙ ap (λ (b : K.TaskState). is_ready app (app.poll b (world_of u x.scope (Some t) false)).answer) stands.was
+      ∙ ap (λ (n : ℕ). is_ready app (app.poll a (world_of u n (Some t) false)).answer) stands.own)
+
   -- its call met no refusal
-  pub polled_done : (w v u : model.State K) (t : ℕ) (x : TaskRow K) (m : Meaning K (TaskStep K))
+  pub apart_done : (w v : model.State K) (t : ℕ) (x : TaskRow K) (m : Meaning K (TaskStep K))
       → m.fault ≡ None
       → v ≡ left_by_poll app (with_next w m.next) t x m m.answer
-      → u ≡ look v
-      → polled_by app w t x m ≡ Done u []
-  polled_done w v u t x m none left looked =
-      rw none (ap (λ (y : model.State K). Done (look y) []) (sym left) ∙ ap (λ (y : model.State K). Done y []) (sym looked))
+      → polled_apart_by app w t x m ≡ Done v []
+  apart_done w v t x m none left = rw none (ap (λ (y : model.State K). Done y []) (sym left))
 
   -- its call met a refusal
-  pub polled_cut : (w v : model.State K) (t : ℕ) (x : TaskRow K) (m : Meaning K (TaskStep K)) (f : CallFault)
+  pub apart_cut : (w v : model.State K) (t : ℕ) (x : TaskRow K) (m : Meaning K (TaskStep K)) (f : CallFault)
       → m.fault ≡ Some f
       → v ≡ with_next w m.next
-      → polled_by app w t x m ≡ Cut v (run.fault_of f)
-  polled_cut w v t x m f some moved = rw some (ap (λ (y : model.State K). Cut y (run.fault_of f)) (sym moved))
+      → polled_apart_by app w t x m ≡ Cut v (run.fault_of f)
+  apart_cut w v t x m f some moved = rw some (ap (λ (y : model.State K). Cut y (run.fault_of f)) (sym moved))
+
+  state_in : Outcome K → model.State K → model.State K
+  state_in (Done v work) u = v
+  state_in (Cut v fault) u = v
+
+  -- then the look follows, unless it was cut
+  pub look_follows : (w v u : model.State K) (t : ℕ) (x : TaskRow K) (m : Meaning K (TaskStep K))
+      → polled_apart_by app w t x m ≡ Done v []
+      → u ≡ look v
+      → polled_by app w t x m ≡ Done u []
+  unfolding state_in
+  look_follows w v u t x m done looked = by m.fault refl done
+    where
+      by : (o : Option CallFault) → m.fault ≡ o
+          → elim o as (λ _. Outcome K) [ None ↦ Done (left_by_poll app (with_next w m.next) t x m m.answer) [] | Some f ↦ Cut (with_next w m.next) (run.fault_of f) ] ≡ Done v []
+          → elim o as (λ _. Outcome K) [ None ↦ Done (look (left_by_poll app (with_next w m.next) t x m m.answer)) [] | Some f ↦ Cut (with_next w m.next) (run.fault_of f) ] ≡ Done u []
+      by None none h =
+          ap (λ (o : Outcome K). Done (look (state_in o w)) []) h ∙ ap (λ (y : model.State K). Done y []) (sym looked)
+      by (Some f) some h = absurd (cc h)
+
+  pub cut_stays : (w v : model.State K) (fault : model.Fault) (t : ℕ) (x : TaskRow K) (m : Meaning K (TaskStep K))
+      → polled_apart_by app w t x m ≡ Cut v fault
+      → polled_by app w t x m ≡ Cut v fault
+  cut_stays w v fault t x m cut = by m.fault refl cut
+    where
+      by : (o : Option CallFault) → m.fault ≡ o
+          → elim o as (λ _. Outcome K) [ None ↦ Done (left_by_poll app (with_next w m.next) t x m m.answer) [] | Some f ↦ Cut (with_next w m.next) (run.fault_of f) ] ≡ Cut v fault
+          → elim o as (λ _. Outcome K) [ None ↦ Done (look (left_by_poll app (with_next w m.next) t x m m.answer)) [] | Some f ↦ Cut (with_next w m.next) (run.fault_of f) ] ≡ Cut v fault
+      by None none h = absurd (cc h)
+      by (Some f) some h = h
+
+  pub cut_by_stays : (w v : model.State K) (stop : Stop) (t : ℕ) (x : TaskRow K) (m : Meaning K (TaskStep K))
+      → CutBy (polled_apart_by app w t x m) v stop
+      → CutBy (polled_by app w t x m) v stop
+  cut_by_stays w v stops.OutOfMemory t x m cut = tt
+  cut_by_stays w v (stops.Fault what) t x m cut = cut_stays w v (fault_of what) t x m cut
+
+module _ {C Q V H T E L : Type 0} where
+  -- whether a task has ended, as the definitions say it of its step
+  pub ready_as_told : (app : Application (types C Q V H T E L)) (b : Bool) (step : code_step.TaskStep T) → (IsTrue b ↔ (step ≡ steps.Ready)) → b ≡ is_ready app (step_of step)
+  ready_as_told app b steps.Ready is = is.1 refl
+  ready_as_told app true (steps.Pending state) is = absurd (cc (is.0 refl))
+  ready_as_told app false (steps.Pending state) is = refl
 
 module _ {P C Q V H T E L : Type 0} where
+  -- whether a task is ready whose poll met no refusal
+  pub ready_meant : (app : Application (types C Q V H T E L)) (d : code.State P C Q V H T E L) (cx : Call P C Q V H T E L) (seen : CallWorld P C Q V H T E L)
+      (m : left.Meaning P C Q V H T E L (code_step.TaskStep T)) (s t : ℕ) (a : T) (step : code_step.TaskStep T) (kept : Unkept (types C Q V H T E L))
+      → cx ≡ begun false seen
+      → calls.world_of seen ≡ world_of (state_of kept d) s (Some t) false
+      → (HadMemory m → meaning_of step_of m ≡ app.poll a (calls.world_of cx.world))
+      → m.fault ≡ None
+      → step ≡ m.answer
+      → is_ready app (step_of step) ≡ is_ready app (app.poll a (world_of (state_of kept d) s (Some t) false)).answer
+  ready_meant app d cx seen m s t a step kept begins world means none answer =
+      let had : HadMemory m = λ (wanting : m.fault ≡ Some refusals.OutOfMemory). cc in
+      let meant : meaning_of step_of m ≡ app.poll a (world_of (state_of kept d) s (Some t) false) =
+      means had ∙ ap (λ (c : Call P C Q V H T E L). app.poll a (calls.world_of c.world)) begins ∙ ap (λ w. app.poll a w) world in
+      ap (λ (z : TaskStep (types C Q V H T E L)). is_ready app z) (ap step_of answer ∙ ap (λ (z : Meaning (types C Q V H T E L) (TaskStep (types C Q V H T E L))). z.answer) meant)
+
   -- a poll whose call met no refusal, by what the code kept of it
-  pub polled_ok : (app : Application (types C Q V H T E L)) (d mid new : code.State P C Q V H T E L) (cx : Call P C Q V H T E L) (seen : CallWorld P C Q V H T E L)
+  pub polled_ok : (app : Application (types C Q V H T E L)) (d mid : code.State P C Q V H T E L) (cx : Call P C Q V H T E L) (seen : CallWorld P C Q V H T E L)
       (m : left.Meaning P C Q V H T E L (code_step.TaskStep T)) (s t : ℕ) (a : T) (x : TaskRow (types C Q V H T E L)) (step : code_step.TaskStep T) (given : List (code_command.Command P C Q V H T E L)) (next : Firsts) (later : code.State P C Q V H T E L) (was now : ℕ) (kept : Unkept (types C Q V H T E L))
       → now ≡ min (was + 1) (2 ^ 64 - 1)
       → cx ≡ begun false seen
@@ -115,10 +207,9 @@ module _ {P C Q V H T E L : Type 0} where
       → at (state_of kept d).tasks t ≡ Some x
       → x.scope ≡ s
       → ((g : Unkept (types C Q V H T E L)) (y : TaskRow (types C Q V H T E L)) (n : Meaning (types C Q V H T E L) (TaskStep (types C Q V H T E L))) → at (state_of g mid).tasks t ≡ Some y → y.scope ≡ s → n.commands ≡ map command_of given → state_of g later ≡ left_by_poll app (state_of g mid) t y n (step_of step))
-      → ((g : Unkept (types C Q V H T E L)) → state_of g new ≡ look (state_of g later))
-      → (h : Unkept (types C Q V H T E L)) × (polled_by app (called_once (state_of kept d)) t x (app.poll a (world_of (state_of kept d) s (Some t) false)) ≡ Done (state_of h new) [])
+      → (h : Unkept (types C Q V H T E L)) × (polled_apart_by app (called_once (state_of kept d)) t x (app.poll a (world_of (state_of kept d) s (Some t) false)) ≡ Done (state_of h later) [])
       × (Counts was kept.calls → Counts now h.calls)
-  polled_ok app d mid new cx seen m s t a x step given next later was now kept raised begins world means none answer commands_are moved numbers found own left looked =
+  polled_ok app d mid cx seen m s t a x step given next later was now kept raised begins world means none answer commands_are moved numbers found own left =
       let had : HadMemory m = λ (wanting : m.fault ≡ Some refusals.OutOfMemory). cc in
       let M : Meaning (types C Q V H T E L) (TaskStep (types C Q V H T E L)) = app.poll a (world_of (state_of kept d) s (Some t) false) in
       let meant : meaning_of step_of m ≡ app.poll a (world_of (state_of kept d) s (Some t) false) =
@@ -128,13 +219,12 @@ module _ {P C Q V H T E L : Type 0} where
       let there : at (state_of (counts kept) mid).tasks t ≡ Some x = ap (λ (y : code.State P C Q V H T E L). at (state_of (counts kept) y).tasks t) is ∙ found in
       let done = left (counts kept) x M there own asked in (
         counts kept,
-        polled_done app (called_once (state_of kept d)) (state_of (counts kept) later) (state_of (counts kept) new) t x M
+        apart_done app (called_once (state_of kept d)) (state_of (counts kept) later) t x M
             (ap (λ (z : Meaning (types C Q V H T E L) (TaskStep (types C Q V H T E L))). z.fault) (sym meant) ∙ ap refusal_of none)
             (done
             ∙ ap (λ (y : code.State P C Q V H T E L). left_by_poll app (state_of (counts kept) y) t x M (step_of step)) is
             ∙ ap (λ (z : Meaning (types C Q V H T E L) (TaskStep (types C Q V H T E L))). left_by_poll app (with_next (called_once (state_of kept d)) z.next) t x M (step_of step)) meant
-            ∙ ap (λ z. left_by_poll app (with_next (called_once (state_of kept d)) M.next) t x M z) (ap step_of answer ∙ ap (λ (z : Meaning (types C Q V H T E L) (TaskStep (types C Q V H T E L))). z.answer) meant))
-            (looked (counts kept)),
+            ∙ ap (λ z. left_by_poll app (with_next (called_once (state_of kept d)) M.next) t x M z) (ap step_of answer ∙ ap (λ (z : Meaning (types C Q V H T E L) (TaskStep (types C Q V H T E L))). z.answer) meant)),
         counted_once was now kept.calls raised,
       )
 
@@ -149,7 +239,7 @@ module _ {P C Q V H T E L : Type 0} where
       → mid ≡ record d { next = next }
       → next ≡ m.next
       → stop ≡ stop_of refusal
-      → (h : Unkept (types C Q V H T E L)) × CutBy (polled_by app (called_once (state_of kept d)) t x (app.poll a (world_of (state_of kept d) s (Some t) false))) (state_of h mid) stop
+      → (h : Unkept (types C Q V H T E L)) × CutBy (polled_apart_by app (called_once (state_of kept d)) t x (app.poll a (world_of (state_of kept d) s (Some t) false))) (state_of h mid) stop
       × CountsCut was kept.calls now h.calls stop
   polled_no app d mid cx seen m s t a x refusal stop next was now kept raised begins world means some moved numbers is = (
     counts kept,
@@ -158,7 +248,7 @@ module _ {P C Q V H T E L : Type 0} where
         let had : HadMemory m = λ (wanting : m.fault ≡ Some refusals.OutOfMemory). not_memory cc in
         let meant : meaning_of step_of m ≡ app.poll a (world_of (state_of kept d) s (Some t) false) =
         means had ∙ ap (λ (c : Call P C Q V H T E L). app.poll a (calls.world_of c.world)) begins ∙ ap (λ w. app.poll a w) world in
-        polled_cut app (called_once (state_of kept d)) (state_of (counts kept) mid) t x (app.poll a (world_of (state_of kept d) s (Some t) false)) f
+        apart_cut app (called_once (state_of kept d)) (state_of (counts kept) mid) t x (app.poll a (world_of (state_of kept d) s (Some t) false)) f
         (ap (λ (z : Meaning (types C Q V H T E L) (TaskStep (types C Q V H T E L))). z.fault) (sym meant) ∙ ap refusal_of some ∙ fault)
         (ap (λ (y : code.State P C Q V H T E L). state_of (counts kept) y) (moved ∙ ap (λ (n : Firsts). record d { next = n }) numbers)
         ∙ ap (λ (z : Meaning (types C Q V H T E L) (TaskStep (types C Q V H T E L))). with_next (called_once (state_of kept d)) z.next) meant)),

@@ -1,12 +1,12 @@
 -- The clean-ups of a scope, one by one.
-use Rattle.std.specs.Prelude.{◌≡◌, ℕ, true, List, map, None, Result, Ok, Err}
+use Rattle.std.specs.Prelude.{◌≡◌, ℕ, Bool, List, [], map, None, Result, Ok, Err}
 use Rattle.rt_model.specs.Tree.{Types}
 use Rattle.rt_model.specs.OneLog.{types}
 use Rattle.rt_model.specs.World.{Application, Command}
 use Rattle.rt_model.specs.State as model
-use Rattle.rt_model.specs.State.{Outcome, world_of}
+use Rattle.rt_model.specs.State.{Outcome, hooks_of, world_of}
 use Rattle.rt_model.specs.Run.{called_once}
-use Rattle.rt_model.specs.Removal.{cleaned_by}
+use Rattle.rt_model.specs.Removal.{clean_ups, cleaned_by, cleaned_in, stopped}
 use Rattle.rt_calls.specs.Calls.{command_of}
 use Rattle.rt_calls.specs.declared.command.Command.{Command as CodeCommand}
 use Rattle.rt_state.specs.declared.names.Stop.{Stop}
@@ -16,9 +16,13 @@ use Rattle.rt_scopes.specs.Counts.{CountsOn}
 use Rattle.rt_scopes.specs.Outcomes.{CutBy}
 
 module _ {K : Types} (app : Application K) where
-  -- one clean-up is called, and then what follows it
-  abbrev pub one_cleaned : ℕ → K.Effect → (model.State K → List (Command K) → Outcome K) → model.State K → List (Command K) → Outcome K
-  one_cleaned s e go w waiting = cleaned_by app go (called_once w) waiting (app.effect e (world_of w s None true))
+  -- one clean-up is called, in a patch or outside of one, and then what follows it
+  abbrev pub one_cleaned : Bool → ℕ → K.Effect → (model.State K → List (Command K) → Outcome K) → model.State K → List (Command K) → Outcome K
+  one_cleaned patching s e go w waiting = cleaned_by app go (called_once w) waiting (app.effect e (world_of w s None patching))
+
+  -- the removal of a scope whose children are gone, in a patch or outside of one
+  abbrev pub removed_where : Bool → model.State K → ℕ → Outcome K
+  removed_where patching w s = let v = stopped w s in cleaned_in app patching s (clean_ups (hooks_of v s) []) v []
 
 module _ {K : Types} where
   -- it came to what follows, on this state and with these commands waiting, or was cut

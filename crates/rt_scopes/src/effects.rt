@@ -8,7 +8,7 @@ ghost use Rattle.rt_scopes.specs.Outcomes.{Comes, no_work};
 ghost use Rattle.rt_scopes.specs.Hooks.{effect_in, effects_in, in_turn, one_called, render_kind};
 
 use crate::scopes::{Scopes, apart};
-use rt_calls::{App, Calls, Cx, Hook, Plain};
+use rt_calls::{AFTER_RENDER, App, BEFORE_RENDER, Calls, Cx, Hook, Plain};
 use rt_parts::Parts;
 use rt_state::Stop;
 use rt_values::{List, OutOfMemory, Part, ScopeId};
@@ -54,7 +54,7 @@ fn add_effect<P: Parts>(
 fn kind_of(after: bool) -> u32
     ensures { result ≡ render_kind after }
 {
-    if after { u32::MAX } else { u32::MAX - 1 }
+    if after { AFTER_RENDER } else { BEFORE_RENDER }
 }
 
 impl<A: App> Scopes<A> {

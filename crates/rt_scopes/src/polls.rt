@@ -9,10 +9,10 @@ ghost use Rattle.rt_calls.specs.Calls.{command_of};
 ghost use Rattle.rt_scopes.specs.Outcomes.{Comes, no_work};
 ghost use Rattle.rt_scopes.specs.Polls.{IsLeft, Polls};
 
-use crate::scopes::{Scopes, apart};
-use rt_calls::{App, Calls, Command, Cx, Plain, TaskStep};
+use crate::scopes::Scopes;
+use rt_calls::{App, Calls, Command, TaskStep};
 use rt_state::Stop;
-use rt_values::{List, OutOfMemory, ScopeId, Task};
+use rt_values::{List, OutOfMemory, Task};
 
 impl<A: App> Scopes<A> {
     /// Polls a task: its wakes are spent, and a task that has ended goes. A look follows.
@@ -44,18 +44,13 @@ impl<A: App> Scopes<A> {
         ensures polled { Polls (A.meaning app.now) self.old.state calls.old scope task state
             self.new.state calls.new result }
     {
-        let world = self.state.world(Some(Task(task)), false);
-        let cx = Cx::<A, Plain>::enter(self.alloc, calls, &world, ScopeId(scope));
-        let turn = app.poll(self.alloc, state, cx)?;
-        let (step, left) = apart(turn.parts());
-        let commands = self.after_call(left)?;
-        self.take_step(scope, task, step, commands)?;
+        let _ready = self.poll_apart_in(app, calls, scope, task, state)?;
         self.state.look(self.alloc)?;
         Ok(())
     }
 
     /// A poll's commands are done, and the task goes on with another state or ends.
-    fn take_step(
+    pub(crate) fn take_step(
         &mut self,
         scope: u64,
         task: u64,

@@ -91,7 +91,7 @@ fn patched<P: Parts>(
     let kept = spots_of(alloc, &was.output)?;
     let (new, old) = (found.as_slice(), kept.as_slice());
     let mut work = serves(alloc, scope, name, old, new)?;
-    let drops = drops_of(alloc, scope, name, new, was.children.as_slice(), old)?;
+    let drops = drops_of(alloc, scope, name, new, &was.children, old)?;
     work.append(drops)?;
     let numbers = kept_numbers(alloc, new, was.numbers.as_slice())?;
     let children = kept_children(alloc, old, new, was.children.as_slice())?;

@@ -11,7 +11,7 @@ ghost use Rattle.rt_sides.specs.Sides.{child_here, fallback_scopes_in};
 
 use rt_calls::Scope;
 use rt_parts::Parts;
-use rt_places::{Child, Side, SideName, Spot, Step};
+use rt_places::{Children, Numbers, Side, SideName, Spot, Step};
 use rt_state::{State, side_of};
 use rt_values::{List, OutOfMemory};
 use rt_work::{child_at, spots_of};
@@ -29,7 +29,7 @@ pub fn side_scopes<P: Parts>(
     let mut scopes = List::new(alloc);
     let spots = spots_of(alloc, &side.output)?;
     for spot in spots.as_slice() {
-        add_child(state, side.children.as_slice(), spot, &mut scopes)?;
+        add_child(state, &side.children, spot, &mut scopes)?;
     }
     Ok(scopes)
 }
@@ -37,7 +37,7 @@ pub fn side_scopes<P: Parts>(
 /// Puts the child scope at a spot after these, where one is live there.
 fn add_child<P: Parts>(
     state: &State<P>,
-    children: &[Child],
+    children: &Children,
     spot: &Spot<P>,
     scopes: &mut List<u64>,
 ) -> Result<(), OutOfMemory>
@@ -124,7 +124,7 @@ pub fn fed_child<P: Parts>(
         ≡ child_fed (state_of g state.now) scope (side_name_of side) (place_of place.now) }
 {
     match state.scope(scope) {
-        Some(found) => child_at(side_of(found, side).children.as_slice(), place),
+        Some(found) => child_at(&side_of(found, side).children, place),
         None => None,
     }
 }
@@ -181,8 +181,8 @@ fn clear_fallback<P: Parts>(
         {
             found.rest.fallback_side = Side {
                 output: None,
-                numbers: List::new(alloc),
-                children: List::new(alloc),
+                numbers: Numbers::new(alloc),
+                children: Children::new(alloc),
             };
             Ok(())
         },

@@ -23,6 +23,12 @@ length-set [] i a = refl
 length-set (x ∷ xs) zero a = refl
 length-set (x ∷ xs) (suc i) a = ap suc (length-set xs i a)
 
+-- a write of what stands there changes nothing
+pub set-same : {A : Type 0} (xs : List A) (i : ℕ) (d : A) → slice_set xs i (get_or xs i d) ≡ xs
+set-same [] i d = refl
+set-same (x ∷ xs) zero d = refl
+set-same (x ∷ xs) (suc i) d = ap (λ ys. x ∷ ys) (set-same xs i d)
+
 -- the number at an index, whatever stands for one past the end
 pub number-at : {A : Type 0} (seen table : List (ℕ × A)) (i : ℕ) (e row : ℕ × A) → seen ≡ table → i < length table → e ≡ get_or seen i e → e.0 ≡ (get_or table i row).0
 number-at {A = A} seen table i e row view within is = ap (λ (p : ℕ × A). p.0) (is ∙ ap (λ xs. get_or xs i e) view ∙ get_or_default table i e row within)

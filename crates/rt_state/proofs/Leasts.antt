@@ -1,6 +1,6 @@
 -- The first of the least ones, one by one.
 use Rattle.std.proofs.Common.{◌≡◌, ℕ, Bool, true, false, List, [], ◌∷◌, refl, ap, sym, ◌∙◌, arith, drop, get_or, length, ◌<◌, ◌≤◌, ◌+◌}
-use Rattle.std.specs.Prelude.{◌==◌, Option, Some, None, if◌then◌else◌}
+use Rattle.std.specs.Prelude.{◌==◌, Option, Some, None, option_map, if◌then◌else◌}
 use Rattle.std.proofs.lemmas.List.{drop_more}
 use Rattle.std.proofs.lemmas.Grind.{common_steps}
 use Rattle.rt_model.specs.Next.{least, least_from, with_effects, first_task, first_seen, chosen, found, is_before, or_effects, Work, RunEffects}
@@ -80,6 +80,9 @@ kept-or t is = ap (λ (b : Bool). if b then None else Some t) is
 
 module _ {K : Types} where
   -- the effects come next, where nothing else does
-  pub effects-next : (w : State K) (first : Option ℕ) → first ≡ least (λ s t. is_before w.scopes s t) (with_effects w.scopes)
-      → elim first as (λ _. Option Work) [ None ↦ None | Some s ↦ Some (RunEffects s) ] ≡ or_effects w None
-  effects-next w first is = ap (λ (o : Option ℕ). elim o as (λ _. Option Work) [ None ↦ None | Some s ↦ Some (RunEffects s) ]) is
+  pub effects-mapped : (w : State K) → option_map RunEffects (least (λ s t. is_before w.scopes s t) (with_effects w.scopes)) ≡ or_effects w None
+  effects-mapped w = mapped (least (λ s t. is_before w.scopes s t) (with_effects w.scopes))
+    where
+      mapped : (o : Option ℕ) → option_map RunEffects o ≡ elim o as (λ _. Option Work) [ None ↦ None | Some s ↦ Some (RunEffects s) ]
+      mapped None = refl
+      mapped (Some s) = refl

@@ -8,6 +8,7 @@ pub mod Thrown
 pub mod Climbed
 pub mod Provides
 pub mod Leasts
+pub mod Ranks
 pub mod Looked
 pub mod Seen
 pub mod Spawned
@@ -27,3 +28,7 @@ pub mod Polls
 pub mod KindsInPlace
 pub mod Removed
 pub mod Outputs
+pub mod Unchanged
+pub mod ToldApart
+pub mod WokenApart
+pub mod SeenApart

@@ -1,6 +1,6 @@
 -- Scopes become mounted one after another, and what shows doesn't hang on that.
 use Rattle.std.proofs.Common.{◌≡◌, ℕ, zero, suc, ◌+◌, ◌<◌, ◌≤◌, Bool, true, false, ◌&&◌, ◌||◌, List, [], ◌∷◌, ◌++◌, length, get_or, take, drop, map, refl, ap, sym, ◌∙◌, arith}
-use Rattle.std.specs.Prelude.{slice_set, is_some, Option, Some, None, option_map}
+use Rattle.std.specs.Prelude.{not, slice_set, is_some, Option, Some, None, option_map}
 use Rattle.std.proofs.lemmas.List.{get_or_default}
 use Rattle.rt_model.specs.Lists.{at}
 use Rattle.rt_model.specs.OneLog.{types}
@@ -11,11 +11,20 @@ use Rattle.rt_model.specs.Replay.{mounted, mounted_state}
 use Rattle.rt_calls.specs.Kept.{each, scope_of}
 use Rattle.rt_calls.specs.declared.rest.Scope.{Scope}
 use Rattle.rt_state.specs.Mirror.{Unkept, scopes_of, state_of}
-use Rattle.rt_state.specs.Mounts.{shown_in, mounts_at, mounts_now}
+use Rattle.rt_state.specs.Mounts.{shown_in, mounts_at, comes_at, mounts_now}
 use Rattle.rt_state.specs.declared.state.State.{State}
 use Rattle.rt_state.proofs.Each.{at-each, live-each}
-use Rattle.rt_state.proofs.Entries.{length-set}
+use Rattle.rt_state.proofs.Entries.{length-set, set-same}
 use Rattle.rt_state.proofs.Released.{done_step, done_end}
+
+-- what is mounted, or doesn't show, stays as it is; else it becomes mounted
+mount_kept : (m s : Bool) → (not m && s) ≡ false → (m || s) ≡ m
+mount_kept true s none = refl
+mount_kept false s none = none
+
+mount_new : (m s : Bool) → true ≡ (not m && s) → true ≡ (m || s)
+mount_new true s new = refl
+mount_new false s new = new
 
 module _ {K : Types} where
   -- a scope, whether it is mounted or not
@@ -122,12 +131,26 @@ module _ {P C Q V H T E L : Type 0} where
       ∙ ap (λ es. let v : model.State (types C Q V H T E L) = record w { scopes = scopes_of es } in v) (done_end (mounts_now (scopes_of (start.rows).table)) (now.rows).table _ i end done)
       ∙ ap (λ es. let v : model.State (types C Q V H T E L) = record w { scopes = es } in v) (mounted_all w (start.rows).table)
 
-  pub mount_one : (now new : State P C Q V H T E L) (i : ℕ) (b : Bool) → new ≡ record now { rows = record { table = (new.rows).table } }
-      → ((row : ℕ × Scope P C Q V H T E L) → (new.rows).table ≡ slice_set (now.rows).table i ((get_or (now.rows).table i row).0, record ((get_or (now.rows).table i row).1) { rest = record ((get_or (now.rows).table i row).1.rest) { mounted = b } }))
-      → ((row : ℕ × Scope P C Q V H T E L) → b ≡ mounts_at (scopes_of (now.rows).table) (get_or (now.rows).table i row))
+  pub mount_one : (now new : State P C Q V H T E L) (i : ℕ) → new ≡ record now { rows = record { table = (new.rows).table } }
+      → ((row : ℕ × Scope P C Q V H T E L) → (new.rows).table ≡ slice_set (now.rows).table i ((get_or (now.rows).table i row).0, record ((get_or (now.rows).table i row).1) { rest = record ((get_or (now.rows).table i row).1.rest) { mounted = true } }))
+      → ((row : ℕ × Scope P C Q V H T E L) → true ≡ comes_at (scopes_of (now.rows).table) (get_or (now.rows).table i row))
       → (row : ℕ × Scope P C Q V H T E L) → new ≡ record now { rows = record { table = slice_set (now.rows).table i (mounts_now (scopes_of (now.rows).table) (get_or (now.rows).table i row)) } }
-  mount_one now new i b others is test row =
+  mount_one now new i others is test row =
+      let e : ℕ × Scope P C Q V H T E L = get_or (now.rows).table i row in
       others
       ∙ ap (λ (xs : List (ℕ × Scope P C Q V H T E L)). let v : State P C Q V H T E L = record now { rows = record { table = xs } } in v)
       (is row
-      ∙ ap (λ t. slice_set (now.rows).table i ((get_or (now.rows).table i row).0, record ((get_or (now.rows).table i row).1) { rest = record ((get_or (now.rows).table i row).1.rest) { mounted = t } })) (test row))
+      ∙ ap (λ t. slice_set (now.rows).table i ((get_or (now.rows).table i row).0, record ((get_or (now.rows).table i row).1) { rest = record ((get_or (now.rows).table i row).1.rest) { mounted = t } }))
+      (mount_new ((e.1).rest).mounted (shown_in (scopes_of (now.rows).table) e.0) (test row)))
+
+  stays_as : (scopes : List (ℕ × model.Scope (types C Q V H T E L))) (e : ℕ × Scope P C Q V H T E L) → comes_at scopes e ≡ false → mounts_now scopes e ≡ e
+  stays_as scopes e none = ap (λ b. mark b) (mount_kept ((e.1).rest).mounted (shown_in scopes e.0) none)
+    where
+      mark : Bool → ℕ × Scope P C Q V H T E L
+      mark b = (e.0, record (e.1) { rest = record (e.1.rest) { mounted = b } })
+
+  pub mount_none : (now : State P C Q V H T E L) (i : ℕ) → ((row : ℕ × Scope P C Q V H T E L) → comes_at (scopes_of (now.rows).table) (get_or (now.rows).table i row) ≡ false)
+      → (row : ℕ × Scope P C Q V H T E L) → now ≡ record now { rows = record { table = slice_set (now.rows).table i (mounts_now (scopes_of (now.rows).table) (get_or (now.rows).table i row)) } }
+  mount_none now i test row =
+      ap (λ (xs : List (ℕ × Scope P C Q V H T E L)). let v : State P C Q V H T E L = record now { rows = record { table = xs } } in v)
+      (sym (ap (λ e. slice_set (now.rows).table i e) (stays_as (scopes_of (now.rows).table) (get_or (now.rows).table i row) (test row)) ∙ set-same (now.rows).table i row))

@@ -1,6 +1,6 @@
 -- A task's end: whom it held is marked and let go.
 use Rattle.std.proofs.Common.{◌≡◌, ℕ, zero, suc, ◌+◌, ◌<◌, ◌≤◌, Bool, true, false, List, [], ◌∷◌, ◌++◌, length, get_or, take, drop, map, refl, ap, sym, ◌∙◌, arith, append_assoc, append-nil}
-use Rattle.std.specs.Prelude.{slice_set, is_some, if◌then◌else◌}
+use Rattle.std.specs.Prelude.{nat_eq, slice_set, is_some, if◌then◌else◌}
 use Rattle.std.proofs.lemmas.List.{drop_more, map-append}
 use Rattle.std.proofs.lemmas.Grind.{common_steps}
 use Rattle.rt_model.specs.Lists.{at, without, drop_number}
@@ -17,8 +17,9 @@ use Rattle.rt_state.specs.Mirror.{Unkept, task_of, scopes_of, state_of}
 use Rattle.rt_state.specs.declared.names.Posted.{Posted}
 use Rattle.rt_state.specs.declared.state.State.{State}
 use Rattle.rt_state.specs.declared.state.TaskRow.{TaskRow}
+use Rattle.rt_state.proofs.Drops.{kept_all}
 use Rattle.rt_state.proofs.Each.{drop-all, without-each}
-use Rattle.rt_state.proofs.Entries.{length-set}
+use Rattle.rt_state.proofs.Entries.{length-set, set-same}
 
 -- one more item is changed, and the others are to come
 pub done_step : {A : Type 0} (f : A → A) (xs : List A) (i : ℕ) (d a : A) → i < length xs → a ≡ f (get_or xs i d)
@@ -108,3 +109,16 @@ module _ {P C Q V H T E L : Type 0} where
   pub release_one : (now new : State P C Q V H T E L) (es : List (ℕ × Scope P C Q V H T E L)) → new ≡ record now { rows = record { table = (new.rows).table } } → (new.rows).table ≡ es
       → new ≡ record now { rows = record { table = es } }
   release_one now new es others is = others ∙ ap (λ (xs : List (ℕ × Scope P C Q V H T E L)). let v : State P C Q V H T E L = record now { rows = record { table = xs } } in v) is
+
+  held_none : (t : ℕ) (e : ℕ × Scope P C Q V H T E L) → holds (scope_of e.1) t ≡ false → let_go t e ≡ e
+  held_none t e none = ap (λ hs. back hs) (kept_all (λ h. nat_eq h.0 t) ((e.1).rest).holders none)
+    where
+      back : List (ℕ × ℕ) → ℕ × Scope P C Q V H T E L
+      back hs = (e.0, record (e.1) { rest = record (e.1.rest) { holders = hs } })
+
+  -- a scope that the task doesn't hold stays as it is
+  pub release_none : (now : State P C Q V H T E L) (t i : ℕ) → ((row : ℕ × Scope P C Q V H T E L) → holds (scope_of (get_or (now.rows).table i row).1) t ≡ false)
+      → (row : ℕ × Scope P C Q V H T E L) → now ≡ record now { rows = record { table = slice_set (now.rows).table i (let_go t (get_or (now.rows).table i row)) } }
+  release_none now t i test row =
+      ap (λ (xs : List (ℕ × Scope P C Q V H T E L)). let v : State P C Q V H T E L = record now { rows = record { table = xs } } in v)
+      (sym (ap (λ e. slice_set (now.rows).table i e) (held_none t (get_or (now.rows).table i row) (test row)) ∙ set-same (now.rows).table i row))

@@ -3,6 +3,7 @@ pub mod Mirror
 pub mod Climbs
 pub mod Sources
 pub mod Looks
+pub mod Ranks
 pub mod Provided
 pub mod Effects
 pub mod Holders

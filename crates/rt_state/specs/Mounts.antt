@@ -1,5 +1,5 @@
 -- Scopes that become mounted.
-use Rattle.std.specs.Prelude.{ℕ, Bool, ◌&&◌, ◌||◌, List, is_some}
+use Rattle.std.specs.Prelude.{ℕ, Bool, ◌&&◌, ◌||◌, not, List, is_some}
 use Rattle.rt_model.specs.Lists.{at}
 use Rattle.rt_model.specs.Tree.{Types}
 use Rattle.rt_model.specs.OneLog.{types}
@@ -16,6 +16,10 @@ module _ {P C Q V H T E L : Type 0} where
   -- a scope is mounted already, or shows
   abbrev pub mounts_at : List (ℕ × model.Scope (types C Q V H T E L)) → ℕ × Scope P C Q V H T E L → Bool
   mounts_at scopes e = (e.1.rest).mounted || shown_in scopes e.0
+
+  -- a scope isn't mounted yet, and shows
+  abbrev pub comes_at : List (ℕ × model.Scope (types C Q V H T E L)) → ℕ × Scope P C Q V H T E L → Bool
+  comes_at scopes e = not (e.1.rest).mounted && shown_in scopes e.0
 
   -- a scope that shows is mounted
   abbrev pub mounts_now : List (ℕ × model.Scope (types C Q V H T E L)) → ℕ × Scope P C Q V H T E L → ℕ × Scope P C Q V H T E L

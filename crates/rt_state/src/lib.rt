@@ -2,12 +2,14 @@
 //! of it that call no application.
 #![tactic(auto)]
 
+mod asked;
 mod cells;
 mod climbs;
 mod commands;
 mod errors;
 mod held;
 mod looks;
+mod marking;
 mod mounting;
 mod names;
 mod numbers;

@@ -1,7 +1,7 @@
 //! Looks: what was posted becomes seen or queued; paused tasks that come up are dropped.
-ghost use Rattle.std.specs.Prelude.{◌≡◌, OnOk, None};
-ghost use Rattle.rt_model.specs.Next.{look, paused, found, drops, looked, at_rest};
-ghost use Rattle.rt_state.specs.Names.{posted_of};
+ghost use Rattle.std.specs.Prelude.{◌≡◌, IfOk, OnOk, option_map};
+ghost use Rattle.rt_model.specs.Next.{look, paused, found, drops, at_rest, next_at_rest};
+ghost use Rattle.rt_state.specs.Names.{posted_of, work_of};
 ghost use Rattle.rt_state.specs.Looks.{looked_at};
 ghost use Rattle.rt_state.specs.Mirror.{state_of};
 
@@ -51,11 +51,11 @@ impl<P: Parts> State<P> {
         }
     }
 
-    /// The task that comes up, where it is paused.
-    fn paused(&self) -> Option<u64>
-        ensures { (g : _) → result ≡ paused (state_of g self.now) (found (state_of g self.now)) }
+    /// The task that comes up, where that is a paused one.
+    fn paused(&self, up: Option<Work>) -> Option<u64>
+        ensures { (g : _) → result ≡ paused (state_of g self.now) (option_map work_of up) }
     {
-        match self.found() {
+        match up {
             Some(Work::PollTask(task)) => {
                 if self.is_active(task) {
                     None
@@ -69,38 +69,49 @@ impl<P: Parts> State<P> {
         }
     }
 
-    /// Drops paused tasks that come up.
-    fn drop_paused(&mut self)
-        ensures { (g : _) →
+    /// Drops paused tasks that come up, and answers what comes up then.
+    pub fn drop_paused(&mut self) -> Option<Work>
+        ensures dropped { (g : _) →
             state_of g self.new ≡ drops (state_of g self.old).queued (state_of g self.old) }
+        ensures next { (g : _) → option_map work_of result ≡ found (state_of g self.new) }
     {
         for _step in 0..self.queued.len() {
-            let Some(task) = self.paused() else {
-                return;
+            let up = self.found();
+            let Some(task) = self.paused(up) else {
+                return up;
             };
             drop_number(&mut self.queued, task);
         }
+        self.found()
     }
 
-    /// A look, after which paused tasks that come up are dropped.
-    fn look_again(&mut self, alloc: Global) -> Result<(), OutOfMemory>
-        ensures { OnOk result ((g : _) →
-            state_of g self.new ≡ looked (state_of g self.old) None) }
-    {
-        self.look(alloc)?;
-        self.drop_paused();
-        Ok(())
-    }
-
-    /// Drops paused tasks that come up, and looks where nothing is left.
-    pub fn at_rest(&mut self, alloc: Global) -> Result<(), OutOfMemory>
-        ensures { OnOk result ((g : _) →
+    /// Drops paused tasks that come up, and looks where nothing is left. The answer is what comes
+    /// up then.
+    pub fn at_rest(&mut self, alloc: Global) -> Result<Option<Work>, OutOfMemory>
+        ensures rest { OnOk result ((g : _) →
             state_of g self.new ≡ at_rest (state_of g self.old)) }
+        ensures next { IfOk result (λ work. (g : _) →
+            option_map work_of work ≡ found (state_of g self.new)) }
     {
-        self.drop_paused();
-        match self.found() {
-            Some(_work) => Ok(()),
-            None => self.look_again(alloc),
+        match self.drop_paused() {
+            Some(work) => Ok(Some(work)),
+            None => {
+                self.look(alloc)?;
+                Ok(self.drop_paused())
+            }
+        }
+    }
+
+    /// The same, and where nothing comes up the effects of the least mounted scope that has some.
+    pub fn next_work(&mut self, alloc: Global) -> Result<Option<Work>, OutOfMemory>
+        ensures rest { OnOk result ((g : _) →
+            state_of g self.new ≡ at_rest (state_of g self.old)) }
+        ensures next { IfOk result (λ work. (g : _) →
+            option_map work_of work ≡ next_at_rest (state_of g self.new)) }
+    {
+        match self.at_rest(alloc)? {
+            Some(work) => Ok(Some(work)),
+            None => Ok(self.next_effects()),
         }
     }
 }

@@ -1,7 +1,7 @@
 //! Scopes that become mounted.
-ghost use Rattle.std.specs.Prelude.{◌≡◌, ◌<◌, ℕ, length, get_or, slice_set, OnOk};
+ghost use Rattle.std.specs.Prelude.{◌≡◌, ◌<◌, ℕ, true, length, get_or, slice_set, OnOk};
 ghost use Rattle.rt_model.specs.Replay.{mounted_state};
-ghost use Rattle.rt_state.specs.Mounts.{mounts_at, mounts_now};
+ghost use Rattle.rt_state.specs.Mounts.{comes_at, mounts_now};
 ghost use Rattle.rt_state.specs.Mirror.{scopes_of, state_of};
 
 use crate::state::State;
@@ -33,36 +33,38 @@ impl<P: Parts> State<P> {
               };
             }) }
     {
-        let mounted = self.mounts_at(index);
+        if !self.comes_to_show(index) {
+            return Ok(());
+        }
         self.change_entry(
             index,
             |found: &mut Scope<P>| -> Result<(), OutOfMemory>
                 ensures { OnOk result (found.new ≡ record found.old {
-                  rest = record found.old.rest { mounted = mounted };
+                  rest = record found.old.rest { mounted = true };
                 }) }
             {
-                found.rest.mounted = mounted;
+                found.rest.mounted = true;
                 Ok(())
             },
         )
     }
 
-    /// Whether the scope at an index is mounted already, or shows.
-    fn mounts_at(&self, index: usize) -> bool
+    /// Whether the scope at an index isn't mounted yet, and shows.
+    fn comes_to_show(&self, index: usize) -> bool
         requires within { index < length self.now.rows.table }
         ensures { (d : ℕ × Scope P P.Component P.Props P.Value P.Handler P.TaskState P.Effect P.Payload)
-            → result ≡ mounts_at (scopes_of self.now.rows.table) (get_or self.now.rows.table index d) }
+            → result ≡ comes_at (scopes_of self.now.rows.table) (get_or self.now.rows.table index d) }
     {
         let entry = &self.rows.table.as_slice()[index];
-        self.mounts(entry)
+        self.comes(entry)
     }
 
-    /// Whether a scope is mounted already, or shows.
-    fn mounts(&self, entry: &(u64, Scope<P>)) -> bool
-        ensures { result ≡ mounts_at (scopes_of self.now.rows.table) entry.now }
+    /// Whether a scope isn't mounted yet, and shows.
+    fn comes(&self, entry: &(u64, Scope<P>)) -> bool
+        ensures { result ≡ comes_at (scopes_of self.now.rows.table) entry.now }
     {
         if entry.1.rest.mounted {
-            return true;
+            return false;
         }
         self.shows(entry.0)
     }

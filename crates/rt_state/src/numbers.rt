@@ -1,5 +1,5 @@
 //! Lists of numbers, of marks and wakes.
-ghost use Rattle.std.specs.Prelude.{◌≡◌, ◌<◌, ◌≤◌, ◌++◌, ℕ, length, get_or, take, drop, nat_le, map, OnOk, IfSome, IfNone, true, false};
+ghost use Rattle.std.specs.Prelude.{◌≡◌, ◌<◌, ◌≤◌, ◌++◌, ℕ, length, get_or, take, drop, nat_le, map, OnOk, OnErr, IfSome, IfNone, true, false};
 ghost use Rattle.std.specs.List.{list_any};
 ghost use Rattle.rt_model.specs.Lists.{has, drop_number, join, insert_number};
 ghost use Rattle.rt_model.specs.Commands.{same_posted, drop_posted};
@@ -34,7 +34,8 @@ pub fn drop_number(numbers: &mut List<u64>, number: u64)
 
 /// Puts a number at the end where it isn't in the list.
 pub fn join(numbers: &mut List<u64>, number: u64) -> Result<(), OutOfMemory>
-    ensures { OnOk result (numbers.new ≡ join numbers.old number) }
+    ensures joined { OnOk result (numbers.new ≡ join numbers.old number) }
+    ensures err { OnErr result (numbers.new ≡ numbers.old) }
 {
     if has_number(numbers.as_slice(), number) {
         return Ok(());

@@ -6,11 +6,19 @@ ghost use Rattle.rt_calls.specs.Kept.{scope_of};
 ghost use Rattle.rt_state.specs.Effects.{has_effects, or_lesser};
 ghost use Rattle.rt_state.specs.Names.{work_of};
 ghost use Rattle.rt_state.specs.Mirror.{scopes_of, state_of};
+ghost use Rattle.rt_state.specs.Ranks.{comes_before, rank_of};
 
 use crate::names::Work;
 use crate::state::State;
 use rt_calls::Scope;
 use rt_parts::Parts;
+
+/// A scope with the number of scopes above it.
+#[derive(Clone, Copy)]
+struct Rank {
+    height: u64,
+    scope: u64,
+}
 
 impl<P: Parts> State<P> {
     /// Whether a scope comes before another: by height, and then by number.
@@ -43,6 +51,26 @@ impl<P: Parts> State<P> {
         }
     }
 
+    /// A scope with its height.
+    fn rank_of(&self, scope: u64) -> Rank
+        ensures { result ≡ rank_of (scopes_of self.now.rows.table) scope }
+    {
+        Rank {
+            height: self.height_of(scope),
+            scope,
+        }
+    }
+
+    /// A task with the scope whose order it has.
+    fn rank_of_task(&self, task: u64) -> (u64, Rank)
+        ensures { (g : _) → result ≡ (
+          task,
+          rank_of (scopes_of self.now.rows.table) (scope_of_task (state_of g self.now) task),
+        ) }
+    {
+        (task, self.rank_of(self.scope_of_task(task)))
+    }
+
     /// The scope that comes first of two, the former on equal order.
     fn lesser_scope(&self, scope: u64, other: u64) -> u64
         ensures { result
@@ -55,20 +83,6 @@ impl<P: Parts> State<P> {
         }
     }
 
-    /// The task that comes first of two, the former on equal order.
-    fn lesser_task(&self, task: u64, other: u64) -> u64
-        ensures { (g : _) → result
-            ≡ (if is_before (scopes_of self.now.rows.table)
-            (scope_of_task (state_of g self.now) other) (scope_of_task (state_of g self.now) task)
-            then other else task) }
-    {
-        if self.is_before(self.scope_of_task(other), self.scope_of_task(task)) {
-            other
-        } else {
-            task
-        }
-    }
-
     /// The first queued task of the least order.
     pub fn first_task(&self) -> Option<u64>
         ensures { (g : _) → result ≡ first_task (state_of g self.now) }
@@ -77,11 +91,11 @@ impl<P: Parts> State<P> {
         if queued.is_empty() {
             return None;
         }
-        let mut first = queued[0];
+        let mut first = self.rank_of_task(queued[0]);
         for index in 1..queued.len() {
-            first = self.lesser_task(first, queued[index]);
+            first = lesser_task(first, self.rank_of_task(queued[index]));
         }
-        Some(first)
+        Some(first.0)
     }
 
     /// The seen scope of the least order.
@@ -92,11 +106,11 @@ impl<P: Parts> State<P> {
         if seen.is_empty() {
             return None;
         }
-        let mut first = seen[0];
+        let mut first = self.rank_of(seen[0]);
         for index in 1..seen.len() {
-            first = self.lesser_scope(first, seen[index]);
+            first = lesser(first, self.rank_of(seen[index]));
         }
-        Some(first)
+        Some(first.scope)
     }
 
     /// The scope or task that comes up: the lesser of the two, the task on equal order.
@@ -152,6 +166,18 @@ impl<P: Parts> State<P> {
         }
     }
 
+    /// The effects of the least mounted scope that has some.
+    pub(crate) fn next_effects(&self) -> Option<Work>
+        ensures { option_map work_of result ≡ option_map model.RunEffects
+            (least (λ s t. is_before (scopes_of self.now.rows.table) s t)
+            (with_effects (scopes_of self.now.rows.table))) }
+    {
+        match self.first_with_effects() {
+            Some(scope) => Some(Work::RunEffects(scope)),
+            None => None,
+        }
+    }
+
     /// What comes next of a state at rest: the least seen scope or queued task, else the effects of the
     /// least mounted scope that has some.
     pub fn next_at_rest(&self) -> Option<Work>
@@ -159,11 +185,37 @@ impl<P: Parts> State<P> {
     {
         match self.found() {
             Some(work) => Some(work),
-            None => match self.first_with_effects() {
-                Some(scope) => Some(Work::RunEffects(scope)),
-                None => None,
-            },
+            None => self.next_effects(),
         }
+    }
+}
+
+/// Whether a scope comes before another: by height, and then by number.
+fn comes_before(rank: Rank, other: Rank) -> bool
+    ensures { result ≡ comes_before rank other }
+{
+    rank.height < other.height || (rank.height == other.height && rank.scope < other.scope)
+}
+
+/// The scope that comes first of two, the former on equal order.
+fn lesser(first: Rank, other: Rank) -> Rank
+    ensures { result ≡ (if comes_before other first then other else first) }
+{
+    if comes_before(other, first) {
+        other
+    } else {
+        first
+    }
+}
+
+/// The task that comes first of two, the former on equal order.
+fn lesser_task(first: (u64, Rank), other: (u64, Rank)) -> (u64, Rank)
+    ensures { result ≡ (if comes_before other.1 first.1 then other else first) }
+{
+    if comes_before(other.1, first.1) {
+        other
+    } else {
+        first
     }
 }
 

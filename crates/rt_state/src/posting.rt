@@ -1,5 +1,5 @@
 //! Marks and wakes.
-ghost use Rattle.std.specs.Prelude.{◌≡◌, ℕ, ◌<◌, ◌++◌, ◌∷◌, [], length, get_or, map, OnOk, if◌then◌else◌};
+ghost use Rattle.std.specs.Prelude.{◌≡◌, ℕ, ◌<◌, ◌++◌, ◌∷◌, [], length, get_or, map, OnOk, OnErr, if◌then◌else◌};
 ghost use Rattle.rt_model.specs.State.{Mark as MarkOf};
 ghost use Rattle.rt_model.specs.Commands.{post, post_target, names_source, readers, tell};
 ghost use Rattle.rt_model.specs.Removal.{tell_all};
@@ -23,6 +23,7 @@ impl<P: Parts> State<P> {
             state_of g self.new ≡ post (state_of g self.old) (posted_of posted)) }
         ensures rows { self.new.rows ≡ self.old.rows }
         ensures contexts { self.new.contexts ≡ self.old.contexts }
+        ensures err { OnErr result (self.new ≡ self.old) }
     {
         match posted {
             Posted::Mark(scope) => {
@@ -48,6 +49,7 @@ impl<P: Parts> State<P> {
             state_of g self.new ≡ post_target (state_of g self.old) (target_of target)) }
         ensures rows { self.new.rows ≡ self.old.rows }
         ensures contexts { self.new.contexts ≡ self.old.contexts }
+        ensures err { OnErr result (self.new ≡ self.old) }
     {
         match target {
             Target::Scope(scope) => self.post(Posted::Mark(scope.0)),
@@ -132,7 +134,7 @@ impl<P: Parts> State<P> {
 }
 
 /// Puts the marks of the scopes that read a source after those that are posted.
-fn add_readers<P: Parts>(
+pub(crate) fn add_readers<P: Parts>(
     scopes: &[(u64, Scope<P>)],
     source: Source,
     posted: &mut List<Posted>,

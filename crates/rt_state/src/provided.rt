@@ -1,5 +1,5 @@
 //! What scopes provide.
-ghost use Rattle.std.specs.Prelude.{◌≡◌, ◌<◌, ◌++◌, ◌∷◌, [], length, map, slice_set, OnOk, IfSome, IfNone};
+ghost use Rattle.std.specs.Prelude.{◌≡◌, ◌<◌, ◌++◌, ◌∷◌, [], length, map, slice_set, OnOk, OnErr, IfSome, IfNone};
 ghost use Rattle.std.specs.Option.{option_copied};
 ghost use Rattle.rt_model.specs.Lists.{at, put};
 ghost use Rattle.rt_model.specs.State.{change};
@@ -46,12 +46,13 @@ fn provided_in<P: Parts>(contexts: &[Provided<P>], kind: u32) -> Option<&P::Valu
 }
 
 /// Puts a value in the place of the one of its kind, or at the end.
-fn put_provided<P: Parts>(
+pub(crate) fn put_provided<P: Parts>(
     contexts: &mut List<Provided<P>>,
     kind: u32,
     value: P::Value,
 ) -> Result<(), OutOfMemory>
-    ensures { OnOk result (contexts.new ≡ put_provided contexts.old kind value) }
+    ensures put { OnOk result (contexts.new ≡ put_provided contexts.old kind value) }
+    ensures err { OnErr result (contexts.new ≡ contexts.old) }
 {
     match kind_in(contexts.as_slice(), kind) {
         Some(index) => {
@@ -87,7 +88,7 @@ impl<P: Parts> State<P> {
     }
 
     /// Whether a live scope provides this value of a kind already.
-    fn provides(&self, scope: u64, kind: u32, value: &P::Value) -> Option<bool>
+    pub(crate) fn provides(&self, scope: u64, kind: u32, value: &P::Value) -> Option<bool>
         ensures { (app : Application (types P.Component P.Props P.Value P.Handler P.TaskState P.Effect P.Payload))
             → Tests P.Value app.same_value → (g : _) → result
             ≡ provides_now app (state_of g self.now) scope kind value.now }

@@ -148,6 +148,9 @@ impl<P: Parts> State<P> {
               };
             }) }
     {
+        if !self.is_held_at(index, task) {
+            return Ok(());
+        }
         self.change_entry(
             index,
             |found: &mut Scope<P>| -> Result<(), OutOfMemory>
@@ -161,6 +164,16 @@ impl<P: Parts> State<P> {
                 Ok(())
             },
         )
+    }
+
+    /// Whether a task holds the scope at an index.
+    fn is_held_at(&self, index: usize, task: u64) -> bool
+        requires within { index < length self.now.rows.table }
+        ensures { (d : ℕ × Scope P P.Component P.Props P.Value P.Handler P.TaskState P.Effect P.Payload)
+            → result ≡ model.holds (scope_of (get_or self.now.rows.table index d).1) task }
+    {
+        let entry = &self.rows.table.as_slice()[index];
+        holds(&entry.1, task)
     }
 
     /// Ends these tasks, one after another.
@@ -309,7 +322,7 @@ fn add_owned(
 }
 
 /// Who may poll a new task in a suspended render.
-fn first_kind(isomorphic: bool) -> TaskKind
+pub(crate) fn first_kind(isomorphic: bool) -> TaskKind
     ensures { task_kind_of result
         ≡ (if isomorphic then model.Isomorphic else model.ClientOnly) }
 {
@@ -321,7 +334,7 @@ fn first_kind(isomorphic: bool) -> TaskKind
 }
 
 /// Whether a change from paused to active wakes a task.
-fn is_woken(active: bool, was_active: bool) -> bool
+pub(crate) fn is_woken(active: bool, was_active: bool) -> bool
     ensures { result ≡ (active && not was_active) }
 {
     active && !was_active

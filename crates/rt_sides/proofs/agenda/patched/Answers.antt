@@ -2,7 +2,7 @@
 use Rattle.std.proofs.Common.{refl, ap, ◌∙◌, map}
 use Rattle.std.specs.Prelude.{Some}
 use Rattle.rt_places.specs.Places.{spot_of}
-use Rattle.rt_work.specs.Agenda.{all_drops, numbers_kept, children_kept}
+use Rattle.rt_work.specs.Agenda.{numbers_kept, children_kept}
 use Rattle.rt_sides.proofs.Agendas.{patches}
 use Rattle.rt_sides.proofs.agenda.patched.Goals as goal
 
@@ -13,7 +13,7 @@ returns g c = λ app tests.
     (ap (map spot_of) c.as_slice-old.ensures.items ∙ c.in_ok-kept.ensures)
     (ap (map spot_of) c.as_slice-new.ensures.items ∙ c.in_ok-found.ensures)
     (c.in_ok-work.ensures app tests)
-    (c.in_ok-drops.ensures app tests ∙ ap (λ cs. all_drops app c.args.scope c.args.name c.as_slice-new.result.now cs c.as_slice-old.result.now) c.as_slice.ensures.items)
+    (c.in_ok-drops.ensures app tests)
     c.in_ok-append.ensures.ok refl
-    (c.in_ok-numbers.ensures ∙ ap (λ ns. numbers_kept c.as_slice-new.result.now ns) c.as_slice-2.ensures.items)
-    (c.in_ok-children.ensures app tests ∙ ap (λ cs. children_kept app c.as_slice-old.result.now c.as_slice-new.result.now cs) c.as_slice-3.ensures.items)
+    (c.in_ok-numbers.ensures ∙ ap (λ ns. numbers_kept c.as_slice-new.result.now ns) c.as_slice.ensures.items)
+    (c.in_ok-children.ensures app tests ∙ ap (λ cs. children_kept app c.as_slice-old.result.now c.as_slice-new.result.now cs) c.as_slice-2.ensures.items)

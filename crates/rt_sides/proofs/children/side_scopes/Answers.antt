@@ -13,7 +13,7 @@ loop-spot-preserved g c = λ kept.
     c.loop-spot.scopes c.add_child.new.scopes
     (child_here (state_of kept c.args.state.now) (c.args.side.now).children c.spot-item.result)
     (children_at (state_of kept c.args.state.now) (c.args.side.now).children c.as_slice-spot-items.result.now)
-    c.loop-spot-test.true c.spot-item.is refl (c.loop-spot.invariant kept) (c.in_ok-add_child.ensures kept ∙ ap (λ cs. c.loop-spot.scopes ++ child_here (state_of kept c.args.state.now) cs c.spot-item.result) c.as_slice.ensures.items)
+    c.loop-spot-test.true c.spot-item.is refl (c.loop-spot.invariant kept) (c.in_ok-add_child.ensures kept)
 
 pub returns : goal.returns
 returns g c = λ kept.

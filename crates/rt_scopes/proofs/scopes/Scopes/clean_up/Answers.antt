@@ -12,7 +12,7 @@ returns g c =
           let left = c.apart-left.ensures in
           let parts = c.parts.ensures in
           cleaned_ok (g.A.App.meaning c.args.app.now) c.args.self.now.state c.after_call.new.self.state c.enter-cx.result _ c.in_ok-turn.turn.meaning
-          c.args.scope c.args.effect.now c.args.waiting.now c.in_ok-commands.commands c.append.new.self _ _ _ kept c.enter-cx.ensures.counted c.enter-cx.ensures.begun (c.world-world.ensures kept _)
+          c.args.patching c.args.scope c.args.effect.now c.args.waiting.now c.in_ok-commands.commands c.append.new.self _ _ _ kept c.enter-cx.ensures.counted c.enter-cx.ensures.begun (c.world-world.ensures kept _)
           c.in_ok-turn.ensures.means (sym parts.fault ∙ sym left.fault ∙ c.in_ok-commands.ensures.ok.1)
           (c.in_ok-commands.ensures.ok.0 ∙ left.commands ∙ parts.commands)
           c.in_ok-commands.ensures.next (left.next ∙ parts.next) c.in_ok-append.ensures.ok;
@@ -28,7 +28,7 @@ returns-in_err-commands g c =
           let refusal = c.in_err-commands.ensures.cut in
           let p = err_from_is_err_and c.from_residual-in_err-commands.result c.from_residual-in_err-commands.ensures.1 in
           rw (p.1, p.2)
-          (cleaned_no (g.A.App.meaning c.args.app.now) c.args.self.now.state c.after_call.new.self.state c.enter-cx.result _ c.in_ok-turn.turn.meaning c.args.scope
+          (cleaned_no (g.A.App.meaning c.args.app.now) c.args.self.now.state c.after_call.new.self.state c.enter-cx.result _ c.in_ok-turn.turn.meaning c.args.patching c.args.scope
           c.args.effect.now c.args.waiting.now refusal.0 _ _ _ _ kept c.enter-cx.ensures.counted c.enter-cx.ensures.begun (c.world-world.ensures kept _) c.in_ok-turn.ensures.means
           (sym parts.fault ∙ sym left.fault ∙ refusal.1) c.in_err-commands.ensures.next (left.next ∙ parts.next) refusal.2);
     }

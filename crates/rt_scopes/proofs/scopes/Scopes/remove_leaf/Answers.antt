@@ -15,7 +15,7 @@ returns g c =
           let came = c.clean.ensures.cleaned kept in (
             came.0,
             came_as _ _ _ _ _
-                (removed_as (g.A.App.meaning c.args.app.now) (state_of kept c.args.self.now.state) (state_of kept c.stopped.new.self) c.args.scope.0 c.as_slice.result.now (c.in_ok-stopped.ensures kept)
+                (removed_as (g.A.App.meaning c.args.app.now) c.args.patching (state_of kept c.args.self.now.state) (state_of kept c.stopped.new.self) c.args.scope.0 c.as_slice.result.now (c.in_ok-stopped.ensures kept)
                 (c.as_slice.ensures.items ∙ c.in_ok-effects.ensures ∙ ap (λ hs. clean_ups hs []) (c.hooks_of.ensures kept)))
                 came.1,
             came.2,

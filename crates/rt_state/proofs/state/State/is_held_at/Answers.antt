@@ -1,8 +1,8 @@
 use Rattle.std.proofs.Common.{◌≡◌, ◌<◌, ◌∙◌, ap, length, arith}
-use Rattle.rt_state.specs.Mirror.{scopes_of}
-use Rattle.rt_state.specs.Mounts.{mounts_at}
+use Rattle.rt_model.specs.State.{holds}
+use Rattle.rt_calls.specs.Kept.{scope_of}
 use Rattle.rt_state.proofs.Entries.{at-index}
-use Rattle.rt_state.proofs.state.State.mounts_at.Goals as goal
+use Rattle.rt_state.proofs.state.State.is_held_at.Goals as goal
 
 pub offset_bounds-as_slice-index : goal.offset_bounds-as_slice-index
 offset_bounds-as_slice-index g c =
@@ -15,6 +15,6 @@ bounds-as_slice-index g c = let is = c.as_slice.ensures.rows in rw is c.requires
 
 pub returns : goal.returns
 returns g c = λ d.
-    c.mounts.ensures
-    ∙ ap (λ e. mounts_at (scopes_of (c.args.self.now.rows).table) e)
+    c.holds.ensures
+    ∙ ap (λ e. holds (scope_of e.1) c.args.task)
     (at-index c.as_slice.result.now (c.args.self.now.rows).table c.args.index c.index-as_slice-index.result d c.as_slice.ensures.rows c.requires.within c.index-as_slice-index.is)

@@ -1,0 +1,8 @@
+use Rattle.std.proofs.Common.{rules, refl}
+use Rattle.rt_state.proofs.state.State.make_active.Goals as goal
+
+pub returns : goal.returns
+returns g c =
+    c.change_surely.ensures
+    (record { code = λ x. record x { active = c.args.active }; model = λ x. record x { active = c.args.active }; same = λ x. refl })
+    (λ x y done ret. search rules)

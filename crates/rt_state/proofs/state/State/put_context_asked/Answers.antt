@@ -1,0 +1,19 @@
+use Rattle.std.proofs.Common.{rules}
+use Rattle.rt_model.specs.Lists.{put}
+use Rattle.rt_calls.specs.Kept.{scope_of}
+use Rattle.rt_state.specs.Provided.{put_provided}
+use Rattle.rt_state.proofs.Provides.{put-mirrored}
+use Rattle.rt_state.proofs.state.State.put_context_asked.Goals as goal
+
+pub returns-clause-put : goal.returns-clause-put
+returns-clause-put g c =
+    c.change_asked.ensures.changed
+    (record {
+      code = λ x. record x { row = record (x.row) { contexts = put_provided (x.row).contexts c.args.kind c.args.value } };
+      model = λ x. record x { contexts = put x.contexts c.args.kind c.args.value };
+      same = λ x i. record (scope_of x) { contexts = put-mirrored (x.row).contexts c.args.kind c.args.value i };
+    })
+    (λ x y ret. search rules)
+
+pub returns-clause-err : goal.returns-clause-err
+returns-clause-err g c = c.change_asked.ensures.err (λ x y ret. search rules)
