@@ -51,14 +51,20 @@ module _ {K : Types} (app : Application K) where
         | inr x ↦ inr (record { rest = x.rest; is = ap (λ (l : List Entry). d ∷ l) x.is ∙ ap (λ (y : Entry). y ∷ (b ++ x.rest)) same })
       ]
 
+  -- so are what follows the same entries
+  alike_behind : (opened a b : List Entry) (m u v : Machine K) → replay_on app (Some m) (opened ++ a) ≡ Some u → replay_on app (Some m) (opened ++ b) ≡ Some v → IsFront a b ⊎ IsFront b a
+  alike_behind [] a b m u v h k = alike a b m u v h k
+  alike_behind (e ∷ opened) a b m u v h k =
+      let f = fork app (is_due app (due app m) e) (step app m e) (opened ++ a) u h in
+      let g = fork app (is_due app (due app m) e) (step app m e) (opened ++ b) v k in
+      alike_behind opened a b (step app m e) u v f.1 g.1
+
   -- so what was compared of one before is right of the other, too
-  pub still_front : (from : Machine K) (first : Entry) (old new list : List Entry) → Takes from (first ∷ old) → Takes from (first ∷ new)
+  pub still_front : (from : Machine K) (opened old new list : List Entry) → Takes from (opened ++ old) → Takes from (opened ++ new)
       → IsFront old list
       → IsFront (take (length old) new) list
-  still_front from first old new list h k front =
-      let f = fork app (is_due app (due app from) first) (step app from first) old h.last h.accepted in
-      let g = fork app (is_due app (due app from) first) (step app from first) new k.last k.accepted in
-      elim (alike old new (step app from first) h.last k.last f.1 g.1) [
+  still_front from opened old new list h k front =
+      elim (alike_behind opened old new from h.last k.last h.accepted k.accepted) [
         | inl x ↦ subst (λ (l : List Entry). IsFront l list) (sym (ap (λ (l : List Entry). take (length old) l) x.is ∙ take-append_seam old x.rest)) front
         | inr x ↦
             let short : length new ≤ length old = shorter new x.rest old x.is in
@@ -112,26 +118,26 @@ module _ {K : Types} (app : Application K) (limits : Limits) (props : K.Props) (
       ∙ unit
 
 module _ {P C Q V H T E L : Type 0} (app : Application (types C Q V H T E L)) (limits : Limits) (r : Going (types C Q V H T E L)) where
-  stands_for : (o : Option Entry) (edits : List doc.Edit) (d : Code P C Q V H T E L) → StandsFor app limits r o edits d → Takes app r.from (r.opening ∷ noted d)
+  stands_for : (o : Option Entry) (edits : List doc.Edit) (d : Code P C Q V H T E L) → StandsFor app limits r o edits d → Takes app r.from (r.opened ++ noted d)
   stands_for None edits d s =
       record {
         last = machine_of s.0 r.left r.taken d;
-        accepted = rests_taken app limits r.props r.inputs r.from (machine_of s.0 r.left r.taken d) (r.opening ∷ noted d) edits s.1;
+        accepted = rests_taken app limits r.props r.inputs r.from (machine_of s.0 r.left r.taken d) (r.opened ++ noted d) edits s.1;
       }
   stands_for (Some first) edits d s =
       record {
         last = settled app (machine_of s.0 r.left r.taken d);
-        accepted = works_taken app limits r.props r.inputs r.from (machine_of s.0 r.left r.taken d) (r.opening ∷ noted d) edits s.1 first s.2;
+        accepted = works_taken app limits r.props r.inputs r.from (machine_of s.0 r.left r.taken d) (r.opened ++ noted d) edits s.1 first s.2;
       }
 
   -- wherever a report stands
-  pub stands_taken : (edits : List doc.Edit) (d : Code P C Q V H T E L) → StandsAt app limits r edits d → Takes app r.from (r.opening ∷ noted d)
+  pub stands_taken : (edits : List doc.Edit) (d : Code P C Q V H T E L) → StandsAt app limits r edits d → Takes app r.from (r.opened ++ noted d)
   stands_taken edits d s = stands_for (first_in d) edits d s
 
   -- where nothing is left to do
   pub rest_taken : (edits : List doc.Edit) (d : Code P C Q V H T E L) → (s : Settled app limits r edits d)
-      → replay_on app (Some r.from) (r.opening ∷ noted d) ≡ Some s.last
-  rest_taken edits d s = rests_taken app limits r.props r.inputs r.from s.last (r.opening ∷ noted d) edits s.rests
+      → replay_on app (Some r.from) (r.opened ++ noted d) ≡ Some s.last
+  rest_taken edits d s = rests_taken app limits r.props r.inputs r.from s.last (r.opened ++ noted d) edits s.rests
 
 -- a fault that isn't one of the limits ended the run
 pub record IsOwn (fault : model.Fault) : Type 0 where

@@ -23,7 +23,7 @@ use Rattle.rt_machine.specs.Stands.{Going, StandsAt, CameTo, TurnsAs}
 use Rattle.rt_machine.specs.declared.ended.Ended.{Ended}
 use Rattle.rt_machine.specs.declared.ended.Ended.TheVariants as ends
 use Rattle.rt_machine.specs.declared.machine.Machine.{Machine}
-use Rattle.rt_verdicts.specs.Verdicts.{Refused, opening, verdict_on}
+use Rattle.rt_verdicts.specs.Verdicts.{Verdict, Refused, opening, verdict_on}
 use Rattle.rt_audit.specs.Fronts.{IsFront, PartsAt, GoesOn}
 use Rattle.rt_audit.specs.Finding.{ComesTo, IsBehind, Says, Fell, Rests, TurnsTo, Keeps, at_rest}
 use Rattle.rt_audit.specs.Judging.{StopsIn, PassesTo, FindsIn}
@@ -70,6 +70,16 @@ pub faulted_says : (turn : Turn) (noted list : List Entry) (good number : ℕ) �
 faulted_says turn noted list good number faulted count next front =
     record { good = good; number = next; why = inr (inr (faulted, count, front)) }
 
+module _ {C Q V H T E L : Type 0} (app : Application (types C Q V H T E L)) (r : Going (types C Q V H T E L)) where
+  -- the verdict on a list that opens as the report does, and the replay of what was noted
+  opened_as : (n : ℕ) (list : List Entry) (later : replay.Machine (types C Q V H T E L) → Verdict) → opening n ∷ [] ≡ r.opened
+      → verdict_on app n 0 r.from (r.opened ++ list) later ≡ verdict_on app n 0 r.from (opening n ∷ list) later
+  opened_as n list later starts = ap (λ (o : List Entry). verdict_on app n 0 r.from (o ++ list) later) (sym starts)
+
+  taken_as : (n : ℕ) (log : List Entry) (last : replay.Machine (types C Q V H T E L)) → opening n ∷ [] ≡ r.opened
+      → replay_on app (Some r.from) (r.opened ++ log) ≡ Some last → replay_on app (Some r.from) (opening n ∷ log) ≡ Some last
+  taken_as n log last starts accepted = ap (λ (o : List Entry). replay_on app (Some r.from) (o ++ log)) starts ∙ accepted
+
 module _ {P C Q V H T E L : Type 0} (app : Application (types C Q V H T E L)) (limits : causes.Limits) (r : Going (types C Q V H T E L)) where
   -- where a turn came to a fault of the run
   pub fell : (edits : List doc.Edit) (before after : Option (List Edit)) (what : Fault) (d : Machine P C Q V H T E L)
@@ -80,7 +90,7 @@ module _ {P C Q V H T E L : Type 0} (app : Application (types C Q V H T E L)) (l
       record {
         last = (c.refused.last).machine;
         fault = fault_of what;
-        accepted = refused_taken app limits r.props r.inputs r.from (r.opening ∷ noted d) _ (fault_of what) c.refused;
+        accepted = refused_taken app limits r.props r.inputs r.from (r.opened ++ noted d) _ (fault_of what) c.refused;
         dead = own_dead limits (c.refused.last).machine (fault_of what) (owns what) c.refused.cause;
       }
 
@@ -114,7 +124,7 @@ module _ {P C Q V H T E L : Type 0} (app : Application (types C Q V H T E L)) (l
       rest_owes_none s.last s.rests.rest s.rests.built s.quiet s.none
 
   -- whatever a turn came to, what was noted is accepted
-  pub turn_taken : (turn : Turn) (d : Machine P C Q V H T E L) → TurnsTo app limits r turn d → Takes app r.from (r.opening ∷ noted d)
+  pub turn_taken : (turn : Turn) (d : Machine P C Q V H T E L) → TurnsTo app limits r turn d → Takes app r.from (r.opened ++ noted d)
   turn_taken turns.Moved d h = stands_taken app limits r h.edits d h.stands
   turn_taken turns.Rested d h = record { last = (h.settled).last; accepted = rest_taken app limits r h.edits d h.settled }
   turn_taken turns.Faulted d h = record { last = h.last; accepted = h.accepted }
@@ -125,20 +135,20 @@ module _ {P C Q V H T E L : Type 0} (app : Application (types C Q V H T E L)) (l
       → IsFront (take seen (noted new)) list
   front_kept turn list seen old new h after =
       subst (λ k. IsFront (take k (noted new)) list) (sym h.counted)
-      (still_front app r.from r.opening (noted old) (noted new) list (stands_taken app limits r h.stands.edits old h.stands.stands) (turn_taken turn new after) h.front)
+      (still_front app r.from r.opened (noted old) (noted new) list (stands_taken app limits r h.stands.edits old h.stands.stands) (turn_taken turn new after) h.front)
 
   parted_bad : (list : List Entry) (good entry : ℕ) (d : Machine P C Q V H T E L) → count_entries is_opening (noted d) ≡ 0
-      → Takes app r.from (r.opening ∷ noted d)
+      → Takes app r.from (r.opened ++ noted d)
       → entry ≡ good + 1
       → PartsAt (noted d) list good
       → StopsIn app limits r list entry
   parted_bad list good entry d none taken is p = λ n later starts.
-      let log : r.opening ∷ noted d ≡ r.opening ∷ (p.front ++ p.first ∷ p.more) = ap (λ (l : List Entry). r.opening ∷ l) p.noted_is in
       let counts : count_entries is_opening (p.front ++ p.first ∷ p.more) ≡ 0 = ap (λ (l : List Entry). count_entries is_opening l) (sym p.noted_is) ∙ none in
-      let accepted : replay_on app (Some r.from) (r.opening ∷ (p.front ++ p.first ∷ p.more)) ≡ Some taken.last =
-      ap (λ (l : List Entry). replay_on app (Some r.from) l) (sym log) ∙ taken.accepted in
-      ap (λ (l : List Entry). verdict_on app n 0 r.from (r.opening ∷ l) later) p.list_is
-      ∙ parts_stops app n r.from taken.last r.opening p.first p.front p.more p.rest later starts counts accepted p.other
+      let accepted : replay_on app (Some r.from) (opening n ∷ (p.front ++ p.first ∷ p.more)) ≡ Some taken.last =
+      ap (λ (l : List Entry). replay_on app (Some r.from) (opening n ∷ l)) (sym p.noted_is) ∙ taken_as app r n (noted d) taken.last starts taken.accepted in
+      opened_as app r n list later starts
+      ∙ ap (λ (l : List Entry). verdict_on app n 0 r.from (opening n ∷ l) later) p.list_is
+      ∙ parts_stops app n r.from taken.last (opening n) p.first p.front p.more p.rest later refl counts accepted p.other
       ∙ ap (λ k. Refused n k) (ap (λ k. k + 1) p.place_is ∙ sym is)
 
   rest_bad : (list : List Entry) (good entry : ℕ) (d : Machine P C Q V H T E L) → count_entries is_opening (noted d) ≡ 0
@@ -149,8 +159,9 @@ module _ {P C Q V H T E L : Type 0} (app : Application (types C Q V H T E L)) (l
       → StopsIn app limits r list entry
   rest_bad list good entry d none h is count on = λ n later starts.
       let s = h.settled in
-      ap (λ (l : List Entry). verdict_on app n 0 r.from (r.opening ∷ l) later) on.is
-      ∙ rest_stops app n r.from s.last r.opening on.first (noted d) on.more later starts none (rest_taken app limits r h.edits d s) (rest_settled d h)
+      opened_as app r n list later starts
+      ∙ ap (λ (l : List Entry). verdict_on app n 0 r.from (opening n ∷ l) later) on.is
+      ∙ rest_stops app n r.from s.last (opening n) on.first (noted d) on.more later refl none (taken_as app r n (noted d) s.last starts (rest_taken app limits r h.edits d s)) (rest_settled d h)
       ∙ ap (λ k. Refused n k) (ap (λ k. k + 1) (sym count) ∙ sym is)
 
   fault_bad : (list : List Entry) (good entry : ℕ) (d : Machine P C Q V H T E L) → count_entries is_opening (noted d) ≡ 0
@@ -160,8 +171,9 @@ module _ {P C Q V H T E L : Type 0} (app : Application (types C Q V H T E L)) (l
       → IsFront (noted d) list
       → StopsIn app limits r list entry
   fault_bad list good entry d none h is count front = λ n later starts.
-      ap (λ (l : List Entry). verdict_on app n 0 r.from (r.opening ∷ l) later) front.is
-      ∙ fault_stops app n r.from h.last r.opening (noted d) front.rest h.fault later starts none h.accepted h.dead
+      opened_as app r n list later starts
+      ∙ ap (λ (l : List Entry). verdict_on app n 0 r.from (opening n ∷ l) later) front.is
+      ∙ fault_stops app n r.from h.last (opening n) (noted d) front.rest h.fault later refl none (taken_as app r n (noted d) h.last starts h.accepted) h.dead
       ∙ ap (λ k. Refused n k) (ap (λ k. k + 1) (sym count) ∙ sym is)
 
   -- what is found of a list
@@ -222,8 +234,9 @@ module _ {P C Q V H T E L : Type 0} (app : Application (types C Q V H T E L)) (l
         };
         passes =
             λ n later starts.
-            ap (λ (l : List Entry). verdict_on app n 0 r.from (r.opening ∷ l) later) h.1
-            ∙ good_ends app n r.from s.last r.opening (noted old) later starts none (rest_taken app limits r (h.0).edits old s) (rest_settled old h.0);
+            opened_as app r n list later starts
+            ∙ ap (λ (l : List Entry). verdict_on app n 0 r.from (opening n ∷ l) later) h.1
+            ∙ good_ends app n r.from s.last (opening n) (noted old) later refl none (taken_as app r n (noted old) s.last starts (rest_taken app limits r (h.0).edits old s)) (rest_settled old h.0);
       }
 
   -- a report that stands without an entry behind the opening one

@@ -150,10 +150,10 @@ module _ {P C Q V H T E L : Type 0} (app : Application (types C Q V H T E L)) (l
   taken_judged list rest left taken number last d None counted is h = (
     h.last,
     h.follows,
-    λ later. ap (λ (l : List Entry). verdict_on app number 0 last l later) is ∙ h.passes number later (opens_input number taken counted),
+    λ later. ap (λ (l : List Entry). verdict_on app number 0 last l later) is ∙ h.passes number later (ap (λ (e : Entry). e ∷ []) (opens_input number taken counted)),
   )
   taken_judged list rest left taken number last d (Some entry) counted is h =
-      λ later. ap (λ (l : List Entry). verdict_on app number 0 last l later) is ∙ h number later (opens_input number taken counted)
+      λ later. ap (λ (l : List Entry). verdict_on app number 0 last l later) is ∙ h number later (ap (λ (e : Entry). e ∷ []) (opens_input number taken counted))
 
   pub taken_lists : {X : Type 0} (list rest : List Entry) (left : List (replay.Input (types C Q V H T E L))) (taken number : ℕ) (last : replay.Machine (types C Q V H T E L))
       (d : Machine P C Q V H T E L) (answer : Result (Option ℕ) X) → number ≡ taken + 1 → list ≡ Taken number ∷ rest

@@ -1,5 +1,5 @@
 -- What one turn beside a list comes to, and what is found of the list then.
-use Rattle.std.specs.Prelude.{◌≡◌, ℕ, ◌+◌, ◌⊎◌, nat_eq, if◌then◌else◌, List, ◌∷◌, length, Option, Some, None, Result, Ok, Err}
+use Rattle.std.specs.Prelude.{◌≡◌, ℕ, ◌+◌, ◌⊎◌, nat_eq, if◌then◌else◌, List, ◌++◌, length, Option, Some, None, Result, Ok, Err}
 use Rattle.rt_model.specs.Document as doc
 use Rattle.rt_model.specs.OneLog.{types}
 use Rattle.rt_model.specs.World.{Application}
@@ -67,7 +67,7 @@ module _ {P C Q V H T E L : Type 0} (app : Application (types C Q V H T E L)) (l
     pub record Fell (d : Machine P C Q V H T E L) : Type 0 where
       pub last : replay.Machine (types C Q V H T E L)
       pub fault : model.Fault
-      pub accepted : replay.replay_on app (Some r.from) (r.opening ∷ noted d) ≡ Some last
+      pub accepted : replay.replay_on app (Some r.from) (r.opened ++ noted d) ≡ Some last
       pub dead : last.dead ≡ Some fault
 
     -- the report stands, with whatever edits

@@ -1,5 +1,5 @@
 -- What the run beside a list says of the verdict on it.
-use Rattle.std.specs.Prelude.{◌≡◌, ℕ, zero, suc, nat_lt, if◌then◌else◌, List, [], ◌∷◌, drop, Option, Some, None}
+use Rattle.std.specs.Prelude.{◌≡◌, ℕ, zero, suc, nat_lt, if◌then◌else◌, List, [], ◌∷◌, ◌++◌, drop, Option, Some, None}
 use Rattle.rt_model.specs.OneLog.{types}
 use Rattle.rt_model.specs.World.{Application}
 use Rattle.rt_model.specs.Replay as replay
@@ -38,8 +38,8 @@ module _ {C Q V H T E L : Type 0} (app : Application (types C Q V H T E L)) (lim
     abbrev pub StopsIn : List Entry → ℕ → Type 0
     StopsIn list entry =
         (n : ℕ) (later : replay.Machine (types C Q V H T E L) → verdicts.Verdict)
-        → opening n ≡ r.opening
-        → verdict_on app n 0 r.from (r.opening ∷ list) later ≡ verdicts.Refused n entry
+        → opening n ∷ [] ≡ r.opened
+        → verdict_on app n 0 r.from (r.opened ++ list) later ≡ verdicts.Refused n entry
 
 module _ {P C Q V H T E L : Type 0} (app : Application (types C Q V H T E L)) (limits : causes.Limits) (r : Going (types C Q V H T E L))
   where
@@ -49,8 +49,8 @@ module _ {P C Q V H T E L : Type 0} (app : Application (types C Q V H T E L)) (l
       pub follows : Follows app limits r.props r.inputs r.left r.taken last d
       pub passes :
           (n : ℕ) (later : replay.Machine (types C Q V H T E L) → verdicts.Verdict)
-          → opening n ≡ r.opening
-          → verdict_on app n 0 r.from (r.opening ∷ list) later ≡ later last
+          → opening n ∷ [] ≡ r.opened
+          → verdict_on app n 0 r.from (r.opened ++ list) later ≡ later last
 
     -- what was found of a list, the run being where it is
     abbrev pub FindsIn : List Entry → Machine P C Q V H T E L → Found → Type 0

@@ -21,6 +21,8 @@ use Rattle.rt_state.specs.Names.{fault_of}
 use Rattle.rt_state.specs.declared.names.Stop.TheVariants as stops
 use Rattle.rt_turns.specs.Turn.{turn_of, entries_at}
 use Rattle.rt_turns.proofs.Items.{works_cut, works_deep}
+use Rattle.rt_turns.proofs.Underway.{works_close}
+use Rattle.rt_machine.proofs.Orderly.{orderly_reached}
 use Rattle.rt_work.specs.Items.{work_of}
 use Rattle.rt_machine.specs.Ends.{Explains}
 use Rattle.rt_machine.specs.Machines.{machine_of, open_work, noted, first_in, fault_in, WasCut, ServesAs, StillRemembers, KeepsOn}
@@ -90,8 +92,8 @@ module _ {P C Q V H T E L : Type 0} (app : Application (types C Q V H T E L)) (l
   broke_at edits now d ended stands none = broke_short app limits r edits now ended (by (first_in d) stands)
     where
       by : (o : Option replay.Entry) → StandsFor app limits r o edits d → Short app limits (PartBy ended) r.from edits
-      by None s = short_rests app limits r.props r.inputs (PartBy ended) r.from (machine_of s.0 r.left r.taken d) (r.opening ∷ noted d) edits s.1 none
-      by (Some first) s = short_works app limits r.props r.inputs (PartBy ended) r.from (machine_of s.0 r.left r.taken d) (r.opening ∷ noted d) edits s.1 first s.2 none
+      by None s = short_rests app limits r.props r.inputs (PartBy ended) r.from (machine_of s.0 r.left r.taken d) (r.opened ++ noted d) edits s.1 none
+      by (Some first) s = short_works app limits r.props r.inputs (PartBy ended) r.from (machine_of s.0 r.left r.taken d) (r.opened ++ noted d) edits s.1 first s.2 none
 
   -- nothing was left to do
   pub broke_over : (before after : Option (List Edit)) (count : ℕ) (d : Machine P C Q V H T E L) (ended : Ended)
@@ -102,7 +104,7 @@ module _ {P C Q V H T E L : Type 0} (app : Application (types C Q V H T E L)) (l
       record {
         wrote = over.wrote;
         told = over.told;
-        short = short_rests app limits r.props r.inputs (PartBy ended) r.from over.settled.last (r.opening ∷ noted d) (map edit_of over.wrote) over.settled.rests none;
+        short = short_rests app limits r.props r.inputs (PartBy ended) r.from over.settled.last (r.opened ++ noted d) (map edit_of over.wrote) over.settled.rests none;
       }
 
   -- it breaks off after more was taken
@@ -127,13 +129,15 @@ module _ {P C Q V H T E L : Type 0} (app : Application (types C Q V H T E L)) (l
   broke_closing first edits d before after ended s idle closes =
       let g = s.0 in
       let w = s.1 in
+      let m = machine_of g r.left r.taken d in
       let none : open_work d ≡ [] = ap (λ xs. work_of (reverse xs)) idle in
+      let closed = works_close app limits r.props r.inputs r.from m (r.opened ++ noted d) edits w first s.2 none in
       record {
         wrote = closes.wrote;
         told = closes.told;
         short =
-            short_closing app limits r.props r.inputs (PartBy ended) r.from (machine_of g r.left r.taken d) (r.opening ∷ noted d) edits (map edit_of closes.wrote) w first s.2 none
-            (closes.part app lawful g w s.3);
+            short_closing app limits r.props r.inputs (PartBy ended) r.from (machine_of g r.left r.taken d) (r.opened ++ noted d) edits (map edit_of closes.wrote) w first s.2 none
+            (closes.part app lawful g w s.3 (orderly_reached app lawful limits r.props r.inputs (record m { unit = false; state = replay.mounted_state m.state }) closed.reached (closed.rest).alive (closed.rest).idle));
       }
 
   -- a make is too deep, and a part of what was due up to it was taken
@@ -148,7 +152,7 @@ module _ {P C Q V H T E L : Type 0} (app : Application (types C Q V H T E L)) (l
       let g = s.0 in
       let w = s.1 in
       let m = record (machine_of g r.left r.taken old) { work = item ∷ open_work old } in
-      let log : List replay.Entry = r.opening ∷ noted old in
+      let log : List replay.Entry = r.opened ++ noted old in
       let here : WrotePartUntil item old before after result = subst (λ (d : Machine P C Q V H T E L). WrotePartUntil item d before after result) same wrote in
       let refused = works_deep app lawful limits r.props r.inputs r.from m log edits w first item (open_work old) fault s.2 refl (deep g) in
       record {
@@ -176,7 +180,7 @@ module _ {P C Q V H T E L : Type 0} (app : Application (types C Q V H T E L)) (l
       let h = cut.kept in
       let v = state_of h (new.scopes).state in
       let m = record (machine_of g r.left r.taken old) { work = item ∷ open_work old } in
-      let log : List replay.Entry = r.opening ∷ noted old in
+      let log : List replay.Entry = r.opened ++ noted old in
       let es : List replay.Entry = entries_at app (state_of g (old.scopes).state) item in
       let now : first_in new ≡ Some first = still_first old new first frame is in
       let refused = works_cut app lawful limits r.props r.inputs r.from m log edits w first item (open_work old) v fault s.2 refl d.0 cut.cut in
@@ -199,7 +203,7 @@ module _ {P C Q V H T E L : Type 0} (app : Application (types C Q V H T E L)) (l
       let wanting : Ended = ends.Run stops.OutOfMemory in
       subst (λ (e : Ended). Broke app limits r edits before after e) (sym same.0)
       (subst (λ (o : Option (List Edit)). Broke app limits r edits before o wanting) (sym same.1)
-      (broke_short app limits r edits before wanting (short_works app limits r.props r.inputs (PartBy wanting) r.from m (r.opening ∷ noted old) edits s.1 first s.2 ([], refl))))
+      (broke_short app limits r edits before wanting (short_works app limits r.props r.inputs (PartBy wanting) r.from m (r.opened ++ noted old) edits s.1 first s.2 ([], refl))))
 
   -- an item was refused, and then writing broke off; or memory was wanting
   pub broke_refused : (item : model.Item (types C Q V H T E L)) (first : replay.Entry) (edits : List doc.Edit) (old new : Machine P C Q V H T E L) (before after : Option (List Edit)) (ended result : Ended)

@@ -4,24 +4,24 @@ use Rattle.std.specs.Prelude.{Option, Some, None, is_some, option_map, if◌then
 use Rattle.std.proofs.lemmas.Bool.{eqb-true}
 use Rattle.rt_calls.specs.Kept.{each, scope_of}
 use Rattle.rt_calls.specs.declared.rest.Scope.{Scope as CodeScope}
-use Rattle.rt_moves.specs.Frames.{Leaves, Shown, shown}
+use Rattle.rt_moves.specs.Frames.{Leaves, Shown, served_by, shown, those}
 use Rattle.rt_moves.proofs.Untouched.{run_leaves, item_leaves, removal_leaves}
-use Rattle.rt_model.proofs.Maps.{by_test}
+use Rattle.rt_model.proofs.Maps.{at_put_here, at_put_other, by_test}
 use Rattle.rt_model.specs.Lists.{at, has}
 use Rattle.rt_model.specs.OneLog.{types}
-use Rattle.rt_model.specs.Tree.{Types}
+use Rattle.rt_model.specs.Tree.{Types, VComponent}
 use Rattle.rt_model.specs.World.{Application}
-use Rattle.rt_model.specs.State.{Posted, Mark, Woken, Scope, State, Item, Draw, Row, Feed, Make, Drop, Outcome, Done, Cut, is_live, is_shown}
+use Rattle.rt_model.specs.State.{Posted, Mark, Woken, Scope, State, Item, Draw, Row, Feed, Make, Drop, Outcome, Done, Cut, changed_scope, is_live, is_shown}
 use Rattle.rt_model.specs.Next.{look_on, look, drop_then, drops, paused, found, looked, at_rest, Work}
 use Rattle.rt_model.specs.Removal.{next_removed, removed}
 use Rattle.rt_model.specs.Run.{run}
-use Rattle.rt_model.specs.Replay.{mounted, mounted_state, outcome_of}
+use Rattle.rt_model.specs.Replay.{fed_child, handed, keeps, mounted, mounted_state, outcome_of, with_props}
 use Rattle.rt_shown.specs.Look.{Sight, sight_of}
 use Rattle.rt_shown.specs.Stands.{Stands}
 use Rattle.rt_shown.specs.declared.look.Stood.{Stood}
 use Rattle.rt_shown.proofs.Standing.{stands_changed}
 use Rattle.rt_turns.specs.Turn.{and_then, again, turn_of}
-use Rattle.rt_machine.specs.Changes.{AllKept, changes_of}
+use Rattle.rt_machine.specs.Changes.{AllKept, changes_of, changes_of_fed, unless}
 
 module _ {K : Types} where
   -- the state after a change
@@ -31,11 +31,7 @@ module _ {K : Types} where
 
   -- the scopes beside these show what they did
   abbrev pub LeavesOthers : List ℕ → State K → State K → Type 0
-  LeavesOthers served w v = (t : ℕ) → has served t ≡ false → shown (at v.scopes t) ≡ shown (at w.scopes t)
-
-  leaves_others : (served moved : List ℕ) (w : State K) (o : Outcome K) → Leaves served moved w o → LeavesOthers served w (state_in o)
-  leaves_others served moved w (Done v work) h = h.sides
-  leaves_others served moved w (Cut v fault) h = h.sides
+  LeavesOthers served w v = (t : ℕ) → has served t ≡ false → option_map sight_of (at v.scopes t) ≡ option_map sight_of (at w.scopes t)
 
   same_state : (o : Outcome K) (more : List (Item K)) → state_in (and_then o more) ≡ state_in o
   same_state (Done w work) more = refl
@@ -49,17 +45,50 @@ module _ {K : Types} where
   sight_is None = refl
   sight_is (Some x) = refl
 
-  pub same_sight : (o p : Option (Scope K)) → shown o ≡ shown p → option_map sight_of o ≡ option_map sight_of p
+  same_sight : (o p : Option (Scope K)) → shown o ≡ shown p → option_map sight_of o ≡ option_map sight_of p
   same_sight o p h = sight_is o ∙ ap sight_from h ∙ sym (sight_is p)
 
+  leaves_others : (served moved : List ℕ) (w : State K) (o : Outcome K) → Leaves served moved w o → LeavesOthers served w (state_in o)
+  leaves_others served moved w (Done v work) h = λ t out. same_sight (at v.scopes t) (at w.scopes t) (h.sides t out)
+  leaves_others served moved w (Cut v fault) h = λ t out. same_sight (at v.scopes t) (at w.scopes t) (h.sides t out)
+
+  -- a change of a scope that leaves what shows of it
+  changed_sight : (w : State K) (s : ℕ) (f : Scope K → Scope K) (o : Option (Scope K)) → at w.scopes s ≡ o → ((x : Scope K) → sight_of (f x) ≡ sight_of x) → (t : ℕ)
+      → option_map sight_of (at (changed_scope w s f o).scopes t) ≡ option_map sight_of (at w.scopes t)
+  changed_sight w s f None found h t = refl
+  changed_sight w s f (Some x) found h t =
+      by_test (nat_eq s t)
+      (
+      λ q.
+      ap (λ (o : Option (Scope K)). option_map sight_of o) (at_put_here w.scopes s (f x) t q)
+      ∙ ap Some (h x)
+      ∙ sym (ap (λ (o : Option (Scope K)). option_map sight_of o) found)
+      ∙ ap (λ (i : ℕ). option_map sight_of (at w.scopes i)) (eqb-true s t q)
+      )
+      (λ q. ap (λ (o : Option (Scope K)). option_map sight_of o) (at_put_other w.scopes s (f x) t q))
+
 module _ {K : Types} (app : Application K) where
+  -- a scope that is handed a component and keeps its output shows what it did
+  handed_leaves : (w : State K) (t : ℕ) (c : VComponent K) (kept : Bool)
+      → LeavesOthers (t ∷ []) w (state_in (if kept then Done (with_props app w t c) [] else run app (with_props app w t c) t))
+      → LeavesOthers (unless kept t) w (state_in (if kept then Done (with_props app w t c) [] else run app (with_props app w t c) t))
+  handed_leaves w t c true h = λ s out. changed_sight w t (λ x. record x { component = c }) (at w.scopes t) refl (λ x. refl) s
+  handed_leaves w t c false h = h
+
+  fed_leaves : (w : State K) (c : VComponent K) (child : Option ℕ)
+      → LeavesOthers (those child) w (state_in (elim child as (λ o. Outcome K) [ None ↦ Done w [] | Some t ↦ handed app w t c ]))
+      → LeavesOthers (changes_of_fed app w c child) w (state_in (elim child as (λ o. Outcome K) [ None ↦ Done w [] | Some t ↦ handed app w t c ]))
+  fed_leaves w c None h = h
+  fed_leaves w c (Some t) h = handed_leaves w t c (keeps app w t c) h
+
   -- a turn at an item changes what shows of its own scopes alone
-  pub turn_leaves : (w : State K) (item : Item K) → LeavesOthers (changes_of w item) w (state_in (turn_of app w item))
-  turn_leaves w (Draw s side p k) = leaves_others (changes_of w (Draw s side p k)) [] w (outcome_of app w (Draw s side p k)) (item_leaves app w (Draw s side p k))
-  turn_leaves w (Row b step) = leaves_others (changes_of w (Row b step)) [] w (outcome_of app w (Row b step)) (item_leaves app w (Row b step))
-  turn_leaves w (Feed s side p c) = leaves_others (changes_of w (Feed s side p c)) [] w (outcome_of app w (Feed s side p c)) (item_leaves app w (Feed s side p c))
+  pub turn_leaves : (w : State K) (item : Item K) → LeavesOthers (changes_of app w item) w (state_in (turn_of app w item))
+  turn_leaves w (Draw s side p k) = leaves_others (served_by w (Draw s side p k)) [] w (outcome_of app w (Draw s side p k)) (item_leaves app w (Draw s side p k))
+  turn_leaves w (Row b step) = leaves_others (served_by w (Row b step)) [] w (outcome_of app w (Row b step)) (item_leaves app w (Row b step))
+  turn_leaves w (Feed s side p c) =
+      fed_leaves w c (fed_child w s side p) (leaves_others (served_by w (Feed s side p c)) [] w (outcome_of app w (Feed s side p c)) (item_leaves app w (Feed s side p c)))
   turn_leaves w (Make s side p c) =
-      leaves_others (changes_of w (Make s side p c)) (w.next_scope ∷ []) w (outcome_of app w (Make s side p c)) (item_leaves app w (Make s side p c))
+      leaves_others (served_by w (Make s side p c)) (w.next_scope ∷ []) w (outcome_of app w (Make s side p c)) (item_leaves app w (Make s side p c))
   turn_leaves w (Drop t s side) =
       let leaf : ℕ = next_removed w t in
       let o : Outcome K = removed app w leaf in
@@ -93,7 +122,7 @@ module _ {P C Q V H T E L : Type 0} where
       → Stands stood was w.scopes → AllKept stood served → LeavesOthers served w v → Stands stood was v.scopes
   stands_after stood was served w v h kept leaves =
       stands_changed stood was w.scopes v.scopes h
-      (λ s none. same_sight (at v.scopes s) (at w.scopes s) (leaves s (not_among stood served s kept none)))
+      (λ s none. leaves s (not_among stood served s kept none))
 
   pub length_each : (rows : List (ℕ × CodeScope P C Q V H T E L)) → length (each scope_of rows) ≡ length rows
   length_each [] = refl

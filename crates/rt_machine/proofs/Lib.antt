@@ -5,15 +5,17 @@ mod Framed
 mod Stacks
 mod Kept
 mod Arms
-mod Keeps
+pub mod Keeps
 mod Wrote
-mod Waiting
+mod Orderly
+pub mod Waiting
 mod Steps
-mod Turning
+pub mod Turning
 pub mod Opening
-mod Running
+pub mod Running
 mod Hearings
 pub mod Short
-mod Breaking
-mod Quiet
+pub mod Breaking
+pub mod Quiet
 pub mod Reporting
+pub mod Noting

@@ -1,5 +1,5 @@
 -- What begins where nothing is at work: a unit, the build, a report; and a report that is finished.
-use Rattle.std.proofs.Common.{ℕ, ◌+◌, Bool, true, false, List, [], ◌∷◌, ◌++◌, ◌≡◌, refl, sym, ap, ◌∙◌, subst, nat_eq, map, Err, reverse}
+use Rattle.std.proofs.Common.{ℕ, ◌+◌, Bool, true, false, List, [], ◌∷◌, ◌++◌, ◌≡◌, refl, sym, ap, ◌∙◌, subst, nat_eq, map, Err, reverse, append_assoc}
 use Rattle.std.proofs.lemmas.List.{append-nil}
 use Rattle.std.specs.Prelude.{Option, Some, None, is_some, option_map}
 use Rattle.rt_edits.specs.declared.edit.Edit.{Edit}
@@ -92,7 +92,7 @@ module _ {P C Q V H T E L : Type 0} (app : Application (types C Q V H T E L)) (l
       let e : replay.Entry = entry_for work in
       let left : nat_eq m.units limits.units ≡ false = ap (λ (n : ℕ). nat_eq n limits.units) (sym (same_units old mid (Some work) at)) ∙ d.0 in
       let done : unit_of app (at_rest m.state) work ≡ Done v did.work = ap (λ (x : model.State (types C Q V H T E L)). unit_of app x work) (sym (at.rested g)) ∙ did.done in
-      let on = rests_begin app lawful due limits r.props r.inputs r.from m (r.opening ∷ noted old) edits work v did.work s.1 s.2 (next_is old mid (Some work) g at) left done in
+      let on = rests_begin app lawful due limits r.props r.inputs r.from m (r.opened ++ noted old) edits work v did.work s.1 s.2 (next_is old mid (Some work) g at) left done in
       let items : open_work new ≡ did.work =
       did.open_is
       ∙ ap (λ xs. did.work ++ xs) (same_work old mid (Some work) at ∙ none_open old idle)
@@ -107,9 +107,10 @@ module _ {P C Q V H T E L : Type 0} (app : Application (types C Q V H T E L)) (l
       let was : scopes_of ((mid.scopes).state.rows).table ≡ m.state.scopes = ap (λ (x : model.State (types C Q V H T E L)). x.scopes) (at.rested g) ∙ rest_scopes m.state in
       let kept : RemembersFor (Some e) new m.state.scopes =
       subst (λ scopes. RemembersFor (Some e) new scopes) was (subst (λ (o : Option replay.Entry). RemembersFor o new (scopes_of ((mid.scopes).state.rows).table)) first remembers) in
-      let here : Works app limits r.props r.inputs r.from (r.opening ∷ noted new) edits m.state e (machine_of h r.left r.taken new) =
-      subst (λ (l : List replay.Entry). Works app limits r.props r.inputs r.from (r.opening ∷ l) edits m.state e (machine_of h r.left r.taken new)) (sym log)
-      (subst (λ (x : replay.Machine (types C Q V H T E L)). Works app limits r.props r.inputs r.from (r.opening ∷ (noted old ++ e ∷ [])) edits m.state e x) (sym same) on) in
+      let here : Works app limits r.props r.inputs r.from (r.opened ++ noted new) edits m.state e (machine_of h r.left r.taken new) =
+      subst (λ (l : List replay.Entry). Works app limits r.props r.inputs r.from (r.opened ++ l) edits m.state e (machine_of h r.left r.taken new)) (sym log)
+      (subst (λ (x : replay.Machine (types C Q V H T E L)). Works app limits r.props r.inputs r.from (r.opened ++ (noted old ++ e ∷ [])) edits m.state e x) (sym same)
+      (subst (λ (l : List replay.Entry). Works app limits r.props r.inputs r.from l edits m.state e (begun_at m v did.work)) (append_assoc r.opened (noted old) (e ∷ [])) on)) in
       subst (λ (o : Option replay.Entry). StandsFor app limits r o edits new) (sym first) (h, m.state, here, kept)
 
   -- no unit begins: its own call was cut, or the units are spent
@@ -118,7 +119,7 @@ module _ {P C Q V H T E L : Type 0} (app : Application (types C Q V H T E L)) (l
       → Resting old mid (Some work)
       → ((g : Unkept (types C Q V H T E L)) → BeginsAs app limits (unit_of app (state_of g (mid.scopes).state) work) (entry_for work ∷ []) mid new (Err ended))
       → fault_in ended ≡ Some fault
-      → Refused app limits r.props r.inputs r.from (r.opening ∷ noted new) edits fault
+      → Refused app limits r.props r.inputs r.from (r.opened ++ noted new) edits fault
   none_begun work edits old mid new ends.Sink fault s at begins why = none_some why
   none_begun work edits old mid new (ends.TooDeep height) fault s at begins why = absurd (begins s.0)
   none_begun work edits old mid new (ends.Run stops.OutOfMemory) fault s at begins why = none_some why
@@ -127,9 +128,9 @@ module _ {P C Q V H T E L : Type 0} (app : Application (types C Q V H T E L)) (l
       let m = machine_of g r.left r.taken old in
       let b = begins g in
       let spent : nat_eq m.units limits.units ≡ true = ap (λ (n : ℕ). nat_eq n limits.units) (sym (same_units old mid (Some work) at)) ∙ b.0 in
-      let refused = rests_spent app limits r.props r.inputs r.from m (r.opening ∷ noted old) edits work s.1 s.2 (next_is old mid (Some work) g at) spent in
-      subst (λ (l : List replay.Entry). Refused app limits r.props r.inputs r.from (r.opening ∷ l) edits fault) (sym (b.2 ∙ same_log old mid (Some work) at))
-      (subst (λ (f : model.Fault). Refused app limits r.props r.inputs r.from (r.opening ∷ noted old) edits f)
+      let refused = rests_spent app limits r.props r.inputs r.from m (r.opened ++ noted old) edits work s.1 s.2 (next_is old mid (Some work) g at) spent in
+      subst (λ (l : List replay.Entry). Refused app limits r.props r.inputs r.from (r.opened ++ l) edits fault) (sym (b.2 ∙ same_log old mid (Some work) at))
+      (subst (λ (f : model.Fault). Refused app limits r.props r.inputs r.from (r.opened ++ noted old) edits f)
       (ap (λ (n : ℕ). model.OutOfTurns n) (sym b.1) ∙ some_fault (model.OutOfTurns units) fault why) refused)
   none_begun work edits old mid new (ends.Run (stops.Fault what)) fault s at begins why =
       let g = s.0 in
@@ -139,18 +140,19 @@ module _ {P C Q V H T E L : Type 0} (app : Application (types C Q V H T E L)) (l
       let left : nat_eq m.units limits.units ≡ false = ap (λ (n : ℕ). nat_eq n limits.units) (sym (same_units old mid (Some work) at)) ∙ b.0 in
       let done : unit_of app (at_rest m.state) work ≡ Cut (state_of cut.kept (new.scopes).state) (fault_of what) =
       ap (λ (x : model.State (types C Q V H T E L)). unit_of app x work) (sym (at.rested g)) ∙ cut.cut in
-      let refused = rests_cut app lawful due limits r.props r.inputs r.from m (r.opening ∷ noted old) edits work (state_of cut.kept (new.scopes).state) (fault_of what) s.1 s.2 (next_is old mid (Some work) g at) left done in
-      subst (λ (l : List replay.Entry). Refused app limits r.props r.inputs r.from (r.opening ∷ l) edits fault) (sym (cut.logged ∙ ap (λ l. l ++ entry_for work ∷ []) (same_log old mid (Some work) at)))
-      (subst (λ (f : model.Fault). Refused app limits r.props r.inputs r.from (r.opening ∷ (noted old ++ entry_for work ∷ [])) edits f) (some_fault (fault_of what) fault why) refused)
+      let refused = rests_cut app lawful due limits r.props r.inputs r.from m (r.opened ++ noted old) edits work (state_of cut.kept (new.scopes).state) (fault_of what) s.1 s.2 (next_is old mid (Some work) g at) left done in
+      subst (λ (l : List replay.Entry). Refused app limits r.props r.inputs r.from (r.opened ++ l) edits fault) (sym (cut.logged ∙ ap (λ l. l ++ entry_for work ∷ []) (same_log old mid (Some work) at)))
+      (subst (λ (f : model.Fault). Refused app limits r.props r.inputs r.from (r.opened ++ (noted old ++ entry_for work ∷ [])) edits f) (some_fault (fault_of what) fault why)
+      (subst (λ (l : List replay.Entry). Refused app limits r.props r.inputs r.from l edits (fault_of what)) (append_assoc r.opened (noted old) (entry_for work ∷ [])) refused))
 
 module _ {K : Types} (app : Application K) (limits : causes.Limits) (props : K.Props) (inputs : List (replay.Input K)) where
   -- the build's report, on its way
   abbrev pub building : Going K
-  building = record { props = props; inputs = inputs; from = start app props inputs; opening = replay.Build; left = inputs; taken = 0 }
+  building = record { props = props; inputs = inputs; from = start app props inputs; opened = replay.Build ∷ []; left = inputs; taken = 0 }
 
   -- the report of an input, on its way
   abbrev pub taking : List (replay.Input K) → ℕ → replay.Machine K → Going K
-  taking left number last = record { props = props; inputs = inputs; from = last; opening = replay.Taken number; left = left; taken = number }
+  taking left number last = record { props = props; inputs = inputs; from = last; opened = replay.Taken number ∷ []; left = left; taken = number }
 
 module _ {P C Q V H T E L : Type 0} (app : Application (types C Q V H T E L)) (limits : causes.Limits) (props : Q) (inputs : List (replay.Input (types C Q V H T E L))) where
   fresh_log : (old new : Machine P C Q V H T E L) → IsFresh old → noted new ≡ noted old ++ [] → noted new ≡ []
@@ -235,7 +237,7 @@ module _ {P C Q V H T E L : Type 0} (app : Application (types C Q V H T E L)) (l
   pub stands_reported : (report : Report) (before after : Option (List Edit)) (count : ℕ) (old new : Machine P C Q V H T E L)
       → Over app limits r [] before after count old
       → report.edits ≡ count
-      → map entry_of report.log ≡ r.opening ∷ noted old
+      → map entry_of report.log ≡ r.opened ++ noted old
       → report.default_enabled ≡ old.default_enabled
       → new ≡ record old { course = new.course }
       → (new.course).entries ≡ []

@@ -46,8 +46,8 @@ module _ {P C Q V H T E L : Type 0} (app : Application (types C Q V H T E L)) (l
       let t = hears g in
       let h = t.2 in
       let rests =
-      subst (λ (l : List replay.Entry). Rests app limits r.props r.inputs r.from (r.opening ∷ l) edits (machine_of h r.left r.taken new)) (sym t.1)
-      (subst (λ (x : replay.Machine (types C Q V H T E L)). Rests app limits r.props r.inputs r.from (r.opening ∷ noted old) edits x) t.3 s.1) in
+      subst (λ (l : List replay.Entry). Rests app limits r.props r.inputs r.from (r.opened ++ l) edits (machine_of h r.left r.taken new)) (sym t.1)
+      (subst (λ (x : replay.Machine (types C Q V H T E L)). Rests app limits r.props r.inputs r.from (r.opened ++ noted old) edits x) t.3 s.1) in
       (h, rests, ap (λ (x : replay.Machine (types C Q V H T E L)). replay.waiting x) (sym t.3) ∙ t.0)
 
   -- its call was cut
@@ -55,10 +55,10 @@ module _ {P C Q V H T E L : Type 0} (app : Application (types C Q V H T E L)) (l
       → StandsFor app limits r None edits old
       → ((g : Unkept (types C Q V H T E L)) → HearsAs app (machine_of g r.left r.taken old) (noted old) (noted new) (λ h. machine_of h r.left r.taken new) (Err stop))
       → fault_in (ends.Run stop) ≡ Some fault
-      → Refused app limits r.props r.inputs r.from (r.opening ∷ noted new) edits fault
+      → Refused app limits r.props r.inputs r.from (r.opened ++ noted new) edits fault
   quiet_cut edits old new stops.OutOfMemory fault s hears why = none_some why
   quiet_cut edits old new (stops.Fault what) fault s hears why =
-      subst (λ (f : model.Fault). Refused app limits r.props r.inputs r.from (r.opening ∷ noted new) edits f) (by (fault_of what) fault why)
+      subst (λ (f : model.Fault). Refused app limits r.props r.inputs r.from (r.opened ++ noted new) edits f) (by (fault_of what) fault why)
       (heard_refused app lawful limits r edits old new (fault_of what) s hears)
     where
       by : (a b : model.Fault) → Some a ≡ Some b → a ≡ b
@@ -102,8 +102,8 @@ module _ {P C Q V H T E L : Type 0} (app : Application (types C Q V H T E L)) (l
         (
           t.0,
           t.1,
-          subst (λ (l : List replay.Entry). Works app limits r.props r.inputs r.from (r.opening ∷ l) edits t.1 first (record (machine_of t.0 r.left r.taken new) { work = item_of item ∷ open_work new })) (ap (λ (d : Machine P C Q V H T E L). noted d) (sym frame))
-              (subst (λ (x : replay.Machine (types C Q V H T E L)). Works app limits r.props r.inputs r.from (r.opening ∷ noted old) edits t.1 first x) (at t.0) t.2),
+          subst (λ (l : List replay.Entry). Works app limits r.props r.inputs r.from (r.opened ++ l) edits t.1 first (record (machine_of t.0 r.left r.taken new) { work = item_of item ∷ open_work new })) (ap (λ (d : Machine P C Q V H T E L). noted d) (sym frame))
+              (subst (λ (x : replay.Machine (types C Q V H T E L)). Works app limits r.props r.inputs r.from (r.opened ++ noted old) edits t.1 first x) (at t.0) t.2),
           remembers first t.1.scopes t.3,
         ),
       )
@@ -131,7 +131,7 @@ module _ {P C Q V H T E L : Type 0} (app : Application (types C Q V H T E L)) (l
         record {
           wrote = [];
           told = grown_none now;
-          refused = subst (λ es. Refused app limits r.props r.inputs r.from (r.opening ∷ noted new) es fault) (sym (append-nil edits)) (h fault why);
+          refused = subst (λ es. Refused app limits r.props r.inputs r.from (r.opened ++ noted new) es fault) (sym (append-nil edits)) (h fault why);
         },
     broke,
   )
@@ -178,7 +178,7 @@ module _ {P C Q V H T E L : Type 0} (app : Application (types C Q V H T E L)) (l
         record {
           wrote = on.wrote ++ came.wrote;
           told = told_more before now after on.wrote came.wrote on.told came.told;
-          refused = subst (λ es. Refused app limits r.props r.inputs r.from (r.opening ∷ noted e) es fault) (joined edits on.wrote came.wrote) came.refused;
+          refused = subst (λ es. Refused app limits r.props r.inputs r.from (r.opened ++ noted e) es fault) (joined edits on.wrote came.wrote) came.refused;
         },
     λ none. broke_after app limits r edits before now after count d ended on (t.1 none),
   )

@@ -67,7 +67,7 @@ module _ {P C Q V H T E L : Type 0} (app : Application (types C Q V H T E L)) wh
   pub still_remembers : (item : model.Item (types C Q V H T E L)) (old new : Machine P C Q V H T E L) (g h : Unkept (types C Q V H T E L)) (was : List (ℕ × model.Scope (types C Q V H T E L)))
       → first_in new ≡ first_in old
       → new.lived ≡ old.lived
-      → (is_rerun (first_in old) ≡ true → AllKept new.stood (changes_of (state_of g (old.scopes).state) item))
+      → (is_rerun (first_in old) ≡ true → AllKept new.stood (changes_of app (state_of g (old.scopes).state) item))
       → (Stands old.stood was (scopes_of ((old.scopes).state.rows).table) → Stands new.stood was (scopes_of ((old.scopes).state.rows).table))
       → state_in (turn_of app (state_of g (old.scopes).state) item) ≡ state_of h (new.scopes).state
       → Remembers old was → Remembers new was
@@ -78,8 +78,8 @@ module _ {P C Q V H T E L : Type 0} (app : Application (types C Q V H T E L)) wh
       (kept_rerun (first_in old) old new was
       (
       λ rerun before.
-      stands_after new.stood was (changes_of w item) w v (stands before) (kept rerun)
-      (subst (λ (x : model.State (types C Q V H T E L)). LeavesOthers (changes_of w item) w x) after (turn_leaves app w item))
+      stands_after new.stood was (changes_of app w item) w v (stands before) (kept rerun)
+      (subst (λ (x : model.State (types C Q V H T E L)). LeavesOthers (changes_of app w item) w x) after (turn_leaves app w item))
       )
       count remembers)
 

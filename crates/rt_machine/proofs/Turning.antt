@@ -1,5 +1,5 @@
 -- What a turn makes of where a session stands.
-use Rattle.std.proofs.Common.{ℕ, false, List, [], ◌∷◌, ◌++◌, ◌≡◌, refl, sym, ap, ◌∙◌, subst, map, Err, reverse}
+use Rattle.std.proofs.Common.{ℕ, false, List, [], ◌∷◌, ◌++◌, ◌≡◌, refl, sym, ap, ◌∙◌, subst, map, Err, reverse, append_assoc}
 use Rattle.std.proofs.lemmas.List.{append-nil}
 use Rattle.std.specs.Prelude.{Option, Some, None, is_some, option_map}
 use Rattle.rt_edits.specs.Sinks.{grown}
@@ -34,6 +34,7 @@ use Rattle.rt_machine.specs.Writings.{Closes, WroteUntil}
 use Rattle.rt_machine.specs.declared.ended.Ended.{Ended}
 use Rattle.rt_machine.specs.declared.ended.Ended.TheVariants as ends
 use Rattle.rt_machine.specs.declared.machine.Machine.{Machine}
+use Rattle.rt_machine.proofs.Orderly.{orderly_reached}
 
 pub grown_none : (old : Option (List Edit)) → old ≡ grown old []
 grown_none None = refl
@@ -89,12 +90,13 @@ module _ {P C Q V H T E L : Type 0} (app : Application (types C Q V H T E L)) (l
       let m = record (machine_of g r.left r.taken old) { work = item ∷ open_work old } in
       let es = entries_at app (state_of g (old.scopes).state) item in
       let now : first_in new ≡ Some first = still_first old new first frame is in
-      let on = works_turn app lawful limits r.props r.inputs r.from m (r.opening ∷ noted old) edits w first item (open_work old) v did.work s.2 refl d.0 did.done in
+      let on = works_turn app lawful limits r.props r.inputs r.from m (r.opened ++ noted old) edits w first item (open_work old) v did.work s.2 refl d.0 did.done in
       let same = busy_is g h r.left r.taken old new (did.work ++ open_work old) frame did.open_is in
-      let here : Works app limits r.props r.inputs r.from (r.opening ∷ (noted old ++ es)) edits w first (machine_of h r.left r.taken new) =
-      subst (λ (x : replay.Machine (types C Q V H T E L)). Works app limits r.props r.inputs r.from (r.opening ∷ (noted old ++ es)) edits w first x) same on in
-      let there : Works app limits r.props r.inputs r.from (r.opening ∷ noted new) edits w first (machine_of h r.left r.taken new) =
-      subst (λ (l : List replay.Entry). Works app limits r.props r.inputs r.from (r.opening ∷ l) edits w first (machine_of h r.left r.taken new)) (sym did.logged) here in
+      let here : Works app limits r.props r.inputs r.from (r.opened ++ (noted old ++ es)) edits w first (machine_of h r.left r.taken new) =
+      subst (λ (l : List replay.Entry). Works app limits r.props r.inputs r.from l edits w first (machine_of h r.left r.taken new)) (append_assoc r.opened (noted old) es)
+      (subst (λ (x : replay.Machine (types C Q V H T E L)). Works app limits r.props r.inputs r.from ((r.opened ++ noted old) ++ es) edits w first x) same on) in
+      let there : Works app limits r.props r.inputs r.from (r.opened ++ noted new) edits w first (machine_of h r.left r.taken new) =
+      subst (λ (l : List replay.Entry). Works app limits r.props r.inputs r.from (r.opened ++ l) edits w first (machine_of h r.left r.taken new)) (sym did.logged) here in
       let kept = still_remembered g old new first w.scopes is now still s.3 in
       subst (λ (o : Option replay.Entry). StandsFor app limits r o edits new) (sym now) (h, w, there, kept)
 
@@ -111,13 +113,13 @@ module _ {P C Q V H T E L : Type 0} (app : Application (types C Q V H T E L)) (l
       let w = s.1 in
       let m = record (machine_of g r.left r.taken old) { work = item ∷ open_work old } in
       let here : WroteUntil item old before after = subst (λ (d : Machine P C Q V H T E L). WroteUntil item d before after) same wrote in
-      let refused = works_deep app lawful limits r.props r.inputs r.from m (r.opening ∷ noted old) edits w first item (open_work old) fault s.2 refl (deep g) in
+      let refused = works_deep app lawful limits r.props r.inputs r.from m (r.opened ++ noted old) edits w first item (open_work old) fault s.2 refl (deep g) in
       let are : map edit_of here.wrote ≡ caused_until app w (state_of g (old.scopes).state) (Some item) first = here.are first is app lawful g w s.3 in
       subst (λ (d : Machine P C Q V H T E L). CameTo app limits r edits before after fault d) (sym same)
       (record {
         wrote = here.wrote;
         told = here.told;
-        refused = subst (λ (es : List doc.Edit). Refused app limits r.props r.inputs r.from (r.opening ∷ noted old) (edits ++ es) fault) (sym are) refused;
+        refused = subst (λ (es : List doc.Edit). Refused app limits r.props r.inputs r.from (r.opened ++ noted old) (edits ++ es) fault) (sym are) refused;
       })
 
   -- an item's change was cut
@@ -139,15 +141,16 @@ module _ {P C Q V H T E L : Type 0} (app : Application (types C Q V H T E L)) (l
       let m = record (machine_of g r.left r.taken old) { work = item ∷ open_work old } in
       let es = entries_at app (state_of g (old.scopes).state) item in
       let now : first_in new ≡ Some first = still_first old new first frame is in
-      let refused = works_cut app lawful limits r.props r.inputs r.from m (r.opening ∷ noted old) edits w first item (open_work old) v fault s.2 refl d.0 cut.cut in
+      let refused = works_cut app lawful limits r.props r.inputs r.from m (r.opened ++ noted old) edits w first item (open_work old) v fault s.2 refl d.0 cut.cut in
       let kept = still_remembered g old new first w.scopes is now still s.3 in
       let are : map edit_of wrote.wrote ≡ caused_until app w v (Some item) first = wrote.are first now app lawful h w kept in
       record {
         wrote = wrote.wrote;
         told = wrote.told;
         refused =
-            subst (λ (l : List replay.Entry). Refused app limits r.props r.inputs r.from (r.opening ∷ l) (edits ++ map edit_of wrote.wrote) fault) (sym cut.logged)
-            (subst (λ (xs : List doc.Edit). Refused app limits r.props r.inputs r.from (r.opening ∷ (noted old ++ es)) (edits ++ xs) fault) (sym are) refused);
+            subst (λ (l : List replay.Entry). Refused app limits r.props r.inputs r.from (r.opened ++ l) (edits ++ map edit_of wrote.wrote) fault) (sym cut.logged)
+            (subst (λ (l : List replay.Entry). Refused app limits r.props r.inputs r.from l (edits ++ map edit_of wrote.wrote) fault) (append_assoc r.opened (noted old) es)
+            (subst (λ (xs : List doc.Edit). Refused app limits r.props r.inputs r.from ((r.opened ++ noted old) ++ es) (edits ++ xs) fault) (sym are) refused));
       }
 
   -- an item was refused
@@ -184,18 +187,18 @@ module _ {P C Q V H T E L : Type 0} (app : Application (types C Q V H T E L)) (l
       let m = machine_of g r.left r.taken old in
       let now : first_in new ≡ None = ap (λ o. option_map entry_of o) over in
       let none : open_work old ≡ [] = ap (λ xs. work_of (reverse xs)) idle in
-      let closed = works_close app limits r.props r.inputs r.from m (r.opening ∷ noted old) edits w first s.2 none in
+      let closed = works_close app limits r.props r.inputs r.from m (r.opened ++ noted old) edits w first s.2 none in
       let same : machine_of g r.left r.taken new ≡ record m { unit = false; state = replay.mounted_state m.state } =
       ap (λ (d : Machine P C Q V H T E L). machine_of g r.left r.taken d) frame
       ∙ ap (λ (x : model.State (types C Q V H T E L)). record m { state = x; unit = is_some (first_in new) }) (mounted g)
       ∙ ap (λ (o : Option replay.Entry). record m { state = replay.mounted_state m.state; unit = is_some o }) now in
-      let are : map edit_of closes.wrote ≡ caused app w (replay.mounted_state m.state) first = closes.are app lawful g w s.3 in
+      let are : map edit_of closes.wrote ≡ caused app w (replay.mounted_state m.state) first = closes.are app lawful g w s.3 (orderly_reached app lawful limits r.props r.inputs (record m { unit = false; state = replay.mounted_state m.state }) closed.reached (closed.rest).alive (closed.rest).idle) in
       let log : noted new ≡ noted old = ap (λ (d : Machine P C Q V H T E L). noted d) frame in
       let wrote : List doc.Edit = edits ++ map edit_of closes.wrote in
-      let rests : Rests app limits r.props r.inputs r.from (r.opening ∷ noted new) wrote (machine_of g r.left r.taken new) =
-      subst (λ (l : List replay.Entry). Rests app limits r.props r.inputs r.from (r.opening ∷ l) wrote (machine_of g r.left r.taken new)) (sym log)
-      (subst (λ (x : replay.Machine (types C Q V H T E L)). Rests app limits r.props r.inputs r.from (r.opening ∷ noted old) wrote x) (sym same)
-      (subst (λ (es : List doc.Edit). Rests app limits r.props r.inputs r.from (r.opening ∷ noted old) (edits ++ es) (record m { unit = false; state = replay.mounted_state m.state })) (sym are) closed)) in
+      let rests : Rests app limits r.props r.inputs r.from (r.opened ++ noted new) wrote (machine_of g r.left r.taken new) =
+      subst (λ (l : List replay.Entry). Rests app limits r.props r.inputs r.from (r.opened ++ l) wrote (machine_of g r.left r.taken new)) (sym log)
+      (subst (λ (x : replay.Machine (types C Q V H T E L)). Rests app limits r.props r.inputs r.from (r.opened ++ noted old) wrote x) (sym same)
+      (subst (λ (es : List doc.Edit). Rests app limits r.props r.inputs r.from (r.opened ++ noted old) (edits ++ es) (record m { unit = false; state = replay.mounted_state m.state })) (sym are) closed)) in
       record {
         wrote = closes.wrote;
         told = closes.told;
@@ -219,7 +222,7 @@ module _ {P C Q V H T E L : Type 0} (app : Application (types C Q V H T E L)) (l
       record {
         kept = g;
         last = m;
-        rests = subst (λ (l : List replay.Entry). Rests app limits r.props r.inputs r.from (r.opening ∷ l) edits m) (sym log) s.1;
+        rests = subst (λ (l : List replay.Entry). Rests app limits r.props r.inputs r.from (r.opened ++ l) edits m) (sym log) s.1;
         quiet = s.2;
         none = ap (λ (x : model.State (types C Q V H T E L)). next_at_rest x) (sym (rested g)) ∙ sym (none g);
         idle = ap (λ (d : Machine P C Q V H T E L). d.work) frame ∙ idle;
@@ -244,19 +247,23 @@ module _ {P C Q V H T E L : Type 0} (app : Application (types C Q V H T E L)) (l
       let u = machine_of h r.left r.taken new in
       let now : first_in new ≡ None = ap (λ o. option_map entry_of o) over in
       let rest : AtRest u = record { alive = refl; idle = ap (λ xs. work_of (reverse xs)) idle; unit = ap (λ (o : Option replay.Entry). is_some o) now } in
-      let on = rests_heard app limits r.props r.inputs r.from m u (r.opening ∷ noted old) edits one.first one.others s.1 one.waits one.heard_is rest refl in
-      subst (λ (o : Option replay.Entry). StandsFor app limits r o edits new) (sym now)
-      (h, subst (λ (l : List replay.Entry). Rests app limits r.props r.inputs r.from (r.opening ∷ l) edits u) (sym one.logged) on)
+      let on = rests_heard app limits r.props r.inputs r.from m u (r.opened ++ noted old) edits one.first one.others s.1 one.waits one.heard_is rest refl in
+      subst (λ (o : Option replay.Entry). StandsFor app limits r o edits new) (sym now) (
+        h,
+        subst (λ (l : List replay.Entry). Rests app limits r.props r.inputs r.from (r.opened ++ l) edits u) (sym one.logged)
+            (subst (λ (l : List replay.Entry). Rests app limits r.props r.inputs r.from l edits u) (append_assoc r.opened (noted old) (replay.Heard one.first.origin ∷ [])) on),
+      )
 
   -- its call was cut
   pub heard_refused : (edits : List doc.Edit) (old new : Machine P C Q V H T E L) (fault : model.Fault)
       → StandsFor app limits r None edits old
       → ((g : Unkept (types C Q V H T E L)) → HeardPart app (machine_of g r.left r.taken old) (noted old) (noted new) fault)
-      → Refused app limits r.props r.inputs r.from (r.opening ∷ noted new) edits fault
+      → Refused app limits r.props r.inputs r.from (r.opened ++ noted new) edits fault
   heard_refused edits old new fault s hears =
       let g = s.0 in
       let part = hears g in
       let one = part.one in
       let m = machine_of g r.left r.taken old in
-      subst (λ (l : List replay.Entry). Refused app limits r.props r.inputs r.from (r.opening ∷ l) edits fault) (sym one.logged)
-      (heard_cut app limits r.props r.inputs r.from m part.left (r.opening ∷ noted old) edits one.first one.others fault s.1 one.waits one.heard_is part.dead part.refused)
+      subst (λ (l : List replay.Entry). Refused app limits r.props r.inputs r.from (r.opened ++ l) edits fault) (sym one.logged)
+      (subst (λ (l : List replay.Entry). Refused app limits r.props r.inputs r.from l edits fault) (append_assoc r.opened (noted old) (replay.Heard one.first.origin ∷ []))
+      (heard_cut app limits r.props r.inputs r.from m part.left (r.opened ++ noted old) edits one.first one.others fault s.1 one.waits one.heard_is part.dead part.refused))

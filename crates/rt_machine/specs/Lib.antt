@@ -9,3 +9,4 @@ pub mod Writings
 pub mod Sessions
 pub mod Stands
 pub mod Runs
+pub mod Keeps

@@ -25,12 +25,12 @@ use Rattle.rt_machine.specs.declared.machine.Machine.{Machine}
 
 module _ (K : tree.Types) where
   -- a report on its way: the session's props and inputs, the machine at which the report began, the entry that
-  -- opened it, the inputs that are left and the number of those taken
+  -- opened it, none of a program's own call, the inputs that are left and the number of those taken
   pub record Going : Type 0 where
     pub props : K.Props
     pub inputs : List (replay.Input K)
     pub from : replay.Machine K
-    pub opening : replay.Entry
+    pub opened : List replay.Entry
     pub left : List (replay.Input K)
     pub taken : ℕ
 
@@ -59,18 +59,18 @@ module _ {P C Q V H T E L : Type 0} (app : Application (types C Q V H T E L)) (l
     abbrev pub StandsFor : Option replay.Entry → List doc.Edit → Machine P C Q V H T E L → Type 0
     StandsFor None edits d =
         (g : Unkept (types C Q V H T E L))
-        × Rests app limits r.props r.inputs r.from (r.opening ∷ noted d) edits (machine_of g r.left r.taken d)
+        × Rests app limits r.props r.inputs r.from (r.opened ++ noted d) edits (machine_of g r.left r.taken d)
     StandsFor (Some first) edits d =
         (g : Unkept (types C Q V H T E L))
         × (w : model.State (types C Q V H T E L))
-        × Works app limits r.props r.inputs r.from (r.opening ∷ noted d) edits w first (machine_of g r.left r.taken d)
+        × Works app limits r.props r.inputs r.from (r.opened ++ noted d) edits w first (machine_of g r.left r.taken d)
         × RemembersFor (Some first) d w.scopes
 
     -- where no listener waits, either
     abbrev pub StandsQuiet : List doc.Edit → Machine P C Q V H T E L → Type 0
     StandsQuiet edits d =
         (g : Unkept (types C Q V H T E L))
-        × Rests app limits r.props r.inputs r.from (r.opening ∷ noted d) edits (machine_of g r.left r.taken d)
+        × Rests app limits r.props r.inputs r.from (r.opened ++ noted d) edits (machine_of g r.left r.taken d)
         × (replay.waiting (machine_of g r.left r.taken d) ≡ [])
 
     -- with these edits so far
@@ -81,7 +81,7 @@ module _ {P C Q V H T E L : Type 0} (app : Application (types C Q V H T E L)) (l
     pub record Settled (edits : List doc.Edit) (d : Machine P C Q V H T E L) : Type 0 where
       pub kept : Unkept (types C Q V H T E L)
       pub last : replay.Machine (types C Q V H T E L)
-      pub rests : Rests app limits r.props r.inputs r.from (r.opening ∷ noted d) edits last
+      pub rests : Rests app limits r.props r.inputs r.from (r.opened ++ noted d) edits last
       pub quiet : replay.waiting last ≡ []
       pub none : next last.state ≡ None
       pub idle : d.work ≡ []
@@ -93,7 +93,7 @@ module _ {P C Q V H T E L : Type 0} (app : Application (types C Q V H T E L)) (l
         Type 0 where
       pub wrote : List Edit
       pub told : after ≡ grown before wrote
-      pub refused : Refused app limits r.props r.inputs r.from (r.opening ∷ noted d) (edits ++ map edit_of wrote) fault
+      pub refused : Refused app limits r.props r.inputs r.from (r.opened ++ noted d) (edits ++ map edit_of wrote) fault
 
     -- the fault for which it ends, if it is one of the definitions'
     abbrev pub Comes : List doc.Edit → Option (List Edit) → Option (List Edit) → Ended → Machine P C Q V H T E L → Type 0
@@ -123,7 +123,7 @@ module _ {P C Q V H T E L : Type 0} (app : Application (types C Q V H T E L)) (l
     StandsBefore item first edits d =
         (g : Unkept (types C Q V H T E L))
         × (w : model.State (types C Q V H T E L))
-        × Works app limits r.props r.inputs r.from (r.opening ∷ noted d) edits w first
+        × Works app limits r.props r.inputs r.from (r.opened ++ noted d) edits w first
         (record (machine_of g r.left r.taken d) { work = item ∷ open_work d })
         × RemembersFor (Some first) d w.scopes
 
@@ -138,7 +138,7 @@ module _ {P C Q V H T E L : Type 0} (app : Application (types C Q V H T E L)) (l
     QuietAs edits d (Ok None) = Settled edits d
     QuietAs edits d (Ok (Some count)) = StandsAt edits d
     QuietAs edits d (Err ended) =
-        (fault : model.Fault) → fault_in ended ≡ Some fault → Refused app limits r.props r.inputs r.from (r.opening ∷ noted d) edits fault
+        (fault : model.Fault) → fault_in ended ≡ Some fault → Refused app limits r.props r.inputs r.from (r.opened ++ noted d) edits fault
 
     -- turns up to where nothing is left to do, or to a fault
     abbrev pub SettlesAs : List doc.Edit → Option (List Edit) → Option (List Edit) → Machine P C Q V H T E L → Result ℕ Ended → Type 0

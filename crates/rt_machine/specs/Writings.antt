@@ -4,6 +4,8 @@ use Rattle.rt_edits.specs.Sinks.{grown}
 use Rattle.rt_edits.specs.declared.edit.Edit.{Edit}
 use Rattle.rt_mirror.specs.Mirror.{edit_of}
 use Rattle.rt_model.specs.OneLog.{types}
+use Rattle.rt_model.specs.Tree.{Types}
+use Rattle.rt_model.specs.Unchanged.{AllSingle}
 use Rattle.rt_model.specs.Laws.{IsLawful}
 use Rattle.rt_model.specs.World.{Application}
 use Rattle.rt_model.specs.State as model
@@ -11,11 +13,18 @@ use Rattle.rt_model.specs.Replay as replay
 use Rattle.rt_model.specs.Caused.{caused, caused_until}
 use Rattle.rt_state.specs.Mirror.{Unkept, state_of}
 use Rattle.rt_state.specs.declared.names.Stop.TheVariants as stops
+use Rattle.rt_shown.specs.Touched.{KnowParents}
 use Rattle.rt_machine.specs.Machines.{RemembersFor, first_in, fault_in}
 use Rattle.rt_machine.specs.Short.{PartBy}
 use Rattle.rt_machine.specs.declared.ended.Ended.{Ended}
 use Rattle.rt_machine.specs.declared.ended.Ended.TheVariants as ends
 use Rattle.rt_machine.specs.declared.machine.Machine.{Machine}
+
+module _ {K : Types} where
+  -- no attribute slot has a name twice, and live children know their parents
+  pub record IsOrderly (v : model.State K) : Type 0 where
+    pub single : AllSingle v
+    pub know : KnowParents v
 
 -- edits were written up to where the session broke off
 pub record WrotePart (edits : List Edit) (before after : Option (List Edit)) (ended : Ended) : Type 0 where
@@ -31,6 +40,7 @@ module _ {P C Q V H T E L : Type 0} where
       (app : Application (types C Q V H T E L)) → IsLawful (types C Q V H T E L) app
       → (g : Unkept (types C Q V H T E L)) (w : model.State (types C Q V H T E L))
       → RemembersFor (Some first) d w.scopes
+      → IsOrderly (state_of g (d.scopes).state)
       → map edit_of edits ≡ caused app w (state_of g (d.scopes).state) first
 
   -- and where it ends: all that shows is mounted
@@ -39,6 +49,7 @@ module _ {P C Q V H T E L : Type 0} where
       (app : Application (types C Q V H T E L)) → IsLawful (types C Q V H T E L) app
       → (g : Unkept (types C Q V H T E L)) (w : model.State (types C Q V H T E L))
       → RemembersFor (Some first) d w.scopes
+      → IsOrderly (replay.mounted_state (state_of g (d.scopes).state))
       → map edit_of edits ≡ caused app w (replay.mounted_state (state_of g (d.scopes).state)) first
 
   -- the edits up to an item that was refused
@@ -68,6 +79,7 @@ module _ {P C Q V H T E L : Type 0} where
           (app : Application (types C Q V H T E L)) → IsLawful (types C Q V H T E L) app
           → (g : Unkept (types C Q V H T E L)) (w : model.State (types C Q V H T E L))
           → RemembersFor (Some first) d w.scopes
+          → IsOrderly (replay.mounted_state (state_of g (d.scopes).state))
           → PartBy ended (map edit_of wrote) (caused app w (replay.mounted_state (state_of g (d.scopes).state)) first)
 
   -- the edits up to a refused item were taken

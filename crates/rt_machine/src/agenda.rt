@@ -273,7 +273,7 @@ fn take<A: App>(
     let alloc = scopes.alloc;
     let leaf = next_removed(alloc, &scopes.state, child)?;
     course.note(Entry::Removed(ScopeId(leaf)))?;
-    scopes.remove_leaf(app, calls, ScopeId(leaf))?;
+    scopes.remove_leaf(app, calls, ScopeId(leaf), true)?;
     Ok(drop_again(alloc, leaf == child, child, scope, side)?)
 }
 

@@ -1,5 +1,5 @@
 //! Inputs, and the listeners that an event calls.
-ghost use Rattle.std.specs.Prelude.{◌≡◌, ◌∷◌, ◌++◌, [], false, map, IfOk, OnOk, MatchOption};
+ghost use Rattle.std.specs.Prelude.{◌≡◌, ◌∷◌, ◌++◌, [], false, map, None, IfOk, OnOk, MatchOption};
 ghost use Rattle.rt_model.specs.Heard.{heard};
 ghost use Rattle.rt_model.specs.Replay.{post_message, post_messages, taken_in, then_looked, further};
 ghost use Rattle.rt_calls.specs.Answers.{event_of};
@@ -94,7 +94,7 @@ fn hearers<P: Parts>(
 }
 
 /// Does what messages ask for, in order.
-fn post_messages<P: Parts>(state: &mut State<P>, messages: &[Msg]) -> Result<(), OutOfMemory>
+pub fn post_messages<P: Parts>(state: &mut State<P>, messages: &[Msg]) -> Result<(), OutOfMemory>
     ensures { OnOk result ((g : _) → state_of g state.new
         ≡ post_messages (state_of g state.old) (map message_of messages.now)) }
 {
@@ -234,10 +234,13 @@ fn further<P: Parts>(
 
 impl<A: App> Machine<A> {
     /// Calls the first listener that waits with the event on its way. False where none waits.
-    pub(crate) fn hear(&mut self, app: &A, calls: &mut Calls) -> Result<bool, Stop>
+    pub fn hear(&mut self, app: &A, calls: &mut Calls) -> Result<bool, Stop>
         ensures hears { Hears (A.meaning app.now) self.old self.new result }
         ensures first { self.new.first ≡ self.old.first }
         ensures work { self.new.work ≡ self.old.work }
+        ensures silent { self.old.hearing ≡ None → self.new ≡ self.old }
+        ensures passed { IfOk result (λ was_heard. was_heard ≡ false →
+            self.new ≡ record self.old { hearing = self.new.hearing }) }
     {
         let alloc = self.scopes.alloc;
         let Some(hearing) = self.hearing.take() else {

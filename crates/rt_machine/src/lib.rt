@@ -4,6 +4,7 @@
 #![tactic(auto)]
 
 mod agenda;
+mod apart;
 mod course;
 mod ended;
 mod input;
@@ -18,4 +19,6 @@ mod writing;
 
 pub use course::Course;
 pub use ended::Ended;
+pub use input::post_messages;
 pub use machine::{Hearing, Machine};
+pub use turn::sum;

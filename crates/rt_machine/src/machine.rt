@@ -13,6 +13,7 @@ use rt_parts::Event;
 use rt_reports::{Entry, Report, bodies_in, units_in};
 use rt_scopes::Scopes;
 use rt_shown::{Listener, Stood};
+use rt_table::Table;
 use rt_values::{List, OutOfMemory};
 use rt_work::Item;
 use std::alloc::Global;
@@ -40,7 +41,7 @@ pub struct Machine<A: App> {
     /// The entry that began the build or the unit at work.
     pub first: Option<Entry>,
     /// What the scopes that a rerun has changed were before it, with none for each that it made.
-    pub stood: List<(u64, Option<Stood<A>>)>,
+    pub stood: Table<Option<Stood<A>>>,
     /// How many scopes were live before it.
     pub lived: u64,
     /// Of the report on its way: its entries after the first, its units, and whether no listener
@@ -86,7 +87,7 @@ impl<A: App> Machine<A> {
             work: List::new(alloc),
             hearing: None,
             first: None,
-            stood: List::new(alloc),
+            stood: Table::new(alloc),
             lived: 0,
             course: Course::new(alloc),
             units: 0,

@@ -55,6 +55,7 @@ impl<A: App> Machine<A> {
         keep_where(
             self.is_compared(),
             self.scopes.alloc,
+            app,
             &self.scopes.state,
             item,
             &mut self.stood,

@@ -1,22 +1,25 @@
 //! What the scopes that a rerun changes were before it.
 ghost use Rattle.std.specs.Prelude.{◌≡◌, ℕ, true, is_some, option_map, IfOk, OnOk};
 ghost use Rattle.rt_model.specs.Lists.{at};
-ghost use Rattle.rt_moves.specs.Frames.{those};
+ghost use Rattle.rt_mirror.specs.Sealed.{component_of};
 ghost use Rattle.rt_calls.specs.Calls.{number_of};
 ghost use Rattle.rt_state.specs.Mirror.{scopes_of, state_of};
 ghost use Rattle.rt_shown.specs.Look as looks;
 ghost use Rattle.rt_shown.specs.Stands.{Stands};
 ghost use Rattle.rt_state.specs.Names.{work_of};
 ghost use Rattle.rt_work.specs.Items.{item_of};
-ghost use Rattle.rt_machine.specs.Changes.{AllKept, KeepsFor, changes_of};
+ghost use Rattle.rt_machine.specs.Changes.{AllKept, KeepsFor, changes_of, changes_of_fed, unless};
 
-use rt_calls::Scope;
+use crate::keeping::keeps;
+use rt_calls::{App, Scope};
+use rt_nodes::VComponent;
 use rt_parts::Parts;
 use rt_places::Side;
 use rt_shown::Stood;
 use rt_sides::{fed_child, next_removed};
 use rt_state::{State, Work};
-use rt_values::{List, OutOfMemory, Part, ScopeId};
+use rt_table::Table;
+use rt_values::{OutOfMemory, Part, ScopeId};
 use rt_work::Item;
 use std::alloc::Global;
 
@@ -77,15 +80,10 @@ fn shown_now<P: Parts>(
 }
 
 /// Whether it is kept what a scope was.
-fn is_kept<P: Parts>(stood: &[(u64, Option<Stood<P>>)], scope: u64) -> bool
+fn is_kept<P: Parts>(stood: &Table<Option<Stood<P>>>, scope: u64) -> bool
     ensures { result ≡ is_some (at stood.now scope) }
 {
-    for entry in stood {
-        if entry.0 == scope {
-            return true;
-        }
-    }
-    false
+    stood.get(scope).is_some()
 }
 
 /// Keeps what shows of a scope, unless it is kept what it was.
@@ -93,7 +91,7 @@ pub(crate) fn keep<P: Parts>(
     alloc: Global,
     state: &State<P>,
     scope: u64,
-    stood: &mut List<(u64, Option<Stood<P>>)>,
+    stood: &mut Table<Option<Stood<P>>>,
 ) -> Result<(), OutOfMemory>
     ensures kept { OnOk result (is_some (at stood.new scope) ≡ true) }
     ensures others { OnOk result ((other : ℕ) →
@@ -102,22 +100,23 @@ pub(crate) fn keep<P: Parts>(
         Stands stood.old was (scopes_of state.now.rows.table) →
         Stands stood.new was (scopes_of state.now.rows.table)) }
 {
-    if is_kept(stood.as_slice(), scope) {
+    if is_kept(stood, scope) {
         return Ok(());
     }
     let shown = shown_now(alloc, state, scope)?;
-    stood.push((scope, shown))
+    stood.push(scope, shown)
 }
 
 /// Keeps what shows of the scopes that a turn at an item may change.
-pub(crate) fn keep_for<P: Parts>(
+pub(crate) fn keep_for<A: App>(
     alloc: Global,
-    state: &State<P>,
-    item: &Item<P>,
-    stood: &mut List<(u64, Option<Stood<P>>)>,
+    app: &A,
+    state: &State<A>,
+    item: &Item<A>,
+    stood: &mut Table<Option<Stood<A>>>,
 ) -> Result<(), OutOfMemory>
     ensures kept { OnOk result ((g : _) →
-        AllKept stood.new (changes_of (state_of g state.now) (item_of item.now))) }
+        AllKept stood.new (changes_of (A.meaning app.now) (state_of g state.now) (item_of item.now))) }
     ensures stands { OnOk result ((was : _) →
         Stands stood.old was (scopes_of state.now.rows.table) →
         Stands stood.new was (scopes_of state.now.rows.table)) }
@@ -129,13 +128,11 @@ pub(crate) fn keep_for<P: Parts>(
             scope,
             side,
             place,
-            ..
-        } => keep_found(
-            alloc,
-            state,
-            fed_child(state, *scope, *side, place.as_slice()),
-            stood,
-        ),
+            component,
+        } => {
+            let child = fed_child(state, *scope, *side, place.as_slice());
+            keep_fed(alloc, app, state, child, component, stood)
+        }
         Item::Make { scope, .. } => {
             keep(alloc, state, *scope, stood)?;
             keep(alloc, state, state.next_scope, stood)
@@ -147,40 +144,70 @@ pub(crate) fn keep_for<P: Parts>(
     }
 }
 
-/// Keeps what shows of a scope, where there is one.
-fn keep_found<P: Parts>(
+/// Keeps what shows of a scope that is fed, where there is one. One that keeps its output shows what
+/// it did.
+fn keep_fed<A: App>(
     alloc: Global,
-    state: &State<P>,
-    scope: Option<u64>,
-    stood: &mut List<(u64, Option<Stood<P>>)>,
+    app: &A,
+    state: &State<A>,
+    child: Option<u64>,
+    component: &VComponent<A>,
+    stood: &mut Table<Option<Stood<A>>>,
 ) -> Result<(), OutOfMemory>
-    ensures kept { OnOk result (AllKept stood.new (those scope)) }
+    ensures kept { OnOk result ((g : _) → AllKept stood.new
+        (changes_of_fed (A.meaning app.now) (state_of g state.now) (component_of component.now) child)) }
     ensures stands { OnOk result ((was : _) →
         Stands stood.old was (scopes_of state.now.rows.table) →
         Stands stood.new was (scopes_of state.now.rows.table)) }
 {
-    match scope {
-        Some(scope) => keep(alloc, state, scope, stood),
+    match child {
+        Some(child) => keep_run(
+            alloc,
+            state,
+            keeps(app, state, child, component),
+            child,
+            stood,
+        ),
         None => Ok(()),
     }
 }
 
-/// Keeps it where the scopes before and after are compared.
-pub(crate) fn keep_where<P: Parts>(
-    compared: bool,
+/// Keeps what shows of a scope, unless it keeps its output.
+fn keep_run<P: Parts>(
     alloc: Global,
     state: &State<P>,
-    item: &Item<P>,
-    stood: &mut List<(u64, Option<Stood<P>>)>,
+    kept: bool,
+    child: u64,
+    stood: &mut Table<Option<Stood<P>>>,
+) -> Result<(), OutOfMemory>
+    ensures kept { OnOk result (AllKept stood.new (unless kept child)) }
+    ensures stands { OnOk result ((was : _) →
+        Stands stood.old was (scopes_of state.now.rows.table) →
+        Stands stood.new was (scopes_of state.now.rows.table)) }
+{
+    if kept {
+        return Ok(());
+    }
+    keep(alloc, state, child, stood)
+}
+
+/// Keeps it where the scopes before and after are compared.
+pub(crate) fn keep_where<A: App>(
+    compared: bool,
+    alloc: Global,
+    app: &A,
+    state: &State<A>,
+    item: &Item<A>,
+    stood: &mut Table<Option<Stood<A>>>,
 ) -> Result<(), OutOfMemory>
     ensures kept { OnOk result (compared ≡ true → (g : _) →
-        AllKept stood.new (changes_of (state_of g state.now) (item_of item.now))) }
+        AllKept stood.new (changes_of (A.meaning app.now) (state_of g state.now) (item_of item.now))) }
     ensures stands { OnOk result ((was : _) →
         Stands stood.old was (scopes_of state.now.rows.table) →
         Stands stood.new was (scopes_of state.now.rows.table)) }
 {
     if compared {
-        keep_for(alloc, state, item, stood)
+        keep_for(alloc, app, state, item, stood)
     } else {
         Ok(())
     }
@@ -191,11 +218,11 @@ pub(crate) fn first_kept<P: Parts>(
     alloc: Global,
     state: &State<P>,
     work: Work,
-) -> Result<List<(u64, Option<Stood<P>>)>, OutOfMemory>
+) -> Result<Table<Option<Stood<P>>>, OutOfMemory>
     ensures { IfOk result (λ stood.
         KeepsFor (work_of work) stood (scopes_of state.now.rows.table)) }
 {
-    let mut stood = List::new(alloc);
+    let mut stood = Table::new(alloc);
     match work {
         Work::RerunScope(scope) => keep(alloc, state, scope, &mut stood)?,
         Work::PollTask(_) => {}

@@ -1,5 +1,5 @@
 //! The build and the inputs that follow it, each with its report.
-ghost use Rattle.std.specs.Prelude.{◌≡◌, ℕ, ◌+◌, ◌∷◌, map, IfOk, IfErr, OnOk};
+ghost use Rattle.std.specs.Prelude.{◌≡◌, ℕ, ◌+◌, ◌∷◌, [], map, IfOk, IfErr, OnOk};
 ghost use Rattle.rt_model.specs.Reports.{OpensWith};
 ghost use Rattle.rt_model.specs.Replay as replay;
 ghost use Rattle.rt_model.specs.Replay.{first_state, ones, start, take_next};
@@ -44,7 +44,7 @@ impl<A: App> Machine<A> {
               props = props;
               inputs = inputs;
               from = start (A.meaning app.now) props inputs;
-              opening = replay.Build;
+              opened = replay.Build ∷ [];
               left = inputs;
               taken = 0;
             }) (M.taken sink.old) (M.taken sink.new) self.new result }
@@ -79,7 +79,7 @@ impl<A: App> Machine<A> {
               props = props;
               inputs = inputs;
               from = last;
-              opening = replay.Taken number;
+              opened = replay.Taken number ∷ [];
               left = left;
               taken = number;
             }) (M.taken sink.old) (M.taken sink.new) self.new result }

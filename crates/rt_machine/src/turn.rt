@@ -6,6 +6,7 @@ ghost use Rattle.rt_model.specs.World.{Application};
 ghost use Rattle.rt_reports.specs.Seen.{entry_of, limits_of};
 ghost use Rattle.rt_work.specs.Items.{item_of};
 ghost use Rattle.rt_machine.specs.Ends.{Took, Ends, Explains};
+ghost use Rattle.rt_machine.specs.Keeps.{TurnKeeps, WorkKeeps};
 ghost use Rattle.rt_machine.specs.Machines.{first_in};
 ghost use Rattle.rt_machine.specs.Stands.{QuietAs, SettlesAs, StandsAt, StandsBefore, StandsFor, StandsQuiet, TurnsAs};
 ghost use Rattle.rt_machine.specs.Turns.{taken_by};
@@ -21,7 +22,7 @@ use rt_values::OutOfMemory;
 use rt_work::Item;
 
 /// A sum. One that no `u64` counts is answered as want of memory.
-pub(crate) fn sum(count: u64, more: u64) -> Result<u64, OutOfMemory>
+pub fn sum(count: u64, more: u64) -> Result<u64, OutOfMemory>
     ensures { IfOk result (λ all. all ≡ count + more) }
 {
     match count.checked_add(more) {
@@ -76,6 +77,7 @@ impl<A: App> Machine<A> {
             StandsAt (A.meaning app.now) (limits_of limits) r edits self.old →
             TurnsAs (A.meaning app.now) (limits_of limits) r edits
             (M.taken sink.old) (M.taken sink.new) self.new result }
+        ensures keeps { TurnKeeps self.old self.new result }
     {
         if let Some(item) = self.work.pop() {
             return self.work_turn(app, calls, &item, limits, sink);
@@ -104,6 +106,7 @@ impl<A: App> Machine<A> {
             first edits self.old →
             TurnsAs (A.meaning app.now) (limits_of limits) r edits
             (M.taken sink.old) (M.taken sink.new) self.new result }
+        ensures keeps { WorkKeeps self.old self.new result }
     {
         match self.serve(app, calls, item, limits) {
             Ok(()) => Ok(Some(0)),
@@ -128,6 +131,7 @@ impl<A: App> Machine<A> {
             StandsFor app limits r (Some (entry_of first)) edits self.old →
             TurnsAs app limits r edits
             (M.taken sink.old) (M.taken sink.new) self.new result }
+        ensures keeps { WorkKeeps self.old self.new result }
     {
         Ok(Some(self.close(first, sink)?))
     }
@@ -145,6 +149,8 @@ impl<A: App> Machine<A> {
         ensures turns { (r : _) (edits : _) → self.old.first ≡ None → self.old.work ≡ [] →
             StandsFor (A.meaning app.now) (limits_of limits) r None edits self.old →
             QuietAs (A.meaning app.now) (limits_of limits) r edits self.new result }
+        ensures keeps { self.old.work ≡ [] → self.old.first ≡ None →
+            TurnKeeps self.old self.new result }
     {
         if self.hear(app, calls)? {
             return Ok(Some(0));
@@ -166,6 +172,8 @@ impl<A: App> Machine<A> {
         ensures turns { (r : _) (edits : _) → self.old.first ≡ None → self.old.work ≡ [] →
             StandsQuiet (A.meaning app.now) (limits_of limits) r edits self.old →
             QuietAs (A.meaning app.now) (limits_of limits) r edits self.new result }
+        ensures keeps { self.old.work ≡ [] → self.old.first ≡ None →
+            TurnKeeps self.old self.new result }
     {
         // What comes next names what is live.
         due_is_any::<
@@ -177,8 +185,7 @@ impl<A: App> Machine<A> {
             A::Effect,
             A::Payload,
         >();
-        self.scopes.state.at_rest(self.scopes.alloc)?;
-        match self.scopes.state.next_at_rest() {
+        match self.scopes.state.next_work(self.scopes.alloc)? {
             Some(work) => {
                 self.begin(app, calls, work, limits)?;
                 Ok(Some(0))

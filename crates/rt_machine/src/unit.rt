@@ -1,6 +1,7 @@
 //! The build, and the units that follow.
 ghost use Rattle.std.specs.Prelude.{◌≡◌, ℕ, ◌+◌, false, Some, IfErr, OnOk};
 ghost use Rattle.rt_model.specs.Reports.{is_opening};
+ghost use Rattle.rt_model.specs.State.{OutOfTurns};
 ghost use Rattle.rt_model.specs.Replay as replay;
 ghost use Rattle.rt_reports.specs.Seen.{entry_of, limits_of};
 ghost use Rattle.rt_scopes.specs.Outcomes.{StateComes};
@@ -9,7 +10,7 @@ ghost use Rattle.rt_state.specs.Names.{work_of as model_work};
 ghost use Rattle.rt_turns.specs.Turn.{entry_for, unit_of};
 ghost use Rattle.rt_work.specs.Items.{work_of};
 ghost use Rattle.rt_machine.specs.Ends.{Explains};
-ghost use Rattle.rt_machine.specs.Machines.{Begins, BeginsUnit, Builds, first_in, is_rerun, RemembersAt};
+ghost use Rattle.rt_machine.specs.Machines.{Begins, BeginsUnit, Builds, fault_in, first_in, is_rerun, RemembersAt};
 
 use crate::ended::Ended;
 use crate::machine::{Machine, stack};
@@ -88,6 +89,8 @@ impl<A: App> Machine<A> {
         ensures units { OnOk result (self.new.units ≡ self.old.units + 1) }
         ensures remembers { OnOk result ((g : _) →
             RemembersAt g self.new (scopes_of self.old.scopes.state.rows.table)) }
+        ensures spent { IfErr result (λ ended. (units : ℕ) →
+            fault_in ended ≡ Some (OutOfTurns units) → self.new ≡ self.old) }
         ensures others { self.new ≡ record self.old {
           scopes = self.new.scopes;
           work = self.new.work;

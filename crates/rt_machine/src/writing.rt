@@ -130,9 +130,13 @@ impl<A: App> Machine<A> {
         ensures { IfOk result (λ edits. AreCausedNow
             (replay.Rerun scope) self.now edits) }
     {
-        let rows = &self.scopes.state.rows;
-        let before = Look::before(rows, self.stood.as_slice(), self.lived);
-        written(self.scopes.alloc, &before, &Look::now(rows), scope)
+        written(
+            self.scopes.alloc,
+            &self.scopes.state.rows,
+            &self.stood,
+            self.lived,
+            scope,
+        )
     }
 
     /// What a unit wrote before an item of it was refused.
@@ -163,7 +167,7 @@ impl<A: App> Machine<A> {
             (item_of refused.now) (replay.Rerun scope) self.now edits) }
     {
         let rows = &self.scopes.state.rows;
-        let before = Look::before(rows, self.stood.as_slice(), self.lived);
+        let before = Look::before(rows, &self.stood, self.lived);
         written_until(self.scopes.alloc, &before, &Look::now(rows), refused, scope)
     }
 

@@ -14,7 +14,7 @@ use std::alloc::Global;
 pub fn edit_line(alloc: Global, edit: &Edit) -> Result<List<u8>, OutOfMemory>
     ensures line { IfOk result (λ line. line ≡ language.line (edit_text (edit_of edit.now))) }
 {
-    let mut line = Line::new(alloc);
+    let mut line = Line::with_room(alloc)?;
     put_edit(alloc, &mut line, edit)?;
     line.end()
 }

@@ -9,6 +9,9 @@ use rt_values::{List, OutOfMemory, Text};
 use std::alloc::Global;
 use std::marker::Model;
 
+/// How many bytes most lines fit into.
+const SHORT: usize = 64;
+
 /// A line under way, as its bytes.
 #[derive(Drop)]
 pub(crate) struct Line {
@@ -30,6 +33,15 @@ impl Line {
         Line {
             bytes: Vec::new(alloc),
         }
+    }
+
+    /// A line without anything, and room for a short one.
+    pub fn with_room(alloc: Global) -> Result<Line, OutOfMemory>
+        ensures empty { IfOk result (λ line. line ≡ []) }
+    {
+        Ok(Line {
+            bytes: Vec::with_capacity(alloc, SHORT)?,
+        })
     }
 
     /// Appends a word as it is.

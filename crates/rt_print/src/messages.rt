@@ -15,7 +15,7 @@ pub fn taken_line(alloc: Global, report: u64, message: &Msg) -> Result<List<u8>,
     ensures line { IfOk result (λ line. line
         ≡ language.line (taken_text report (message_of message.now))) }
 {
-    let mut line = Line::new(alloc);
+    let mut line = Line::with_room(alloc)?;
     put_word(&mut line, "taken ", report)?;
     put_word(&mut line, " ", message.poster)?;
     put_word(&mut line, ":", message.seq)?;

@@ -13,7 +13,7 @@ use std::alloc::Global;
 pub fn report_line(alloc: Global, number: u64, report: &Report) -> Result<List<u8>, OutOfMemory>
     ensures line { IfOk result (λ line. line ≡ language.report_line number (report_of report.now)) }
 {
-    let mut line = Line::new(alloc);
+    let mut line = Line::with_room(alloc)?;
     put_counts(&mut line, number, report)?;
     line.word(" log")?;
     put_log(&mut line, report.log.as_slice())?;

@@ -6,6 +6,7 @@ pub mod Climbing
 pub mod Hearings
 pub mod Standing
 pub mod Agrees
+pub mod Alike
 pub mod HeardBy
 pub mod Ways
 pub mod Parted
@@ -14,4 +15,7 @@ pub mod SlotsWrite
 pub mod ItemsWrite
 pub mod Writings
 pub mod UnitsAgree
+pub mod Untouched
+pub mod Members
+pub mod Touches
 pub mod Claimed

@@ -37,7 +37,8 @@ use Rattle.rt_shown.specs.declared.sides.Unit.{Unit as CodeUnit}
 use Rattle.rt_shown.specs.Look.{look_is_shown, look_side, look_shows}
 use Rattle.rt_shown.specs.Seen.{scope_seen, seen_within, tree_seen}
 use Rattle.rt_shown.specs.Ways.{place_found, way_of}
-use Rattle.rt_shown.specs.Units.{both_of, shown_writes, side_writes, unit_within, unit_writes, scope_writes, name_writes, output_writes, tree_writes, slot_writes, met_writes, piece_writes, pieces_writes, tree_replaces}
+use Rattle.rt_shown.specs.Touched.{is_touched}
+use Rattle.rt_shown.specs.Units.{Passes, both_of, shown_writes, side_writes, unit_within, unit_writes, scope_writes, name_writes, output_writes, tree_writes, slot_writes, met_writes, piece_writes, pieces_writes, tree_replaces}
 use Rattle.rt_shown.proofs.Parted.{then_then}
 
 pub template_tested : (u v : CodeTemplate) → u ≡ v → same_template (template_of u) (template_of v) ≡ true
@@ -56,6 +57,10 @@ module _ {P C Q V H T E L : Type 0} (app : Application (types C Q V H T E L)) wh
   pub unit_out : (unit : CodeUnit P C Q V H T E L) (n s : ℕ) → n ≡ 0 → unit_writes app unit n s ≡ writes []
   unfolding unit_writes
   unit_out unit n s none = ap (λ m. unit_within app unit.before.now unit.after.now (way_of unit.way.now) m s) none
+
+  pub unit_passed : (unit : CodeUnit P C Q V H T E L) (n s : ℕ) → Passes app unit → is_touched unit.touched s ≡ false → unit_writes app unit n s ≡ writes []
+  unfolding Passes
+  unit_passed unit n s passes out = passes n s out
 
   pub unit_shown : (unit : CodeUnit P C Q V H T E L) (n s : ℕ) → n ≢ 0 → (look_is_shown unit.before.now s && look_is_shown unit.after.now s) ≡ true
       → unit_writes app unit n s ≡ then_on (scope_writes app unit (n - 1) s) (if is_some (at (way_of unit.way.now) s) then halts else writes [])

@@ -6,5 +6,6 @@ pub mod Hearing
 pub mod Means
 pub mod Ways
 pub mod Written
+pub mod Touched
 pub mod Units
 pub mod Reruns

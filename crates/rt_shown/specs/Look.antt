@@ -1,5 +1,6 @@
 -- What a look at the scopes shows of each of them.
-use Rattle.std.specs.Prelude.{ℕ, zero, suc, Bool, true, false, ◌&&◌, Option, Some, None, option_map, is_some, length, ◌≡◌}
+use Rattle.std.specs.Prelude.{ℕ, zero, suc, Bool, true, false, ◌&&◌, List, [], Option, Some, None, option_map, is_some, length, ◌≡◌}
+use Rattle.std.specs.Borrow.{Bor}
 use Rattle.rt_model.specs.OneLog.{types}
 use Rattle.rt_model.specs.Tree.{Types}
 use Rattle.rt_model.specs.Lists.{at}
@@ -50,9 +51,18 @@ module _ {P C Q V H T E L : Type 0} where
   seen_in None (Some x) = Some (standing x)
   seen_in None None = None
 
+  -- what is kept where something is
+  abbrev pub kept_in : Option (Bor (List (ℕ × Option (Stood P C Q V H T E L)))) → List (ℕ × Option (Stood P C Q V H T E L))
+  kept_in None = []
+  kept_in (Some stood) = stood.now
+
+  -- what a look keeps of scopes as they stood
+  abbrev pub stood_in : Look P C Q V H T E L → List (ℕ × Option (Stood P C Q V H T E L))
+  stood_in look = kept_in look.stood
+
   -- what a look shows of a scope
   abbrev pub look_at : Look P C Q V H T E L → ℕ → Option (Stood P C Q V H T E L)
-  look_at look s = seen_in (at look.stood.now s) (at (look.rows.now).table s)
+  look_at look s = seen_in (at (stood_in look) s) (at (look.rows.now).table s)
 
   -- whether a scope is live
   abbrev pub look_live : Look P C Q V H T E L → ℕ → Bool

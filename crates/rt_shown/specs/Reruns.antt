@@ -1,6 +1,6 @@
 -- What a rerun writes, by the definitions, for each pair of states whose scopes the looks show, and each application
 -- that tells its components apart.
-use Rattle.std.specs.Prelude.{ℕ, List, map, Some, ◌≡◌}
+use Rattle.std.specs.Prelude.{ℕ, List, map, length, Option, Some, ◌≡◌}
 use Rattle.rt_edits.specs.declared.edit.Edit.{Edit}
 use Rattle.rt_model.specs.OneLog.{types}
 use Rattle.rt_model.specs.World.{Application}
@@ -8,18 +8,26 @@ use Rattle.rt_model.specs.Laws.{Tests}
 use Rattle.rt_model.specs.State as state
 use Rattle.rt_model.specs.Replay.{Rerun}
 use Rattle.rt_model.specs.Caused as caused
+use Rattle.rt_model.specs.Unchanged.{AllSingle}
 use Rattle.rt_mirror.specs.Mirror.{edit_of}
+use Rattle.rt_calls.specs.Kept.{each, scope_of}
+use Rattle.rt_calls.specs.declared.rest.Scope.{Scope}
 use Rattle.rt_work.specs.declared.item.Item.{Item}
 use Rattle.rt_work.specs.Items.{item_of}
 use Rattle.rt_shown.specs.declared.look.Look.{Look}
+use Rattle.rt_shown.specs.declared.look.Stood.{Stood}
 use Rattle.rt_shown.specs.Look.{ShowsScopes}
+use Rattle.rt_shown.specs.Stands.{Stands}
+use Rattle.rt_shown.specs.Touched.{KnowParents}
 
 module _ {P C Q V H T E L : Type 0} where
-  -- the edits are those of a rerun
-  abbrev pub AreCaused : List Edit → Look P C Q V H T E L → Look P C Q V H T E L → ℕ → Type 0
-  AreCaused edits before after s =
+  -- the edits are those of a rerun, between a state of which it was kept what has changed since, and one with these scopes. There no
+  -- attribute slot has a name twice, and children know their parents
+  abbrev pub AreCaused : List Edit → List (ℕ × Scope P C Q V H T E L) → List (ℕ × Option (Stood P C Q V H T E L)) → ℕ → ℕ → Type 0
+  AreCaused edits rows stood count s =
       (app : Application (types C Q V H T E L)) (w v : state.State (types C Q V H T E L))
-      → Tests C app.same_component → ShowsScopes before w → ShowsScopes after v → map edit_of edits ≡ caused.caused app w v (Rerun s)
+      → Tests C app.same_component → Stands stood w.scopes (each scope_of rows) → count ≡ length w.scopes → v.scopes ≡ each scope_of rows
+      → AllSingle v → KnowParents v → map edit_of edits ≡ caused.caused app w v (Rerun s)
 
   -- the edits are those of a rerun that was refused at an item
   abbrev pub AreCausedUntil : List Edit → Look P C Q V H T E L → Look P C Q V H T E L → Item P C Q V H T E L → ℕ → Type 0

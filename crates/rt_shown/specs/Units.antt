@@ -1,5 +1,6 @@
 -- The edits that a unit writes, as two looks at the scopes see it, part by part.
 use Rattle.std.specs.Prelude.{ℕ, zero, suc, ◌+◌, Bool, false, ◌&&◌, ◌||◌, length, take, drop, List, [], ◌∷◌, ◌++◌, map, Option, Some, if◌then◌else◌, is_some, ◌≡◌}
+use Rattle.std.specs.Borrow.{Bor}
 use Rattle.rt_edits.specs.declared.edit.Edit.{Edit}
 use Rattle.rt_nodes.specs.declared.vnode.VNode.{VNode}
 use Rattle.rt_nodes.specs.declared.vnode.DynamicNode.{DynamicNode}
@@ -28,6 +29,7 @@ use Rattle.rt_shown.specs.Look.{look_is_shown, look_side, look_shows}
 use Rattle.rt_shown.specs.Seen.{seen_within, scope_seen, value_in, tree_in, items_in}
 use Rattle.rt_shown.specs.declared.showing.Shown.{Shown}
 use Rattle.rt_shown.specs.Look.{ShowsScopes}
+use Rattle.rt_shown.specs.Touched.{is_touched}
 use Rattle.rt_shown.specs.Ways.{place_found, way_of}
 use Rattle.rt_shown.specs.Written.{edited_of}
 
@@ -35,11 +37,6 @@ use Rattle.rt_shown.specs.Written.{edited_of}
 abbrev pub around_from : Place → ℕ → Option Place → ℕ → Bool
 around_from place i stop zero = false
 around_from place i stop (suc n) = is_around (place ++ item i ∷ []) stop || around_from place (i + 1) stop n
-
-module _ {C Q V H T E L : Type 0} where
-  -- what was written is this, whatever the application
-  abbrev pub Writes : Edited → (Application (types C Q V H T E L) → Written) → Type 0
-  Writes written what = (app : Application (types C Q V H T E L)) → Tests C app.same_component → edited_of written ≡ what app
 
 module _ {P C Q V H T E L : Type 0} where
   -- a slot's old nodes give way to its new ones
@@ -113,6 +110,10 @@ module _ {P C Q V H T E L : Type 0} where
     unfoldable pub unit_writes : CodeUnit P C Q V H T E L → ℕ → ℕ → Written
     unit_writes unit n s = unit_within unit.before.now unit.after.now (way_of unit.way.now) n s
 
+    -- a scope that the unit can't have changed, with all below it, writes nothing
+    unfoldable pub Passes : CodeUnit P C Q V H T E L → Type 0
+    Passes unit = (n s : ℕ) → is_touched unit.touched s ≡ false → unit_writes unit n s ≡ writes []
+
     -- what the side that shows writes
     unfoldable pub scope_writes : CodeUnit P C Q V H T E L → ℕ → ℕ → Written
     scope_writes unit n s =
@@ -181,23 +182,29 @@ module _ {P C Q V H T E L : Type 0} where
     pieces_writes b above new old [] = writes []
     pieces_writes b above new old (piece ∷ pieces) = then_on (piece_writes b above new old piece) (pieces_writes b above new old pieces)
 
+  -- what was written is this, whatever the application
+  abbrev pub Writes : CodeUnit P C Q V H T E L → Edited → (Application (types C Q V H T E L) → Written) → Type 0
+  Writes unit written what =
+      (app : Application (types C Q V H T E L)) → Tests C app.same_component → Passes app unit → edited_of written ≡ what app
+
   -- the pieces so far, with what those that are left write, whatever the application
   abbrev pub PiecesLeft : Written → Sides P C Q V H T E L → Place → VNode P C Q V H T E L → VNode P C Q V H T E L → List Piece → List Piece
       → Type 0
   PiecesLeft written b above new old left pieces =
-      (app : Application (types C Q V H T E L)) → Tests C app.same_component
+      (app : Application (types C Q V H T E L)) → Tests C app.same_component → Passes app b.unit.now
       → then_on written (pieces_writes app b above new old left) ≡ pieces_writes app b above new old pieces
 
   -- the items so far, with what those that are left write, whatever the application
   abbrev pub ItemsLeft : Written → Sides P C Q V H T E L → Place → ℕ → List (VNode P C Q V H T E L) → List (VNode P C Q V H T E L) → Type 0
   ItemsLeft written b place i new old =
-      (app : Application (types C Q V H T E L)) → Tests C app.same_component
+      (app : Application (types C Q V H T E L)) → Tests C app.same_component → Passes app b.unit.now
       → then_on written (items_writes app b place i (last_among b.new.now place 0 0 (take i new)) (drop i new) (drop i old))
       ≡ items_writes app b place 0 0 new old
 
-  -- the edits are those of a scope on the way to a refusal
-  abbrev pub AreOnWay : List Edit → Look P C Q V H T E L → Look P C Q V H T E L → caused.Way → ℕ → Type 0
-  AreOnWay edits before after way s =
+  -- the edits are those of a scope on the way to a refusal, where those that aren't touched write nothing
+  abbrev pub AreOnWay : List Edit → Look P C Q V H T E L → Look P C Q V H T E L → caused.Way → Option (Bor (List ℕ)) → ℕ → Type 0
+  AreOnWay edits before after way touched s =
       (app : Application (types C Q V H T E L)) (w v : state.State (types C Q V H T E L))
       → Tests C app.same_component → ShowsScopes before w → ShowsScopes after v
+      → ((n t : ℕ) → is_touched touched t ≡ false → caused.written_within app way w v n t ≡ writes [])
       → map edit_of edits ≡ (caused.written_within app way w v before.scopes s).edits

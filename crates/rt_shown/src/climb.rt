@@ -221,7 +221,7 @@ fn find_child<P: Parts>(
         (place_of place.now)) }
 {
     let levels = down(levels)?;
-    match child_at(shown.side.children.as_slice(), place.as_slice()) {
+    match child_at(&shown.side.children, place.as_slice()) {
         Some(child) => find_within(alloc, shown.look, number, shown.depth, child, levels),
         None => Ok(None),
     }
@@ -255,7 +255,7 @@ fn is_numbered<P: Parts>(shown: &Shown<'_, P>, place: &Place, kind: Kind, number
     ensures { result
         ≡ nat_eq (number_in shown.now.side.now.numbers (place_of place.now) (kind_of kind)) number }
 {
-    number_at(shown.side.numbers.as_slice(), place.as_slice(), kind) == number
+    number_at(&shown.side.numbers, place.as_slice(), kind) == number
 }
 
 // A text or placeholder has no slots of its own.

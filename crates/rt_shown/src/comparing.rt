@@ -13,6 +13,7 @@ use crate::look::{Look, is_same_side};
 use crate::showing::items_view;
 use crate::sides::{Sides, Unit, removals, scope_replaced, shown_in, slot_replaced, tree_replaced};
 use crate::slots::{no_items_written, placeholder_written, text_written};
+use crate::touching::is_touched;
 use crate::way::{is_on_way, is_place, stop_on};
 use rt_attributes::attributes_written;
 use rt_nodes::{DynamicNode, VComponent, VNode};
@@ -24,7 +25,8 @@ use rt_work::{child_at, is_same_component};
 use std::alloc::Global;
 
 /// What a scope writes, at most `depth` scopes deep. A scope that isn't shown both before and after
-/// writes nothing. After what a scope on the way to the refusal wrote nothing more is written.
+/// writes nothing, nor does one that the unit left as it was with all below it. After what a scope on
+/// the way to the refusal wrote nothing more is written.
 #[cycle(written)]
 #[tactic(auto, using(crate::proofs::Writings::writings))]
 pub(crate) fn written_within<P: Parts>(
@@ -34,11 +36,14 @@ pub(crate) fn written_within<P: Parts>(
     scope: u64,
     levels: u64,
 ) -> Result<Edited, OutOfMemory>
-    ensures { IfOk result (λ written. Writes written
+    ensures { IfOk result (λ written. Writes unit.now written
         (λ app. unit_writes app unit.now depth scope)) }
 {
     let levels = down(levels)?;
     if depth == 0 {
+        return Ok(nothing(alloc));
+    }
+    if !is_touched(unit.touched, scope) {
         return Ok(nothing(alloc));
     }
     let stops = is_on_way(unit.way, scope);
@@ -67,7 +72,7 @@ fn scope_written<P: Parts>(
     scope: u64,
     levels: u64,
 ) -> Result<Edited, OutOfMemory>
-    ensures { IfOk result (λ written. Writes written
+    ensures { IfOk result (λ written. Writes unit.now written
         (λ app. scope_writes app unit.now depth scope)) }
 {
     let levels = down(levels)?;
@@ -96,7 +101,7 @@ fn side_written<P: Parts>(
     name: SideName,
     levels: u64,
 ) -> Result<Edited, OutOfMemory>
-    ensures { IfOk result (λ written. Writes written
+    ensures { IfOk result (λ written. Writes unit.now written
         (λ app. name_writes app unit.now depth scope name)) }
 {
     let levels = down(levels)?;
@@ -128,7 +133,8 @@ fn outputs_written<P: Parts>(
     sides: &Sides<'_, P>,
     levels: u64,
 ) -> Result<Edited, OutOfMemory>
-    ensures { IfOk result (λ written. Writes written (λ app. output_writes app sides.now)) }
+    ensures { IfOk result (λ written. Writes sides.now.unit.now written
+        (λ app. output_writes app sides.now)) }
 {
     let levels = down(levels)?;
     match &sides.new.side.output {
@@ -151,7 +157,7 @@ fn tree_written<P: Parts>(
     old: &VNode<P>,
     levels: u64,
 ) -> Result<Edited, OutOfMemory>
-    ensures { IfOk result (λ written. Writes written
+    ensures { IfOk result (λ written. Writes sides.now.unit.now written
         (λ app. tree_writes app sides.now (place_of above.now) new.now old.now)) }
 {
     let levels = down(levels)?;
@@ -160,7 +166,7 @@ fn tree_written<P: Parts>(
     }
     let pieces = pieces_of(alloc, &new.template.roots)?;
     let slots = pieces_written(alloc, sides, above, new, old, pieces.as_slice(), levels)?;
-    let numbers = sides.old.side.numbers.as_slice();
+    let numbers = &sides.old.side.numbers;
     then_on(
         writes(attributes_written(alloc, numbers, above, new, old)?),
         slots,
@@ -179,7 +185,7 @@ fn pieces_written<P: Parts>(
     pieces: &[Piece],
     levels: u64,
 ) -> Result<Edited, OutOfMemory>
-    ensures { IfOk result (λ written. Writes written
+    ensures { IfOk result (λ written. Writes sides.now.unit.now written
         (λ app. pieces_writes app sides.now (place_of above.now) new.now old.now pieces.now)) }
 {
     let levels = down(levels)?;
@@ -206,7 +212,7 @@ fn piece_written<P: Parts>(
     piece: &Piece,
     levels: u64,
 ) -> Result<Edited, OutOfMemory>
-    ensures { IfOk result (λ written. Writes written
+    ensures { IfOk result (λ written. Writes sides.now.unit.now written
         (λ app. piece_writes app sides.now (place_of above.now) new.now old.now piece.now)) }
 {
     let levels = down(levels)?;
@@ -246,7 +252,7 @@ fn slot_written<P: Parts>(
     old: &DynamicNode<P>,
     levels: u64,
 ) -> Result<Edited, OutOfMemory>
-    ensures { IfOk result (λ written. Writes written
+    ensures { IfOk result (λ written. Writes sides.now.unit.now written
         (λ app. slot_writes app sides.now (place_of place.now) new.now old.now)) }
 {
     let levels = down(levels)?;
@@ -275,7 +281,7 @@ fn component_written<P: Parts>(
     levels: u64,
 ) -> Result<Edited, OutOfMemory>
     requires is { new.now ≡ values.Component component.now }
-    ensures { IfOk result (λ written. Writes written
+    ensures { IfOk result (λ written. Writes sides.now.unit.now written
         (λ app. slot_writes app sides.now (place_of place.now) new.now old.now)) }
 {
     let levels = down(levels)?;
@@ -306,7 +312,7 @@ fn fragment_written<P: Parts>(
     levels: u64,
 ) -> Result<Edited, OutOfMemory>
     requires is { new.now ≡ values.Fragment trees.now }
-    ensures { IfOk result (λ written. Writes written
+    ensures { IfOk result (λ written. Writes sides.now.unit.now written
         (λ app. slot_writes app sides.now (place_of place.now) new.now old.now)) }
 {
     let levels = down(levels)?;
@@ -342,11 +348,11 @@ fn child_written<P: Parts>(
     place: &Place,
     levels: u64,
 ) -> Result<Edited, OutOfMemory>
-    ensures { IfOk result (λ written. Writes written
+    ensures { IfOk result (λ written. Writes sides.now.unit.now written
         (λ app. child_writes app sides.now (place_of place.now))) }
 {
     let levels = down(levels)?;
-    match child_at(sides.old.side.children.as_slice(), place.as_slice()) {
+    match child_at(&sides.old.side.children, place.as_slice()) {
         Some(child) => {
             if is_place(place, sides.stop) && !is_on_way(sides.unit.way, child) {
                 return Ok(halts(alloc));
@@ -369,7 +375,7 @@ fn items_written<P: Parts>(
     old: &[VNode<P>],
     levels: u64,
 ) -> Result<Edited, OutOfMemory>
-    ensures { IfOk result (λ written. Writes written
+    ensures { IfOk result (λ written. Writes sides.now.unit.now written
         (λ app. items_writes app sides.now (place_of place.now) 0 0 new.now old.now)) }
 {
     let levels = down(levels)?;

@@ -9,9 +9,11 @@ mod hearing;
 mod inserting;
 mod levels;
 mod look;
+mod scope_set;
 mod showing;
 mod sides;
 mod slots;
+mod touching;
 mod way;
 mod writing;
 

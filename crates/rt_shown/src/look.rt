@@ -6,12 +6,13 @@ ghost use Rattle.rt_model.specs.Lists.{at};
 ghost use Rattle.rt_model.specs.State.{same_side};
 ghost use Rattle.rt_places.specs.Places.{side_name_of};
 ghost use Rattle.rt_calls.specs.Calls.{number_of};
-ghost use Rattle.rt_shown.specs.Look.{is_showing, look_at, look_below, look_height, look_is_shown, look_live, look_parent, look_shown, look_shows, look_side, seen_in, shown_on, shown_steps, side_standing, side_stood};
+ghost use Rattle.rt_shown.specs.Look.{is_showing, look_at, look_below, look_height, look_is_shown, look_live, look_parent, look_shown, look_shows, look_side, seen_in, stood_in, shown_on, shown_steps, side_standing, side_stood};
 ghost use Rattle.rt_shown.specs.Stands.{ShowsRows, ShowsStood};
 
 use rt_calls::{Rows, Scope};
 use rt_parts::Parts;
 use rt_places::{Side, SideName};
+use rt_table::Table;
 use rt_values::ScopeId;
 
 /// What is shown of a scope, as it stood before a unit.
@@ -32,7 +33,7 @@ pub struct Stood<P: Parts> {
 pub struct Look<'a, P: Parts> {
     rows: &'a Rows<P>,
     /// Of scopes that have changed, what they were; none of those that were not live.
-    stood: &'a [(u64, Option<Stood<P>>)],
+    stood: Option<&'a Table<Option<Stood<P>>>>,
     /// How many scopes were live.
     scopes: u64,
 }
@@ -44,18 +45,14 @@ impl<'a, P: Parts> Look<'a, P> {
     {
         Look {
             rows,
-            stood: &[],
+            stood: None,
             scopes: rows.table.as_slice().len() as u64,
         }
     }
 
     /// The scopes as they stood when so many of them were live. What has changed since is kept in
     /// `stood`, with None for each scope that was not live.
-    pub fn before(
-        rows: &'a Rows<P>,
-        stood: &'a [(u64, Option<Stood<P>>)],
-        scopes: u64,
-    ) -> Look<'a, P>
+    pub fn before(rows: &'a Rows<P>, stood: &'a Table<Option<Stood<P>>>, scopes: u64) -> Look<'a, P>
         ensures each { (scope : ℕ) → look_at result scope
             ≡ seen_in (at stood.now scope) (at rows.now.table scope) }
         ensures count { result.scopes ≡ scopes }
@@ -63,7 +60,7 @@ impl<'a, P: Parts> Look<'a, P> {
     {
         Look {
             rows,
-            stood,
+            stood: Some(stood),
             scopes,
         }
     }
@@ -77,14 +74,12 @@ impl<'a, P: Parts> Look<'a, P> {
 
     /// What is kept of a scope as it stood.
     fn kept(&self, scope: u64) -> Option<&Option<Stood<P>>>
-        ensures { option_copied result ≡ at self.now.stood.now scope }
+        ensures { option_copied result ≡ at (stood_in self.now) scope }
     {
-        for entry in self.stood {
-            if entry.0 == scope {
-                return Some(&entry.1);
-            }
+        match self.stood {
+            Some(stood) => stood.get(scope),
+            None => None,
         }
-        None
     }
 
     /// A scope as it stands.

@@ -287,7 +287,7 @@ fn child_view<P: Parts>(
         ≡ child_seen shown.now.look.now shown.now.depth shown.now.side.now (place_of place.now)) }
 {
     let levels = down(levels)?;
-    match child_at(shown.side.children.as_slice(), place.as_slice()) {
+    match child_at(&shown.side.children, place.as_slice()) {
         Some(child) => view_within(alloc, shown.look, shown.depth, child, levels),
         None => Ok(List::new(alloc)),
     }
@@ -340,7 +340,7 @@ fn numbered<P: Parts>(
         ≡ Node (number_in side.now.numbers (place_of place.now) (kind_of kind))
         (content_of content) (forest_below content) Empty) }
 {
-    let number = number_at(side.numbers.as_slice(), place.as_slice(), kind);
+    let number = number_at(&side.numbers, place.as_slice(), kind);
     let mut row = List::new(alloc);
     row.push(DocNode {
         id: ElementId(number),

@@ -13,6 +13,7 @@ ghost use Rattle.rt_shown.specs.Written.{edited_of};
 use crate::edited::{Edited, halts, writes};
 use crate::levels::LEVELS;
 use crate::look::Look;
+use crate::scope_set::ScopeSet;
 use crate::showing::{Shown, scope_view, slot_view, tree_view};
 use crate::way::{Stop, is_around};
 use rt_edits::{DocNode, Edit};
@@ -28,6 +29,8 @@ pub(crate) struct Unit<'a, P: Parts> {
     pub before: &'a Look<'a, P>,
     pub after: &'a Look<'a, P>,
     pub way: &'a [Stop],
+    /// The scopes that it may have changed, with those above them; none where all may have been.
+    pub touched: Option<&'a ScopeSet>,
 }
 
 /// One side of a scope before and after a unit.

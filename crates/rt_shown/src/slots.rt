@@ -27,7 +27,7 @@ pub(crate) fn text_written<P: Parts>(
     old: &DynamicNode<P>,
 ) -> Result<Edited, OutOfMemory>
     requires is { new.now ≡ values.Text text.now }
-    ensures { IfOk result (λ written. Writes written
+    ensures { IfOk result (λ written. Writes sides.now.unit.now written
         (λ app. slot_writes app sides.now (place_of place.now) new.now old.now)) }
 {
     match old {
@@ -35,7 +35,7 @@ pub(crate) fn text_written<P: Parts>(
             if was.same(text) {
                 return Ok(nothing(alloc));
             }
-            let numbers = sides.old.side.numbers.as_slice();
+            let numbers = &sides.old.side.numbers;
             let number = number_at(numbers, place.as_slice(), Kind::Text);
             one_edit(
                 alloc,
@@ -61,7 +61,7 @@ pub(crate) fn placeholder_written<P: Parts>(
     old: &DynamicNode<P>,
 ) -> Result<Edited, OutOfMemory>
     requires is { new.now ≡ values.Placeholder }
-    ensures { IfOk result (λ written. Writes written
+    ensures { IfOk result (λ written. Writes sides.now.unit.now written
         (λ app. slot_writes app sides.now (place_of place.now) new.now old.now)) }
 {
     match old {
@@ -84,7 +84,7 @@ pub(crate) fn no_items_written<P: Parts>(
 ) -> Result<Edited, OutOfMemory>
     requires is { new.now ≡ values.Fragment [] }
     requires was { old.now ≡ values.Fragment were.now }
-    ensures { IfOk result (λ written. Writes written
+    ensures { IfOk result (λ written. Writes sides.now.unit.now written
         (λ app. slot_writes app sides.now (place_of place.now) new.now old.now)) }
 {
     if were.is_empty() {

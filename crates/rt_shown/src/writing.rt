@@ -10,12 +10,16 @@ ghost use Rattle.rt_shown.specs.Ways.{way_of};
 use crate::comparing::written_within;
 use crate::edited::Edited;
 use crate::levels::LEVELS;
-use crate::look::Look;
+use crate::look::{Look, Stood};
+use crate::scope_set::ScopeSet;
 use crate::showing::view;
 use crate::sides::Unit;
+use crate::touching::touched;
 use crate::way::{Stop, way_to};
+use rt_calls::Rows;
 use rt_edits::Edit;
 use rt_parts::Parts;
+use rt_table::Table;
 use rt_values::{ElementId, List, OutOfMemory};
 use rt_work::Item;
 use std::alloc::Global;
@@ -32,16 +36,25 @@ pub fn built<P: Parts>(alloc: Global, after: &Look<'_, P>) -> Result<List<Edit>,
     Ok(edits)
 }
 
-/// What a rerun of a scope writes.
+/// What a rerun of a scope writes, where so many scopes were live before it. What has changed since is
+/// kept in `stood`, with None for each scope that was not live.
 pub fn written<P: Parts>(
     alloc: Global,
-    before: &Look<'_, P>,
-    after: &Look<'_, P>,
+    rows: &Rows<P>,
+    stood: &Table<Option<Stood<P>>>,
+    lived: u64,
     scope: u64,
 ) -> Result<List<Edit>, OutOfMemory>
-    ensures written { IfOk result (λ edits. AreCaused edits before.now after.now scope) }
+    ensures written { IfOk result (λ edits.
+        AreCaused edits rows.now.table stood.now lived scope) }
 {
-    edits_on(alloc, before, after, &[], scope)
+    let before = Look::before(rows, stood, lived);
+    let after = Look::now(rows);
+    let found = touched(alloc, stood.as_slice(), &after)?;
+    match found {
+        Some(scopes) => edits_on(alloc, &before, &after, &[], Some(&scopes), scope),
+        None => edits_on(alloc, &before, &after, &[], None, scope),
+    }
 }
 
 /// What a rerun of a scope wrote before an item of it was refused.
@@ -56,7 +69,7 @@ pub fn written_until<P: Parts>(
         AreCausedUntil edits before.now after.now refused.now scope) }
 {
     let way = way_to(alloc, after, refused)?;
-    edits_on(alloc, before, after, way.as_slice(), scope)
+    edits_on(alloc, before, after, way.as_slice(), None, scope)
 }
 
 fn edits_on<P: Parts>(
@@ -64,14 +77,17 @@ fn edits_on<P: Parts>(
     before: &Look<'_, P>,
     after: &Look<'_, P>,
     way: &[Stop],
+    touched: Option<&ScopeSet>,
     scope: u64,
 ) -> Result<List<Edit>, OutOfMemory>
-    ensures { IfOk result (λ edits. AreOnWay edits before.now after.now (way_of way.now) scope) }
+    ensures { IfOk result (λ edits.
+        AreOnWay edits before.now after.now (way_of way.now) touched.entry scope) }
 {
     let unit = Unit {
         before: &*before,
         after: &*after,
         way,
+        touched,
     };
     let Edited { edits, stopped: _ } = written_within(
         alloc,

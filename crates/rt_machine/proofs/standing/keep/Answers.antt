@@ -8,7 +8,7 @@ use Rattle.rt_machine.proofs.Keeps.{on_ok, some_there, some_still, none_there}
 use Rattle.rt_machine.proofs.standing.keep.Goals as goal
 
 pub returns-then-is_kept-clause-kept : goal.returns-then-is_kept-clause-kept
-returns-then-is_kept-clause-kept g c = ap (λ xs. is_some (at xs c.args.scope)) (sym c.as_slice.ensures.items) ∙ sym c.is_kept.ensures ∙ c.if-is_kept.true
+returns-then-is_kept-clause-kept g c = sym c.is_kept.ensures ∙ c.if-is_kept.true
 
 pub returns-clause-kept : goal.returns-clause-kept
 returns-clause-kept g c = on_ok c.push.result c.push.ensures.ok (λ h. ap (λ xs. is_some (at xs c.args.scope)) h ∙ some_there c.args.stood.now c.args.scope c.in_ok-shown.shown)
@@ -25,6 +25,6 @@ returns-clause-stands g c =
     λ h was stands.
     subst (λ xs. Stands xs was (scopes_of (c.args.state.now.rows).table)) (sym h)
     (stands_kept c.args.stood.now was (scopes_of (c.args.state.now.rows).table) c.args.scope c.in_ok-shown.shown stands
-    (none_there (at c.args.stood.now c.args.scope) (ap (λ xs. is_some (at xs c.args.scope)) (sym c.as_slice.ensures.items) ∙ sym c.is_kept.ensures ∙ c.if-is_kept.false))
+    (none_there (at c.args.stood.now c.args.scope) (sym c.is_kept.ensures ∙ c.if-is_kept.false))
     c.in_ok-shown.ensures)
     )

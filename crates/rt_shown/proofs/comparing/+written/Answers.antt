@@ -10,17 +10,17 @@ use Rattle.rt_shown.specs.Seen.{items_in}
 use Rattle.rt_shown.specs.Units.{items_writes, piece_writes, pieces_writes, slot_writes, tree_writes}
 use Rattle.rt_shown.specs.Written.{edited_of}
 use Rattle.rt_shown.proofs.OneByOne.{not_at_end, range_to_end}
-use Rattle.rt_shown.proofs.ScopesWrite.{name_some, name_some_none, output_both, piece_both, piece_new, scope_other, scope_same, tree_matched}
+use Rattle.rt_shown.proofs.ScopesWrite.{name_some, name_some_none, output_both, piece_both, piece_new, scope_other, scope_same, tree_matched, unit_passed}
 use Rattle.rt_shown.proofs.SlotsWrite.{child_elsewhere, child_halts, child_on_way}
 use Rattle.rt_shown.proofs.ItemsWrite.{items_more, items_over, items_rest}
 use Rattle.rt_shown.proofs.comparing.+written.Goals as goal
 use Rattle.rt_shown.proofs.comparing.+written.Goals.{child_written-else-is_place-via-then-is_place+else-not-is_on_way, child_written-else-is_place-via-else-is_place}
 
 pub child_written-returns-then-not-is_on_way : goal.child_written-returns-then-not-is_on_way
-child_written-returns-then-not-is_on_way g t c = λ app tests.
+child_written-returns-then-not-is_on_way g t c = λ app tests passes.
     c.halts.ensures ∙
     sym (child_halts app c.args.sides.now (place_of c.args.place.now) c.in-Some.child
-    (sym (c.in-Some.ensures ∙ (λ k. child_in (c.as_slice.ensures.items k) (place_of (c.as_slice-2.ensures.items k)))))
+    (sym (c.in-Some.ensures ∙ ap (λ p. child_in ((c.args.sides.now.old.now).side.now).children (place_of p)) c.as_slice.ensures.items))
     (sym c.if-is_place.ensures) (sym c.if-not-is_on_way.ensures))
 
 pub child_written-returns-else-is_place : goal.child_written-returns-else-is_place
@@ -28,16 +28,16 @@ child_written-returns-else-is_place g t c =
     elim c.else-is_place.branch [
       | child_written-else-is_place-via-then-is_place+else-not-is_on_way w ↦
           IfOk-weaker c.written_within.result _ _
-          (λ written is app tests. is app tests ∙
+          (λ written is app tests passes. is app tests passes ∙
           sym (child_on_way app c.args.sides.now (place_of c.args.place.now) c.in-Some.child
-          (sym (c.in-Some.ensures ∙ (λ k. child_in (c.as_slice.ensures.items k) (place_of (c.as_slice-2.ensures.items k)))))
+          (sym (c.in-Some.ensures ∙ ap (λ p. child_in ((c.args.sides.now.old.now).side.now).children (place_of p)) c.as_slice.ensures.items))
           (sym w.if-is_place.ensures) (sym w.if-not-is_on_way.ensures)))
           c.written_within.ensures
       | child_written-else-is_place-via-else-is_place w ↦
           IfOk-weaker c.written_within.result _ _
-          (λ written is app tests. is app tests ∙
+          (λ written is app tests passes. is app tests passes ∙
           sym (child_elsewhere app c.args.sides.now (place_of c.args.place.now) c.in-Some.child
-          (sym (c.in-Some.ensures ∙ (λ k. child_in (c.as_slice.ensures.items k) (place_of (c.as_slice-2.ensures.items k)))))
+          (sym (c.in-Some.ensures ∙ ap (λ p. child_in ((c.args.sides.now.old.now).side.now).children (place_of p)) c.as_slice.ensures.items))
           (sym w.if-is_place.ensures)))
           c.written_within.ensures
     ]
@@ -45,10 +45,10 @@ child_written-returns-else-is_place g t c =
 pub items_written-returns-then-position-old : goal.items_written-returns-then-position-old
 items_written-returns-then-position-old g t c =
     IfOk-weaker c.then_on.result _ _
-    (λ both is app tests. is ∙
+    (λ both is app tests passes. is ∙
     items_rest app c.args.sides.now (place_of c.args.place.now) c.args.new.now c.args.old.now c.loop-position.position (edited_of c.loop-position.written) (edited_of c.in_ok-rest.rest)
     (items_writes app c.args.sides.now (place_of c.args.place.now) 0 0 c.args.new.now c.args.old.now)
-    c.loop-position-test.true c.if-position-old.true (c.loop-position.invariant.left app tests) c.in_ok-rest.ensures)
+    c.loop-position-test.true c.if-position-old.true (c.loop-position.invariant.left app tests passes) c.in_ok-rest.ensures)
     c.then_on.ensures
 
 pub items_written-loop-position-preserved : goal.items_written-loop-position-preserved
@@ -56,12 +56,12 @@ items_written-loop-position-preserved g t c =
     let there : c.loop-position.position < length c.args.old.now = not_at_end c.loop-position.position (length c.args.old.now) c.loop-position.invariant.within c.if-position-old.false in
     record {
       within = let e : c.loop-position.position + 1 ≤ length c.args.old.now = omega (arith, there) in e;
-      left = λ app tests.
+      left = λ app tests passes.
           items_more app c.args.sides.now (place_of c.args.place.now) c.args.new.now c.args.old.now c.loop-position.position c.index-new-position.result c.index-old-position.result
           (edited_of c.loop-position.written) (edited_of c.in_ok-item.item) (edited_of c.in_ok-written.written)
           (items_writes app c.args.sides.now (place_of c.args.place.now) 0 0 c.args.new.now c.args.old.now)
-          c.loop-position-test.true there c.index-new-position.is c.index-old-position.is (c.loop-position.invariant.left app tests)
-          (c.in_ok-item.ensures app tests ∙ ap (λ p. tree_writes app c.args.sides.now p c.index-new-position.result c.index-old-position.result) c.in_ok-above.ensures)
+          c.loop-position-test.true there c.index-new-position.is c.index-old-position.is (c.loop-position.invariant.left app tests passes)
+          (c.in_ok-item.ensures app tests passes ∙ ap (λ p. tree_writes app c.args.sides.now p c.index-new-position.result c.index-old-position.result) c.in_ok-above.ensures)
           c.in_ok-written.ensures;
     }
 
@@ -69,10 +69,10 @@ pub items_written-returns : goal.items_written-returns
 items_written-returns g t c =
     let end : c.loop-position.position ≡ length c.args.new.now = omega (arith, c.loop-position.auto.position-end, c.loop-position-test.false) in
     IfOk-weaker c.then_on-2.result _ _
-    (λ both is app tests. is ∙ ap (λ w. caused.then_on (edited_of c.loop-position.written) w) c.writes.ensures ∙
+    (λ both is app tests passes. is ∙ ap (λ w. caused.then_on (edited_of c.loop-position.written) w) c.writes.ensures ∙
     items_over app c.args.sides.now (place_of c.args.place.now) c.args.new.now c.args.old.now c.loop-position.position (edited_of c.loop-position.written)
     (items_writes app c.args.sides.now (place_of c.args.place.now) 0 0 c.args.new.now c.args.old.now) _ _
-    end (c.loop-position.invariant.left app tests)
+    end (c.loop-position.invariant.left app tests passes)
     (ap forest_of c.as_slice.ensures.items ∙ c.in_ok-over.ensures ∙
     ap (λ ts. items_in c.args.sides.now.old.now (length c.args.new.now) (place_of c.args.place.now) ts) (range_to_end c.args.old.now (length c.args.new.now)))
     c.in_ok-removals.ensures)
@@ -81,14 +81,14 @@ items_written-returns g t c =
 pub outputs_written-returns-in-Some-output : goal.outputs_written-returns-in-Some-output
 outputs_written-returns-in-Some-output g t c =
     IfOk-weaker c.tree_written-in-Some-output.result _ _
-    (λ written is app tests. is app tests ∙ ap (λ p. tree_writes app c.args.sides.now (place_of p) c.in-Some.new c.in-Some-output.old) c.empty.ensures.empty ∙
+    (λ written is app tests passes. is app tests passes ∙ ap (λ p. tree_writes app c.args.sides.now (place_of p) c.in-Some.new c.in-Some-output.old) c.empty.ensures.empty ∙
     sym (output_both app c.args.sides.now c.in-Some.new c.in-Some-output.old c.in-Some.is c.in-Some-output.is))
     c.tree_written-in-Some-output.ensures
 
 pub piece_written-returns-in-Some-get : goal.piece_written-returns-in-Some-get
 piece_written-returns-in-Some-get g t c =
     IfOk-weaker c.slot_written.result _ _
-    (λ written is app tests. is app tests ∙ ap (λ p. slot_writes app c.args.sides.now p c.in-Some.value.now c.in-Some-get.was.now) c.in_ok-place-in-Slot.ensures ∙
+    (λ written is app tests passes. is app tests passes ∙ ap (λ p. slot_writes app c.args.sides.now p c.in-Some.value.now c.in-Some-get.was.now) c.in_ok-place-in-Slot.ensures ∙
     sym (ap (λ x. piece_writes app c.args.sides.now (place_of c.args.above.now) c.args.new.now c.args.old.now x) c.in-Slot.is ∙
     piece_both app c.args.sides.now (place_of c.args.above.now) c.args.new.now c.args.old.now c.in-Slot.id c.in-Slot.path c.in-Some.value.now c.in-Some-get.was.now
     (sym c.in-Some.ensures.item) (sym c.in-Some-get.ensures.item)))
@@ -97,7 +97,7 @@ piece_written-returns-in-Some-get g t c =
 pub piece_written-returns-in-Some : goal.piece_written-returns-in-Some
 piece_written-returns-in-Some g t c =
     IfOk-weaker c.slot_written-in-None-get.result _ _
-    (λ written is app tests. is app tests ∙ ap (λ p. slot_writes app c.args.sides.now p c.in-Some.value.now values.Placeholder) c.in_ok-place-in-Slot.ensures ∙
+    (λ written is app tests passes. is app tests passes ∙ ap (λ p. slot_writes app c.args.sides.now p c.in-Some.value.now values.Placeholder) c.in_ok-place-in-Slot.ensures ∙
     sym (ap (λ x. piece_writes app c.args.sides.now (place_of c.args.above.now) c.args.new.now c.args.old.now x) c.in-Slot.is ∙
     piece_new app c.args.sides.now (place_of c.args.above.now) c.args.new.now c.args.old.now c.in-Slot.id c.in-Slot.path c.in-Some.value.now
     (sym c.in-Some.ensures.item) (sym c.in-None-get.ensures.item)))
@@ -106,21 +106,21 @@ piece_written-returns-in-Some g t c =
 pub scope_written-returns-then-is_same_side : goal.scope_written-returns-then-is_same_side
 scope_written-returns-then-is_same_side g t c =
     IfOk-weaker c.side_written.result _ _
-    (λ written is app tests. is app tests ∙
+    (λ written is app tests passes. is app tests passes ∙
     sym (scope_same app c.args.unit.now c.args.depth c.args.scope c.in-Some.old c.in-Some-shows.new (sym c.in-Some.ensures) (sym c.in-Some-shows.ensures) (sym c.if-is_same_side.ensures)))
     c.side_written.ensures
 
 pub scope_written-returns-else-is_same_side : goal.scope_written-returns-else-is_same_side
 scope_written-returns-else-is_same_side g t c =
     IfOk-weaker c.scope_replaced.result _ _
-    (λ written is app tests. is ∙
+    (λ written is app tests passes. is ∙
     sym (scope_other app c.args.unit.now c.args.depth c.args.scope c.in-Some.old c.in-Some-shows.new (sym c.in-Some.ensures) (sym c.in-Some-shows.ensures) (sym c.if-is_same_side.ensures)))
     c.scope_replaced.ensures
 
 pub side_written-returns-in-Some-side : goal.side_written-returns-in-Some-side
 side_written-returns-in-Some-side g t c =
     IfOk-weaker c.outputs_written.result _ _
-    (λ written is app tests. is app tests ∙
+    (λ written is app tests passes. is app tests passes ∙
     name_some app c.args.unit.now c.args.depth c.args.scope c.args.name c.in-Some.old.now c.in-Some-side.new.now _ (sym c.in-Some.ensures) (sym c.in-Some-side.ensures)
     (record {
       of_unit = refl;
@@ -136,16 +136,20 @@ side_written-returns-in-Some-side g t c =
     c.outputs_written.ensures
 
 pub side_written-returns-in-None-side : goal.side_written-returns-in-None-side
-side_written-returns-in-None-side g t c = λ app tests.
+side_written-returns-in-None-side g t c = λ app tests passes.
     c.nothing.ensures ∙
     sym (name_some_none app c.args.unit.now c.args.depth c.args.scope c.args.name c.in-Some.old.now (sym c.in-Some.ensures) (sym c.in-None-side.ensures))
 
 pub tree_written-returns : goal.tree_written-returns
 tree_written-returns g t c =
     IfOk-weaker c.then_on.result _ _
-    (λ both is app tests. is ∙
+    (λ both is app tests passes. is ∙
     (λ k. caused.then_on (c.writes.ensures k)
-    ((c.in_ok-slots.ensures app tests ∙ ap (λ ps. pieces_writes app c.args.sides.now (place_of c.args.above.now) c.args.new.now c.args.old.now ps) c.as_slice.ensures.items) k)) ∙
-    tree_matched app c.args.sides.now (place_of c.args.above.now) c.args.new.now c.args.old.now c.in_ok-pieces.pieces c.as_slice-numbers.result.now c.in_ok-attributes_written.field-0
-    (c.same.ensures.0 c.if-not-same.false) c.in_ok-pieces.ensures c.as_slice-numbers.ensures.items c.in_ok-attributes_written.ensures)
+    ((c.in_ok-slots.ensures app tests passes ∙ ap (λ ps. pieces_writes app c.args.sides.now (place_of c.args.above.now) c.args.new.now c.args.old.now ps) c.as_slice.ensures.items) k)) ∙
+    tree_matched app c.args.sides.now (place_of c.args.above.now) c.args.new.now c.args.old.now c.in_ok-pieces.pieces ((c.args.sides.now.old.now).side.now).numbers c.in_ok-attributes_written.field-0
+    (c.same.ensures.0 c.if-not-same.false) c.in_ok-pieces.ensures refl c.in_ok-attributes_written.ensures)
     c.then_on.ensures
+
+pub written_within-returns-then-not-is_touched : goal.written_within-returns-then-not-is_touched
+written_within-returns-then-not-is_touched g t c = λ app tests passes.
+    c.nothing-then-not-is_touched.ensures ∙ sym (unit_passed app c.args.unit.now c.args.depth c.args.scope passes (sym c.is_touched.ensures ∙ c.if-not-is_touched.true))

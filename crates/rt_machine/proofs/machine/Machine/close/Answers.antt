@@ -28,7 +28,7 @@ returns-clause-closes g c =
 pub returns-in_err-edits-clause-part : goal.returns-in_err-edits-clause-part
 returns-in_err-edits-clause-part g c =
     let p = err_from_is_err_and c.from_residual.result c.from_residual.ensures.1 in
-    rw (p.1, p.2) (record { wrote = []; told = grown-none (g.M.WriteMutations.taken c.args.sink.now); part = λ app lawful kept w remembers. (_, refl) })
+    rw (p.1, p.2) (record { wrote = []; told = grown-none (g.M.WriteMutations.taken c.args.sink.now); part = λ app lawful kept w remembers orderly. (_, refl) })
 
 pub returns-clause-part : goal.returns-clause-part
 returns-clause-part g c =
@@ -39,8 +39,8 @@ returns-clause-part g c =
       wrote = h.wrote;
       told = h.told;
       part =
-          λ app lawful kept w remembers.
+          λ app lawful kept w remembers orderly.
           subst (λ es. PartBy ended (map edit_of h.wrote) es)
-          (ap (λ es. map edit_of es) c.as_slice.ensures.items ∙ c.in_ok-edits.ensures.edits app lawful kept w remembers) h.part;
+          (ap (λ es. map edit_of es) c.as_slice.ensures.items ∙ c.in_ok-edits.ensures.edits app lawful kept w remembers orderly) h.part;
     }
     )

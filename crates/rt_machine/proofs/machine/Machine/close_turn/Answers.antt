@@ -1,9 +1,12 @@
+use Rattle.std.proofs.Common.{ap}
 use Rattle.std.proofs.lemmas.Result.{err_from_is_err_and}
 use Rattle.rt_reports.specs.Seen.{entry_of}
 use Rattle.rt_machine.specs.Machines.{fault_in}
 use Rattle.rt_machine.proofs.Breaking.{broke_closing}
 use Rattle.rt_machine.proofs.Steps.{no_fault}
 use Rattle.rt_machine.proofs.Turning.{stands_closed}
+use Rattle.rt_machine.specs.Machines.{noted}
+use Rattle.rt_machine.proofs.Noting.{closed_keeps, unclosed_keeps}
 use Rattle.rt_machine.proofs.machine.Machine.close_turn.Goals as goal
 
 pub returns-in_err-close-clause-turns : goal.returns-in_err-close-clause-turns
@@ -24,3 +27,13 @@ returns-clause-turns g c =
     λ app lawful limits r edits is idle stands.
     stands_closed app lawful limits r (entry_of c.args.first) edits c.args.self.now c.close.new.self
     (g.M.WriteMutations.taken c.args.sink.now) (g.M.WriteMutations.taken c.close.new.sink) c.in_ok-close.field-0 stands idle c.close.ensures.others c.in_ok-close.ensures.over c.in_ok-close.ensures.mounted c.in_ok-close.ensures.closes
+
+pub returns-in_err-close-clause-keeps : goal.returns-in_err-close-clause-keeps
+returns-in_err-close-clause-keeps g c =
+    let p = err_from_is_err_and c.from_residual.result c.from_residual.ensures.1 in
+    rw (p.1, p.2)
+    (unclosed_keeps c.args.self.now c.close.new.self c.in_err-close.field-0.0 c.in_err-close.ensures.cause (ap (λ d. d.hearing) c.close.ensures.others) (ap (λ d. d.default_enabled) c.close.ensures.others))
+
+pub returns-clause-keeps : goal.returns-clause-keeps
+returns-clause-keeps g c =
+    closed_keeps c.args.self.now c.close.new.self c.in_ok-close.field-0 (ap (λ d. noted d) c.close.ensures.others) (ap (λ d. d.hearing) c.close.ensures.others) (ap (λ d. d.default_enabled) c.close.ensures.others)

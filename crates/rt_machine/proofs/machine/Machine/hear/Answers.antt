@@ -51,3 +51,24 @@ returns-in_default-clause-hears g c =
       kept,
       ap (λ o. machine_of kept left taken (record c.args.self.now { hearing = o })) (is ∙ sym c.take.ensures.after),
     )
+
+pub returns-in_default-clause-silent : goal.returns-in_default-clause-silent
+returns-in_default-clause-silent g c = λ none. ap (λ o. record c.args.self.now { hearing = o }) (c.take.ensures.after ∙ sym none)
+
+pub returns-in_ok-call-in-Some-2-clause-silent : goal.returns-in_ok-call-in-Some-2-clause-silent
+returns-in_ok-call-in-Some-2-clause-silent g c = λ none. absurd (cc (sym none ∙ sym c.take.ensures.value ∙ c.in-Some.is))
+
+pub returns-in_err-call-in-Some-2-clause-silent : goal.returns-in_err-call-in-Some-2-clause-silent
+returns-in_err-call-in-Some-2-clause-silent g c = λ none. absurd (cc (sym none ∙ sym c.take.ensures.value ∙ c.in-Some.is))
+
+pub returns-in-None-clause-silent : goal.returns-in-None-clause-silent
+returns-in-None-clause-silent g c = λ none. absurd (cc (sym none ∙ sym c.take.ensures.value ∙ c.in-Some.is))
+
+pub returns-in_ok-call-in-Some-2-clause-passed : goal.returns-in_ok-call-in-Some-2-clause-passed
+returns-in_ok-call-in-Some-2-clause-passed g c = λ is. absurd (cc is)
+
+pub returns-in-None-clause-passed : goal.returns-in-None-clause-passed
+returns-in-None-clause-passed g c = λ is. refl
+
+pub returns-in_default-clause-passed : goal.returns-in_default-clause-passed
+returns-in_default-clause-passed g c = λ is. refl

@@ -1,4 +1,4 @@
-use Rattle.std.proofs.Common.{sym, ◌∙◌, subst}
+use Rattle.std.proofs.Common.{[], sym, ◌∙◌, subst}
 use Rattle.std.proofs.lemmas.Result.{err_from_is_err_and}
 use Rattle.std.specs.Prelude.{Ok}
 use Rattle.rt_reports.specs.Seen.{limits_of}
@@ -6,6 +6,8 @@ use Rattle.rt_machine.specs.Machines.{HearsAs, machine_of, noted}
 use Rattle.rt_machine.specs.Stands.{QuietAs, StandsQuiet}
 use Rattle.rt_machine.proofs.Quiet.{stands_silent, quiet_cut}
 use Rattle.rt_machine.proofs.Turning.{stands_heard}
+use Rattle.rt_state.specs.Mirror.{at_first}
+use Rattle.rt_machine.proofs.Noting.{heard_keeps, unheard_keeps, passed_keeps}
 use Rattle.rt_machine.proofs.machine.Machine.quiet_turn.Goals as goal
 
 pub returns-in_err-hear-clause-turns : goal.returns-in_err-hear-clause-turns
@@ -33,3 +35,27 @@ returns-clause-turns g c =
     c.next_turn.ensures.turns r edits (c.hear.ensures.first ∙ over) (c.hear.ensures.work ∙ idle)
     (stands_silent app (g.met.A.App.lawful c.args.app.now) (limits_of c.args.limits) r edits c.args.self.now c.hear.new.self stands
     (λ kept. subst (λ b. HearsAs app (machine_of kept r.left r.taken c.args.self.now) (noted c.args.self.now) (noted c.hear.new.self) (λ h. machine_of h r.left r.taken c.hear.new.self) (Ok b)) c.if-branch.false (c.in_ok-hear.ensures.hears kept r.left r.taken)))
+
+pub returns-in_err-hear-clause-keeps : goal.returns-in_err-hear-clause-keeps
+returns-in_err-hear-clause-keeps g c =
+    let p = err_from_is_err_and c.from_residual.result c.from_residual.ensures.1 in
+    rw (p.1, p.2)
+    (
+    λ idle over.
+    unheard_keeps (g.A.App.meaning c.args.app.now) (machine_of at_first [] 0 c.args.self.now) (λ h. machine_of h [] 0 c.hear.new.self) c.args.self.now c.hear.new.self c.in_err-hear.field-0.0 idle over
+    (c.in_err-hear.ensures.hears at_first [] 0) c.hear.ensures.silent
+    )
+
+pub returns-then-branch-clause-keeps : goal.returns-then-branch-clause-keeps
+returns-then-branch-clause-keeps g c =
+    λ idle over.
+    let app = g.A.App.meaning c.args.app.now in
+    heard_keeps app (machine_of at_first [] 0 c.args.self.now) (λ h. machine_of h [] 0 c.hear.new.self) c.args.self.now c.hear.new.self 0 idle over
+    (subst (λ b. HearsAs app (machine_of at_first [] 0 c.args.self.now) (noted c.args.self.now) (noted c.hear.new.self) (λ h. machine_of h [] 0 c.hear.new.self) (Ok b)) c.if-branch.true (c.in_ok-hear.ensures.hears at_first [] 0))
+    c.hear.ensures.silent
+
+pub returns-clause-keeps : goal.returns-clause-keeps
+returns-clause-keeps g c =
+    λ idle over.
+    passed_keeps c.args.self.now c.hear.new.self c.next_turn.new.self c.next_turn.result idle over (c.in_ok-hear.ensures.passed c.if-branch.false) c.hear.ensures.silent
+    (c.next_turn.ensures.keeps (c.hear.ensures.work ∙ idle) (c.hear.ensures.first ∙ over))

@@ -1,10 +1,6 @@
-use Rattle.std.proofs.Common.{subst}
-use Rattle.rt_shown.specs.Stands.{ShowsStood}
 use Rattle.rt_machine.proofs.Keeps.{if_ok}
 use Rattle.rt_machine.proofs.Wrote.{rerun_now}
 use Rattle.rt_machine.proofs.machine.Machine.rewritten.Goals as goal
 
 pub returns : goal.returns
-returns g c =
-    if_ok c.written.result c.written.ensures.written
-    (λ edits are. rerun_now c.args.self.now edits c.before-before.result c.now.result c.args.scope are (subst (λ xs. ShowsStood c.before-before.result (c.args.self.now.scopes.state.rows).table xs c.args.self.now.lived) c.as_slice.ensures.items c.before-before.ensures.shows) c.now.ensures.shows)
+returns g c = if_ok c.written.result c.written.ensures.written (λ edits are. rerun_now c.args.self.now edits c.args.scope are)

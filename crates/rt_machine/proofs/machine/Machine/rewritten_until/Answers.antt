@@ -1,5 +1,3 @@
-use Rattle.std.proofs.Common.{subst}
-use Rattle.rt_shown.specs.Stands.{ShowsStood}
 use Rattle.rt_machine.proofs.Keeps.{if_ok}
 use Rattle.rt_machine.proofs.Wrote.{rerun_until}
 use Rattle.rt_machine.proofs.machine.Machine.rewritten_until.Goals as goal
@@ -7,4 +5,4 @@ use Rattle.rt_machine.proofs.machine.Machine.rewritten_until.Goals as goal
 pub returns : goal.returns
 returns g c =
     if_ok c.written_until.result c.written_until.ensures.written
-    (λ edits are. rerun_until c.args.self.now edits c.before-before.result c.now.result c.args.refused.now c.args.scope are (subst (λ xs. ShowsStood c.before-before.result (c.args.self.now.scopes.state.rows).table xs c.args.self.now.lived) c.as_slice.ensures.items c.before-before.ensures.shows) c.now.ensures.shows)
+    (λ edits are. rerun_until c.args.self.now edits c.before-before.result c.now.result c.args.refused.now c.args.scope are c.before-before.ensures.shows c.now.ensures.shows)

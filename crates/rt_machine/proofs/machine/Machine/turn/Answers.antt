@@ -1,17 +1,26 @@
 use Rattle.std.proofs.Common.{[], refl, sym, ap, ◌∙◌, subst}
 use Rattle.std.proofs.lemmas.Result.{err_from_is_err_and}
-use Rattle.std.specs.Prelude.{Some, None, option_map}
+use Rattle.std.specs.Prelude.{Some, None, Ok, Err, option_map}
 use Rattle.rt_reports.specs.Seen.{entry_of, limits_of}
 use Rattle.rt_machine.specs.Stands.{StandsFor}
 use Rattle.rt_machine.proofs.Breaking.{broke_at, part_none}
 use Rattle.rt_machine.proofs.Quiet.{stands_before, quiet_turns, quiet_came}
-use Rattle.rt_machine.proofs.Sinks.{ends-caused}
+use Rattle.rt_machine.proofs.Sinks.{ends-caused, took-none, took-same}
+use Rattle.rt_machine.specs.Keeps.{TurnKeeps}
+use Rattle.rt_machine.specs.Turns.{taken_by}
+use Rattle.rt_machine.proofs.Noting.{work_keeps}
 use Rattle.rt_machine.proofs.machine.Machine.turn.Goals as goal
 
 pub returns-in_err-quiet_turn-in-None-clause-err : goal.returns-in_err-quiet_turn-in-None-clause-err
 returns-in_err-quiet_turn-in-None-clause-err g c =
     let p = err_from_is_err_and c.from_residual.result c.from_residual.ensures.1 in
     rw (p.1, p.2) (ends-caused c.args.limits _ _ _ c.in_err-quiet_turn-in-None.ensures.err)
+
+pub returns-in_ok-quiet_turn-in-None-clause-ok : goal.returns-in_ok-quiet_turn-in-None-clause-ok
+returns-in_ok-quiet_turn-in-None-clause-ok g c =
+    let told = g.M.WriteMutations.taken c.args.sink.now in
+    let failures = g.M.WriteMutations.faults c.args.sink.now in
+    took-same told told failures failures 0 (taken_by c.in_ok-quiet_turn-in-None.field-0) (sym c.in_ok-quiet_turn-in-None.ensures.ok) (took-none told failures)
 
 pub returns-in-Some-clause-ok : goal.returns-in-Some-clause-ok
 returns-in-Some-clause-ok g c = c.work_turn.ensures.ok
@@ -62,3 +71,20 @@ returns-in_ok-quiet_turn-in-None-clause-turns g c =
     quiet_turns app (g.met.A.App.lawful c.args.app.now) (limits_of c.args.limits) r edits (g.M.WriteMutations.taken c.args.sink.now) c.quiet_turn.new.self c.in_ok-quiet_turn-in-None.field-0 c.in_ok-quiet_turn-in-None.ensures.ok
     (c.in_ok-quiet_turn-in-None.ensures.turns r edits c.in-None.is c.in_default.ensures.last.1
     (subst (λ d. StandsFor app (limits_of c.args.limits) r None edits d) same (subst (λ o. StandsFor app (limits_of c.args.limits) r o edits c.args.self.now) at stands)))
+
+pub returns-in-Some-clause-keeps : goal.returns-in-Some-clause-keeps
+returns-in-Some-clause-keeps g c = work_keeps c.args.self.now (record c.args.self.now { work = c.pop.new.self }) c.work_turn.new.self c.work_turn.result refl refl refl c.work_turn.ensures.keeps
+
+pub returns-in-Some-first-clause-keeps : goal.returns-in-Some-first-clause-keeps
+returns-in-Some-first-clause-keeps g c = work_keeps c.args.self.now (record c.args.self.now { work = c.pop.new.self }) c.close_turn.new.self c.close_turn.result refl refl refl c.close_turn.ensures.keeps
+
+pub returns-in_err-quiet_turn-in-None-clause-keeps : goal.returns-in_err-quiet_turn-in-None-clause-keeps
+returns-in_err-quiet_turn-in-None-clause-keeps g c =
+    let p = err_from_is_err_and c.from_residual.result c.from_residual.ensures.1 in
+    let same = ap (λ ws. record c.args.self.now { work = ws }) (c.in_default.ensures.last.0 ∙ sym c.in_default.ensures.last.1) in
+    rw (p.1, p.2) (subst (λ d. TurnKeeps d c.quiet_turn.new.self (Err c.in_err-quiet_turn-in-None.field-0.0)) (sym same) (c.in_err-quiet_turn-in-None.ensures.keeps c.in_default.ensures.last.1 c.in-None.is))
+
+pub returns-in_ok-quiet_turn-in-None-clause-keeps : goal.returns-in_ok-quiet_turn-in-None-clause-keeps
+returns-in_ok-quiet_turn-in-None-clause-keeps g c =
+    let same = ap (λ ws. record c.args.self.now { work = ws }) (c.in_default.ensures.last.0 ∙ sym c.in_default.ensures.last.1) in
+    subst (λ d. TurnKeeps d c.quiet_turn.new.self (Ok c.in_ok-quiet_turn-in-None.field-0)) (sym same) (c.in_ok-quiet_turn-in-None.ensures.keeps c.in_default.ensures.last.1 c.in-None.is)

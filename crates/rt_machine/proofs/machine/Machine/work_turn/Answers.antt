@@ -1,4 +1,4 @@
-use Rattle.std.proofs.Common.{[], refl, sym, subst}
+use Rattle.std.proofs.Common.{[], refl, sym, ap, subst}
 use Rattle.std.proofs.lemmas.List.{append-nil}
 use Rattle.rt_reports.specs.Seen.{limits_of}
 use Rattle.rt_work.specs.Items.{item_of}
@@ -6,6 +6,8 @@ use Rattle.rt_machine.specs.Stands.{StandsAt}
 use Rattle.rt_machine.specs.Writings.{WroteUntil, CutsShort}
 use Rattle.rt_machine.proofs.Breaking.{broke_refused}
 use Rattle.rt_machine.proofs.Turning.{grown_none, stands_served, stands_refused}
+use Rattle.rt_state.specs.Mirror.{at_first, state_of}
+use Rattle.rt_machine.proofs.Noting.{served_keeps, refused_keeps}
 use Rattle.rt_machine.proofs.machine.Machine.work_turn.Goals as goal
 
 pub returns-in-Ok-clause-turns : goal.returns-in-Ok-clause-turns
@@ -37,3 +39,13 @@ returns-in-Err-clause-turns g c =
           c.cut.ensures.part
           none,
     )
+
+pub returns-in-Ok-clause-keeps : goal.returns-in-Ok-clause-keeps
+returns-in-Ok-clause-keeps g c =
+    served_keeps (g.A.App.meaning c.args.app.now) (state_of at_first c.args.self.now.scopes.state) (item_of c.args.item.now) c.args.self.now c.serve.new.self 0
+    (c.in-Ok.ensures.serves at_first).1.logged (ap (λ d. d.hearing) c.serve.ensures.others) (ap (λ d. d.default_enabled) c.serve.ensures.others)
+
+pub returns-in-Err-clause-keeps : goal.returns-in-Err-clause-keeps
+returns-in-Err-clause-keeps g c =
+    refused_keeps (g.A.App.meaning c.args.app.now) (state_of at_first c.args.self.now.scopes.state) (item_of c.args.item.now) _ _ c.args.self.now c.serve.new.self c.in-Err.ended c.cut.result
+    (c.in-Err.ensures.serves at_first) (λ fault why. (c.cut.ensures.cuts fault why).0) (ap (λ d. d.hearing) c.serve.ensures.others) (ap (λ d. d.default_enabled) c.serve.ensures.others)

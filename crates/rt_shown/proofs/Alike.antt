@@ -1,0 +1,204 @@
+-- A tree beside an equal one gives no edit, where the scopes of its components write nothing.
+use Rattle.std.proofs.Common.{ℕ, zero, suc, ◌+◌, Bool, true, false, ◌&&◌, ◌||◌, not, List, [], ◌∷◌, ◌++◌, ◌≡◌, refl, ap, ◌∙◌, nat_eq, arith}
+use Rattle.std.specs.Prelude.{Option, Some, None, is_some, if◌then◌else◌, length}
+use Rattle.rt_model.specs.Lists.{Text, same_numbers, same_option, same_list}
+use Rattle.rt_model.specs.Tree.{Types, TemplateAttribute, fixed, from_slot, TemplateNodes, no_nodes, element_node, text_node, slot_node, Template, same_attribute, same_nodes, same_template, AttributeValue, text_value, no_value, listener, Attribute, Tree, block, Slots, no_slots, more_slots, Slot, text_slot, placeholder_slot, component_slot, fragment_slot, Trees, no_trees, more_trees, VComponent, Own, Root, Fragment, ErrorBoundary, SuspenseBoundary, Place, item, attributes_in}
+use Rattle.rt_model.specs.World.{Application}
+use Rattle.rt_model.specs.Laws.{Tests}
+use Rattle.rt_model.specs.Values.{is_same_component}
+use Rattle.rt_model.specs.State.{SideName, MainSide, ChildrenSide, FallbackSide, same_side}
+use Rattle.rt_model.specs.Run.{child_at}
+use Rattle.rt_model.specs.Document.{Edit, SetAttribute, RemoveEventListener, CreateEventListener}
+use Rattle.rt_model.specs.Caused.{Written, writes, halts, then_on, is_place, slot_pass, element_pass, attribute_pass, is_key, text_if, text_under, listens, listens_under, one_left, left, one_come, come, Both, child_written, tree_written, slots_written, slot_written, items_written, outputs_written}
+use Rattle.rt_model.specs.Unchanged.{is_keyed, once_each, Single, SingleSlots, SingleSlot, SingleTrees, SingleOutput}
+use Rattle.rt_model.proofs.Maps.{pick_true, pick_false}
+
+both_true : {a b : Bool} → a ≡ true → b ≡ true → (a && b) ≡ true
+both_true p q = rw (p, q) refl
+
+or_false : (a b : Bool) → (a || b) ≡ false → (a ≡ false) × (b ≡ false)
+or_false true b h = cc
+or_false false b h = (refl, h)
+
+or_true : (a b : Bool) → b ≡ true → (a || b) ≡ true
+or_true true b h = refl
+or_true false b h = h
+
+first_true : (a b : Bool) → a ≡ true → (a || b) ≡ true
+first_true a b h = rw h refl
+
+not_and : (a b : Bool) → (not a && b) ≡ true → (a ≡ false) × (b ≡ true)
+not_and true b h = cc
+not_and false b h = (refl, h)
+
+eq_same : (n : ℕ) → nat_eq n n ≡ true
+eq_same n = grind (arith)
+
+none : {A : Type 0} {xs ys : List A} → xs ≡ [] → ys ≡ [] → (xs ++ ys) ≡ []
+none p q = rw (p, q) refl
+
+nothing_on : {a b : Written} → a ≡ writes [] → b ≡ writes [] → then_on a b ≡ writes []
+nothing_on p q = rw (p, q) refl
+
+numbers_same : (xs : List ℕ) → same_numbers xs xs ≡ true
+numbers_same [] = refl
+numbers_same (x ∷ xs) = both_true (eq_same x) (numbers_same xs)
+
+option_same : (o : Option Text) → same_option same_numbers o o ≡ true
+option_same None = refl
+option_same (Some t) = numbers_same t
+
+lists_same : (xs : List (List ℕ)) → same_list same_numbers xs xs ≡ true
+lists_same [] = refl
+lists_same (x ∷ xs) = both_true (numbers_same x) (lists_same xs)
+
+attribute_same : (a : TemplateAttribute) → same_attribute a a ≡ true
+attribute_same (fixed n s v) = both_true (both_true (numbers_same n) (option_same s)) (numbers_same v)
+attribute_same (from_slot k) = eq_same k
+
+attributes_same : (xs : List TemplateAttribute) → same_list same_attribute xs xs ≡ true
+attributes_same [] = refl
+attributes_same (a ∷ xs) = both_true (attribute_same a) (attributes_same xs)
+
+nodes_same : (t : TemplateNodes) → same_nodes t t ≡ true
+nodes_same no_nodes = refl
+nodes_same (element_node t n a k r) =
+    both_true (both_true (both_true (both_true (numbers_same t) (option_same n)) (attributes_same a)) (nodes_same k)) (nodes_same r)
+nodes_same (text_node t r) = both_true (numbers_same t) (nodes_same r)
+nodes_same (slot_node i r) = both_true (eq_same i) (nodes_same r)
+
+template_same : (t : Template) → same_template t t ≡ true
+template_same t = both_true (both_true (nodes_same t.roots) (lists_same t.node_paths)) (lists_same t.attribute_paths)
+
+pub side_same : (a : SideName) → same_side a a ≡ true
+side_same MainSide = refl
+side_same ChildrenSide = refl
+side_same FallbackSide = refl
+
+element_quiet : (of : ℕ → ℕ → List Edit) (number : ℕ) (xs : List TemplateAttribute) → ((k n : ℕ) → of k n ≡ []) → element_pass of number xs ≡ []
+element_quiet of number [] h = refl
+element_quiet of number (fixed n s v ∷ xs) h = element_quiet of number xs h
+element_quiet of number (from_slot k ∷ xs) h = none (h k number) (element_quiet of number xs h)
+
+pass_quiet : (of : ℕ → ℕ → List Edit) (number : List ℕ → ℕ → ℕ) (up : List ℕ) (i : ℕ) (t : TemplateNodes) → ((k n : ℕ) → of k n ≡ []) → attribute_pass of number up i t ≡ []
+pass_quiet of number up i no_nodes h = refl
+pass_quiet of number up i (element_node tag namespace attributes children rest) h =
+    none (element_quiet of (number up i) attributes h) (none (pass_quiet of number (up ++ i ∷ []) 0 children h) (pass_quiet of number up (i + 1) rest h))
+pass_quiet of number up i (text_node text rest) h = pass_quiet of number up (i + 1) rest h
+pass_quiet of number up i (slot_node k rest) h = pass_quiet of number up (i + 1) rest h
+
+slots_quiet_pass : (of : ℕ → Place → Written) (place : List ℕ → ℕ → Place) (up : List ℕ) (i : ℕ) (t : TemplateNodes) → ((k : ℕ) (p : Place) → of k p ≡ writes []) → slot_pass of place up i t ≡ writes []
+slots_quiet_pass of place up i no_nodes h = refl
+slots_quiet_pass of place up i (element_node tag namespace attributes children rest) h =
+    nothing_on (slots_quiet_pass of place (up ++ i ∷ []) 0 children h) (slots_quiet_pass of place up (i + 1) rest h)
+slots_quiet_pass of place up i (text_node text rest) h = slots_quiet_pass of place up (i + 1) rest h
+slots_quiet_pass of place up i (slot_node k rest) h = nothing_on (h k (place up i)) (slots_quiet_pass of place up (i + 1) rest h)
+
+module _ {K : Types} where
+  key_same : (a : Attribute K) → is_key a a ≡ true
+  key_same a = both_true (numbers_same a.name) (option_same a.namespace)
+
+  -- what a slot says of an attribute
+  abbrev SaysOf : List (Attribute K) → Attribute K → AttributeValue K → Type 0
+  SaysOf all a (text_value t) = text_under a all ≡ Some t
+  SaysOf all a no_value = Unit {0}
+  SaysOf all a (listener origin handler) = listens_under a all ≡ true
+
+  abbrev SaysAll : List (Attribute K) → List (Attribute K) → Type 0
+  SaysAll all [] = Unit {0}
+  SaysAll all (a ∷ rest) = SaysOf all a a.value × SaysAll all rest
+
+  says_more : (b : Attribute K) (es : List (Attribute K)) (a : Attribute K) (v : AttributeValue K) → is_key b a ≡ false → SaysOf es a v → SaysOf (b ∷ es) a v
+  says_more b es a (text_value t) f h = pick_false (text_if (text_under a es) b.value) (text_under a es) f ∙ h
+  says_more b es a no_value f h = tt
+  says_more b es a (listener origin handler) f h = or_true (is_key b a && listens b.value) (listens_under a es) h
+
+  says_all_more : (b : Attribute K) (es xs : List (Attribute K)) → is_keyed b xs ≡ false → SaysAll es xs → SaysAll (b ∷ es) xs
+  says_all_more b es [] f h = tt
+  says_all_more b es (x ∷ xs) f h =
+      let p = or_false (is_key b x) (is_keyed b xs) f in (says_more b es x x.value p.0 h.0, says_all_more b es xs p.1 h.1)
+
+  text_first : (later : Option Text) (t : Text) (v : AttributeValue K) → v ≡ text_value t → text_if later v ≡ Some t
+  text_first later t v e = ap (λ (u : AttributeValue K). text_if later u) e
+
+  says_first : (a : Attribute K) (es : List (Attribute K)) (v : AttributeValue K) → a.value ≡ v → SaysOf (a ∷ es) a v
+  says_first a es (text_value t) e = pick_true (text_if (text_under a es) a.value) (text_under a es) (key_same a) ∙ text_first (text_under a es) t a.value e
+  says_first a es no_value e = tt
+  says_first a es (listener origin handler) e =
+      first_true (is_key a a && listens a.value) (listens_under a es) (both_true (key_same a) (ap (λ (u : AttributeValue K). listens u) e))
+
+  says_all : (es : List (Attribute K)) → once_each es ≡ true → SaysAll es es
+  says_all [] h = tt
+  says_all (a ∷ es) h =
+      let p = not_and (is_keyed a es) (once_each es) h in (says_first a es a.value refl, says_all_more a es es p.0 (says_all es p.1))
+
+  one_left_quiet : (number : ℕ) (all : List (Attribute K)) (a : Attribute K) (v : AttributeValue K) → SaysOf all a v → one_left number all a v ≡ []
+  one_left_quiet number all a (text_value t) h = pick_true [] (SetAttribute number a.name a.namespace None ∷ []) (ap (λ (o : Option Text). is_some o) h)
+  one_left_quiet number all a no_value h = refl
+  one_left_quiet number all a (listener origin handler) h = pick_true [] (RemoveEventListener number a.name ∷ []) h
+
+  left_quiet : (es all : List (Attribute K)) (number : ℕ) → SaysAll all es → left es all number ≡ []
+  left_quiet [] all number h = refl
+  left_quiet (a ∷ es) all number h = none (one_left_quiet number all a a.value h.0) (left_quiet es all number h.1)
+
+  one_come_quiet : (number : ℕ) (all : List (Attribute K)) (a : Attribute K) (v : AttributeValue K) → SaysOf all a v → one_come number all a v ≡ []
+  one_come_quiet number all a (text_value t) h =
+      pick_true [] (SetAttribute number a.name a.namespace (Some t) ∷ []) (ap (λ (o : Option Text). same_option same_numbers o (Some t)) h ∙ numbers_same t)
+  one_come_quiet number all a no_value h = refl
+  one_come_quiet number all a (listener origin handler) h = pick_true [] (CreateEventListener number a.name ∷ []) h
+
+  come_quiet : (es all : List (Attribute K)) (number : ℕ) → SaysAll all es → come es all number ≡ []
+  come_quiet [] all number h = refl
+  come_quiet (a ∷ es) all number h = none (one_come_quiet number all a a.value h.0) (come_quiet es all number h.1)
+
+  -- nothing was refused, and no child scope of the old side writes anything
+  pub record IsQuiet (b : Both K) : Type 0 where
+    pub no_stop : b.stop ≡ None
+    pub under : (place : Place) (t : ℕ) → child_at b.old.children place ≡ Some t → b.under t ≡ writes []
+
+module _ {K : Types} (app : Application K) (tests : Tests K.Component app.same_component) where
+  component_same : (c : VComponent K) → is_same_component app c c ≡ true
+  component_same (Own a p) = tests.1 a
+  component_same (Root a p) = refl
+  component_same (Fragment t) = refl
+  component_same (ErrorBoundary t h) = refl
+  component_same (SuspenseBoundary t f) = refl
+
+  child_quiet : (b : Both K) → IsQuiet b → (place : Place) (o : Option ℕ) → child_at b.old.children place ≡ o → child_written app b place o ≡ writes []
+  child_quiet b q place None found = refl
+  child_quiet b q place (Some t) found =
+      pick_false halts (b.under t) (ap (λ (o : Option Place). is_place place o && not (b.on_way t)) q.no_stop) ∙ q.under place t found
+
+  mutual
+    tree_quiet : (b : Both K) → IsQuiet b → (above : Place) (x : Tree K) → Single x → tree_written app b above x x ≡ writes []
+    tree_quiet b q above (block template given slots) h =
+        pick_true _ _ (template_same template)
+        ∙ nothing_on
+        (
+        ap writes
+        (none
+        (pass_quiet _ _ [] 0 template.roots (λ k n. left_quiet (attributes_in given k) (attributes_in given k) n (says_all (attributes_in given k) (h.0 k))))
+        (pass_quiet _ _ [] 0 template.roots (λ k n. come_quiet (attributes_in given k) (attributes_in given k) n (says_all (attributes_in given k) (h.0 k)))))
+        )
+        (slots_quiet_pass _ _ [] 0 template.roots (λ k p. slots_quiet b q slots h.1 k p))
+
+    slots_quiet : (b : Both K) → IsQuiet b → (slots : Slots K) → SingleSlots slots → (k : ℕ) (place : Place) → slots_written app b slots slots k place ≡ writes []
+    slots_quiet b q no_slots h k place = refl
+    slots_quiet b q (more_slots v rest) h zero place = slot_quiet b q place v h.0
+    slots_quiet b q (more_slots v rest) h (suc k) place = slots_quiet b q rest h.1 k place
+
+    slot_quiet : (b : Both K) → IsQuiet b → (place : Place) (v : Slot K) → SingleSlot v → slot_written app b place v v ≡ writes []
+    slot_quiet b q place (text_slot t) h = pick_true _ _ (numbers_same t)
+    slot_quiet b q place placeholder_slot h = refl
+    slot_quiet b q place (component_slot c) h = pick_true _ _ (component_same c) ∙ child_quiet b q place (child_at b.old.children place) refl
+    slot_quiet b q place (fragment_slot no_trees) h = refl
+    slot_quiet b q place (fragment_slot (more_trees y ys)) h = items_quiet b q place 0 0 (more_trees y ys) h
+
+    items_quiet : (b : Both K) → IsQuiet b → (place : Place) (i last : ℕ) (ts : Trees K) → SingleTrees ts → items_written app b place i last ts ts ≡ writes []
+    items_quiet b q place i last no_trees h = refl
+    items_quiet b q place i last (more_trees y ys) h = nothing_on (tree_quiet b q (place ++ item i ∷ []) y h.0) (items_quiet b q place (i + 1) _ ys h.1)
+
+  -- so it is with outputs
+  pub outputs_quiet : (b : Both K) → IsQuiet b → (o : Option (Tree K)) → SingleOutput o → outputs_written app b o o ≡ writes []
+  outputs_quiet b q None h = refl
+  outputs_quiet b q (Some tree) h = tree_quiet b q [] tree h
