@@ -1,7 +1,6 @@
 //! Trees: a copy of a template, and what its slots are filled with.
 ghost use Rattle.std.specs.Prelude.{◌≡◌, ◌≤◌, ◌++◌, ◌∷◌, [], IfOk, OnOk, map, option_map, pos};
 ghost use Rattle.rt_model.specs.Program.{done};
-ghost use Rattle.rt_model.specs.Tree.{component_slot, Fragment, ErrorBoundary, SuspenseBoundary, rendered};
 ghost use Rattle.rt_mirror.specs.Mirror.{trees_from};
 ghost use Rattle.rt_mirror.specs.Sealed as mirror;
 ghost use Rattle.rt_calls.specs.Calls.{world_of};
@@ -11,6 +10,7 @@ ghost use Rattle.rt_language.specs.Views as views;
 ghost use Rattle.rt_language.specs.Views.{filled_on, items_from, use_or_none};
 ghost use Rattle.rt_syntax.specs.Mirror.{use_of};
 ghost use Rattle.rt_script_views.specs.Plans.{planned, fill_of, slot_program};
+ghost use Rattle.rt_script_views.specs.declared.plan.SlotPlan.TheVariants as plans;
 ghost use Rattle.rt_script.specs.Fills.{filling_of};
 ghost use Rattle.rt_bodies.specs.Comes.{Comes};
 ghost use Rattle.rt_script.specs.Seen.{caller_of, SeesRenders};
@@ -18,18 +18,16 @@ ghost use Rattle.rt_script.specs.Seen.{caller_of, SeesRenders};
 use crate::attributes::{attribute_value, slot_with};
 use crate::caller::Frame;
 use crate::evaluation::{evaluate, evaluate_all};
+use crate::rounds::{error_boundary, fragment, suspense_boundary};
 use crate::script::Script;
 use rt_calls::BodyCx;
-use rt_nodes::{
-    DynamicNode, ErrorBoundaryProps, ErrorHandler, Fallback, FragmentProps, SuspenseBoundaryProps,
-    VComponent, VNode,
-};
+use rt_nodes::{DynamicNode, VComponent, VNode};
 use rt_parts::{Attribute, AttributeValue, Template};
 use rt_script_values::{Content, Doing, Props, Value, item_count, text_of};
 use rt_script_views::{Fill, Plan, SlotPlan};
 use rt_shared::Shared;
 use rt_syntax::ComponentUse;
-use rt_values::{Boxed, List, OutOfMemory, both};
+use rt_values::{List, OutOfMemory, both};
 use std::alloc::Global;
 
 /// What the slots of a template are filled with, by number.
@@ -170,50 +168,102 @@ fn node_of(
                 Ok(picked(alloc, cx, frame, other.get())?)
             }
         }
-        given => component_in(alloc, cx, frame, given),
+        SlotPlan::UseOf(used) => Ok(used_node(alloc, cx, frame, used)?),
+        SlotPlan::FragmentOf(children) => { Ok(fragment_node(alloc, cx, frame, children.get())?) }
+        SlotPlan::ErrorBoundaryOf { kids, handler } => {
+            Ok(errors_node(alloc, cx, frame, kids.get(), handler)?)
+        }
+        SlotPlan::SuspenseBoundaryOf { kids, fallback } => {
+            Ok(waits_node(alloc, cx, frame, kids.get(), fallback)?)
+        }
+        SlotPlan::Hole => Ok(DynamicNode::Placeholder),
     }
 }
 
-/// What stands in a node slot that has a component, or nothing. No other slot comes here; one would
-/// find no memory.
+/// A component with the values of what it is handed.
+#[tactic(auto, using(crate::proofs::Fills::filling))]
+fn used_node(
+    alloc: Global,
+    cx: &mut BodyCx<'_, Script>,
+    frame: &Frame<'_>,
+    used: &ComponentUse,
+) -> Result<DynamicNode<Script>, OutOfMemory>
+    requires renders { SeesRenders (world_of cx.old.world) frame.now.by }
+    ensures came { IfOk result (λ node. Comes cx.old cx.new
+        (slot_program (plans.UseOf used.now) (caller_of frame.now.by) frame.now.held)
+        (mirror.slot_of node)) }
+    ensures world { cx.new.world ≡ cx.old.world }
+{
+    let values = evaluate_all(alloc, cx, frame, used.props.as_slice())?;
+    let props = Props::new(alloc, values)?;
+    let component = used.component;
+    Ok(DynamicNode::Component(VComponent::App { component, props }))
+}
+
+/// A fragment round a view.
 #[cycle(filling)]
 #[tactic(auto, using(crate::proofs::Fills::filling))]
-fn component_in(
+fn fragment_node(
     alloc: Global,
     cx: &mut BodyCx<'_, Script>,
     frame: &mut Frame<'_>,
-    slot: &SlotPlan,
+    children: &Plan,
 ) -> Result<DynamicNode<Script>, OutOfMemory>
     requires renders { SeesRenders (world_of cx.old.world) frame.old.by }
     ensures came { IfOk result (λ node. Comes cx.old cx.new
-        (slot_program slot.now (caller_of frame.old.by) frame.old.held) (mirror.slot_of node)) }
+        (slot_program (plans.FragmentOf children.now) (caller_of frame.old.by) frame.old.held)
+        (mirror.slot_of node)) }
     ensures world { cx.new.world ≡ cx.old.world }
     ensures frame { OnOk result (frame.new ≡ frame.old) }
 {
-    match slot {
-        SlotPlan::UseOf(used) => {
-            let values = evaluate_all(alloc, cx, frame, used.props.as_slice())?;
-            let props = Props::new(alloc, values)?;
-            let component = used.component;
-            Ok(DynamicNode::Component(VComponent::App { component, props }))
-        }
-        SlotPlan::FragmentOf(children) => {
-            let children = tree_of(alloc, cx, frame, children.get())?;
-            Ok(fragment(alloc, children)?)
-        }
-        SlotPlan::ErrorBoundaryOf { kids, handler } => {
-            let kids = tree_of(alloc, cx, frame, kids.get())?;
-            let handler = handed(alloc, cx, frame, handler)?;
-            Ok(error_boundary(alloc, kids, handler)?)
-        }
-        SlotPlan::SuspenseBoundaryOf { kids, fallback } => {
-            let kids = tree_of(alloc, cx, frame, kids.get())?;
-            let fallback = handed(alloc, cx, frame, fallback)?;
-            Ok(suspense_boundary(alloc, kids, fallback)?)
-        }
-        SlotPlan::Hole => Ok(DynamicNode::Placeholder),
-        _ => Err(OutOfMemory),
-    }
+    let children = tree_of(alloc, cx, frame, children)?;
+    Ok(fragment(alloc, children)?)
+}
+
+/// An error boundary round a view, with its handler.
+#[cycle(filling)]
+#[tactic(auto, using(crate::proofs::Fills::filling))]
+fn errors_node(
+    alloc: Global,
+    cx: &mut BodyCx<'_, Script>,
+    frame: &mut Frame<'_>,
+    kids: &Plan,
+    handler: &Option<ComponentUse>,
+) -> Result<DynamicNode<Script>, OutOfMemory>
+    requires renders { SeesRenders (world_of cx.old.world) frame.old.by }
+    ensures came { IfOk result (λ node. Comes cx.old cx.new
+        (slot_program (plans.ErrorBoundaryOf kids.now handler.now)
+        (caller_of frame.old.by) frame.old.held)
+        (mirror.slot_of node)) }
+    ensures world { cx.new.world ≡ cx.old.world }
+    ensures frame { OnOk result (frame.new ≡ frame.old) }
+{
+    let kids = tree_of(alloc, cx, frame, kids)?;
+    let handler = handed(alloc, cx, frame, handler)?;
+    Ok(error_boundary(alloc, kids, handler)?)
+}
+
+/// A suspense boundary round a view, with its fallback.
+#[cycle(filling)]
+#[tactic(auto, using(crate::proofs::Fills::filling))]
+fn waits_node(
+    alloc: Global,
+    cx: &mut BodyCx<'_, Script>,
+    frame: &mut Frame<'_>,
+    kids: &Plan,
+    fallback: &Option<ComponentUse>,
+) -> Result<DynamicNode<Script>, OutOfMemory>
+    requires renders { SeesRenders (world_of cx.old.world) frame.old.by }
+    ensures came { IfOk result (λ node. Comes cx.old cx.new
+        (slot_program (plans.SuspenseBoundaryOf kids.now fallback.now)
+        (caller_of frame.old.by) frame.old.held)
+        (mirror.slot_of node)) }
+    ensures world { cx.new.world ≡ cx.old.world }
+    ensures frame { OnOk result (frame.new ≡ frame.old) }
+{
+    let kids = tree_of(alloc, cx, frame, kids)?;
+    let fallback = handed(alloc, cx, frame, fallback)?;
+    Ok(suspense_boundary(alloc, kids, fallback)?)
 }
 
 /// An item for each number below a count, which is the item's last variable.
@@ -298,56 +348,4 @@ fn handed(
         }
         None => Ok(None),
     }
-}
-
-/// A fragment round children.
-#[tactic(auto, using(crate::proofs::Fills::filling))]
-fn fragment(alloc: Global, children: VNode<Script>) -> Result<DynamicNode<Script>, OutOfMemory>
-    ensures node { IfOk result (λ node. mirror.slot_of node
-        ≡ component_slot (Fragment (rendered (mirror.tree_of children)))) }
-{
-    let children = Boxed::new(alloc, Ok(children))?;
-    Ok(DynamicNode::Component(VComponent::Fragment(FragmentProps { children })))
-}
-
-/// An error boundary round children.
-#[tactic(auto, using(crate::proofs::Fills::filling))]
-fn error_boundary(
-    alloc: Global,
-    kids: VNode<Script>,
-    handler: Option<(u64, Props)>,
-) -> Result<DynamicNode<Script>, OutOfMemory>
-    ensures node { IfOk result (λ node. mirror.slot_of node
-        ≡ component_slot (ErrorBoundary (rendered (mirror.tree_of kids)) handler)) }
-{
-    let handle_error = match handler {
-        Some((component, props)) => ErrorHandler::Component(component, props),
-        None => ErrorHandler::Default,
-    };
-    let children = Boxed::new(alloc, Ok(kids))?;
-    Ok(DynamicNode::Component(VComponent::ErrorBoundary(ErrorBoundaryProps {
-        children,
-        handle_error,
-    })))
-}
-
-/// A suspense boundary round children.
-#[tactic(auto, using(crate::proofs::Fills::filling))]
-fn suspense_boundary(
-    alloc: Global,
-    kids: VNode<Script>,
-    fallback: Option<(u64, Props)>,
-) -> Result<DynamicNode<Script>, OutOfMemory>
-    ensures node { IfOk result (λ node. mirror.slot_of node
-        ≡ component_slot (SuspenseBoundary (rendered (mirror.tree_of kids)) fallback)) }
-{
-    let fallback = match fallback {
-        Some((component, props)) => Fallback::Component(component, props),
-        None => Fallback::Placeholder,
-    };
-    let children = Boxed::new(alloc, Ok(kids))?;
-    Ok(DynamicNode::Component(VComponent::SuspenseBoundary(SuspenseBoundaryProps {
-        children,
-        fallback,
-    })))
 }

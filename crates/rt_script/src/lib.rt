@@ -7,6 +7,7 @@ mod caller;
 mod evaluation;
 mod filling;
 mod inputs;
+mod rounds;
 mod running;
 mod script;
 mod stands;

@@ -1,9 +1,9 @@
 -- A built-in component round children at the mirror.
 use Rattle.std.proofs.Common.{◌≡◌, ◌∙◌, ap, sym}
 use Rattle.rt_mirror.specs.Mirror.{fallback_of}
-use Rattle.rt_script.proofs.filling.suspense_boundary.Goals.{in-Some, in-None}
+use Rattle.rt_script.proofs.rounds.suspense_boundary.Goals.{in-Some, in-None}
 use Rattle.rt_script.proofs.Fills.{slot-suspense-boundary}
-use Rattle.rt_script.proofs.filling.suspense_boundary.Goals as goal
+use Rattle.rt_script.proofs.rounds.suspense_boundary.Goals as goal
 
 pub returns : goal.returns
 returns c =
