@@ -1,11 +1,11 @@
 -- What the commands of a call leave of a fact that goes by hooks, errors, holders and the tasks that are there.
-use Rattle.std.proofs.Common.{ℕ, zero, suc, Bool, true, false, List, [], ◌∷◌, ◌++◌, ◌≡◌, ◌≤◌, ◌&&◌, not, refl, sym, ap, ◌∙◌, subst, nat_eq}
+use Rattle.std.proofs.Common.{ℕ, Bool, true, false, List, [], ◌∷◌, ◌++◌, ◌≡◌, ◌≤◌, ◌&&◌, not, refl, ap, ◌∙◌}
 use Rattle.std.specs.Prelude.{Option, Some, None, if◌then◌else◌, is_some}
-use Rattle.rt_model.specs.Lists.{at, put, without, kept_by, drop_number}
+use Rattle.rt_model.specs.Lists.{at, put, without, drop_number}
 use Rattle.rt_model.specs.Tree.{Types, CapturedError}
 use Rattle.rt_model.specs.World.{Source, Cell, Error, Context, Firsts, Hook, Command, KeepHook, NewCell, Write, DropCell, NewContext, Reset, ReadInto, Spawn, RemoveFuture, Wake, SetActive, QueueEffect, Provide, Update, Throw, ClearErrors, Resolved, Freeze, Application}
 use Rattle.rt_model.specs.State.{Posted, Mark, Woken, ClientOnly, Isomorphic, Scope, CellRow, ContextRow, TaskRow, State, is_live, changed_scope, change, error_context, suspense_context}
-use Rattle.rt_model.specs.Commands.{drop_posted, holding, released, one_more_source, post, tell, end, written_at, write_cell, caught_at, thrown_to, throw_error, cleared_at, activated, spawned, registered, frozen_at, change_context, provided_at, command, commands}
+use Rattle.rt_model.specs.Commands.{drop_posted, holding, released, one_more_source, post, tell, end, written_at, write_cell, caught_at, thrown_to, throw_error, cleared_at, activated, spawned, registered, frozen_at, provided_at, command, commands}
 use Rattle.rt_model.specs.Run.{with_next}
 use Rattle.rt_model.specs.Replay.{mounted_state}
 use Rattle.rt_behavior.proofs.Readers.{Posts, post_posts, tell_posts}

@@ -7,7 +7,7 @@ use Rattle.rt_model.specs.Tree.{Types, Place, VComponent}
 use Rattle.rt_model.specs.World.{Scopes, at_end, Application}
 use Rattle.rt_model.specs.Laws.{IsLawful}
 use Rattle.rt_model.specs.State.{SideName, Fault, IdsExhausted, TooDeep, OutOfTurns, Scope, State, Item, Draw, Row, Feed, Make, Drop, Outcome, Done, Cut, is_live}
-use Rattle.rt_model.specs.Next.{Work, RerunScope, PollTask, RunEffects, at_rest, look, next, owes}
+use Rattle.rt_model.specs.Next.{Work, RerunScope, PollTask, RunEffects, at_rest, next, owes}
 use Rattle.rt_model.specs.Run.{run}
 use Rattle.rt_model.specs.Removal.{next_removed}
 use Rattle.rt_model.specs.Heard.{Listener}

@@ -1,19 +1,18 @@
 -- What runs, the steps of boundaries and removals leave of such a fact, where the commands of their calls are good.
-use Rattle.std.proofs.Common.{ℕ, ◌+◌, zero, suc, Bool, true, false, List, [], ◌∷◌, ◌++◌, ◌≡◌, ◌≤◌, refl, sym, ap, ◌∙◌, subst, nat_eq, arith}
-use Rattle.std.specs.Prelude.{Option, Some, None, if◌then◌else◌, is_some}
+use Rattle.std.proofs.Common.{ℕ, ◌+◌, Bool, true, false, List, [], ◌∷◌, ◌++◌, ◌≡◌, ◌≤◌, refl, sym, ap, subst}
+use Rattle.std.specs.Prelude.{Option, Some, None, if◌then◌else◌}
 use Rattle.std.specs.List.{AllByRecursion}
-use Rattle.rt_model.specs.Lists.{at, put, without, drop_number, join}
-use Rattle.rt_model.specs.Tree.{Types, CapturedError, Tree, placeholder_tree, VComponent, Own, Root, Fragment, ErrorBoundary, SuspenseBoundary, Element, rendered, failed, suspended, Place, Kind, spots}
-use Rattle.rt_model.specs.World.{Source, Error, Renders, Elements, Scopes, Firsts, at_end, before_render_kind, after_render_kind, CallFault, Event, Hook, HookValue, HookEffect, Command, World, Meaning, Nothing, TaskStep, pending, ready, Application}
-use Rattle.rt_model.specs.State.{SideName, MainSide, ChildrenSide, FallbackSide, Posted, Mark, Woken, SuspendedTask, IdsExhausted, BadNode, RowStep, PatchChildren, MadeChildren, RunFallback, ShowFallback, ShowChildren, DropFallback, Resolve, Side, Scope, TaskRow, State, Outcome, Done, Cut, onward, empty_side, side_of, with_side, new_scope, is_live, changed_scope, change, location, is_held, holds, hooks_of, renders_of, world_of, effects_of}
-use Rattle.rt_model.specs.Commands.{post, unqueued, end, tell, throw_error, commands}
-use Rattle.rt_model.specs.Next.{Work, look_on, look, found, paused, drop_then, drops, looked, at_rest}
-use Rattle.rt_model.specs.Run.{fault_of, plain, error_tree, children_tree, root_tree, with_next, called_once, called_where, is_own, answer_fits, kept_call, is_kind, spots_of, patched, raised, joins, suspends_on, unmarked, has_output, row_of, runs_fallback, row_items, caught, body_of, acted, hook_called, hooks_called, after_hooks, call_body, start_agenda, settled_answer, new_output, after_answer, boundary_run, run_as, run}
+use Rattle.rt_model.specs.Lists.{at, put, without, drop_number}
+use Rattle.rt_model.specs.Tree.{Types, Tree, placeholder_tree, VComponent, Own, Root, Fragment, ErrorBoundary, SuspenseBoundary, Element, rendered, failed, suspended, Place, Kind, spots}
+use Rattle.rt_model.specs.World.{Source, Error, Renders, Elements, Scopes, Firsts, at_end, before_render_kind, after_render_kind, CallFault, Hook, HookValue, HookEffect, Command, World, Meaning, Nothing, Application}
+use Rattle.rt_model.specs.State.{SideName, MainSide, ChildrenSide, FallbackSide, Mark, SuspendedTask, IdsExhausted, BadNode, RowStep, PatchChildren, MadeChildren, RunFallback, ShowFallback, ShowChildren, DropFallback, Resolve, Side, Scope, TaskRow, State, Outcome, Done, Cut, onward, empty_side, side_of, with_side, new_scope, is_live, changed_scope, change, location, is_held, holds, hooks_of, renders_of, world_of}
+use Rattle.rt_model.specs.Commands.{post, end, tell, commands}
+use Rattle.rt_model.specs.Run.{fault_of, with_next, called_once, called_where, is_own, answer_fits, kept_call, is_kind, spots_of, patched, raised, joins, suspends_on, unmarked, has_output, row_of, runs_fallback, row_items, body_of, acted, hook_called, hooks_called, after_hooks, call_body, start_agenda, settled_answer, new_output, after_answer, run_as, run}
 use Rattle.rt_model.specs.Boundary.{tree_or_placeholder, children_of, counts_render, counted_render, fallback_answered, called_back, row_step, boundary_step}
 use Rattle.rt_model.specs.Removal.{tasks_in, cell_sources, cells_in, read_contexts, end_all, tell_all, clean_ups, without_scope, gone, stopped, cleaned_in, removed}
-use Rattle.rt_model.specs.Replay.{numbered, draw_number, with_child, with_new_scope, made_in, made, with_props, keeps, handed, left_by_poll, polled_to, polled_at, polled, poll_meant, batch_then, effects_run}
+use Rattle.rt_model.specs.Replay.{numbered, draw_number, with_child, with_new_scope, made_in, made, with_props, keeps, handed, polled}
 use Rattle.rt_model.proofs.Tour.{AllFresh}
-use Rattle.rt_behavior.specs.Deeds.{Deed, deeds_on, deed_of, poll_finds, effect_deeds, hook_deeds, hooks_deeds, after_deeds, answered_deeds, body_deeds, answer_deeds, run_as_deeds, run_deeds, callback_deeds, row_deeds, clean_deeds, removed_deeds, batch_deeds, poll_deeds}
+use Rattle.rt_behavior.specs.Deeds.{Deed, deeds_on, effect_deeds, hook_deeds, hooks_deeds, after_deeds, body_deeds, answer_deeds, run_as_deeds, run_deeds, callback_deeds, row_deeds, clean_deeds, removed_deeds}
 use Rattle.rt_behavior.proofs.Enduring.{LastsBut, LastsIn, lasts_but, lasts_all, Again, Enduring, either, post_on, tell_on, change_on, throw_on, end_on, AllAllowed, commands_on}
 use Rattle.rt_behavior.proofs.Calling.{Free, all_first, all_last, AllDraw, fresh_both, body_draws}
 

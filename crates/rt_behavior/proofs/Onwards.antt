@@ -1,26 +1,22 @@
 -- What moves leave of such a fact.
-use Rattle.std.proofs.Common.{ℕ, ◌+◌, Bool, true, false, List, [], ◌∷◌, ◌++◌, ◌≡◌, ◌≤◌, not, refl, sym, ap, ◌∙◌, subst, nat_eq}
-use Rattle.std.proofs.lemmas.Bool.{eqb-true}
-use Rattle.std.specs.Prelude.{Option, Some, None, if◌then◌else◌, is_some}
-use Rattle.std.specs.List.{AllByRecursion}
-use Rattle.rt_model.specs.Lists.{at}
+use Rattle.std.proofs.Common.{ℕ, ◌+◌, Bool, true, false, List, [], ◌∷◌, ◌≡◌, not, refl, sym, ap, ◌∙◌, subst, nat_eq}
+use Rattle.std.specs.Prelude.{Option, Some, None, if◌then◌else◌}
 use Rattle.rt_model.specs.Tree.{Types, Place, VComponent}
 use Rattle.rt_model.specs.World.{CallFault, Event, Command, World, Meaning, Application}
-use Rattle.rt_model.specs.State.{SideName, Posted, Mark, Woken, Scope, Fault, State, Item, Draw, Row, Feed, Make, Drop, Outcome, Done, Cut, is_live, world_of}
+use Rattle.rt_model.specs.State.{SideName, Mark, Woken, Scope, Fault, State, Item, Draw, Row, Feed, Make, Drop, Outcome, Done, Cut, is_live, world_of}
 use Rattle.rt_model.specs.Commands.{post, commands}
 use Rattle.rt_model.specs.Next.{Work, RerunScope, PollTask, RunEffects, at_rest, next}
 use Rattle.rt_model.specs.Run.{fault_of, with_next, called_once, run}
 use Rattle.rt_model.specs.Removal.{next_removed, removed}
 use Rattle.rt_model.specs.Heard.{Listener}
-use Rattle.rt_model.specs.Replay.{Entry, Build, Taken, Heard, Rerun, Poll, Effects, Made, Fed, Kept, Removed, Post, MarkScope, WakeTask, AllDirty, Message, Input, EventAt, WakeOf, WriteOf, MarkOf, Drain, Machine, ended_by, mounted_state, if_live, waiting, post_all, post_message, post_messages, looked_where_quiet, then_looked, taken_in, take_next, one_more_unit, fed_child, keeps, due_item, due_heard, due_work, due, outcome_of, polled, effects_run, further, heard_event, heard_first, rested, change_by}
+use Rattle.rt_model.specs.Replay.{Entry, Build, Taken, Heard, Rerun, Poll, Effects, Made, Fed, Kept, Removed, Post, MarkScope, WakeTask, AllDirty, Message, Input, EventAt, WakeOf, WriteOf, MarkOf, Drain, Machine, ended_by, if_live, waiting, post_all, post_message, post_messages, looked_where_quiet, then_looked, taken_in, take_next, one_more_unit, fed_child, keeps, due_item, due_heard, due_work, due, outcome_of, polled, effects_run, further, heard_event, heard_first, rested, change_by}
 use Rattle.rt_model.specs.Causes.{Limits}
 use Rattle.rt_model.proofs.Tour.{AllFresh}
-use Rattle.rt_model.proofs.Maps.{by_test, pick_true, pick_false}
-use Rattle.rt_moves.specs.Moves.{Move, Silent, Closed, Logged, is_silent, entries, Moves, Leads}
-use Rattle.rt_moves.proofs.Insides.{alive_before, live_due, made_due, fed_due, fed_change}
-use Rattle.rt_behavior.specs.Deeds.{Deed, deed_of, heard_deeds, first_deeds, item_deeds, work_deeds, entry_deeds, move_deeds, removed_deeds}
+use Rattle.rt_moves.specs.Moves.{Move, Silent, Closed, Logged, entries, Leads}
+use Rattle.rt_moves.proofs.Insides.{live_due, made_due, fed_due, fed_change}
+use Rattle.rt_behavior.specs.Deeds.{Deed, heard_deeds, first_deeds, item_deeds, work_deeds, entry_deeds, move_deeds}
 use Rattle.rt_behavior.specs.Along.{removed_in, NoneRemoves}
-use Rattle.rt_behavior.proofs.Enduring.{Again, Enduring, either, post_on, write_on, AllAllowed, commands_on}
+use Rattle.rt_behavior.proofs.Enduring.{Again, Enduring, post_on, write_on, AllAllowed}
 use Rattle.rt_behavior.proofs.Calling.{Free, AllDraw}
 use Rattle.rt_behavior.proofs.Lived.{AllGood, Ends, called, once_on, run_on, step_on, number_on, made_on, fed_on, removed_on}
 use Rattle.rt_behavior.proofs.Polled.{looks_on, rest_on, polled_on, effects_on}

@@ -13,7 +13,7 @@ use Rattle.rt_model.specs.Boundary.{boundary_step, row_step}
 use Rattle.rt_model.specs.Next.{Work, RerunScope, sorted_by, is_before, found, looked, drops, at_rest, or_effects, next, seen_in_order}
 use Rattle.rt_model.specs.Run.{with_next, run}
 use Rattle.rt_model.specs.Removal.{removed}
-use Rattle.rt_model.specs.Replay.{Entry, Build, Taken, Heard, Rerun, Poll, Effects, Made, Fed, Kept, Removed, Machine, ended_by, numbered, keeps, made_in, made, with_new_scope, with_props, outcome_of}
+use Rattle.rt_model.specs.Replay.{Entry, Build, Taken, Heard, Rerun, Poll, Effects, Made, Fed, Kept, Removed, Machine, ended_by, numbered, made_in, made, with_new_scope, with_props, outcome_of}
 use Rattle.rt_model.specs.Sentences.{render_ends}
 use Rattle.rt_model.proofs.Frames.{shape}
 use Rattle.rt_model.proofs.Maps.{by_test}

@@ -1,10 +1,10 @@
 -- What looks, polls and effects leave of such a fact.
-use Rattle.std.proofs.Common.{ℕ, Bool, true, false, List, [], ◌∷◌, ◌≡◌, ◌≤◌, refl}
+use Rattle.std.proofs.Common.{ℕ, false, List, [], ◌∷◌, ◌≡◌, ◌≤◌, refl}
 use Rattle.std.specs.Prelude.{Option, Some, None, if◌then◌else◌, is_some}
 use Rattle.rt_model.specs.Lists.{at, put, drop_number, join}
 use Rattle.rt_model.specs.Tree.{Types}
 use Rattle.rt_model.specs.World.{CallFault, Command, World, Meaning, TaskStep, pending, ready, Application}
-use Rattle.rt_model.specs.State.{Posted, Mark, Woken, Scope, TaskRow, State, Outcome, Done, Cut, is_live, change, world_of, effects_of}
+use Rattle.rt_model.specs.State.{Posted, Mark, Woken, TaskRow, State, Outcome, Done, Cut, is_live, change, world_of, effects_of}
 use Rattle.rt_model.specs.Commands.{unqueued, commands}
 use Rattle.rt_model.specs.Next.{Work, look_on, look, found, paused, drop_then, drops, looked, at_rest}
 use Rattle.rt_model.specs.Run.{fault_of, with_next, called_once, acted}

@@ -3,12 +3,11 @@ use Rattle.std.proofs.Common.{ℕ, Bool, true, false, List, [], ◌∷◌, ◌�
 use Rattle.std.specs.Prelude.{Option, Some, None, option_map, if◌then◌else◌}
 use Rattle.rt_model.specs.Tree.{Types}
 use Rattle.rt_model.specs.State.{State}
-use Rattle.rt_model.specs.Next.{Work, RerunScope, PollTask, least_from, least, insert_by, sorted_by, is_before, scope_of_task, first_task, chosen}
+use Rattle.rt_model.specs.Next.{RerunScope, PollTask, least_from, least, insert_by, sorted_by, is_before, scope_of_task, first_task, chosen}
 use Rattle.rt_model.proofs.Maps.{pick_true, pick_false}
 use Rattle.rt_sched.specs.Queues.{next_work}
 use Rattle.rt_sched.specs.declared.order.ScopeOrder.{ScopeOrder}
 use Rattle.rt_sched.specs.declared.work.Work.TheVariants as works
-use Rattle.rt_values.specs.declared.names.Task.{Task}
 use Rattle.rt_behavior.specs.Comes.{task_before}
 use Rattle.rt_behavior.specs.Orders.{order_of, waiting_task, work_of, QueuesAgree}
 use Rattle.rt_behavior.proofs.Firsts.{IsOrder, scopes_order, order_by}

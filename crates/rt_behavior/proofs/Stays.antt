@@ -1,15 +1,15 @@
 -- What single changes leave of marks and wakes: all of them, but for what is run, polled or gone.
-use Rattle.std.proofs.Common.{ℕ, Bool, true, false, List, [], ◌∷◌, ◌++◌, ◌≡◌, inl, inr, ◌&&◌, ◌||◌, not, refl, sym, ap, ◌∙◌, subst, nat_eq, arith}
+use Rattle.std.proofs.Common.{ℕ, Bool, true, false, List, [], ◌∷◌, ◌++◌, ◌≡◌, inl, inr, ◌&&◌, not, refl, sym, ap, ◌∙◌, subst, nat_eq}
 use Rattle.std.proofs.lemmas.Bool.{eqb-true}
 use Rattle.std.specs.Prelude.{Option, Some, None, if◌then◌else◌, is_some}
-use Rattle.rt_model.specs.Lists.{at, put, without, kept_by, has, drop_number, join}
+use Rattle.rt_model.specs.Lists.{at, put, without, kept_by, has, drop_number}
 use Rattle.rt_model.specs.Tree.{Types, CapturedError}
 use Rattle.rt_model.specs.World.{Source, Cell, Error, Context, Command, KeepHook, NewCell, Write, DropCell, NewContext, Reset, ReadInto, Spawn, RemoveFuture, Wake, SetActive, QueueEffect, Provide, Update, Throw, ClearErrors, Resolved, Freeze, Application}
 use Rattle.rt_model.specs.State.{Posted, Mark, Woken, ClientOnly, Isomorphic, Scope, CellRow, ContextRow, TaskRow, State, is_live, changed_scope, change, error_context, suspense_context}
 use Rattle.rt_model.specs.Commands.{same_posted, drop_posted, holding, released, one_more_source, post, tell, unqueued, end, written_at, drop_cell_row, caught_at, thrown_to, throw_error, cleared_at, activated, spawned, registered, frozen_at, provided_at, command, commands}
 use Rattle.rt_model.specs.Next.{is_active}
 use Rattle.rt_model.specs.Run.{unmarked}
-use Rattle.rt_model.proofs.Maps.{by_test, pick_true, pick_false, eq_same, at_here, at_there, at_put_here, at_put_other, at_without_here, at_without_other, at_append_none}
+use Rattle.rt_model.proofs.Maps.{by_test, pick_true, eq_same, at_here, at_there, at_put_here, at_put_other, at_without_here, at_without_other, at_append_none}
 use Rattle.rt_model.proofs.Members.{clash, turned_round, number_stays}
 use Rattle.rt_behavior.specs.Marking.{IsPosted}
 use Rattle.rt_behavior.specs.Owed.{IsMarked, IsWoken, OwesRun, OwesPoll}

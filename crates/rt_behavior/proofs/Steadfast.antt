@@ -1,8 +1,7 @@
 -- What lasts of one scope: its first error until it is cleared, and its hooks.
-use Rattle.std.proofs.Common.{ℕ, zero, suc, Bool, true, false, List, [], ◌∷◌, ◌++◌, ◌≡◌, ◌≤◌, ◌+◌, ◌||◌, not, refl, sym, ap, ◌∙◌, subst, nat_eq, arith}
+use Rattle.std.proofs.Common.{ℕ, zero, suc, true, false, List, [], ◌∷◌, ◌++◌, ◌≡◌, ◌≤◌, ◌+◌, ◌||◌, not, refl, sym, ap, ◌∙◌, subst, nat_eq, arith}
 use Rattle.std.proofs.lemmas.Bool.{eqb-true}
-use Rattle.std.specs.Prelude.{Option, Some, None, if◌then◌else◌}
-use Rattle.std.specs.List.{AllByRecursion}
+use Rattle.std.specs.Prelude.{Option, Some, None}
 use Rattle.rt_model.specs.Lists.{at, put, without, nth, kept_by}
 use Rattle.rt_model.specs.Tree.{Types, CapturedError}
 use Rattle.rt_model.specs.World.{Firsts, Hook, Command, Spawn, RemoveFuture, ClearErrors, Application}
@@ -10,9 +9,9 @@ use Rattle.rt_model.specs.Laws.{IsNumbered, IsLawful}
 use Rattle.rt_model.specs.State.{Scope, State, changed_scope, change, is_shown, error_context}
 use Rattle.rt_model.specs.Commands.{released, command, commands}
 use Rattle.rt_model.specs.Run.{with_next}
-use Rattle.rt_model.specs.Replay.{Entry, Machine, mounted, mounted_state}
+use Rattle.rt_model.specs.Replay.{Entry, Machine, mounted}
 use Rattle.rt_model.specs.Causes.{Limits}
-use Rattle.rt_model.proofs.Maps.{by_test, eq_same, none_some, at_here, at_there, at_put_here, at_put_other, at_without_other}
+use Rattle.rt_model.proofs.Maps.{by_test, eq_same, at_here, at_there, at_put_here, at_put_other, at_without_other}
 use Rattle.rt_model.proofs.Tour.{AllFresh}
 use Rattle.rt_model.proofs.RunFrames.{fresh, numbered_rises}
 use Rattle.rt_moves.specs.Moves.{Move, entries, Leads}
@@ -21,7 +20,7 @@ use Rattle.rt_behavior.specs.Keeping.{IsOther, ClearsOther, NoneClears, FirstErr
 use Rattle.rt_behavior.specs.Along.{NoneRemoves, NoneClearsOn, FirstErrorLasts, HooksLast, LoggedFirstErrorLasts, LoggedHooksLast}
 use Rattle.rt_behavior.proofs.Enduring.{LastsBut, LastsIn, lasts_all, Again, Enduring, MayClear, Allowed, AllAllowed, commands_on}
 use Rattle.rt_behavior.proofs.Calling.{Free, AllDraw}
-use Rattle.rt_behavior.proofs.Onwards.{AllSparing, GoodOn, moves_on, good_anyway, spares_all}
+use Rattle.rt_behavior.proofs.Onwards.{GoodOn, moves_on, good_anyway, spares_all}
 
 -- another scope, another task
 abbrev pub Other : ℕ → ℕ → Type 0

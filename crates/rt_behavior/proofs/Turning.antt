@@ -15,7 +15,7 @@ use Rattle.rt_model.specs.Next.{Work, RerunScope, PollTask, RunEffects, first_se
 use Rattle.rt_model.specs.Run.{with_next, run}
 use Rattle.rt_model.specs.Removal.{next_removed, removed}
 use Rattle.rt_model.specs.Heard.{Listener}
-use Rattle.rt_model.specs.Replay.{Entry, Build, Taken, Heard, Rerun, Poll, Effects, Removed, Post, MarkScope, WakeTask, AllDirty, Message, Input, EventAt, WakeOf, WriteOf, MarkOf, Drain, Machine, ended_by, numbered, draw_number, mounted_state, if_live, waiting, post_all, post_message, post_messages, looked_where_quiet, taken_in, take_next, one_more_unit, fed_child, keeps, due_item, due_heard, due_work, due, made_in, made, with_new_scope, with_props, handed, polled, effects_run, heard_first, rested, outcome_of, change_by, start}
+use Rattle.rt_model.specs.Replay.{Entry, Build, Taken, Heard, Rerun, Poll, Effects, Removed, Post, MarkScope, WakeTask, AllDirty, Message, Input, EventAt, WakeOf, WriteOf, MarkOf, Drain, Machine, ended_by, numbered, draw_number, mounted_state, if_live, waiting, post_all, post_message, post_messages, looked_where_quiet, taken_in, take_next, one_more_unit, fed_child, keeps, due_item, due_heard, due_work, due, made_in, made, with_new_scope, with_props, handed, polled, effects_run, heard_first, rested, outcome_of, change_by}
 use Rattle.rt_model.specs.Causes.{Limits}
 use Rattle.rt_model.proofs.Maps.{by_test, pick_true, pick_false}
 use Rattle.rt_model.proofs.Frames.{write_same}
@@ -28,7 +28,7 @@ use Rattle.rt_moves.specs.Asides.{IsAside}
 use Rattle.rt_moves.proofs.Asides.{aside_later, Beside, beside}
 use Rattle.rt_moves.proofs.Insides.{live_due, made_due, fed_due, fed_change}
 use Rattle.rt_moves.proofs.Ways.{reached_keep}
-use Rattle.rt_moves.proofs.Everywhere.{ReadyAt, move_ready, aside_ready, start_ready}
+use Rattle.rt_moves.proofs.Everywhere.{ReadyAt, move_ready, aside_ready, begun_ready}
 use Rattle.rt_behavior.proofs.Unlooked.{all_commands, changes, removed_sees}
 use Rattle.rt_behavior.proofs.Entries.{live_low}
 use Rattle.rt_behavior.proofs.Seen.{Lined, same_lined, left_lined, join_lined, Low, look_lined, drops_lined, rest_lined, LinedO, LinedM, ended_lined, no_lower, later_rooted, gone_by, run_lined, step_lined, polled_lined, advanced_seen, effects_lined, heard_lined, quiet_lined}
@@ -366,9 +366,10 @@ module _ {K : Types} (app : Application K) (lawful : IsLawful K app) where
   pub reached_lined : (limits : Limits) (props : K.Props) (inputs : List (Input K)) (m : Machine K) → Reached app limits props inputs m → m.dead ≡ None
       → Lined m.state
   reached_lined limits props inputs m reached =
-      let first : OnWay (start app props inputs) = record {
-        ready = start_ready app lawful props inputs;
-        lined = λ alive. record { distinct = tt; drawn = tt };
-      } in
       (reached_keep app limits props inputs (λ (x : Machine K). OnWay x) (λ u v moves leads s. moves_way limits moves u v leads s)
-      (λ u v a h s. aside_way u v a h s) first m reached).lined
+      (λ u v a h s. aside_way u v a h s)
+      (
+      λ firsts contexts above.
+      record { ready = begun_ready app lawful props firsts contexts inputs above; lined = λ alive. record { distinct = tt; drawn = tt } }
+      )
+      m reached).lined

@@ -1,5 +1,5 @@
 -- The order of rt_sched, by which its queues go, is the order by which work comes here, and what they answer next is what comes up.
-use Rattle.std.specs.Prelude.{ℕ, List, map, Option, option_map, ◌≡◌}
+use Rattle.std.specs.Prelude.{ℕ, List, map, option_map, ◌≡◌}
 use Rattle.rt_model.specs.Tree.{Types}
 use Rattle.rt_model.specs.State.{Scope, State, height_of}
 use Rattle.rt_model.specs.Next as next

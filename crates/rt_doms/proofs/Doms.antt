@@ -1,12 +1,12 @@
 -- From what code proves of a call that ended to what stands after it.
-use Rattle.std.proofs.Common.{◌⊎◌, inl, inr, Bool, true, false, ◌&&◌, not, List, [], ◌∷◌, ◌++◌, ◌≡◌, refl, sym, ap, ◌∙◌}
+use Rattle.std.proofs.Common.{ℕ, ◌<◌, ◌⊎◌, inl, inr, Bool, true, false, ◌&&◌, not, List, [], ◌∷◌, ◌++◌, ◌≡◌, refl, sym, ap, ◌∙◌, subst}
 use Rattle.std.specs.Prelude.{Some, None, Ok}
 use Rattle.rt_model.specs.Tree.{Types}
-use Rattle.rt_model.specs.World.{Application}
+use Rattle.rt_model.specs.World.{Firsts, Application}
 use Rattle.rt_model.specs.Laws.{IsLawful}
 use Rattle.rt_model.specs.State.{State}
 use Rattle.rt_model.specs.Next.{look, found, at_rest, owes}
-use Rattle.rt_model.specs.Replay.{Entry, Machine, is_quiet, replay_on, start}
+use Rattle.rt_model.specs.Replay.{Entry, Machine, is_quiet, replay_on, ones}
 use Rattle.rt_model.specs.Document.{Empty, Edit, document_after}
 use Rattle.rt_model.specs.View.{view}
 use Rattle.rt_model.specs.Rendering.{rendering_rest}
@@ -15,13 +15,15 @@ use Rattle.rt_model.specs.Told.{Telling, telling, tell_log, is_settled}
 use Rattle.rt_model.specs.Sentences.{events_end, render_ends}
 use Rattle.rt_model.proofs.ToldReplayed.{log-replays}
 use Rattle.rt_moves.specs.Moves.{IsSettled, entries}
-use Rattle.rt_moves.specs.Reached.{Part, ByMoves, ByAside, NonePassed, Comes, Reached}
+use Rattle.rt_moves.specs.Reached.{Part, ByMoves, ByAside, NonePassed, start_at, Comes, Reached}
 use Rattle.rt_model.specs.Asides.{Aside, Raised, Passed, PassesNone, Allowed, set_aside, resting}
 use Rattle.rt_moves.specs.Reports.{ToldSo}
 use Rattle.rt_moves.specs.Asides.{IsAside}
 use Rattle.rt_moves.proofs.Joins.{logs_join}
 use Rattle.rt_moves.proofs.Logs.{logs_are_moves}
-use Rattle.rt_moves.proofs.Ways.{comes-append, start_reached}
+use Rattle.rt_moves.proofs.Ways.{comes-append}
+use Rattle.rt_moves.proofs.Begun.{ones_above}
+use Rattle.rt_doms.proofs.Given.{provided_by, starts_provide}
 use Rattle.rt_fresh.proofs.Settled.{all_are_current_or_owed, settled_are_current, settled_show_held}
 use Rattle.rt_rerun.proofs.Settled.{reached_unfold}
 use Rattle.rt_rerun.proofs.Calm.{aside_level}
@@ -30,7 +32,7 @@ use Rattle.rt_moves.proofs.Woods.{reached_sound}
 use Rattle.rt_headline.proofs.Begins.{built_on}
 use Rattle.rt_headline.proofs.Units.{Rest, Ends, rest_ends}
 use Rattle.rt_headline.proofs.Reports.{settled_after, unit_over, one_telling}
-use Rattle.rt_doms.specs.Doms.{Until, Renders, Settles, ends_by, left_by, LedTo, CallRan, CallSpent, RendersHold, SpentHold, BuildsHold, HandlesLead, PassedLeads, UnitsLead, CallsHold, SettledHold}
+use Rattle.rt_doms.specs.Doms.{Until, Renders, Settles, ends_by, left_by, LedTo, CallRan, CallSpent, RendersHold, SpentHold, BuildHolds, GivenBuildsHold, BuildsHold, HandlesLead, PassedLeads, UnitsLead, CallsHold, SettledHold}
 use Rattle.rt_doms.proofs.Leading.{asides_lead, quiet_alive, quiet_idle, rest_at, known_on, known_more, ends_on, Came, came, same_view, Left, left, led_there}
 
 module _ {K : Types} (app : Application K) where
@@ -94,16 +96,19 @@ module _ {K : Types} (app : Application K) where
         current = all_are_current_or_owed app lawful limits props [] (resting x) (l.leads).reached refl refl refl;
       }
 
-  pub builds_hold : BuildsHold app
-  builds_hold lawful limits props log edits v r =
-      let m : Machine K = start app props [] in
-      let t : Telling K = r.last in
-      let there : Reached app limits props [] m = start_reached app limits props [] in
-      let here : replay_within app limits (Some m) log ≡ Some v = r.so.accepted ∙ ap (λ (x : Machine K). Some x) r.machine in
+  -- from where a program's root provides its values
+  built_at : (lawful : IsLawful K app) (limits : Limits) (props : K.Props) (firsts : Firsts) (contexts : List (ℕ × K.Value)) → 0 < firsts.elements
+      → (log : List Entry) (edits : List Edit) (v : Machine K) (t : Telling K)
+      → ToldSo app limits (start_at app props firsts contexts []) log t → t.edits ≡ edits → t.machine ≡ v → v.built ≡ true → is_quiet v ≡ true
+      → BuildHolds app limits props edits v
+  built_at lawful limits props firsts contexts above log edits v t so edits_are machine built quiet =
+      let m : Machine K = start_at app props firsts contexts [] in
+      let there : Reached app limits props [] m = record { firsts = firsts; above = above; contexts = contexts; parts = []; comes = refl } in
+      let here : replay_within app limits (Some m) log ≡ Some v = so.accepted ∙ ap (λ (x : Machine K). Some x) machine in
       let settled : IsSettled m = refl in
       let over : IsSettled v = settled_after app limits log m v settled here in
-      let alive : v.dead ≡ None = quiet_alive v r.quiet in
-      let none : v.work ≡ [] = quiet_idle v r.quiet in
+      let alive : v.dead ≡ None = quiet_alive v quiet in
+      let none : v.work ≡ [] = quiet_idle v quiet in
       let unit : v.unit ≡ false = unit_over v alive none over in
       let found = logs_are_moves app limits m v log settled here in
       let unfolded = reached_unfold app lawful limits props [] in
@@ -113,18 +118,27 @@ module _ {K : Types} (app : Application K) where
       let ends : Ends app lawful limits props [] unfolded brings (view m.state) (telling m) (entries found.0) v =
       rest_ends app lawful limits props [] unfolded brings (view m.state) found.0 (telling m) m v begin found.1 alive unit in
       let told_same : ends.last ≡ t = one_telling ends.last t (sym ends.told ∙ ap (λ (es : List Entry). tell_log app (Some (telling m)) es)
-      found.2 ∙ r.so.told) in
-      let reached : Reached app limits props [] v = record { parts = ByMoves found.0 ∷ []; comes = (v, found.1, refl) } in
+      found.2 ∙ so.told) in
+      let reached : Reached app limits props [] v =
+      record { firsts = firsts; above = above; contexts = contexts; parts = ByMoves found.0 ∷ []; comes = (v, found.1, refl) } in
       let led : LedTo app limits props true v.state = led_there app lawful limits props true v reached (inl tt)
-      (record { alive = alive; idle = none; unit = unit }) r.built in
+      (record { alive = alive; idle = none; unit = unit }) built in
       record {
         leads = led;
         shows =
-            ap (λ (es : List Edit). document_after es Empty) (sym r.edits_are)
+            ap (λ (es : List Edit). document_after es Empty) (sym edits_are)
             ∙ ap (λ (x : Telling K). document_after x.edits Empty) (sym told_same)
             ∙ ends.shows;
         current = all_are_current_or_owed app lawful limits props [] (resting v.state) led.reached refl refl refl;
       }
+
+  pub given_builds_hold : GivenBuildsHold app
+  given_builds_hold lawful limits props firsts provided log edits v above r =
+      built_at lawful limits props firsts (provided_by [] provided) above log edits v r.last
+      (subst (λ (m : Machine K). ToldSo app limits m log r.last) (starts_provide app props firsts provided []) r.so) r.edits_are r.machine r.built r.quiet
+
+  pub builds_hold : BuildsHold app
+  builds_hold lawful limits props log edits v r = given_builds_hold lawful limits props ones [] log edits v ones_above r
 
   -- what entries after an aside lead to, from a machine at which no move comes alone
   after_aside : (lawful : IsLawful K app) (limits : Limits) (props : K.Props) (whole : Bool) (w : State K) (a : Aside K)
@@ -135,9 +149,11 @@ module _ {K : Types} (app : Application K) where
   after_aside lawful limits props whole w a led allowed passes m gives settled lives single there log v t so machine quiet =
       let way : List (Part K) = led.reached.parts ++ ByAside a ∷ [] in
       let begun : IsAside app (resting w) a m = record { rest = rest_at w; built = refl; allowed = allowed; gives = gives } in
-      let comes : Comes app limits (start app props []) way m =
-      comes-append app limits led.reached.parts (ByAside a ∷ []) (start app props []) (resting w) m led.reached.comes (m, begun, refl) in
-      let before : Reached app limits props [] m = record { parts = way; comes = comes } in
+      let from : Machine K = start_at app props led.reached.firsts led.reached.contexts [] in
+      let comes : Comes app limits from way m =
+      comes-append app limits led.reached.parts (ByAside a ∷ []) from (resting w) m led.reached.comes (m, begun, refl) in
+      let before : Reached app limits props [] m =
+      record { firsts = led.reached.firsts; above = led.reached.above; contexts = led.reached.contexts; parts = way; comes = comes } in
       let here : replay_within app limits (Some m) log ≡ Some v = so.accepted ∙ ap (λ (x : Machine K). Some x) machine in
       let over : IsSettled v = settled_after app limits log m v settled here in
       let alive : v.dead ≡ None = quiet_alive v quiet in
@@ -154,8 +170,11 @@ module _ {K : Types} (app : Application K) where
       found.2 ∙ so.told) in
       let after : Reached app limits props [] v =
       record {
+        firsts = led.reached.firsts;
+        above = led.reached.above;
+        contexts = led.reached.contexts;
         parts = way ++ ByMoves found.0 ∷ [];
-        comes = comes-append app limits way (ByMoves found.0 ∷ []) (start app props []) m v comes (v, found.1, refl);
+        comes = comes-append app limits way (ByMoves found.0 ∷ []) from m v comes (v, found.1, refl);
       } in
       let known : NonePassed after.parts ⊎ (whole ≡ false) =
       known_more app lawful limits props whole way found.0 (known_on app lawful limits props whole led.reached.parts a led.known passes) in

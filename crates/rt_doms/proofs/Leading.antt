@@ -6,7 +6,7 @@ use Rattle.rt_model.specs.World.{Application}
 use Rattle.rt_model.specs.Laws.{IsLawful}
 use Rattle.rt_model.specs.State.{Fault, State, Item}
 use Rattle.rt_model.specs.Next.{Work, look, found, looked, or_effects, drops, at_rest, owes}
-use Rattle.rt_model.specs.Replay.{Entry, Machine, accepts, is_quiet, no_listener, no_work, waiting, replay_on, start}
+use Rattle.rt_model.specs.Replay.{Entry, Machine, accepts, is_quiet, no_listener, no_work, waiting, replay_on}
 use Rattle.rt_model.specs.Document.{Edit, document_after}
 use Rattle.rt_model.specs.View.{view}
 use Rattle.rt_model.specs.Causes.{Limits, refusal, replay_within}
@@ -14,7 +14,7 @@ use Rattle.rt_model.specs.Told.{Telling, telling, tell_log}
 use Rattle.rt_model.specs.Sentences.{EndsAt}
 use Rattle.rt_model.proofs.Conjunctions.{and-left, and-right}
 use Rattle.rt_moves.specs.Moves.{Move, IsSettled, AtRest, entries}
-use Rattle.rt_moves.specs.Reached.{Part, ByMoves, ByAside, NonePassed, Comes, Reached}
+use Rattle.rt_moves.specs.Reached.{Part, ByMoves, ByAside, NonePassed, start_at, Comes, Reached}
 use Rattle.rt_model.specs.Asides.{Aside, Asked, Marked, AllMarked, Looked, Thinned, Rested, Raised, Passed, Polling, Answered, Advanced, PassesNone, Allowed, aside_state, set_aside, resting}
 use Rattle.rt_moves.specs.Asides.{IsAside}
 use Rattle.rt_moves.proofs.Logs.{logs_are_moves}
@@ -103,8 +103,13 @@ module _ {K : Types} (app : Application K) where
         record {
           reached =
               record {
+                firsts = reached.firsts;
+                above = reached.above;
+                contexts = reached.contexts;
                 parts = reached.parts ++ ByAside a ∷ [];
-                comes = comes-append app limits reached.parts (ByAside a ∷ []) (start app props []) m v reached.comes (v, h, refl);
+                comes =
+                    comes-append app limits reached.parts (ByAside a ∷ []) (start_at app props reached.firsts reached.contexts []) m v reached.comes
+                    (v, h, refl);
               };
           known = known_on reached.parts a known passes;
         }
@@ -202,10 +207,11 @@ module _ {K : Types} (app : Application K) where
         let t : Telling K = r.last in
         let way : List (Part K) = led.reached.parts ++ ByAside Looked ∷ [] in
         let begun : IsAside app (resting w) Looked m = record { rest = rest_at w; built = refl; allowed = tt; gives = refl } in
-        let comes : Comes app limits (start app props []) way m =
-        comes-append app limits led.reached.parts (ByAside Looked ∷ []) (start app props []) (resting w) m led.reached.comes
-        (m, begun, refl) in
-        let before : Reached app limits props [] m = record { parts = way; comes = comes } in
+        let from : Machine K = start_at app props led.reached.firsts led.reached.contexts [] in
+        let comes : Comes app limits from way m =
+        comes-append app limits led.reached.parts (ByAside Looked ∷ []) from (resting w) m led.reached.comes (m, begun, refl) in
+        let before : Reached app limits props [] m =
+        record { firsts = led.reached.firsts; above = led.reached.above; contexts = led.reached.contexts; parts = way; comes = comes } in
         let looked : LedTo app limits props whole start_w = asides_lead limits props whole lawful w Looked led tt (inl tt) in
         let here : replay_within app limits (Some m) log ≡ Some v = r.so.accepted ∙ ap (λ (x : Machine K). Some x) r.machine in
         let settled : IsSettled m = refl in
@@ -227,8 +233,11 @@ module _ {K : Types} (app : Application K) where
         record {
           reached =
               record {
+                firsts = led.reached.firsts;
+                above = led.reached.above;
+                contexts = led.reached.contexts;
                 parts = way ++ ByMoves found.0 ∷ [];
-                comes = comes-append app limits way (ByMoves found.0 ∷ []) (start app props []) m v comes (v, found.1, refl);
+                comes = comes-append app limits way (ByMoves found.0 ∷ []) from m v comes (v, found.1, refl);
               };
           known =
               known_more lawful limits props whole way found.0 (known_on lawful limits props whole led.reached.parts Looked led.known

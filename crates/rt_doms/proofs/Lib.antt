@@ -7,3 +7,4 @@ mod Quick
 pub mod Once
 pub mod Counting
 pub mod Polls
+pub mod Given

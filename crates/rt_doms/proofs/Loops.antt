@@ -1,21 +1,20 @@
 -- What the loop of a call needs: its log grows, and its test takes nothing away.
-use Rattle.std.proofs.Common.{ℕ, zero, suc, ◌+◌, ◌&&◌, ◌≤◌, Bool, true, false, not, List, [], ◌∷◌, ◌++◌, ◌≡◌, refl, sym, ap, ◌∙◌, subst, arith, length}
+use Rattle.std.proofs.Common.{ℕ, zero, suc, ◌+◌, ◌&&◌, ◌≤◌, Bool, true, false, List, [], ◌∷◌, ◌≡◌, refl, sym, ap, ◌∙◌, subst, arith, length}
 use Rattle.std.specs.Prelude.{Option, Some, None, is_some, if◌then◌else◌}
 use Rattle.rt_model.specs.Tree.{Types}
 use Rattle.rt_model.specs.World.{Application}
 use Rattle.rt_model.specs.State.{Posted, Mark, Woken, TaskRow, State, is_live}
 use Rattle.rt_model.specs.Lists.{at, join, drop_number}
-use Rattle.rt_model.specs.Next.{Work, RerunScope, PollTask, RunEffects, chosen, first_task, first_seen, or_effects, found, paused, drop_then, drops, look_on, look, looked, at_rest, owes}
-use Rattle.rt_model.specs.Replay.{Entry, Machine, accepts, replay_on}
-use Rattle.rt_model.specs.Told.{opens}
+use Rattle.rt_model.specs.Next.{Work, RerunScope, PollTask, RunEffects, chosen, first_task, first_seen, or_effects, found, paused, drop_then, drops, look_on, look, looked, at_rest}
+use Rattle.rt_model.specs.Replay.{Machine, replay_on}
 use Rattle.rt_behavior.specs.Comes.{IsFirst, task_before, ComesToRerun}
 use Rattle.rt_behavior.proofs.Firsts.{shorter}
 use Rattle.rt_behavior.proofs.Coming.{no_number, found_turn, paused_none, drops_done}
-use Rattle.rt_model.specs.Rendering.{runs_suspended, may_poll, may_rerun, pass_over, passes, rendering_rest, rendering_next, tasks_passed, polling_rest, polling_next}
+use Rattle.rt_model.specs.Rendering.{runs_suspended, may_poll, may_rerun, pass_over, passes, rendering_rest, tasks_passed, polling_rest, polling_next}
 use Rattle.rt_model.proofs.Conjunctions.{and-left}
 use Rattle.rt_model.proofs.Maps.{by_test, pick_true, pick_false}
 use Rattle.rt_headline.proofs.Reports.{one_machine}
-use Rattle.rt_doms.specs.Doms.{Until, Events, Renders, Settles, ends_by, left_by, Unended, UnendedGrows, RestsAlike, PassedComesNext}
+use Rattle.rt_doms.specs.Doms.{Events, Renders, Settles, UnendedGrows, RestsAlike, PassedComesNext}
 use Rattle.rt_doms.specs.Polls.{PolledComesNext}
 use Rattle.rt_doms.proofs.Leading.{accepted_on, owing}
 

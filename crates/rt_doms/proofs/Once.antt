@@ -184,6 +184,9 @@ module _ {K : Types} (app : Application K) where
         quick_first = events.0;
         reached =
             record {
+              firsts = led.reached.firsts;
+              above = led.reached.above;
+              contexts = led.reached.contexts;
               parts = led.reached.parts ++ (ByAside Looked ∷ ByMoves moves.0 ∷ []);
               comes =
                   comes-append app limits led.reached.parts (ByAside Looked ∷ ByMoves moves.0 ∷ []) _ (resting w) r.between led.reached.comes

@@ -5,7 +5,7 @@ use Rattle.rt_model.specs.Tree.{Types}
 use Rattle.rt_model.specs.World.{Application}
 use Rattle.rt_model.specs.State.{Fault, OutOfTurns, State, Item}
 use Rattle.rt_model.specs.Next.{Work, RerunScope, PollTask, RunEffects, at_rest, chosen, first_task, first_seen, found}
-use Rattle.rt_model.specs.Replay.{Entry, Poll, Machine, due, change_by, is_due, step, accepts, settled, polled, one_more_unit, rested, mounted_state, start}
+use Rattle.rt_model.specs.Replay.{Entry, Poll, Machine, due, change_by, is_due, step, accepts, settled, polled, one_more_unit, rested, mounted_state}
 use Rattle.rt_model.specs.Causes.{Limits, refusal, replay_within}
 use Rattle.rt_model.specs.Rendering.{polling_rest, polling_next, polling_due, polling_refusal, polling_accepts, polls_within}
 use Rattle.rt_model.specs.Rendering as rendering
@@ -13,7 +13,7 @@ use Rattle.rt_model.specs.Told.{opens}
 use Rattle.rt_model.specs.Asides.{Polling, resting}
 use Rattle.rt_moves.specs.Asides.{IsAside}
 use Rattle.rt_moves.specs.Moves.{Move, Silent, Closed, Logged, entries, IsSettled, Leads}
-use Rattle.rt_moves.specs.Reached.{Part, ByMoves, ByAside, NonePassed, Comes, Reached}
+use Rattle.rt_moves.specs.Reached.{Part, ByMoves, ByAside, NonePassed, start_at, Comes, Reached}
 use Rattle.rt_moves.proofs.Acceptance.{same_as_itself}
 use Rattle.rt_moves.proofs.Logs.{logs_are_moves}
 use Rattle.rt_moves.proofs.OneMoveOnly.{unsettled}
@@ -122,6 +122,7 @@ module _ {K : Types} (app : Application K) where
       accepted : accepts app (resting (polling_rest x)) e ≡ Some v
       alone : more ≡ []
       level : Level (polling_rest x) v.state
+      idle : Idle v
 
     polls_by : (x : State K) (work : Work) (e : Entry) (more : List Entry) (v : Machine K)
         → polling_next x ≡ Some work
@@ -135,6 +136,7 @@ module _ {K : Types} (app : Application K) where
         accepted = on.1.1 ∙ ap (λ (y : Machine K). Some y) last.1;
         alone = last.0;
         level = subst (λ (y : Machine K). Level m.state y.state) last.1 still.1;
+        idle = subst (λ (y : Machine K). Idle y) last.1 still.0;
       },
     )
       where
@@ -237,6 +239,14 @@ module _ {K : Types} (app : Application K) where
         polls_join log more
         (elim (polling_refusal app limits m) as (λ z. Option (Machine K)) [ None ↦ polling_accepts app m e | Some fault ↦ None ])
 
+  -- after it nothing is at work, unless a fault ended it
+  pub polls_idle : (limits : Limits) (x : State K) (work : Work) (e : Entry) (more : List Entry) (v : Machine K)
+      → polling_next x ≡ Some work
+      → NoneOpens more
+      → replay_within app limits (Some (resting (polling_rest x))) (e ∷ more) ≡ Some v
+      → v.dead ≡ None → v.work ≡ []
+  polls_idle limits x work e more v is shut go = (polls_by limits x work e more v is shut go).1.idle
+
   pub polls_follow : PollsFollow app
   polls_follow limits w x units log more e work v so few is shut go =
       let one = polls_by limits x work e more v is shut go in
@@ -260,10 +270,11 @@ module _ {K : Types} (app : Application K) where
       let m : Machine K = resting (polling_rest w) in
       let way : List (Part K) = led.reached.parts ++ ByAside Polling ∷ [] in
       let begun : IsAside app (resting w) Polling m = record { rest = rest_at w; built = refl; allowed = tt; gives = refl } in
-      let comes : Comes app limits (start app props []) way m =
-      comes-append app limits led.reached.parts (ByAside Polling ∷ []) (start app props []) (resting w) m led.reached.comes
-      (m, begun, refl) in
-      let before : Reached app limits props [] m = record { parts = way; comes = comes } in
+      let from : Machine K = start_at app props led.reached.firsts led.reached.contexts [] in
+      let comes : Comes app limits from way m =
+      comes-append app limits led.reached.parts (ByAside Polling ∷ []) from (resting w) m led.reached.comes (m, begun, refl) in
+      let before : Reached app limits props [] m =
+      record { firsts = led.reached.firsts; above = led.reached.above; contexts = led.reached.contexts; parts = way; comes = comes } in
       let over : IsSettled v = settled_after app limits (e ∷ more) m v refl go in
       let alive : v.dead ≡ None = quiet_alive v quiet in
       let none : v.work ≡ [] = quiet_idle v quiet in
@@ -271,8 +282,11 @@ module _ {K : Types} (app : Application K) where
       let moves = logs_are_moves app limits m v (e ∷ more) refl go in
       let after : Reached app limits props [] v =
       record {
+        firsts = led.reached.firsts;
+        above = led.reached.above;
+        contexts = led.reached.contexts;
         parts = way ++ ByMoves moves.0 ∷ [];
-        comes = comes-append app limits way (ByMoves moves.0 ∷ []) (start app props []) m v comes (v, moves.1, refl);
+        comes = comes-append app limits way (ByMoves moves.0 ∷ []) from m v comes (v, moves.1, refl);
       } in
       let known : NonePassed after.parts ⊎ (false ≡ false) =
       known_more app lawful limits props false way moves.0 (known_on app lawful limits props false led.reached.parts Polling led.known (inr refl)) in

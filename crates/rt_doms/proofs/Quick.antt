@@ -11,7 +11,7 @@ use Rattle.rt_model.specs.Run.{fault_of, with_next, called_once, acted}
 use Rattle.rt_model.specs.Next.{Work, RerunScope, RunEffects, least, is_before, look, found, paused, drop_then, drops, looked, at_rest, with_effects, or_effects, next, owes}
 use Rattle.rt_model.specs.Replay.{Entry, Build, Taken, Heard, Rerun, Poll, Effects, Made, Fed, Kept, Removed, Machine, ended_by, one_more_unit, rested, left_by_poll, polled_to, polled_at, polled, batch_then, effects_run, change_by, mounted_state}
 use Rattle.rt_model.specs.Causes.{Limits}
-use Rattle.rt_model.specs.Told.{opens, count_entries}
+use Rattle.rt_model.specs.Told.{count_entries}
 use Rattle.rt_model.specs.Sentences.{runs, events_end, render_ends}
 use Rattle.rt_model.specs.Bodies.{is_poll, NoneAfterRerun}
 use Rattle.rt_moves.specs.Moves.{Move, Silent, Closed, Logged, entries, serves_item, IsSettled, Leads}

@@ -1,12 +1,12 @@
 -- A built runtime that a program keeps and calls: which state it stands for, and what a call that takes unit after unit does.
-use Rattle.std.specs.Prelude.{ℕ, ◌+◌, Bool, true, false, ◌&&◌, nat_eq, List, [], ◌∷◌, ◌++◌, length, Option, Some, None, Ok, ◌≡◌, ◌⊎◌}
+use Rattle.std.specs.Prelude.{ℕ, ◌+◌, ◌<◌, Bool, true, false, nat_eq, List, [], ◌∷◌, ◌++◌, Some, Ok, ◌≡◌, ◌⊎◌}
 use Rattle.rt_model.specs.Tree.{Types}
-use Rattle.rt_model.specs.World.{Application}
+use Rattle.rt_model.specs.World.{Firsts, Application}
 use Rattle.rt_model.specs.Laws.{IsLawful}
 use Rattle.rt_model.specs.State.{Fault, State}
 use Rattle.rt_model.specs.Next.{Work, drops, at_rest, next, owes}
 use Rattle.rt_model.specs.Rendering.{rendering_rest, rendering_next, renders_within}
-use Rattle.rt_model.specs.Replay.{Entry, Machine, accepts, replay_on, is_quiet, start}
+use Rattle.rt_model.specs.Replay.{Entry, Machine, accepts, replay_on, is_quiet, ones, start_with}
 use Rattle.rt_model.specs.Document.{Empty, Edit, document_after}
 use Rattle.rt_model.specs.View.{view}
 use Rattle.rt_model.specs.Causes.{Limits, replay_within, edits_at_refusal}
@@ -15,7 +15,6 @@ use Rattle.rt_model.specs.Current.{AllCurrent}
 use Rattle.rt_model.specs.Bodies.{RenderEnds, NoneAfterRerun, OthersMadeOrFed, RerunsTheSeen}
 use Rattle.rt_model.specs.Headline.{AllHeldShown}
 use Rattle.rt_model.specs.Sentences.{NoBodyTwice, AllCurrentOrOwed, EndsAt, CallComesTo, call_refusal, events_end, render_ends, settle_ends, call_begun}
-use Rattle.rt_moves.specs.Moves.{AtRest}
 use Rattle.rt_moves.specs.Reached.{NonePassed, Reached}
 use Rattle.rt_moves.specs.Reports.{ToldSo}
 use Rattle.rt_model.specs.Asides.{Aside, Looked, Raised, PassesNone, Allowed, aside_state, set_aside, resting}
@@ -263,10 +262,12 @@ module _ {K : Types} (app : Application K) where
       → RenderStopped limits w log edits fault
       → RenderComesTo limits w log fault
 
-  -- what code proves of a build that ended: its log and its edits, and the machine at its end
-  pub record BuildRan (limits : Limits) (props : K.Props) (log : List Entry) (edits : List Edit) (v : Machine K) : Type 0 where
+  -- what code proves of a build that ended, whose numbers begin at these and whose root provides these values: its log and its edits,
+  -- and the machine at its end
+  pub record GivenBuildRan (limits : Limits) (props : K.Props) (firsts : Firsts) (provided : List (ℕ × K.Value))
+      (log : List Entry) (edits : List Edit) (v : Machine K) : Type 0 where
     pub last : Telling K
-    pub so : ToldSo app limits (start app props []) log last
+    pub so : ToldSo app limits (start_with app props firsts provided []) log last
     pub edits_are : last.edits ≡ edits
     pub machine : last.machine ≡ v
     pub built : v.built ≡ true
@@ -278,7 +279,21 @@ module _ {K : Types} (app : Application K) where
     pub shows : document_after edits Empty ≡ Ok (view v.state)
     pub current : AllCurrentOrOwed app v.state
 
-  -- a build that ended holds all that
+  -- of a build at whose start nothing is given
+  abbrev pub BuildRan : Limits → K.Props → List Entry → List Edit → Machine K → Type 0
+  BuildRan limits props log edits v = GivenBuildRan limits props ones [] log edits v
+
+  -- such a build that ended holds all that; elements have no number below 1
+  abbrev pub GivenBuildsHold : Type 0
+  GivenBuildsHold =
+      IsLawful K app
+      → (limits : Limits) (props : K.Props) (firsts : Firsts) (provided : List (ℕ × K.Value))
+      → (log : List Entry) (edits : List Edit) (v : Machine K)
+      → 0 < firsts.elements
+      → GivenBuildRan limits props firsts provided log edits v
+      → BuildHolds limits props edits v
+
+  -- so does one at whose start nothing is given
   abbrev pub BuildsHold : Type 0
   BuildsHold =
       IsLawful K app

@@ -1,5 +1,5 @@
 -- What a poll of suspended work on a built runtime does, poll by poll.
-use Rattle.std.specs.Prelude.{ℕ, ◌+◌, true, false, nat_eq, List, ◌∷◌, [], ◌++◌, Option, Some, None, ◌≡◌}
+use Rattle.std.specs.Prelude.{ℕ, ◌+◌, true, false, nat_eq, List, ◌∷◌, ◌++◌, Some, ◌≡◌}
 use Rattle.rt_model.specs.Tree.{Types}
 use Rattle.rt_model.specs.World.{Application}
 use Rattle.rt_model.specs.Laws.{IsLawful}

@@ -1,6 +1,6 @@
 //! From what code proves of a call to what stands after it.
 
-ghost use Rattle.rt_doms.specs.Doms.{AsidesLead, BuildsHold, CallsComeTo, CallsHold, HandlesLead};
+ghost use Rattle.rt_doms.specs.Doms.{AsidesLead, BuildsHold, CallsComeTo, CallsHold, GivenBuildsHold, HandlesLead};
 ghost use Rattle.rt_doms.specs.Doms.{PassedComesNext, PassedLeads, RendersComeTo, RendersHold, RendersMakeOrFeed};
 ghost use Rattle.rt_doms.specs.Doms.{RendersRerunInTurn, RendersRunOnce};
 ghost use Rattle.rt_doms.specs.Doms.{RestsAlike, SettledHold, SpentHold, UnendedGrows, UnitsFollow, UnitsLead};
@@ -75,6 +75,11 @@ pub fn rests_alike<C, P, V, H, T, E, L>()
 /// After a build its edits make what shows of an empty document, and a program's calls begin.
 pub fn builds_hold<C, P, V, H, T, E, L>()
     ensures { (app : Application (types C P V H T E L)) → BuildsHold app }
+{}
+
+/// So it is after a build whose numbers begin where they are told to, and whose root provides values.
+pub fn given_builds_hold<C, P, V, H, T, E, L>()
+    ensures { (app : Application (types C P V H T E L)) → GivenBuildsHold app }
 {}
 
 /// What a render while suspended takes next is what comes next, once the rest was passed over.

@@ -1,14 +1,13 @@
 -- Marks among what is posted, and tests of sources.
-use Rattle.std.proofs.Common.{ℕ, Bool, true, false, List, [], ◌∷◌, ◌++◌, ◌≡◌, ◌≤◌, ◌<◌, ◌⊎◌, ◌&&◌, ◌||◌, not, refl, sym, ap, ◌∙◌, subst, nat_eq, arith, inl, inr}
+use Rattle.std.proofs.Common.{ℕ, Bool, true, false, List, [], ◌∷◌, ◌++◌, ◌≡◌, ◌≤◌, ◌<◌, ◌⊎◌, ◌&&◌, not, refl, sym, ap, ◌∙◌, subst, nat_eq, arith, inl, inr}
 use Rattle.std.proofs.lemmas.Bool.{eqb-true}
 use Rattle.std.specs.Prelude.{if◌then◌else◌}
 use Rattle.std.specs.List.{AllByRecursion}
-use Rattle.rt_model.specs.Lists.{drop_number, has, join}
 use Rattle.rt_model.specs.World.{Source, Cell, Error, Context, same_source}
 use Rattle.rt_model.specs.State.{Posted, Mark}
 use Rattle.rt_model.specs.Commands.{same_posted, drop_posted, names_source}
-use Rattle.rt_model.proofs.Maps.{by_test, pick_true, pick_false, eq_same}
-use Rattle.rt_model.proofs.Members.{clash, or_left, or_right, by_either, turned_round}
+use Rattle.rt_model.proofs.Maps.{by_test, eq_same}
+use Rattle.rt_model.proofs.Members.{clash, or_left, or_right, by_either}
 use Rattle.rt_moves.specs.Heeds.{HasMark}
 
 pub from_apart : (n m i : ℕ) → n ≤ i → m < n → nat_eq i m ≡ false

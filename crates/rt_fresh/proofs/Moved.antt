@@ -1,19 +1,19 @@
 -- What holds wherever moves lead, once the build has begun.
-use Rattle.std.proofs.Common.{ℕ, ◌+◌, Bool, true, false, List, [], ◌∷◌, ◌++◌, ◌≡◌, ◌⊎◌, inl, inr, refl, sym, ap, ◌∙◌, subst, nat_eq}
+use Rattle.std.proofs.Common.{ℕ, ◌+◌, ◌<◌, Bool, true, false, List, [], ◌∷◌, ◌++◌, ◌≡◌, ◌⊎◌, inl, inr, refl, sym, ap, ◌∙◌, subst, nat_eq}
 use Rattle.std.proofs.lemmas.Bool.{eqb-true}
 use Rattle.std.specs.Prelude.{Option, Some, None, is_some, if◌then◌else◌}
 use Rattle.std.specs.List.{AllByRecursion}
 use Rattle.rt_model.specs.Lists.{at}
-use Rattle.rt_model.specs.Tree.{Types, Place, Root}
-use Rattle.rt_model.specs.World.{Application}
+use Rattle.rt_model.specs.Tree.{Types, Place}
+use Rattle.rt_model.specs.World.{Firsts, Application}
 use Rattle.rt_model.specs.Laws.{IsLawful}
-use Rattle.rt_model.specs.State.{Mark, SideName, MainSide, ChildrenSide, FallbackSide, Fault, Side, Scope, State, Item, Draw, Row, Feed, Make, Drop, Outcome, Done, Cut, side_of, empty_side, new_scope, change, is_live, effects_of}
+use Rattle.rt_model.specs.State.{Mark, SideName, Fault, Side, Scope, State, Item, Draw, Row, Feed, Make, Drop, Outcome, Done, Cut, change, is_live, effects_of}
 use Rattle.rt_model.specs.Next.{Work, RerunScope, PollTask, RunEffects, look, drops, at_rest, next}
 use Rattle.rt_model.specs.Run.{child_at, run}
 use Rattle.rt_model.specs.Commands.{unqueued}
 use Rattle.rt_model.specs.Removal.{next_removed}
 use Rattle.rt_model.specs.Heard.{Listener}
-use Rattle.rt_model.specs.Replay.{Entry, Build, Taken, Heard, Rerun, Poll, Effects, Removed, Input, Machine, mounted_state, if_live, waiting, take_next, one_more_unit, fed_child, keeps, due_item, due_heard, due_work, due, polled, effects_run, heard_event, heard_first, rested, change_by, first_state, ones, start}
+use Rattle.rt_model.specs.Replay.{Entry, Build, Taken, Heard, Rerun, Poll, Effects, Removed, Input, Machine, mounted_state, if_live, waiting, take_next, one_more_unit, fed_child, keeps, due_item, due_heard, due_work, due, polled, effects_run, heard_event, heard_first, rested, change_by}
 use Rattle.rt_model.specs.Causes.{Limits}
 use Rattle.rt_model.specs.Lasting.{IsRooted}
 use Rattle.rt_model.proofs.Maps.{by_test, eq_same, at_here, at_there}
@@ -25,8 +25,8 @@ use Rattle.rt_model.proofs.Stands.{Stands}
 use Rattle.rt_model.proofs.NumbersRun.{Idle as IdleO, polled_idle}
 use Rattle.rt_model.proofs.Begun.{take_next_calm}
 use Rattle.rt_moves.specs.Moves.{Move, Silent, Closed, Logged, IsSettled, AtWork, Moves, Leads}
-use Rattle.rt_moves.specs.Reached.{Part, ByMoves, ByAside, NonePassed, Comes, Reached}
-use Rattle.rt_model.specs.Rendering.{polling_rest, nothing_resolved}
+use Rattle.rt_moves.specs.Reached.{Part, ByMoves, ByAside, NonePassed, first_scope, start_at, Comes, Reached}
+use Rattle.rt_model.specs.Rendering.{nothing_resolved}
 use Rattle.rt_fresh.proofs.Passed.{rendering_holds, polling_holds}
 use Rattle.rt_model.specs.Asides.{Aside, Asked, Marked, AllMarked, Looked, Thinned, Rested, Raised, Passed, Polling, Answered, Advanced, PassesNone, Allowed, aside_state}
 use Rattle.rt_moves.specs.Asides.{IsAside}
@@ -39,7 +39,8 @@ use Rattle.rt_moves.proofs.Always.{take_work, heard_work}
 use Rattle.rt_moves.proofs.Twigs.{twig, twig_side, side_found, kids}
 use Rattle.rt_moves.proofs.Woven.{Woven}
 use Rattle.rt_moves.proofs.Opens.{calm_twigs}
-use Rattle.rt_moves.proofs.Everywhere.{WovenOn, batch_quiet, heard_stays, ReadyAt, work_state, move_ready, moves_ready, aside_ready, start_ready}
+use Rattle.rt_moves.proofs.Everywhere.{WovenOn, batch_quiet, heard_stays, ReadyAt, work_state, move_ready, moves_ready, aside_ready, begun_ready}
+use Rattle.rt_moves.proofs.Begun.{first_sides}
 use Rattle.rt_fresh.proofs.Told.{CalmO}
 use Rattle.rt_fresh.proofs.Calm.{holders_of, Orderly, Calm, calm_refl, Quiet, quiet_refl, quiet_rest, quiet_then, quiet_calm, no_fall}
 use Rattle.rt_fresh.proofs.Looks.{look_on_quiet, look_quiet, drops_quiet, rest_quiet, mounted_quiet, take_calm}
@@ -162,23 +163,18 @@ module _ {K : Types} (app : Application K) (lawful : IsLawful K app) (Q : Type 0
 
   -- the build
 
-  module _ (props : K.Props) where
+  module _ (props : K.Props) (firsts : Firsts) (contexts : List (ℕ × K.Value)) (above : 0 < firsts.elements) where
     abbrev root : Scope K
-    root = new_scope (Root app.root props) None 0 MainSide
+    root = first_scope app props contexts
 
     abbrev first : State K
-    first = first_state app.root props ones
+    first = (start_at app props firsts contexts []).state
 
     first_here : at first.scopes 0 ≡ Some root
     first_here = at_here 0 root [] 0 (eq_same 0)
 
     first_other : (t : ℕ) → nat_eq 0 t ≡ false → at first.scopes t ≡ None
     first_other t q = at_there 0 root [] t q
-
-    root_side : (a : SideName) → side_of root a ≡ empty_side
-    root_side MainSide = refl
-    root_side ChildrenSide = refl
-    root_side FallbackSide = refl
 
     no_kids : (s : ℕ) (a : SideName) → kids first s a ≡ []
     no_kids s a =
@@ -187,7 +183,7 @@ module _ {K : Types} (app : Application K) (lawful : IsLawful K app) (Q : Type 0
         λ q.
         ap (λ (i : ℕ). kids first i a) (sym (eqb-true 0 s q))
         ∙ ap (λ (z : Side K). z.children) (side_found first 0 a root first_here)
-        ∙ ap (λ (z : Side K). z.children) (root_side a)
+        ∙ ap (λ (z : Side K). z.children) (first_sides app props contexts a)
         )
         (λ q. ap (λ (o : Option (Scope K)). (twig_side a (twig o)).children) (first_other s q))
 
@@ -221,26 +217,29 @@ module _ {K : Types} (app : Application K) (lawful : IsLawful K app) (Q : Type 0
         (λ true_is. let absurdity : false ≡ true = true_is in cc)
         tt first_kinds first_orderly first_scheduled
 
-    first_entry : (inputs : List (Input K)) (e : Entry) → due app (start app props inputs) ≡ Some e → HoldingOn app lawful Q (change_by app (start app props inputs) [] e)
+    first_entry : (inputs : List (Input K)) (e : Entry) → due app (start_at app props firsts contexts inputs) ≡ Some e
+        → HoldingOn app lawful Q (change_by app (start_at app props firsts contexts inputs) [] e)
     first_entry inputs e due_is =
-        let m : Machine K = start app props inputs in
+        let m : Machine K = start_at app props firsts contexts inputs in
         let found = live_due app m.state Build e due_is in
         subst (λ (x : Entry). HoldingOn app lawful Q (change_by app m [] x)) (sym found.0) (ended app lawful Q (record m { built = true; unit = true }) None [] (run app first 0) first_run)
 
     -- after the first move from the start it holds
-    pub begun_holds : (limits : Limits) (inputs : List (Input K)) (v : Machine K) (move : Move) (moves : List Move) → Leads app limits (start app props inputs) (move ∷ moves) v → HoldingOn app lawful Q v
+    pub begun_holds : (limits : Limits) (inputs : List (Input K)) (v : Machine K) (move : Move) (moves : List Move) → Leads app limits (start_at app props firsts contexts inputs) (move ∷ moves) v
+        → HoldingOn app lawful Q v
     begun_holds limits inputs v Silent moves leads = let move = leads.1 in let absurdity : [] ≡ move.item ∷ move.later = move.next in cc
     begun_holds limits inputs v Closed moves leads = let move = leads.1 in let absurdity : false ≡ true = move.at_work in cc
     begun_holds limits inputs v (Logged e) moves leads =
-        let m : Machine K = start app props inputs in
+        let m : Machine K = start_at app props firsts contexts inputs in
         let move = leads.1 in
         let u : Machine K = leads.0 in
-        let after : ReadyAt app lawful u = move_ready app lawful limits m u (Logged e) move (start_ready app lawful props inputs) in
+        let after : ReadyAt app lawful u = move_ready app lawful limits m u (Logged e) move (begun_ready app lawful props firsts contexts inputs above) in
         let now : HoldingOn app lawful Q u = subst (λ (x : Machine K). HoldingOn app lawful Q x) (sym move.gives) (first_entry inputs e move.due_is) in
         moves_hold limits u v moves leads.2 after now
 
     -- from the start on: nothing has happened, or it holds
-    from_start : (limits : Limits) (inputs : List (Input K)) (v : Machine K) (moves : List Move) → Leads app limits (start app props inputs) moves v → (v ≡ start app props inputs) ⊎ HoldingOn app lawful Q v
+    from_start : (limits : Limits) (inputs : List (Input K)) (v : Machine K) (moves : List Move) → Leads app limits (start_at app props firsts contexts inputs) moves v
+        → (v ≡ start_at app props firsts contexts inputs) ⊎ HoldingOn app lawful Q v
     from_start limits inputs v [] leads = inl leads
     from_start limits inputs v (move ∷ moves) leads = inr (begun_holds limits inputs v move moves leads)
 
@@ -293,24 +292,27 @@ module _ {K : Types} (app : Application K) (lawful : IsLawful K app) (Q : Type 0
       (state_holds w m.work a k h.allowed (held (sym b.dead ∙ alive))))
 
   -- on a program's way: nothing has happened yet, or it holds
-  record OnWay (props : K.Props) (inputs : List (Input K)) (m : Machine K) : Type 0 where
+  record OnWay (props : K.Props) (firsts : Firsts) (contexts : List (ℕ × K.Value)) (inputs : List (Input K)) (m : Machine K) : Type 0 where
+    above : 0 < firsts.elements
     ready : ReadyAt app lawful m
-    holds : (m ≡ start app props inputs) ⊎ HoldingOn app lawful Q m
+    holds : (m ≡ start_at app props firsts contexts inputs) ⊎ HoldingOn app lawful Q m
 
-  moved_way : (limits : Limits) (props : K.Props) (inputs : List (Input K)) (m v : Machine K) (moves : List Move) → Leads app limits m moves v → OnWay props inputs m → OnWay props inputs v
-  moved_way limits props inputs m v moves leads h =
+  moved_way : (limits : Limits) (props : K.Props) (firsts : Firsts) (contexts : List (ℕ × K.Value)) (inputs : List (Input K)) (m v : Machine K) (moves : List Move) → Leads app limits m moves v → OnWay props firsts contexts inputs m → OnWay props firsts contexts inputs v
+  moved_way limits props firsts contexts inputs m v moves leads h =
       record {
+        above = h.above;
         ready = moves_ready app lawful limits m v moves leads h.ready;
         holds =
             elim h.holds [
-              | inl same ↦ from_start props limits inputs v moves (subst (λ (x : Machine K). Leads app limits x moves v) same leads)
+              | inl same ↦ from_start props firsts contexts h.above limits inputs v moves (subst (λ (x : Machine K). Leads app limits x moves v) same leads)
               | inr held ↦ inr (moves_hold limits m v moves leads h.ready held)
             ];
       }
 
-  aside_way : (props : K.Props) (inputs : List (Input K)) (m v : Machine K) (a : Aside K) → PassesNone a ⊎ Q → IsAside app m a v → OnWay props inputs m → OnWay props inputs v
-  aside_way props inputs m v a k is h =
+  aside_way : (props : K.Props) (firsts : Firsts) (contexts : List (ℕ × K.Value)) (inputs : List (Input K)) (m v : Machine K) (a : Aside K) → PassesNone a ⊎ Q → IsAside app m a v → OnWay props firsts contexts inputs m → OnWay props firsts contexts inputs v
+  aside_way props firsts contexts inputs m v a k is h =
       record {
+        above = h.above;
         ready = aside_ready app lawful m v a is h.ready;
         holds =
             elim h.holds [
@@ -323,20 +325,21 @@ module _ {K : Types} (app : Application K) (lawful : IsLawful K app) (Q : Type 0
   this_one a parts (inl none) = (inl none.0, inl none.1)
   this_one a parts (inr known) = (inr known, inr known)
 
-  parts_hold : (limits : Limits) (props : K.Props) (inputs : List (Input K)) (parts : List (Part K)) (m v : Machine K) → NonePassed parts ⊎ Q → Comes app limits m parts v → OnWay props inputs m → OnWay props inputs v
-  parts_hold limits props inputs [] m v k comes h = subst (λ (x : Machine K). OnWay props inputs x) (sym comes) h
-  parts_hold limits props inputs (ByMoves moves ∷ parts) m v k comes h =
-      parts_hold limits props inputs parts comes.0 v k comes.2 (moved_way limits props inputs m comes.0 moves comes.1 h)
-  parts_hold limits props inputs (ByAside a ∷ parts) m v k comes h =
+  parts_hold : (limits : Limits) (props : K.Props) (firsts : Firsts) (contexts : List (ℕ × K.Value)) (inputs : List (Input K)) (parts : List (Part K)) (m v : Machine K) → NonePassed parts ⊎ Q → Comes app limits m parts v → OnWay props firsts contexts inputs m → OnWay props firsts contexts inputs v
+  parts_hold limits props firsts contexts inputs [] m v k comes h = subst (λ (x : Machine K). OnWay props firsts contexts inputs x) (sym comes) h
+  parts_hold limits props firsts contexts inputs (ByMoves moves ∷ parts) m v k comes h =
+      parts_hold limits props firsts contexts inputs parts comes.0 v k comes.2 (moved_way limits props firsts contexts inputs m comes.0 moves comes.1 h)
+  parts_hold limits props firsts contexts inputs (ByAside a ∷ parts) m v k comes h =
       let both = this_one a parts k in
-      parts_hold limits props inputs parts comes.0 v both.1 comes.2 (aside_way props inputs m comes.0 a both.0 comes.1 h)
+      parts_hold limits props firsts contexts inputs parts comes.0 v both.1 comes.2 (aside_way props firsts contexts inputs m comes.0 a both.0 comes.1 h)
 
   -- once the build has begun it holds wherever moves lead, and calls that log no entry, until a fault ends the run
   pub reached_holds : (limits : Limits) (props : K.Props) (inputs : List (Input K)) (m : Machine K) → (reached : Reached app limits props inputs m) → NonePassed reached.parts ⊎ Q → m.built ≡ true → m.dead ≡ None
       → Holding app lawful Q m.state m.work
   reached_holds limits props inputs m reached k built alive =
-      let h : OnWay props inputs m =
-      parts_hold limits props inputs reached.parts (start app props inputs) m k reached.comes (record { ready = start_ready app lawful props inputs; holds = inl refl }) in
+      let h : OnWay props reached.firsts reached.contexts inputs m =
+      parts_hold limits props reached.firsts reached.contexts inputs reached.parts (start_at app props reached.firsts reached.contexts inputs) m k reached.comes
+      (record { above = reached.above; ready = begun_ready app lawful props reached.firsts reached.contexts inputs reached.above; holds = inl refl }) in
       elim h.holds [
         | inl same ↦ let absurdity : false ≡ true = sym (ap (λ (x : Machine K). x.built) same) ∙ built in cc
         | inr held ↦ held alive

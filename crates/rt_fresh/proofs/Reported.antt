@@ -7,7 +7,7 @@ use Rattle.rt_model.specs.Lists.{joined}
 use Rattle.rt_model.specs.Tree.{Types}
 use Rattle.rt_model.specs.World.{Application}
 use Rattle.rt_model.specs.Laws.{IsLawful}
-use Rattle.rt_model.specs.Replay.{Entry, Build, Taken, Input, Machine, start}
+use Rattle.rt_model.specs.Replay.{Entry, Build, Taken, Input, Machine, ones, start}
 use Rattle.rt_model.specs.Causes.{Limits, accepts_within, replay_within}
 use Rattle.rt_model.specs.Told.{Told, telling, tell_reports, is_settled}
 use Rattle.rt_model.specs.Current.{AllCurrent}
@@ -15,6 +15,7 @@ use Rattle.rt_model.specs.Reports.{OpensWith, InputsFrom, OneEach, CutFrom, OneE
 use Rattle.rt_model.specs.Headline.{last_machine, AllHeldShown}
 use Rattle.rt_model.proofs.ToldReplayed.{First, first-of, log-replays, within-replays}
 use Rattle.rt_moves.specs.Moves.{Move, entries, Leads}
+use Rattle.rt_moves.proofs.Begun.{ones_above}
 use Rattle.rt_moves.proofs.Joins.{logs_join}
 use Rattle.rt_moves.proofs.Logs.{logs_are_moves}
 use Rattle.rt_moves.specs.Current.{EachIsCurrent}
@@ -77,7 +78,7 @@ module _ {K : Types} (app : Application K) (lawful : IsLawful K app) where
   -- after the entries of a log it holds
   moved_holds : (limits : Limits) (props : K.Props) (inputs : List (Input K)) (v : Machine K) (log : List Entry) (moves : List Move) → Leads app limits (start app props inputs) moves v → entries moves ≡ log → IsFilled log → HoldingOn app lawful ⊥ v
   moved_holds limits props inputs v log [] leads e filled = not_filled log e filled
-  moved_holds limits props inputs v log (move ∷ moves) leads e filled = begun_holds app lawful ⊥ props limits inputs v move moves leads
+  moved_holds limits props inputs v log (move ∷ moves) leads e filled = begun_holds app lawful ⊥ props ones [] ones_above limits inputs v move moves leads
 
   accepted_holds : (limits : Limits) (props : K.Props) (inputs : List (Input K)) (v : Machine K) (log : List Entry) → replay_within app limits (Some (start app props inputs)) log ≡ Some v → IsFilled log → HoldingOn app lawful ⊥ v
   accepted_holds limits props inputs v log accepted filled =

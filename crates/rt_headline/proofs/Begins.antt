@@ -1,29 +1,29 @@
 -- Machines that moves reach: when work is open, when the build has begun, and the first entry of a unit.
-use Rattle.std.proofs.Common.{Bool, true, false, ◌&&◌, List, [], ◌∷◌, ◌++◌, ◌≡◌, ◌⊎◌, inl, inr, refl, sym, ap, ◌∙◌, subst}
+use Rattle.std.proofs.Common.{Bool, true, false, ◌&&◌, List, [], ◌∷◌, ◌++◌, ◌≡◌, ◌⊎◌, inl, inr, refl, sym, ap, ◌∙◌, subst, ℕ, ◌<◌}
 use Rattle.std.specs.Prelude.{Option, Some, None, if◌then◌else◌}
 use Rattle.rt_model.specs.Tree.{Types}
-use Rattle.rt_model.specs.World.{Application}
+use Rattle.rt_model.specs.World.{Application, Firsts}
 use Rattle.rt_model.specs.Laws.{IsLawful}
 use Rattle.rt_model.specs.State.{Fault, State, Item, Feed, Make, Drop, Outcome, Done, Cut}
 use Rattle.rt_model.specs.Next.{Work, RerunScope, PollTask, RunEffects, at_rest, next_at_rest}
 use Rattle.rt_model.specs.Run.{run}
 use Rattle.rt_model.specs.Heard.{Listener}
-use Rattle.rt_model.specs.Replay.{Entry, Build, Taken, Heard, Rerun, Poll, Effects, Made, Fed, Kept, Removed, Input, Machine, ended_by, if_live, waiting, one_more_unit, rested, is_due, due_item, due_heard, due_work, due, polled, effects_run, outcome_of, change_by, start}
+use Rattle.rt_model.specs.Replay.{Entry, Build, Taken, Heard, Rerun, Poll, Effects, Made, Fed, Kept, Removed, Input, Machine, ended_by, if_live, waiting, one_more_unit, rested, is_due, due_item, due_heard, due_work, due, polled, effects_run, outcome_of, change_by, ones}
 use Rattle.rt_model.specs.Told.{opens}
 use Rattle.rt_model.specs.Causes.{Limits}
 use Rattle.rt_model.proofs.LastsAlways.{live_of}
 use Rattle.rt_model.proofs.Begun.{Good}
 use Rattle.rt_model.proofs.NumbersStand.{Matches, due_match, change_good, Sound}
 use Rattle.rt_moves.specs.Moves.{Move, Silent, Closed, Logged, serves_item, moves_alone, IsSettled, AtWork, IsLogged, Leads}
-use Rattle.rt_moves.specs.Reached.{Reached}
+use Rattle.rt_moves.specs.Reached.{ByMoves, start_at, Reached}
+use Rattle.rt_moves.proofs.Begun.{begun_sound}
 use Rattle.rt_model.specs.Asides.{Aside}
 use Rattle.rt_moves.specs.Asides.{IsAside}
 use Rattle.rt_moves.proofs.Asides.{beside}
-use Rattle.rt_moves.proofs.Ways.{start_reached, reached_moved, reached_keep}
+use Rattle.rt_moves.proofs.Ways.{comes-append, comes_keep, begin_of, reached_keep}
 use Rattle.rt_moves.proofs.Acceptance.{same_as_itself}
 use Rattle.rt_moves.proofs.Always.{Steady, Outlasts, moves_last}
 use Rattle.rt_moves.proofs.Insides.{alive_before}
-use Rattle.rt_moves.proofs.Joins.{Leads-append}
 use Rattle.rt_moves.proofs.Woods.{move_sound, moves_sound, aside_sound, reached_sound}
 use Rattle.rt_moves.proofs.Commanded.{Level, level_trans, level_refl}
 use Rattle.rt_moves.proofs.Called.{rest_level}
@@ -192,7 +192,20 @@ module _ {K : Types} (app : Application K) (lawful : IsLawful K app) (limits : L
 
   -- moves go on from there
   pub reached_on : (m u : Machine K) (moves : List Move) → IsReached m → Leads app limits m moves u → IsReached u
-  reached_on m u moves r leads = reached_moved app limits props inputs m u moves r leads
+  reached_on m u moves r leads =
+      record {
+        firsts = r.firsts;
+        above = r.above;
+        contexts = r.contexts;
+        parts = r.parts ++ ByMoves moves ∷ [];
+        comes = comes-append app limits r.parts (ByMoves moves ∷ []) (begin_of app limits props inputs m r) m u r.comes (u, leads, refl);
+      }
+
+  -- numbers begin where they began
+  pub plain_on : (m u : Machine K) (moves : List Move) (r : IsReached m) (leads : Leads app limits m moves u) → r.firsts ≡ ones
+      → (reached_on m u moves r leads).firsts ≡ ones
+  unfolding reached_on
+  plain_on m u moves r leads plain = plain
 
   -- a fact that says nothing
   abbrev Nothing : State K → List (Item K) → Type 0
@@ -223,7 +236,7 @@ module _ {K : Types} (app : Application K) (lawful : IsLawful K app) (limits : L
       reached_keep app limits props inputs (λ (x : Machine K). x.dead ≡ None → Steady Nothing x)
       (λ u v moves leads s lives. moves_last app Nothing nothing_lasts limits u v moves leads lives (s (alive_before app limits u v moves u.dead refl leads lives)))
       (λ u v a is s lives. record { holds = tt; idle = λ q. (beside app lawful u v a is).work ∙ (is.rest).idle })
-      (λ lives. record { holds = tt; idle = λ q. refl }) m r alive in
+      (λ firsts contexts above lives. record { holds = tt; idle = λ q. refl }) m r alive in
       steady.idle (and_false m.built m.unit unit)
 
   pub sound : (m : Machine K) → IsReached m → Sound app lawful m
@@ -265,18 +278,22 @@ module _ {K : Types} (app : Application K) (lawful : IsLawful K app) (limits : L
       let here : (leads.0).dead ≡ None = alive_before app limits leads.0 v moves (leads.0).dead refl leads.2 alive in
       built_on leads.0 v moves (move_sound app lawful limits m leads.0 (Logged e) h s) ((fits_entry m leads.0 e s h).built here) leads.2 alive
 
-  record OnWay (m : Machine K) : Type 0 where
+  -- from where the way began
+  record OnWay (firsts : Firsts) (contexts : List (ℕ × K.Value)) (m : Machine K) : Type 0 where
+    above : 0 < firsts.elements
     stands : Sound app lawful m
-    is : (m ≡ start app props inputs) ⊎ (m.dead ≡ None → m.built ≡ true)
+    is : (m ≡ start_at app props firsts contexts inputs) ⊎ (m.dead ≡ None → m.built ≡ true)
 
-  by_moves : (m : Machine K) (moves : List Move) → Leads app limits (start app props inputs) moves m → (m ≡ start app props inputs) ⊎ (m.dead ≡ None → m.built ≡ true)
-  by_moves m [] leads = inl leads
-  by_moves m (Silent ∷ moves) leads = let h = leads.1 in let absurdity : [] ≡ h.item ∷ h.later = h.next in cc
-  by_moves m (Closed ∷ moves) leads = let h = leads.1 in let absurdity : false ≡ true = h.at_work in cc
-  by_moves m (Logged e ∷ moves) leads =
+  by_moves : (firsts : Firsts) (contexts : List (ℕ × K.Value)) → 0 < firsts.elements → (m : Machine K) (moves : List Move)
+      → Leads app limits (start_at app props firsts contexts inputs) moves m
+      → (m ≡ start_at app props firsts contexts inputs) ⊎ (m.dead ≡ None → m.built ≡ true)
+  by_moves firsts contexts above m [] leads = inl leads
+  by_moves firsts contexts above m (Silent ∷ moves) leads = let h = leads.1 in let absurdity : [] ≡ h.item ∷ h.later = h.next in cc
+  by_moves firsts contexts above m (Closed ∷ moves) leads = let h = leads.1 in let absurdity : false ≡ true = h.at_work in cc
+  by_moves firsts contexts above m (Logged e ∷ moves) leads =
       let h = leads.1 in
-      let from : Machine K = start app props inputs in
-      let s : Sound app lawful from = sound from (start_reached app limits props inputs) in
+      let from : Machine K = start_at app props firsts contexts inputs in
+      let s : Sound app lawful from = begun_sound app props contexts firsts inputs lawful above in
       inr
       (
       λ alive.
@@ -284,27 +301,32 @@ module _ {K : Types} (app : Application K) (lawful : IsLawful K app) (limits : L
       built_on leads.0 m moves (move_sound app lawful limits from leads.0 (Logged e) h s) ((fits_entry from leads.0 e s h).built here) leads.2 alive
       )
 
-  moved_way : (m v : Machine K) (moves : List Move) → Leads app limits m moves v → OnWay m → OnWay v
-  moved_way m v moves leads h =
+  moved_way : (firsts : Firsts) (contexts : List (ℕ × K.Value)) (m v : Machine K) (moves : List Move) → Leads app limits m moves v
+      → OnWay firsts contexts m → OnWay firsts contexts v
+  moved_way firsts contexts m v moves leads h =
       record {
+        above = h.above;
         stands = moves_sound app lawful limits m v moves leads h.stands;
         is =
             elim h.is [
-              | inl same ↦ by_moves v moves (subst (λ (x : Machine K). Leads app limits x moves v) same leads)
+              | inl same ↦ by_moves firsts contexts h.above v moves (subst (λ (x : Machine K). Leads app limits x moves v) same leads)
               | inr built ↦ inr (λ alive. built_on m v moves h.stands (built (alive_before app limits m v moves m.dead refl leads alive)) leads alive)
             ];
       }
 
-  aside_way : (m v : Machine K) (a : Aside K) → IsAside app m a v → OnWay m → OnWay v
-  aside_way m v a is h =
-      record { stands = aside_sound app lawful m v a is h.stands; is = inr (λ alive. (beside app lawful m v a is).built ∙ is.built) }
+  aside_way : (firsts : Firsts) (contexts : List (ℕ × K.Value)) (m v : Machine K) (a : Aside K) → IsAside app m a v
+      → OnWay firsts contexts m → OnWay firsts contexts v
+  aside_way firsts contexts m v a is h =
+      record { above = h.above; stands = aside_sound app lawful m v a is h.stands; is = inr (λ alive. (beside app lawful m v a is).built ∙ is.built) }
 
   -- before the build nothing has happened
-  pub start_or_built : (m : Machine K) → IsReached m → m.dead ≡ None → (m ≡ start app props inputs) ⊎ (m.built ≡ true)
+  pub start_or_built : (m : Machine K) → (r : IsReached m) → m.dead ≡ None
+      → (m ≡ start_at app props r.firsts r.contexts inputs) ⊎ (m.built ≡ true)
   start_or_built m r alive =
-      let h : OnWay m =
-      reached_keep app limits props inputs (λ (x : Machine K). OnWay x) (λ u v moves leads s. moved_way u v moves leads s) (λ u v a is s. aside_way u v a is s)
-      (record { stands = sound (start app props inputs) (start_reached app limits props inputs); is = inl refl }) m r in
+      let h : OnWay r.firsts r.contexts m =
+      comes_keep app limits (λ (x : Machine K). OnWay r.firsts r.contexts x) (λ u v moves leads s. moved_way r.firsts r.contexts u v moves leads s)
+      (λ u v a is s. aside_way r.firsts r.contexts u v a is s) r.parts (start_at app props r.firsts r.contexts inputs) m r.comes
+      (record { above = r.above; stands = begun_sound app props r.contexts r.firsts inputs lawful r.above; is = inl refl }) in
       elim h.is [ inl same ↦ inl same | inr built ↦ inr (built alive) ]
 
   -- the first entry of the build or of a unit

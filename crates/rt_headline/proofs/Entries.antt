@@ -6,7 +6,7 @@ use Rattle.rt_model.specs.Tree.{Types}
 use Rattle.rt_model.specs.World.{Application}
 use Rattle.rt_model.specs.Laws.{IsLawful}
 use Rattle.rt_model.specs.State.{Fault, State}
-use Rattle.rt_model.specs.Replay.{Entry, Input, Machine, is_due, due, change_by, step, accepts, rows_left, replay_on, start}
+use Rattle.rt_model.specs.Replay.{Entry, Input, Machine, is_due, due, change_by, step, accepts, rows_left, replay_on, start, ones}
 use Rattle.rt_model.specs.Document.{Edit}
 use Rattle.rt_model.specs.Caused.{caused}
 use Rattle.rt_model.specs.Causes.{Limits, refusal, replay_within}
@@ -24,11 +24,11 @@ use Rattle.rt_moves.proofs.Joins.{Inside-append, Leads-append}
 use Rattle.rt_moves.proofs.Logs.{logs_are_moves}
 use Rattle.rt_moves.proofs.Tellings.{told_where, told_machine}
 use Rattle.rt_moves.proofs.Lists.{every_join}
-use Rattle.rt_headline.proofs.Begins.{idle_settled, work_open, matches_serves, reached_on, idle, matches_entry, unit_begins, entry_aside}
+use Rattle.rt_headline.proofs.Begins.{idle_settled, work_open, matches_serves, reached_on, plain_on, idle, matches_entry, unit_begins, entry_aside}
 use Rattle.rt_headline.proofs.Carries.{carried_both}
 use Rattle.rt_headline.proofs.Drawn.{Below, still_below}
 use Rattle.rt_headline.proofs.Rests.{Begins, begins, Finishes, rests, no_moves}
-use Rattle.rt_headline.proofs.Open.{serves_opens_none, OpenUnit, in_work, unit_reached}
+use Rattle.rt_headline.proofs.Open.{serves_opens_none, OpenUnit, in_work, unit_reached, unit_plain}
 use Rattle.rt_headline.proofs.Wrote.{Wrote, unit_wrote}
 
 module _ {K : Types} where
@@ -47,6 +47,8 @@ module _ {K : Types} (app : Application K) (lawful : IsLawful K app) (props : K.
     pub log : List Entry
     pub accepted : replay_on app (Some (start app props inputs)) log ≡ Some t.machine
     pub reached : From t.machine
+    -- the way began where numbers begin at 1
+    pub plain : reached.firsts ≡ ones
     pub settled : IsSettled t.machine
     pub alive : t.machine.dead ≡ None
     pub low : Below t.machine.state.next.elements (all_carried (before ++ t.edits))
@@ -70,8 +72,8 @@ module _ {K : Types} (app : Application K) (lawful : IsLawful K app) (props : K.
 
   -- nothing more was told
   still : (before : List Edit) (t u : Telling K) (v : Machine K) (e : Entry) → Moved t.machine v e → Below t.machine.state.next.elements (all_carried (before ++ t.edits)) → u ≡ record t { machine = v }
-      → From v → ((v.unit ≡ false) ⊎ InUnit (all_carried (before ++ t.edits)) t.before t.first v) → Stepped before t u
-  still before t u v e moved low same reached phase =
+      → (reached : From v) → reached.firsts ≡ ones → ((v.unit ≡ false) ⊎ InUnit (all_carried (before ++ t.edits)) t.before t.first v) → Stepped before t u
+  still before t u v e moved low same reached plain phase =
       subst (λ (x : Telling K). Stepped before t x) (sym same)
       (record {
         next =
@@ -79,6 +81,7 @@ module _ {K : Types} (app : Application K) (lawful : IsLawful K app) (props : K.
               log = moved.log;
               accepted = moved.accepted;
               reached = reached;
+              plain = plain;
               settled = moved.settled;
               alive = moved.alive;
               low = still_below (all_carried (before ++ t.edits)) t.machine.state.next.elements v.state.next.elements moved.rises low;
@@ -91,8 +94,8 @@ module _ {K : Types} (app : Application K) (lawful : IsLawful K app) (props : K.
 
   -- a unit's edits were told
   over : (before : List Edit) (t u : Telling K) (v : Machine K) (e : Entry) (edits : List Edit) → Moved t.machine v e → Below t.machine.state.next.elements (all_carried (before ++ t.edits))
-      → u ≡ record t { machine = v; edits = t.edits ++ edits } → From v → v.unit ≡ false → Wrote app lawful props inputs limits (all_carried (before ++ t.edits)) t.before v edits → Stepped before t u
-  over before t u v e edits moved low same reached unit wrote =
+      → u ≡ record t { machine = v; edits = t.edits ++ edits } → (reached : From v) → reached.firsts ≡ ones → v.unit ≡ false → Wrote app lawful props inputs limits (all_carried (before ++ t.edits)) t.before v edits → Stepped before t u
+  over before t u v e edits moved low same reached plain unit wrote =
       subst (λ (x : Telling K). Stepped before t x) (sym same)
       (record {
         next =
@@ -100,6 +103,7 @@ module _ {K : Types} (app : Application K) (lawful : IsLawful K app) (props : K.
               log = moved.log;
               accepted = moved.accepted;
               reached = reached;
+              plain = plain;
               settled = moved.settled;
               alive = moved.alive;
               low = all_low;
@@ -137,6 +141,7 @@ module _ {K : Types} (app : Application K) (lawful : IsLawful K app) (props : K.
             begun = o.begun;
             opening = o.opening;
             reached = o.reached;
+            plain = o.plain;
             alive = o.alive;
             unit = o.unit;
             logged = o.logged;
@@ -160,14 +165,18 @@ module _ {K : Types} (app : Application K) (lawful : IsLawful K app) (props : K.
       more inside =
           let here : InUnit xs t.before t.first v = on b.rest v b.leads inside in
           let work : AtWork v = in_work app lawful props inputs limits xs t.before t.first v here moved.alive in
-          still before t u v e moved low (told_as true work.unit) (unit_reached app lawful props inputs limits xs t.before t.first v here) (inr here)
+          still before t u v e moved low (told_as true work.unit) (unit_reached app lawful props inputs limits xs t.before t.first v here)
+          (unit_plain app lawful props inputs limits xs t.before t.first v here) (inr here)
 
       ends : Finishes app limits b.middle v → Stepped before t u
       ends f =
           let here : InUnit xs t.before t.first f.served = on f.moves f.served f.leads f.inside in
           let unit : v.unit ≡ false = ap (λ (x : Machine K). x.unit) (f.closed).gives in
-          let reached : From v = reached_on app lawful limits props inputs f.served v (Closed ∷ []) (unit_reached app lawful props inputs limits xs t.before t.first f.served here) (v, f.closed, refl) in
-          over before t u v e (caused app t.before v.state t.first) moved low (told_as false unit) reached unit (unit_wrote app lawful props inputs limits xs t.before t.first f.served v here f.closed)
+          let open_at : From f.served = unit_reached app lawful props inputs limits xs t.before t.first f.served here in
+          let plain = plain_on app lawful limits props inputs f.served v (Closed ∷ []) open_at (v, f.closed, refl)
+          (unit_plain app lawful props inputs limits xs t.before t.first f.served here) in
+          let reached : From v = reached_on app lawful limits props inputs f.served v (Closed ∷ []) open_at (v, f.closed, refl) in
+          over before t u v e (caused app t.before v.state t.first) moved low (told_as false unit) reached plain unit (unit_wrote app lawful props inputs limits xs t.before t.first f.served v here f.closed)
 
   -- one more entry
   module _ (before : List Edit) (t u : Telling K) (e : Entry) (so : Between before t) (none_refused : refusal limits t.machine ≡ None) (due_now : is_due app (due app t.machine) e ≡ true) where
@@ -225,6 +234,7 @@ module _ {K : Types} (app : Application K) (lawful : IsLawful K app) (props : K.
               begun = b.middle;
               opening = q;
               reached = so.reached;
+              plain = so.plain;
               alive = so.alive;
               unit = rest;
               logged = b.logged;
@@ -252,7 +262,8 @@ module _ {K : Types} (app : Application K) (lawful : IsLawful K app) (props : K.
             ∙ ap (λ (x : Bool). closed_unit app (if x then anew else t) (x || m.unit) v) q
             ∙ ap (λ (x : Bool). closed_unit app t x v) rest
             ∙ ap (λ (x : Option Fault). told_where app t false v x) h.alive in
-            still before t u v e h so.low told reached (inl unit)
+            still before t u v e h so.low told reached
+            (plain_on app lawful limits props inputs m v (Logged e ∷ b.rest) so.reached (b.middle, b.logged, b.leads) so.plain) (inl unit)
 
     in_unit_on : (h : Moved m v e) → u ≡ closed_unit app (opened t e) (opens e || m.unit) v → InUnit (all_carried (before ++ t.edits)) t.before t.first m → Stepped before t u
     in_unit_on h same o =
@@ -266,6 +277,7 @@ module _ {K : Types} (app : Application K) (lawful : IsLawful K app) (props : K.
           begun = o.begun;
           opening = o.opening;
           reached = o.reached;
+          plain = o.plain;
           alive = o.alive;
           unit = o.unit;
           logged = o.logged;

@@ -8,7 +8,7 @@ use Rattle.rt_model.specs.Tree.{Types}
 use Rattle.rt_model.specs.World.{Application}
 use Rattle.rt_model.specs.Laws.{IsLawful}
 use Rattle.rt_model.specs.State.{Fault, Item}
-use Rattle.rt_model.specs.Replay.{Entry, Build, Input, Machine, no_listener, no_work, waiting, is_quiet, is_due, if_live, due_item, due, step, replay_on, start}
+use Rattle.rt_model.specs.Replay.{Entry, Build, Input, Machine, no_listener, no_work, waiting, is_quiet, is_due, if_live, due_item, due, step, replay_on, start, ones}
 use Rattle.rt_model.specs.Document.{Edit}
 use Rattle.rt_model.specs.Caused.{caused_until}
 use Rattle.rt_model.specs.Causes.{Limits, first_item, next_height, depth_refused, replay_within, edits_at_depth}
@@ -17,7 +17,7 @@ use Rattle.rt_model.specs.Headline.{last_machine}
 use Rattle.rt_model.specs.Sentences.{all_carried, AllMayCome}
 use Rattle.rt_model.proofs.Conjunctions.{and-left, and-right}
 use Rattle.rt_model.proofs.ToldReplayed.{First, first-of, log-replays, reports-replay, replay-append}
-use Rattle.rt_moves.proofs.Ways.{start_reached as way_start}
+use Rattle.rt_moves.proofs.Begun.{ones_above}
 use Rattle.rt_moves.specs.Moves.{moves_alone}
 use Rattle.rt_headline.proofs.Begins.{idle}
 use Rattle.rt_headline.specs.Carried.{UnitsCarryAnew, CutUnitsCarryAnew}
@@ -75,6 +75,7 @@ module _ {K : Types} (app : Application K) (lawful : IsLawful K app) (props : K.
         log = so.log;
         accepted = so.accepted;
         reached = so.reached;
+        plain = so.plain;
         settled = so.settled;
         alive = so.alive;
         low = subst (λ (es : List Edit). Below t.machine.state.next.elements (all_carried es)) (sym (append-nil (before ++ t.edits))) so.low;
@@ -101,7 +102,17 @@ module _ {K : Types} (app : Application K) (lawful : IsLawful K app) (props : K.
       (subst (λ (es : List Edit). So es (telling (last_machine t.machine f.1))) (append_assoc before t.edits (joined (edits_of f.1))) rest.0, rest.1)
 
   start_so : So [] (telling (start app props inputs))
-  start_so = record { log = []; accepted = refl; reached = way_start app limits props inputs; settled = refl; alive = refl; low = tt; phase = inl refl }
+  start_so =
+      record {
+        log = [];
+        accepted = refl;
+        reached = record { firsts = ones; above = ones_above; contexts = []; parts = []; comes = refl };
+        plain = refl;
+        settled = refl;
+        alive = refl;
+        low = tt;
+        phase = inl refl;
+      }
 
 module _ {K : Types} (app : Application K) where
   -- an accepted entry came where no fault had ended the run

@@ -1,12 +1,12 @@
 -- What a front of a session's reports tells, and that the reports of the headline carry anew.
-use Rattle.std.proofs.Common.{true, false, ◌&&◌, not, List, [], ◌∷◌, ◌++◌, ◌≡◌, refl, sym, ap, ◌∙◌, subst}
-use Rattle.std.specs.Prelude.{Option, Some, None}
+use Rattle.std.proofs.Common.{true, not, List, [], ◌∷◌, ◌++◌, ◌≡◌, refl, sym, ap, ◌∙◌, subst}
+use Rattle.std.specs.Prelude.{Some}
 use Rattle.std.specs.List.{AllByRecursion}
 use Rattle.rt_model.specs.Tree.{Types}
 use Rattle.rt_model.specs.World.{Application}
 use Rattle.rt_model.specs.Next.{owes}
 use Rattle.rt_model.specs.Replay.{Entry, Machine, is_quiet, start}
-use Rattle.rt_model.specs.Told.{Told, Telling, telling, told_by, tell_log, tell_reports, is_settled}
+use Rattle.rt_model.specs.Told.{Told, Telling, told_by, tell_reports, is_settled}
 use Rattle.rt_model.specs.Reports.{Report, logs_of}
 use Rattle.rt_model.proofs.Conjunctions.{and-left}
 use Rattle.rt_model.proofs.ToldReplayed.{First, first-of}

@@ -6,7 +6,7 @@ use Rattle.rt_model.specs.Tree.{Types, node_at, spots}
 use Rattle.rt_model.specs.World.{Application}
 use Rattle.rt_model.specs.Laws.{IsLawful}
 use Rattle.rt_model.specs.State.{Fault, State, Item, side_of}
-use Rattle.rt_model.specs.Replay.{Entry, Build, Taken, Heard, Rerun, Poll, Effects, Made, Fed, Kept, Removed, Input, Machine, mounted_state, start}
+use Rattle.rt_model.specs.Replay.{Entry, Build, Taken, Heard, Rerun, Poll, Effects, Made, Fed, Kept, Removed, Input, Machine, mounted_state}
 use Rattle.rt_model.specs.Document.{Forest, Empty, Edit, AppendChildren, DocFault, and_then, document_after}
 use Rattle.rt_model.specs.View.{view}
 use Rattle.rt_model.specs.Caused.{written, caused}
@@ -20,7 +20,7 @@ use Rattle.rt_model.proofs.NumbersStand.{Sound, child_among}
 use Rattle.rt_model.proofs.WellNumbered.{WellNumbered}
 use Rattle.rt_model.proofs.ViewOnce.{well_numbered_once, well_numbered_positive}
 use Rattle.rt_moves.specs.Moves.{Move, Silent, Closed, Logged, entries, serves_item, Inside, InOneUnit, IsSettled, AtWork, IsClosed, IsLogged, Moves, Leads}
-use Rattle.rt_moves.specs.Reached.{Reached}
+use Rattle.rt_moves.specs.Reached.{start_at, Reached}
 use Rattle.rt_moves.specs.Units.{unit_told}
 use Rattle.rt_moves.proofs.Insides.{alive_before, inside_lasts}
 use Rattle.rt_moves.proofs.Joins.{entries-append, Inside-append, Leads-append, logs_join}
@@ -144,7 +144,7 @@ module _ {K : Types} (app : Application K) (lawful : IsLawful K app) (limits : L
           subst (λ (x : Machine K). Level m0.state x.state) (sym closed.gives) (level_trans m0.state m.state (mounted_state m.state) h (mounted_level m.state)) in
           ap Ok (sym (level_views m0.state v.state (unfolded m0 r alive) (unfolded v after lives) level))
 
-      from_start : (m0 ≡ start app props inputs) ⊎ (m0.built ≡ true) → m0.built ≡ false → view m0.state ≡ Empty
+      from_start : (m0 ≡ start_at app props r.firsts r.contexts inputs) ⊎ (m0.built ≡ true) → m0.built ≡ false → view m0.state ≡ Empty
       from_start (inl same) unbuilt = ap (λ (x : Machine K). view x.state) same
       from_start (inr built) unbuilt = let absurdity : false ≡ true = sym unbuilt ∙ built in cc
 

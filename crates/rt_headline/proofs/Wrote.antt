@@ -2,10 +2,10 @@
 use Rattle.std.proofs.Common.{ℕ, ◌<◌, true, false, List, [], ◌∷◌, ◌≡◌, ◌⊎◌, inl, inr, refl, sym, ap, ◌∙◌, subst, arith}
 use Rattle.std.specs.Prelude.{None}
 use Rattle.rt_model.specs.Tree.{Types}
-use Rattle.rt_model.specs.World.{Application}
+use Rattle.rt_model.specs.World.{Application, Firsts}
 use Rattle.rt_model.specs.Laws.{IsLawful}
 use Rattle.rt_model.specs.State.{State}
-use Rattle.rt_model.specs.Replay.{Entry, Build, Taken, Heard, Rerun, Poll, Effects, Made, Fed, Kept, Removed, Input, Machine, start}
+use Rattle.rt_model.specs.Replay.{Entry, Build, Taken, Heard, Rerun, Poll, Effects, Made, Fed, Kept, Removed, Input, Machine, ones}
 use Rattle.rt_model.specs.Document.{Edit, AppendChildren, count_of}
 use Rattle.rt_model.specs.View.{view}
 use Rattle.rt_model.specs.Caused.{written, caused}
@@ -13,7 +13,7 @@ use Rattle.rt_model.specs.Causes.{Limits}
 use Rattle.rt_model.specs.Told.{opens}
 use Rattle.rt_model.specs.Sentences.{all_carried, MayCome, AllMayCome}
 use Rattle.rt_moves.specs.Moves.{Closed, AtWork, IsClosed, IsLogged}
-use Rattle.rt_moves.specs.Reached.{Reached}
+use Rattle.rt_moves.specs.Reached.{start_at, Reached}
 use Rattle.rt_rerun.proofs.Nodes.{Settled}
 use Rattle.rt_rerun.proofs.Settled.{settled_of}
 use Rattle.rt_moves.specs.Reruns.{Reruns}
@@ -39,9 +39,9 @@ module _ {K : Types} (app : Application K) (lawful : IsLawful K app) (props : K.
   nothing_wrote : (xs : List ℕ) (w : State K) (v : Machine K) → Wrote xs w v []
   nothing_wrote xs w v = record { come = tt; low = tt }
 
-  build_wrote : (xs : List ℕ) (from v : Machine K) → From from → from.dead ≡ None → from.built ≡ false → Below from.state.next.elements xs → Settled v.state
+  build_wrote : (xs : List ℕ) (from v : Machine K) → (reached : From from) → reached.firsts ≡ ones → from.dead ≡ None → from.built ≡ false → Below from.state.next.elements xs → Settled v.state
       → Wrote xs from.state v (AppendChildren 0 (view v.state) ∷ [])
-  build_wrote xs from v reached alive unbuilt low done =
+  build_wrote xs from v reached plain alive unbuilt low done =
       record {
         come = all_listed (λ n. MayCome xs from.state n) (all_carried edits) (λ n more. inl (never_among (λ k. (0 < k) × (k < 1)) n (λ p. let above = p.0 in let less = p.1 in omega (arith, above, less)) xs low_1));
         low = all_listed (λ n. (0 < n) × (n < v.state.next.elements)) (all_carried edits) (λ n more. range n more);
@@ -56,8 +56,9 @@ module _ {K : Types} (app : Application K) (lawful : IsLawful K app) (props : K.
           let u : Under v.state done n 0 = shown_stands v.state done n (omega (arith, more, shows)) in
           in_range v.state done n 0 u
 
-      first_numbers : (from ≡ start app props inputs) ⊎ (from.built ≡ true) → Below 1 xs
-      first_numbers (inl same) = subst (λ (x : Machine K). Below x.state.next.elements xs) same low
+      first_numbers : (from ≡ start_at app props reached.firsts reached.contexts inputs) ⊎ (from.built ≡ true) → Below 1 xs
+      first_numbers (inl same) =
+          subst (λ (f : Firsts). Below f.elements xs) plain (subst (λ (x : Machine K). Below x.state.next.elements xs) same low)
       first_numbers (inr built) = let absurdity : false ≡ true = sym unbuilt ∙ built in cc
 
       low_1 : Below 1 xs
@@ -94,7 +95,7 @@ module _ {K : Types} (app : Application K) (lawful : IsLawful K app) (props : K.
       none = idle app lawful limits props inputs o.from o.reached o.alive o.unit
 
       by_entry : (e : Entry) → opens e ≡ true → IsLogged app limits o.from e o.begun → Wrote xs (o.from).state v (caused app (o.from).state v.state e)
-      by_entry Build h logged = build_wrote xs o.from v o.reached o.alive (build_first app o.from o.alive none logged.due_is) o.low done
+      by_entry Build h logged = build_wrote xs o.from v o.reached o.plain o.alive (build_first app o.from o.alive none logged.due_is) o.low done
       by_entry (Rerun s) h logged =
           rerun_wrote xs o.from v s (record { begun = o.begun; served = m; moves = o.done; reached = o.reached; logged = logged; leads = o.leads; inside = o.inside; closed = closed }) o.low
       by_entry (Poll t) h logged = nothing_wrote xs (o.from).state v

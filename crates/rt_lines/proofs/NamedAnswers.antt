@@ -4,7 +4,7 @@ use Rattle.std.specs.Prelude.{Option, Some, None, pos, negsuc}
 use Rattle.std.specs.List.{AllByRecursion}
 use Rattle.rt_model.specs.Lists.{nth}
 use Rattle.rt_model.specs.Tree.{CapturedError, listener, Attribute, Tree, Slot, text_slot, component_slot, fragment_slot, Trees, no_trees, more_trees, Own, Fragment, ErrorBoundary, SuspenseBoundary, Element, rendered}
-use Rattle.rt_model.specs.Program.{Program, done, current_scope, error, new_cell, spawn, queue_effect, after_suspense_resolved, provide, captured, use_effect, begun}
+use Rattle.rt_model.specs.Program.{Program, done, current_scope, new_cell, spawn, queue_effect, after_suspense_resolved, provide, captured, use_effect, begun}
 use Rattle.rt_programs.specs.Sequence.{go_on}
 use Rattle.rt_language.specs.Syntax.{ViewAttribute, StaticAttribute, SlotAttribute, ListenerAttribute, View, NoViews, TextView, ElementView, SlotView, ViewSlot, TextOf, UseOf, ListOf, PickOf, FragmentOf, ErrorBoundaryOf, SuspenseBoundaryOf, Hole, ComponentSource, Source, SpawnKind, Let, UseCell, UseHook, SpawnTask, CallAt, EffectOf, OnResolved, FreezeBoundary, When, ProvideAs, WriteTo, Forget, ActOn, TaskAct, WakeUp, Cancel, Pause, Resume, MarkScopeOf, ThrowText, ClearError, FailWith, SuspendOn, Stop, Prevent, Stay, Statement, Statements, NoStatements, MoreStatements}
 use Rattle.rt_language.specs.Values.{Value, NoValue, NumberValue, TextValue, CellValue, TaskValue, is_true, text_of, item_count, hook_kind}

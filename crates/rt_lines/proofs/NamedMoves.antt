@@ -1,7 +1,6 @@
 -- What moves and accepted entries leave named.
-use Rattle.std.proofs.Common.{ℕ, ◌+◌, ◌≤◌, Bool, true, false, List, [], ◌∷◌, ◌++◌, ◌≡◌, refl, sym, ap, ◌∙◌, subst, nat_eq, arith}
-use Rattle.std.proofs.lemmas.List.{append-nil}
-use Rattle.std.specs.Prelude.{Option, Some, None, if◌then◌else◌, is_some}
+use Rattle.std.proofs.Common.{ℕ, ◌+◌, ◌≤◌, Bool, true, false, List, [], ◌∷◌, ◌≡◌, refl, sym, ap, ◌∙◌, subst, nat_eq, arith}
+use Rattle.std.specs.Prelude.{Option, Some, None, if◌then◌else◌}
 use Rattle.rt_model.specs.Lists.{at}
 use Rattle.rt_model.specs.Tree.{Types, Place, VComponent, Root}
 use Rattle.rt_model.specs.World.{last_number, Application}
@@ -11,17 +10,17 @@ use Rattle.rt_model.specs.Next.{Work, RerunScope, PollTask, RunEffects, at_rest,
 use Rattle.rt_model.specs.Run.{run}
 use Rattle.rt_model.specs.Removal.{next_removed, removed}
 use Rattle.rt_model.specs.Heard.{Listener}
-use Rattle.rt_model.specs.Replay.{Entry, Build, Taken, Heard, Rerun, Poll, Effects, Made, Fed, Kept, Removed, Input, Machine, ended_by, mounted_state, if_live, waiting, take_next, one_more_unit, fed_child, keeps, due_item, due_heard, due_work, due, outcome_of, polled, effects_run, heard_event, heard_first, rested, change_by, is_due, step, replay_on, start}
-use Rattle.rt_model.specs.Causes.{Limits, replay_within}
+use Rattle.rt_model.specs.Replay.{Entry, Build, Taken, Heard, Rerun, Poll, Effects, Fed, Kept, Removed, Input, Machine, ended_by, mounted_state, if_live, waiting, take_next, one_more_unit, fed_child, keeps, due_item, due_heard, due_work, due, outcome_of, polled, effects_run, heard_event, heard_first, rested, change_by, step, replay_on, start}
+use Rattle.rt_model.specs.Causes.{Limits}
 use Rattle.rt_model.proofs.Maps.{at_here, at_there, by_test}
-use Rattle.rt_model.proofs.SideFrames.{Stay, stay_trans}
+use Rattle.rt_model.proofs.SideFrames.{Stay}
 use Rattle.rt_model.proofs.SideRuns.{StayO, rest_stay, mounted_stay, polled_stay, effects_stay}
 use Rattle.rt_model.proofs.Begun.{take_next_calm}
-use Rattle.rt_moves.specs.Moves.{Move, Silent, Closed, Logged, IsSettled, entries, Moves, Leads}
+use Rattle.rt_moves.specs.Moves.{Move, Silent, Closed, Logged, IsSettled, Leads}
 use Rattle.rt_moves.proofs.Insides.{live_due, made_due, fed_due, fed_change}
 use Rattle.rt_moves.proofs.Always.{take_work, heard_work}
-use Rattle.rt_moves.proofs.Commanded.{Level, level_trans}
-use Rattle.rt_moves.proofs.Called.{rest_level, mounted_level}
+use Rattle.rt_moves.proofs.Commanded.{Level}
+use Rattle.rt_moves.proofs.Called.{mounted_level}
 use Rattle.rt_moves.proofs.Everywhere.{heard_stays}
 use Rattle.rt_moves.proofs.Logs.{logs_are_moves}
 use Rattle.rt_fresh.proofs.Limited.{some_limits}
@@ -29,7 +28,7 @@ use Rattle.rt_rerun.proofs.Calm.{take_level}
 use Rattle.rt_headline.proofs.Levels.{ended_level, ended_idle, polled_rests, effects_rest, heard_level}
 use Rattle.rt_headline.proofs.Reports.{settled_after}
 use Rattle.rt_lines.specs.Named.{AnswersNamed}
-use Rattle.rt_lines.proofs.NamedViews.{NamedSide, NamedScope, NamedScopes}
+use Rattle.rt_lines.proofs.NamedViews.{NamedScope, NamedScopes}
 use Rattle.rt_lines.proofs.NamedStates.{NamedAt, NamedO, stay_named, level_scopes, new_named}
 use Rattle.rt_lines.proofs.NamedRuns.{run_named, item_named, removed_named}
 

@@ -1,21 +1,19 @@
 -- What is told of the logs of a session with names is plain.
-use Rattle.std.proofs.Common.{ℕ, Bool, true, false, ◌&&◌, ◌||◌, not, List, [], ◌∷◌, ◌++◌, ◌≡◌, refl, sym, ap, ◌∙◌, subst}
+use Rattle.std.proofs.Common.{Bool, true, false, ◌&&◌, ◌||◌, not, List, [], ◌∷◌, ◌++◌, ◌≡◌, refl, ap, subst}
 use Rattle.std.specs.Prelude.{Option, Some, None, if◌then◌else◌}
-use Rattle.std.specs.List.{AllByRecursion}
 use Rattle.rt_model.specs.Lists.{joined}
 use Rattle.rt_model.specs.Tree.{Types}
 use Rattle.rt_model.specs.World.{Application}
 use Rattle.rt_model.specs.Laws.{IsLawful}
-use Rattle.rt_model.specs.State.{Fault, State}
+use Rattle.rt_model.specs.State.{Fault}
 use Rattle.rt_model.specs.Replay.{Entry, Input, Machine, accepts, replay_on, start}
 use Rattle.rt_model.specs.Document.{Edit}
 use Rattle.rt_model.specs.Caused.{caused, caused_until}
 use Rattle.rt_model.specs.Causes.{Limits, first_item, next_height, depth_refused, edits_at_depth, edits_at_refusal}
-use Rattle.rt_model.specs.Told.{Told, Telling, opens, opened, telling, told_by, closed_unit, told_entry, tell_log, tell_reports, edits_of}
+use Rattle.rt_model.specs.Told.{Told, Telling, opens, opened, telling, closed_unit, told_entry, tell_log, tell_reports, edits_of}
 use Rattle.rt_model.specs.Headline.{last_machine}
 use Rattle.rt_model.proofs.ToldReplayed.{First, first-of}
 use Rattle.rt_moves.specs.Moves.{IsSettled}
-use Rattle.rt_lines.specs.Plain.{IsPlainEdit}
 use Rattle.rt_lines.specs.Named.{AnswersNamed}
 use Rattle.rt_lines.proofs.NamedViews.{NamedScopes}
 use Rattle.rt_lines.proofs.NamedWrites.{EditsPlain, both_plain, caused_plain, until_plain}

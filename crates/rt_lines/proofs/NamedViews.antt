@@ -1,16 +1,16 @@
 -- What trees with names show is plain.
-use Rattle.std.proofs.Common.{ℕ, zero, suc, ◌+◌, ◌<◌, ◌≤◌, ◌^◌, Bool, true, false, ◌&&◌, List, [], ◌∷◌, ◌++◌, ◌≡◌, refl, sym, ap, ◌∙◌, subst, length, arith}
+use Rattle.std.proofs.Common.{ℕ, zero, suc, ◌+◌, ◌<◌, ◌≤◌, ◌^◌, Bool, true, false, ◌&&◌, List, [], ◌∷◌, ◌++◌, ◌≡◌, refl, sym, subst, length, arith}
 use Rattle.std.specs.Prelude.{Option, Some, None, if◌then◌else◌}
 use Rattle.std.specs.List.{AllByRecursion}
 use Rattle.rt_model.specs.Lists.{Text, at, same_numbers, earlier_text}
-use Rattle.rt_model.specs.Tree.{Types, TemplateAttribute, fixed, from_slot, TemplateNodes, no_nodes, element_node, text_node, slot_node, Template, AttributeValue, text_value, no_value, listener, Attribute, Tree, block, Slots, no_slots, more_slots, Slot, text_slot, placeholder_slot, component_slot, fragment_slot, Trees, no_trees, more_trees, VComponent, item, Place, same_place, Kind, same_kind, an_element, a_static_text, a_text, a_placeholder, an_empty_fragment, place_in, attributes_in}
+use Rattle.rt_model.specs.Tree.{Types, TemplateAttribute, fixed, from_slot, TemplateNodes, no_nodes, element_node, text_node, slot_node, Template, AttributeValue, text_value, no_value, listener, Attribute, Tree, block, Slots, no_slots, more_slots, Slot, text_slot, placeholder_slot, component_slot, fragment_slot, Trees, no_trees, more_trees, item, Place, same_place, Kind, same_kind, an_element, a_static_text, a_text, a_placeholder, an_empty_fragment, place_in, attributes_in}
 use Rattle.rt_model.specs.World.{last_number}
-use Rattle.rt_model.specs.State.{SideName, MainSide, ChildrenSide, FallbackSide, Side, Scope, State, side_of}
+use Rattle.rt_model.specs.State.{SideName, Side, Scope, State, side_of}
 use Rattle.rt_model.specs.Run.{child_at}
-use Rattle.rt_model.specs.Document.{DocAttribute, Content, DocElement, DocText, DocPlaceholder, Forest, Empty, Node, join_rows, leaf, same_key, earlier_key, with_attribute, with_listener}
+use Rattle.rt_model.specs.Document.{DocAttribute, DocText, DocPlaceholder, Forest, Empty, Node, join_rows, leaf, same_key, earlier_key, with_attribute, with_listener}
 use Rattle.rt_model.specs.Heard.{number_at}
 use Rattle.rt_model.specs.View.{child_view, one_attribute, one_listener, given_attributes, given_listeners, element_attributes, element_listeners, nodes_view, tree_view, slots_view, slot_view, items_view, side_view, scope_view, view_within, nodes_of}
-use Rattle.rt_lines.specs.Plain.{IsName, IsNamespace, IsPlainAttribute, IsPlainContent, HasKids, IsPlainForest}
+use Rattle.rt_lines.specs.Plain.{IsName, IsPlainAttribute, IsPlainForest}
 use Rattle.rt_lines.specs.Named.{NamedFixed, NamedNodes, NamedGiven, AllGiven, AllSlotsGiven, NamedTree, NamedSlots, NamedSlot, NamedTrees, NamedComponent}
 
 -- a number of at most 64 bits

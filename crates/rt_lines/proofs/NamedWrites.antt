@@ -1,21 +1,21 @@
 -- What is written between two states with names is plain.
-use Rattle.std.proofs.Common.{ℕ, zero, suc, ◌+◌, ◌<◌, ◌^◌, Bool, true, false, ◌&&◌, not, List, [], ◌∷◌, ◌++◌, length, ◌≡◌, refl, sym, ap, ◌∙◌, subst}
+use Rattle.std.proofs.Common.{ℕ, zero, suc, ◌+◌, Bool, true, false, ◌&&◌, not, List, [], ◌∷◌, ◌++◌, length, ◌≡◌, refl}
 use Rattle.std.specs.Prelude.{Option, Some, None, if◌then◌else◌, is_some}
 use Rattle.std.specs.List.{AllByRecursion}
-use Rattle.rt_model.specs.Lists.{Text, at, same_numbers, same_option}
+use Rattle.rt_model.specs.Lists.{at, same_numbers, same_option}
 use Rattle.rt_model.specs.Tree.{Types, TemplateAttribute, fixed, from_slot, TemplateNodes, no_nodes, element_node, text_node, slot_node, Template, same_template, AttributeValue, text_value, no_value, listener, Attribute, Tree, block, template_of, attributes_of, slots_of, Slots, no_slots, more_slots, first_slot, rest_slots, Slot, text_slot, placeholder_slot, component_slot, fragment_slot, Trees, no_trees, more_trees, item, Place, Kind, an_element, a_text, place_in, attributes_in}
 use Rattle.rt_model.specs.World.{Application}
 use Rattle.rt_model.specs.Values.{is_same_component}
-use Rattle.rt_model.specs.State.{SideName, MainSide, same_side, Side, Scope, State, Item, side_of, is_shown}
+use Rattle.rt_model.specs.State.{SideName, same_side, Scope, State, Item, side_of, is_shown}
 use Rattle.rt_model.specs.Run.{child_at}
 use Rattle.rt_model.specs.Heard.{number_at}
 use Rattle.rt_model.specs.Replay.{Entry, Build, Taken, Heard, Rerun, Poll, Effects, Made, Fed, Kept, Removed}
-use Rattle.rt_model.specs.Document.{Forest, Empty, Node, Edit, AppendChildren, ReplaceNodeWith, InsertNodesAfter, RemoveNode, SetNodeText, SetAttribute, CreateEventListener, RemoveEventListener}
-use Rattle.rt_model.specs.View.{tree_view, slot_view, items_view, nodes_of, view}
-use Rattle.rt_model.specs.Caused.{Written, writes, halts, then_on, is_around, is_place, built_whole, removals, replaced_by, last_of, slot_pass, element_pass, attribute_pass, text_if, text_under, listens_under, one_left, left, one_come, come, attributes_written, Both, Way, stop_on, way_to, any_around, child_written, slot_replaced, tree_written, slots_written, slot_written, items_written, outputs_written, side_written, sides_written, scope_written, written_within, written, caused, caused_until}
-use Rattle.rt_lines.specs.Plain.{IsName, IsNamespace, IsPlainForest, IsPlainEdit}
-use Rattle.rt_lines.specs.Named.{NamedNodes, NamedGiven, AllGiven, AllSlotsGiven, NamedTree, NamedSlots, NamedSlot, NamedTrees}
-use Rattle.rt_lines.proofs.NamedViews.{Small, zero_small, AllSmall, number_small, slot_given, tree_plain, slot_plain, items_plain, NamedOutput, NamedSide, NamedScope, NamedScopes, shown_plain}
+use Rattle.rt_model.specs.Document.{Forest, Empty, Node, Edit, InsertNodesAfter, SetNodeText, SetAttribute, CreateEventListener, RemoveEventListener}
+use Rattle.rt_model.specs.View.{tree_view, slot_view, items_view, nodes_of}
+use Rattle.rt_model.specs.Caused.{Written, writes, halts, then_on, is_around, is_place, built_whole, removals, replaced_by, last_of, slot_pass, element_pass, attribute_pass, text_under, listens_under, one_left, left, one_come, come, attributes_written, Both, Way, stop_on, way_to, any_around, child_written, slot_replaced, tree_written, slots_written, slot_written, items_written, outputs_written, side_written, sides_written, scope_written, written_within, caused, caused_until}
+use Rattle.rt_lines.specs.Plain.{IsPlainForest, IsPlainEdit}
+use Rattle.rt_lines.specs.Named.{NamedGiven, AllGiven, AllSlotsGiven, NamedTree, NamedSlots, NamedSlot, NamedTrees}
+use Rattle.rt_lines.proofs.NamedViews.{Small, zero_small, AllSmall, number_small, slot_given, tree_plain, slot_plain, items_plain, NamedOutput, NamedScope, NamedScopes, shown_plain}
 
 -- these edits are plain
 abbrev pub EditsPlain : List Edit → Type 0

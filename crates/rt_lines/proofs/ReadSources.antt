@@ -1,6 +1,6 @@
 -- Sources that are read have names, and so their sessions print plainly.
 use Rattle.std.proofs.Common.{ℕ, List, [], ◌∷◌, ◌≡◌, sym, subst, map}
-use Rattle.std.specs.Prelude.{Option, Some, None, option_and_then, codes}
+use Rattle.std.specs.Prelude.{Option, Some, option_and_then, codes}
 use Rattle.std.specs.List.{AllByRecursion}
 use Rattle.std.proofs.lemmas.Option.{option_and_then_some}
 use Rattle.serde_json.specs.Data.{Data}

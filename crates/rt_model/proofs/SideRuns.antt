@@ -1,6 +1,6 @@
 -- What calls, hooks, looks and removals leave as it was: the sides of each scope that lives on.
 use Rattle.std.proofs.Common.{ℕ, Bool, true, List, [], ◌∷◌, ◌++◌, refl, sym, ap, ◌∙◌, nat_eq}
-use Rattle.std.specs.Prelude.{Option, Some, None, if◌then◌else◌}
+use Rattle.std.specs.Prelude.{Option, Some, None}
 use Rattle.rt_model.specs.Tree.{Types, Element}
 use Rattle.rt_model.specs.World.{after_render_kind, CallFault, Hook, Command, World, Meaning, Nothing, Application}
 use Rattle.rt_model.specs.Laws.{IsNumbered, IsLawful}
@@ -99,7 +99,8 @@ module _ {K : Types} (app : Application K) (lawful : IsLawful K app) where
   once_stay : (w : State K) → Stay w (called_once w)
   once_stay w = stay_kept w (called_once w) (looks.once_kept framed 0 w)
 
-  stay_calls : Calls framed Stay (λ (w : State K). 0) framed_steady stay_goes app (λ f cs g. IsNumbered f cs g)
+  -- a call's next numbers and its commands leave the sides
+  pub stay_calls : Calls framed Stay (λ (w : State K). 0) framed_steady stay_goes app (λ f cs g. IsNumbered f cs g)
   stay_calls = record { effects = lawful.effects_number; polls = lawful.polls_number; next = next_stay; called = called_stay }
 
   -- the hooks of one kind

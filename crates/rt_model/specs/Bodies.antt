@@ -3,9 +3,9 @@ use Rattle.std.specs.Prelude.{ℕ, ◌+◌, ◌-◌, Bool, true, false, List, []
 use Rattle.rt_model.specs.Lists.{drop_number}
 use Rattle.rt_model.specs.Tree.{Types}
 use Rattle.rt_model.specs.World.{Application}
-use Rattle.rt_model.specs.State.{State, Item, Draw, Row, Feed, Make, Drop}
+use Rattle.rt_model.specs.State.{State, Item, Feed, Make}
 use Rattle.rt_model.specs.Next.{seen_in_order}
-use Rattle.rt_model.specs.Replay.{Entry, Build, Taken, Heard, Rerun, Poll, Effects, Made, Fed, Kept, Removed, Machine, fed_child, keeps, accepts, replay_on}
+use Rattle.rt_model.specs.Replay.{Entry, Rerun, Poll, Made, Fed, Removed, Machine, fed_child, keeps, accepts, replay_on}
 use Rattle.rt_model.specs.Told.{count_entries}
 use Rattle.rt_model.specs.Sentences.{NoBodyTwice, EndsAt, events_end, render_ends, call_begun}
 

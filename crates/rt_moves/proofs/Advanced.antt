@@ -1,5 +1,5 @@
 -- The tour of what calls leave goes on: a task that is polled at once, and no look follows.
-use Rattle.std.proofs.Common.{ℕ, true, false, List, [], ◌≡◌, refl}
+use Rattle.std.proofs.Common.{ℕ, false, List, [], ◌≡◌, refl}
 use Rattle.std.specs.Prelude.{Option, Some, None}
 use Rattle.rt_model.specs.Lists.{at, put}
 use Rattle.rt_model.specs.Tree.{Types}

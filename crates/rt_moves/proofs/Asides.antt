@@ -1,5 +1,5 @@
 -- What a call that logs no entry leaves as it was.
-use Rattle.std.proofs.Common.{ℕ, zero, suc, ◌+◌, length, Bool, true, false, List, [], ◌∷◌, ◌≡◌, refl, sym, ap, ◌∙◌, subst}
+use Rattle.std.proofs.Common.{ℕ, zero, suc, ◌+◌, length, Bool, true, false, List, [], ◌∷◌, ◌≡◌, refl, sym, subst}
 use Rattle.std.specs.Prelude.{Option, Some, None, if◌then◌else◌}
 use Rattle.rt_model.specs.Lists.{drop_number, join}
 use Rattle.rt_model.specs.Tree.{Types}
@@ -7,7 +7,7 @@ use Rattle.rt_model.specs.World.{Nothing, nothing, Meaning, Application}
 use Rattle.rt_model.specs.Laws.{IsNumbered, IsLawful}
 use Rattle.rt_model.specs.State.{Scope, State, is_live}
 use Rattle.rt_model.specs.Rendering.{may_poll, may_rerun, pass_over, passes, rendering_rest, tasks_passed, polling_rest, nothing_resolved}
-use Rattle.rt_model.specs.Next.{Work, RerunScope, PollTask, RunEffects, first_seen, look, drop_then, drops, paused, found, at_rest}
+use Rattle.rt_model.specs.Next.{Work, RerunScope, PollTask, RunEffects, first_seen, look, drop_then, drops, paused, found}
 use Rattle.rt_model.specs.Sentences.{marked_now, all_marked_now}
 use Rattle.rt_model.specs.Replay.{Machine}
 use Rattle.rt_model.proofs.Frames.{shape, shape_steady, same_rest}
@@ -16,8 +16,7 @@ use Rattle.rt_model.proofs.StepFrames.{look_same}
 use Rattle.rt_model.proofs.MachineFrames.{rest_later}
 use Rattle.rt_model.specs.Framed.{framed}
 use Rattle.rt_model.proofs.SideFrames.{Stay, framed_steady, stay_refl, stay_trans, stay_rest, stay_either}
-use Rattle.rt_model.proofs.SideRuns.{look_stay, rest_stay, next_stay, called_stay, stay_goes}
-use Rattle.rt_model.proofs.TourCalls.{Calls}
+use Rattle.rt_model.proofs.SideRuns.{look_stay, rest_stay, called_stay, stay_goes, stay_calls}
 use Rattle.rt_moves.specs.Moves.{AtRest}
 use Rattle.rt_model.specs.Asides.{Aside, Asked, Marked, AllMarked, Looked, Thinned, Rested, Raised, Passed, Polling, Answered, Advanced, Allowed, aside_state, set_aside}
 use Rattle.rt_moves.specs.Asides.{IsAside}
@@ -119,10 +118,6 @@ module _ {K : Types} (app : Application K) where
   asks scope _ = record { answer = nothing; reads = []; aside = []; commands = []; next = record { tasks = 0; cells = 0; contexts = 0; elements = 0; errors = 0 }; fault = None }
 
 module _ {K : Types} (app : Application K) (lawful : IsLawful K app) where
-  -- a call's next numbers and its commands leave the sides
-  sides_calls : Calls framed Stay (λ (w : State K). 0) framed_steady stay_goes app (λ f cs g. IsNumbered f cs g)
-  sides_calls = record { effects = lawful.effects_number; polls = lawful.polls_number; next = next_stay app lawful; called = called_stay app lawful }
-
   pub aside_stay : (w : State K) (a : Aside K) → Allowed w a → Stay w (aside_state app w a)
   aside_stay w (Asked s next cs) h = called_stay app lawful w s None (asks app s (Asked s next cs)) h
   aside_stay w (Marked s) h = marked_stay w s
@@ -134,7 +129,7 @@ module _ {K : Types} (app : Application K) (lawful : IsLawful K app) where
   aside_stay w Passed h = let v : State K = look w in stay_trans w v (rendering_rest w) (look_stay w) (passes_stay (length v.seen + length v.queued) v)
   aside_stay w Polling h = let v : State K = look w in stay_trans w v (polling_rest w) (look_stay w) (tasks_stay (length v.queued) v)
   aside_stay w Answered h = stay_rest w (nothing_resolved w) refl refl refl
-  aside_stay w (Advanced t) h = advanced_goes framed Stay (λ v. 0) framed_steady stay_goes app (λ f cs g. IsNumbered f cs g) sides_calls w t
+  aside_stay w (Advanced t) h = advanced_goes framed Stay (λ v. 0) framed_steady stay_goes app (λ f cs g. IsNumbered f cs g) (stay_calls app lawful) w t
 
   pub aside_later : (w : State K) (a : Aside K) → Allowed w a → Later w (aside_state app w a)
   aside_later w (Asked s next cs) h = called app lawful w s None (asks app s (Asked s next cs)) h

@@ -1,6 +1,6 @@
 -- What calls, hooks, callbacks, polls and looks leave as it was, also where a fault cuts them: what shows of each scope.
 use Rattle.std.proofs.Common.{ℕ, Bool, true, false, List, refl}
-use Rattle.std.specs.Prelude.{Option, if◌then◌else◌}
+use Rattle.std.specs.Prelude.{Option}
 use Rattle.rt_model.specs.Tree.{Types, Element}
 use Rattle.rt_model.specs.World.{Firsts, Hook, World, Meaning, Application}
 use Rattle.rt_model.specs.State.{State, Outcome, onward, change}

@@ -1,21 +1,20 @@
 -- Wherever moves lead the open work fits the tree, so what it names is there.
-use Rattle.std.proofs.Common.{ℕ, ◌+◌, ◌≤◌, ◌<◌, Bool, true, false, not, List, [], ◌∷◌, ◌++◌, ◌≡◌, ◌⊎◌, inl, inr, refl, sym, ap, ◌∙◌, subst, arith, nat_eq}
+use Rattle.std.proofs.Common.{ℕ, ◌+◌, ◌<◌, Bool, true, false, not, List, [], ◌∷◌, ◌++◌, ◌≡◌, ◌⊎◌, inl, inr, refl, sym, ap, ◌∙◌, subst, arith, nat_eq}
 use Rattle.std.specs.Prelude.{Option, Some, None, is_some, if◌then◌else◌}
 use Rattle.std.specs.List.{AllByRecursion}
 use Rattle.std.proofs.lemmas.Bool.{eqb-true}
-use Rattle.std.proofs.lemmas.List.{append-nil}
 use Rattle.rt_model.specs.Lists.{at}
-use Rattle.rt_model.specs.Tree.{Types, Place, Kind, VComponent, Root, Spot, component_at}
-use Rattle.rt_model.specs.World.{Scopes, Elements, at_end, CallFault, Event, World, Meaning, Application}
+use Rattle.rt_model.specs.Tree.{Types, Place, VComponent, component_at}
+use Rattle.rt_model.specs.World.{Scopes, Elements, at_end, Firsts, CallFault, Event, World, Meaning, Application}
 use Rattle.rt_model.specs.Laws.{IsNumbered, IsLawful}
-use Rattle.rt_model.specs.State.{SideName, MainSide, ChildrenSide, FallbackSide, RowStep, Fault, IdsExhausted, Side, Scope, State, Item, Draw, Row, Feed, Make, Drop, Outcome, Done, Cut, onward, side_of, empty_side, new_scope, change, is_live, height_of, world_of, effects_of}
+use Rattle.rt_model.specs.State.{SideName, FallbackSide, RowStep, Fault, IdsExhausted, Side, Scope, State, Item, Draw, Row, Feed, Make, Drop, Outcome, Done, Cut, onward, side_of, empty_side, change, is_live, height_of, world_of, effects_of}
 use Rattle.rt_model.specs.Commands.{commands, unqueued}
 use Rattle.rt_model.specs.Next.{Work, RerunScope, PollTask, RunEffects, at_rest, next}
 use Rattle.rt_model.specs.Run.{child_at, spots_of, fault_of, with_next, called_once, acted, run}
-use Rattle.rt_model.specs.Boundary.{side_scopes, boundary_step}
+use Rattle.rt_model.specs.Boundary.{boundary_step}
 use Rattle.rt_model.specs.Removal.{next_removed, removed}
 use Rattle.rt_model.specs.Heard.{Listener}
-use Rattle.rt_model.specs.Replay.{Entry, Build, Taken, Heard, Rerun, Poll, Effects, Removed, Input, Machine, ended_by, numbered, mounted_state, if_live, waiting, then_looked, take_next, one_more_unit, fed_child, keeps, due_item, due_heard, due_work, due, made_in, with_new_scope, with_props, handed, outcome_of, polled, batch, effects_run, further, heard_event, heard_first, rested, dropped, change_by, start}
+use Rattle.rt_model.specs.Replay.{Entry, Build, Taken, Heard, Rerun, Poll, Effects, Removed, Input, Machine, ended_by, numbered, mounted_state, if_live, waiting, then_looked, take_next, one_more_unit, fed_child, keeps, due_item, due_heard, due_work, due, made_in, with_new_scope, with_props, handed, outcome_of, polled, batch, effects_run, further, heard_event, heard_first, rested, dropped, change_by}
 use Rattle.rt_model.specs.Causes.{Limits}
 use Rattle.rt_model.specs.Framed.{TookOne}
 use Rattle.rt_model.specs.Lasting.{IsRooted}
@@ -28,11 +27,12 @@ use Rattle.rt_model.proofs.SideRuns.{StayO, rest_stay, mounted_stay, called_stay
 use Rattle.rt_model.proofs.Stands.{Stands}
 use Rattle.rt_model.proofs.SideChanges.{made_stands}
 use Rattle.rt_model.proofs.NumbersRun.{Idle as IdleO, polled_idle}
-use Rattle.rt_model.proofs.NumbersStand.{Sound, start_sound}
+use Rattle.rt_model.proofs.NumbersStand.{Sound}
+use Rattle.rt_moves.proofs.Begun.{first_sides, begun_sound}
 use Rattle.rt_model.proofs.Begun.{then_looked_calm, take_next_calm}
 use Rattle.rt_model.proofs.TakesOne.{removal_takes_one}
-use Rattle.rt_moves.specs.Moves.{Move, Silent, Closed, Logged, is_silent, moves_alone, IsSettled, AtWork, IsSilent, IsLogged, Moves, Leads}
-use Rattle.rt_moves.specs.Reached.{Reached}
+use Rattle.rt_moves.specs.Moves.{Move, Silent, Closed, Logged, is_silent, IsSettled, AtWork, Moves, Leads}
+use Rattle.rt_moves.specs.Reached.{first_scope, start_at, Reached}
 use Rattle.rt_model.specs.Asides.{Aside as AsideCall, aside_state}
 use Rattle.rt_moves.specs.Asides.{IsAside}
 use Rattle.rt_moves.proofs.Asides.{aside_stay, aside_later, Beside, beside}
@@ -44,9 +44,9 @@ use Rattle.rt_moves.proofs.Always.{Steady, Outlasts, at_work_where, take_work, h
 use Rattle.rt_moves.proofs.Woods.{side_apart, move_sound, aside_sound}
 use Rattle.rt_moves.specs.Named.{Named}
 use Rattle.rt_moves.specs.Ready.{ReachedAreNamed}
-use Rattle.rt_moves.proofs.Twigs.{bare, twig, twig_up, twig_side, twig_side_is, up, kids, slots, SameTwigs, by_scope, height_by, up_height}
-use Rattle.rt_moves.proofs.Woven.{owner, Fits, Behind, After, Stack, Woven, Whole, whole_woven, idle_whole, woven_whole, goes_whole, woven_same, whole_same}
-use Rattle.rt_moves.proofs.Patched.{IsRow, Aside, Idle}
+use Rattle.rt_moves.proofs.Twigs.{twig, twig_up, twig_side, twig_side_is, kids, SameTwigs, by_scope, up_height}
+use Rattle.rt_moves.proofs.Woven.{owner, After, Woven, Whole, whole_woven, idle_whole, woven_whole, goes_whole, woven_same, whole_same}
+use Rattle.rt_moves.proofs.Patched.{Aside, Idle}
 use Rattle.rt_moves.proofs.Made.{made_whole, made_idle}
 use Rattle.rt_moves.proofs.Taken.{empty_spots, LeafOf, leaf_found, below_went, itself_went}
 use Rattle.rt_moves.proofs.Opens.{calm_twigs}
@@ -420,26 +420,22 @@ module _ {K : Types} (app : Application K) (lawful : IsLawful K app) where
   first_up y true e = e
   first_up y false e = refl
 
-  root_sides : (props : K.Props) (a : SideName) → side_of (new_scope {K = K} (Root app.root props) None 0 MainSide) a ≡ empty_side
-  root_sides props MainSide = refl
-  root_sides props ChildrenSide = refl
-  root_sides props FallbackSide = refl
-
-  start_woven : (props : K.Props) (inputs : List (Input K)) → Woven (start app props inputs).state []
-  start_woven props inputs =
-      let y : Scope K = new_scope (Root app.root props) None 0 MainSide in
+  begun_woven : (props : K.Props) (firsts : Firsts) (contexts : List (ℕ × K.Value)) (inputs : List (Input K)) → Woven (start_at app props firsts contexts inputs).state []
+  begun_woven props firsts contexts inputs =
+      let y : Scope K = first_scope app props contexts in
       record {
         stack = tt;
         attached = λ v p e. let absurdity : None ≡ Some p = sym (first_up y (nat_eq 0 v) refl) ∙ e in cc;
-        filled = λ s a p c e. absurd (subst (λ xs. Among xs (component_at p c)) (first_spots y a (nat_eq 0 s) (root_sides props)) e);
+        filled = λ s a p c e. absurd (subst (λ xs. Among xs (component_at p c)) (first_spots y a (nat_eq 0 s) (first_sides app props contexts)) e);
       }
 
-  pub start_ready : (props : K.Props) (inputs : List (Input K)) → ReadyAt (start app props inputs)
-  start_ready props inputs =
+  pub begun_ready : (props : K.Props) (firsts : Firsts) (contexts : List (ℕ × K.Value)) (inputs : List (Input K)) → 0 < firsts.elements
+      → ReadyAt (start_at app props firsts contexts inputs)
+  begun_ready props firsts contexts inputs above =
       record {
-        sound = start_sound app lawful props inputs;
+        sound = begun_sound app props contexts firsts inputs lawful above;
         idle = λ alive. record { holds = tt; idle = λ q. refl };
-        woven = λ alive. start_woven props inputs;
+        woven = λ alive. begun_woven props firsts contexts inputs;
       }
 
   -- a call that logs no entry leaves the tree as it was
@@ -462,7 +458,7 @@ module _ {K : Types} (app : Application K) (lawful : IsLawful K app) where
   pub reached_ready : (limits : Limits) (props : K.Props) (inputs : List (Input K)) (m : Machine K) → Reached app limits props inputs m → ReadyAt m
   reached_ready limits props inputs m reached =
       reached_keep app limits props inputs (λ (x : Machine K). ReadyAt x) (λ u v moves leads s. moves_ready limits u v moves leads s) (λ u v a h s. aside_ready u v a h s)
-      (start_ready props inputs) m reached
+      (λ firsts contexts above. begun_ready props firsts contexts inputs above) m reached
 
   -- wherever moves lead the open work fits the tree of scopes
   pub reached_woven : (limits : Limits) (props : K.Props) (inputs : List (Input K)) (m : Machine K) → Reached app limits props inputs m → m.dead ≡ None → Woven m.state m.work

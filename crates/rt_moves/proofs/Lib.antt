@@ -14,6 +14,7 @@ pub mod Insides
 pub mod ChildByChild
 pub mod Reports
 pub mod Always
+pub mod Begun
 mod Advanced
 pub mod Asides
 pub mod Ways

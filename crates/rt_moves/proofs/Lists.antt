@@ -1,5 +1,5 @@
 -- What a patch keeps of the children of a side, and the items that it leads to.
-use Rattle.std.proofs.Common.{ℕ, zero, suc, Bool, true, false, List, [], ◌∷◌, ◌++◌, ◌≡◌, ◌⊎◌, inl, inr, refl, sym, ap, ◌∙◌, subst, nat_eq}
+use Rattle.std.proofs.Common.{ℕ, Bool, true, false, List, [], ◌∷◌, ◌++◌, ◌≡◌, inl, inr, refl, sym, ap, ◌∙◌, subst, nat_eq}
 use Rattle.std.specs.Prelude.{Option, Some, None, All, if◌then◌else◌}
 use Rattle.std.specs.List.{AllByRecursion}
 use Rattle.std.proofs.lemmas.Bool.{eqb-true}
@@ -12,8 +12,6 @@ use Rattle.rt_model.proofs.Maps.{by_test, pick_true, pick_false}
 use Rattle.rt_model.proofs.Among.{Among, among_left, among_right, place_same}
 use Rattle.rt_model.proofs.SamePlaces.{same_place-true}
 use Rattle.rt_model.proofs.Places.{place_of, Apart, Distinct}
-use Rattle.rt_model.proofs.Agendas.{kept_children_among}
-use Rattle.rt_model.proofs.NumbersStand.{child_among}
 use Rattle.rt_moves.proofs.Woven.{Behind}
 
 pub some_number : (a b : ℕ) → Some a ≡ Some b → a ≡ b

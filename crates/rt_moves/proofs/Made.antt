@@ -1,20 +1,20 @@
 -- A scope is made in a slot: the open work fits the tree as before, and the new scope stands apart from it.
-use Rattle.std.proofs.Common.{ℕ, ◌+◌, ◌≤◌, ◌<◌, Bool, true, false, List, [], ◌∷◌, ◌++◌, ◌≡◌, ◌⊎◌, inl, inr, refl, sym, ap, ◌∙◌, subst, arith, nat_eq}
+use Rattle.std.proofs.Common.{ℕ, ◌+◌, ◌<◌, true, false, List, [], ◌∷◌, ◌++◌, ◌≡◌, ◌⊎◌, inl, inr, refl, sym, ap, ◌∙◌, subst, arith, nat_eq}
 use Rattle.std.specs.Prelude.{Option, Some, None, is_some, if◌then◌else◌}
 use Rattle.std.specs.List.{AllByRecursion}
 use Rattle.std.proofs.lemmas.Bool.{eqb-true}
 use Rattle.rt_model.specs.Lists.{at, put}
-use Rattle.rt_model.specs.Tree.{Types, Place, same_place, VComponent, Spot, component_at}
+use Rattle.rt_model.specs.Tree.{Types, Place, same_place, VComponent, component_at}
 use Rattle.rt_model.specs.State.{SideName, MainSide, ChildrenSide, FallbackSide, Side, Scope, State, Item, Draw, Row, Feed, Make, Drop, side_of, with_side, new_scope, empty_side, is_live, height_of}
 use Rattle.rt_model.specs.Run.{child_at, spots_of}
 use Rattle.rt_model.specs.Replay.{with_child, with_new_scope}
 use Rattle.rt_model.proofs.Maps.{by_test, eq_same, pick_true, pick_false, at_put_other, at_put_here}
 use Rattle.rt_model.proofs.Among.{Among, place_same}
 use Rattle.rt_model.proofs.SamePlaces.{same_place-true}
-use Rattle.rt_moves.proofs.Twigs.{bare, twig, twig_up, twig_below, twig_side, up, below, side_at, kids, slots, HasSlot, live_by, height_by, up_by, below_by, side_by, side_found, height_found, by_scope, found_live}
-use Rattle.rt_moves.proofs.Woven.{owner, Fits, Behind, After, Stack, InSlot, Attached, HasKid, ToMake, Full, Whole}
+use Rattle.rt_moves.proofs.Twigs.{bare, twig, twig_up, twig_below, twig_side, up, below, side_at, kids, slots, HasSlot, side_found, height_found}
+use Rattle.rt_moves.proofs.Woven.{owner, Fits, After, Stack, InSlot, Attached, HasKid, ToMake, Full, Whole}
 use Rattle.rt_moves.proofs.Lists.{some_number}
-use Rattle.rt_moves.proofs.Patched.{by_side, IsRow, Idle}
+use Rattle.rt_moves.proofs.Patched.{by_side, Idle}
 
 -- a child that joins the end is found where there was none, and the others stay
 pub kid_stays : (xs : List (Place × ℕ)) (f : Place × ℕ) (p : Place) (t : ℕ) → child_at xs p ≡ Some t → child_at (xs ++ f ∷ []) p ≡ Some t

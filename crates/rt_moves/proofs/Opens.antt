@@ -6,10 +6,10 @@ use Rattle.rt_model.specs.Lists.{at, without, drop_number}
 use Rattle.rt_model.specs.Tree.{Types, Tree, placeholder_tree, VComponent, Own, Root, Fragment, ErrorBoundary, SuspenseBoundary, Element, rendered, failed, suspended}
 use Rattle.rt_model.specs.World.{CallFault, before_render_kind, World, Meaning, Application}
 use Rattle.rt_model.specs.Laws.{IsNumbered, IsLawful}
-use Rattle.rt_model.specs.State.{SideName, MainSide, ChildrenSide, FallbackSide, RowStep, PatchChildren, MadeChildren, RunFallback, ShowFallback, ShowChildren, DropFallback, Resolve, Scope, State, Item, Row, Outcome, Done, Cut, onward, is_held, change, world_of, BadNode}
+use Rattle.rt_model.specs.State.{SideName, MainSide, ChildrenSide, FallbackSide, RowStep, PatchChildren, MadeChildren, RunFallback, ShowFallback, ShowChildren, DropFallback, Resolve, Scope, State, Item, Outcome, Done, Cut, onward, is_held, change, world_of, BadNode}
 use Rattle.rt_model.specs.Commands.{commands}
 use Rattle.rt_model.specs.Run.{fault_of, with_next, called_once, called_where, is_own, answered_with, kept_call, answer_fits, has_output, row_of, runs_fallback, row_items, unmarked, hooks_called, after_hooks, body_of, call_body, start_agenda, settled_answer, new_output, after_answer, boundary_run, run_as, run}
-use Rattle.rt_model.specs.Boundary.{tree_or_placeholder, children_of, counts_render, counted_render, fallback_answered, called_back, row_step, boundary_step}
+use Rattle.rt_model.specs.Boundary.{tree_or_placeholder, children_of, counts_render, counted_render, fallback_answered, called_back, row_step}
 use Rattle.rt_model.specs.Framed.{framed}
 use Rattle.rt_model.proofs.Frames.{shape, same_rest}
 use Rattle.rt_model.proofs.RunFrames.{Later, later_same, later_trans, LaterO, onward_later, from_later, change_later, unmarked_later, called_after, hooks_later, after_hooks_later, body_numbered, kept_same, settled_later, counted_later, called_back_later}
@@ -17,7 +17,7 @@ use Rattle.rt_model.proofs.StepFrames.{none_by_shape}
 use Rattle.rt_model.proofs.SideFrames.{Stay, stay_trans, stay_rest, change_stay}
 use Rattle.rt_model.proofs.SideRuns.{StayO, onward_stay, from_stay, unmarked_stay, kept_stay, hooks_stay, after_hooks_stay, settled_answer_stay, counted_stay, called_back_stay}
 use Rattle.rt_model.proofs.NumbersRun.{Idle, called_back_idle}
-use Rattle.rt_moves.proofs.Twigs.{twig, SameTwigs, same_framed}
+use Rattle.rt_moves.proofs.Twigs.{SameTwigs, same_framed}
 use Rattle.rt_moves.proofs.Woven.{owner}
 use Rattle.rt_moves.proofs.Patched.{IsRow}
 

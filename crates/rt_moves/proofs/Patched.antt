@@ -1,12 +1,11 @@
 -- A side has another output: the open work fits the tree with what the patch leads to.
-use Rattle.std.proofs.Common.{ℕ, ◌+◌, ◌≤◌, ◌<◌, Bool, true, false, List, [], ◌∷◌, ◌++◌, ◌≡◌, ◌⊎◌, inl, inr, refl, sym, ap, ◌∙◌, subst, arith, nat_eq}
-use Rattle.std.specs.Prelude.{Option, Some, None, if◌then◌else◌}
+use Rattle.std.proofs.Common.{ℕ, ◌+◌, ◌<◌, true, false, List, [], ◌∷◌, ◌++◌, ◌≡◌, ◌⊎◌, inl, inr, refl, sym, ap, ◌∙◌, subst, arith, nat_eq}
+use Rattle.std.specs.Prelude.{Option, Some, None}
 use Rattle.std.specs.List.{AllByRecursion}
 use Rattle.std.proofs.lemmas.Bool.{eqb-true}
-use Rattle.rt_model.specs.Lists.{at, put}
-use Rattle.rt_model.specs.Tree.{Types, Tree, Place, Kind, VComponent, Spot, component_at, spots}
+use Rattle.rt_model.specs.Tree.{Types, Place, VComponent, Spot, component_at}
 use Rattle.rt_model.specs.World.{Application}
-use Rattle.rt_model.specs.State.{SideName, MainSide, ChildrenSide, FallbackSide, RowStep, Side, Scope, State, Item, Draw, Row, Feed, Make, Drop, is_live, height_of}
+use Rattle.rt_model.specs.State.{SideName, MainSide, ChildrenSide, FallbackSide, Side, State, Item, Draw, Row, Feed, Make, Drop, is_live, height_of}
 use Rattle.rt_model.specs.Run.{child_at, component_in, is_fed, kept_children, serves, drops_of, spots_of}
 use Rattle.rt_model.proofs.Maps.{by_test, eq_same}
 use Rattle.rt_model.proofs.Among.{Among, among_left, among_right}
@@ -15,7 +14,7 @@ use Rattle.rt_model.proofs.Agendas.{kept_children_among}
 use Rattle.rt_model.proofs.NumbersStand.{child_among}
 use Rattle.rt_moves.proofs.Twigs.{up, below, side_at, kids, slots, HasSlot}
 use Rattle.rt_moves.proofs.Woven.{owner, Fits, Behind, After, Stack, InSlot, Attached, HasKid, ToMake, Full, Whole}
-use Rattle.rt_moves.proofs.Lists.{some_number, every_among, every_join, component_found, component_is, fed_at, kept_at, not_kept, kept_fed, serves_make, serves_every, Pairs, IsServe, IsDrop, pairs_join, serves_pairs, serves_are, drops_every, drops_has, drops_pairs, drops_are}
+use Rattle.rt_moves.proofs.Lists.{some_number, every_among, every_join, component_found, component_is, fed_at, kept_at, not_kept, kept_fed, serves_make, serves_every, Pairs, pairs_join, serves_pairs, serves_are, drops_every, drops_has, drops_pairs, drops_are}
 
 by_names : {P : Type 0} (b a : SideName) → (b ≡ a → P) → ((b ≡ a → ⊥) → P) → P
 by_names MainSide MainSide f g = f refl

@@ -1,12 +1,11 @@
 -- Where the first item of the open work wants an entry, one is due.
-use Rattle.std.proofs.Common.{ℕ, Bool, true, false, List, [], ◌∷◌, ◌≡◌, refl, sym, ap, ◌∙◌, subst}
+use Rattle.std.proofs.Common.{ℕ, Bool, true, false, List, [], ◌∷◌, ◌≡◌, refl, ap, ◌∙◌, subst}
 use Rattle.std.specs.Prelude.{Option, Some, None, if◌then◌else◌}
-use Rattle.rt_model.specs.Tree.{Types, VComponent}
+use Rattle.rt_model.specs.Tree.{Types}
 use Rattle.rt_model.specs.World.{Application}
-use Rattle.rt_model.specs.Laws.{IsLawful}
 use Rattle.rt_model.specs.State.{State, Item, Draw, Row, Feed, Make, Drop, is_live}
 use Rattle.rt_model.specs.Removal.{next_removed}
-use Rattle.rt_model.specs.Replay.{Entry, Made, Fed, Kept, Removed, Machine, if_live, keeps, due_feed, due_item, due}
+use Rattle.rt_model.specs.Replay.{Entry, Made, Fed, Kept, Removed, Machine, if_live, keeps, due_feed, due}
 use Rattle.rt_model.proofs.Maps.{pick_true}
 use Rattle.rt_model.proofs.Stands.{Stands}
 use Rattle.rt_moves.specs.Moves.{serves_item, is_silent, AtWork}
@@ -14,7 +13,6 @@ use Rattle.rt_moves.proofs.Always.{at_work_where}
 use Rattle.rt_moves.proofs.Items.{due_at_work}
 use Rattle.rt_moves.specs.Named.{Named}
 use Rattle.rt_moves.specs.Ready.{DueIsServed}
-use Rattle.rt_moves.proofs.Twigs.{up}
 use Rattle.rt_moves.proofs.Woven.{Woven, Climb}
 use Rattle.rt_moves.proofs.Taken.{LeafOf, leaf_found, live_up}
 use Rattle.rt_moves.proofs.Everywhere.{Anything, ReadyAt, reached_ready, named}

@@ -1,25 +1,25 @@
 -- A removal takes its first leaf: the open work still fits the tree.
-use Rattle.std.proofs.Common.{ℕ, zero, suc, ◌+◌, ◌≤◌, ◌<◌, Bool, true, false, List, [], ◌∷◌, ◌++◌, ◌≡◌, ◌⊎◌, inl, inr, refl, sym, ap, ◌∙◌, subst, arith, nat_eq, length}
-use Rattle.std.specs.Prelude.{Option, Some, None, is_some, if◌then◌else◌}
+use Rattle.std.proofs.Common.{ℕ, zero, suc, ◌+◌, ◌≤◌, ◌<◌, true, false, List, [], ◌∷◌, ◌++◌, ◌≡◌, ◌⊎◌, inl, inr, refl, sym, ap, ◌∙◌, subst, arith, nat_eq, length}
+use Rattle.std.specs.Prelude.{Option, Some, None, is_some}
 use Rattle.std.specs.List.{AllByRecursion}
 use Rattle.std.proofs.lemmas.Bool.{eqb-true}
 use Rattle.rt_model.specs.Lists.{at}
-use Rattle.rt_model.specs.Tree.{Types, Place, Kind, VComponent, Spot, node_at, component_at}
-use Rattle.rt_model.specs.State.{SideName, MainSide, ChildrenSide, FallbackSide, RowStep, Side, Scope, State, Item, Draw, Row, Feed, Make, Drop, side_of, is_live, parent_of, height_of}
+use Rattle.rt_model.specs.Tree.{Types, Place, VComponent, Spot, node_at, component_at}
+use Rattle.rt_model.specs.State.{SideName, MainSide, ChildrenSide, FallbackSide, Side, Scope, State, Item, Draw, Row, Feed, Make, Drop, side_of, is_live, parent_of, height_of}
 use Rattle.rt_model.specs.Run.{child_at, spots_of}
 use Rattle.rt_model.specs.Boundary.{live_child, children_among, side_scopes}
 use Rattle.rt_model.specs.Removal.{children_below, first_leaf, next_removed}
-use Rattle.rt_model.specs.Framed.{framed, TookOne}
+use Rattle.rt_model.specs.Framed.{TookOne}
 use Rattle.rt_model.specs.Lasting.{IsRooted}
 use Rattle.rt_model.proofs.Maps.{by_test, eq_same, pick_true}
 use Rattle.rt_model.proofs.Among.{Among, among_left, among_right}
 use Rattle.rt_model.proofs.Places.{place_of}
 use Rattle.rt_model.proofs.Stands.{Stands}
 use Rattle.rt_moves.specs.Removals.{children_at, Wooded}
-use Rattle.rt_moves.proofs.Leaves.{above, above_all, above_scope, child_falls, first_height}
+use Rattle.rt_moves.proofs.Leaves.{above_all, above_scope, child_falls, first_height}
 use Rattle.rt_moves.proofs.Woods.{stands_wooded, children_know}
-use Rattle.rt_moves.proofs.Twigs.{bare, twig, twig_up, twig_side, up, below, side_at, kids, slots, HasSlot, live_by, height_by, up_by, below_by, side_by, same_framed, side_found, by_scope, found_live, kid_up, up_height}
-use Rattle.rt_moves.proofs.Woven.{owner, Fits, Behind, After, Stack, InSlot, Attached, HasKid, ToMake, Climb, Falls, Filled, Woven}
+use Rattle.rt_moves.proofs.Twigs.{bare, twig, twig_up, twig_side, up, below, side_at, kids, slots, HasSlot, live_by, height_by, up_by, below_by, side_by, same_framed, side_found, by_scope, kid_up, up_height}
+use Rattle.rt_moves.proofs.Woven.{owner, Fits, After, Stack, InSlot, Attached, HasKid, ToMake, Climb, Falls, Filled, Woven}
 use Rattle.rt_moves.proofs.Lists.{some_number, every_among}
 
 some_side : (a b : SideName) → Some a ≡ Some b → a ≡ b

@@ -1,6 +1,6 @@
 -- Each change of the open work keeps it in order.
-use Rattle.std.proofs.Common.{ℕ, ◌+◌, ◌≤◌, ◌<◌, Bool, true, false, List, [], ◌∷◌, ◌++◌, ◌≡◌, ◌⊎◌, inl, inr, refl, sym, ap, ◌∙◌, subst, arith, nat_eq}
-use Rattle.std.specs.Prelude.{Option, Some, None, is_some, if◌then◌else◌}
+use Rattle.std.proofs.Common.{ℕ, ◌+◌, true, false, List, [], ◌∷◌, ◌++◌, ◌≡◌, ◌⊎◌, inl, inr, refl, sym, ap, ◌∙◌, subst, arith, nat_eq}
+use Rattle.std.specs.Prelude.{Option, Some, None, is_some}
 use Rattle.std.specs.List.{AllByRecursion}
 use Rattle.std.proofs.lemmas.Bool.{eqb-true}
 use Rattle.rt_model.specs.Lists.{at, put}
@@ -18,9 +18,9 @@ use Rattle.rt_model.proofs.Stands.{Stands}
 use Rattle.rt_moves.specs.Removals.{Apart}
 use Rattle.rt_moves.proofs.Woods.{ChildOf, side_children}
 use Rattle.rt_moves.proofs.Twigs.{bare, twig, twig_up, twig_below, twig_side, up, below, side_at, kids, slots, HasSlot, SameTwigs, live_by, height_by, up_by, below_by, side_found, by_scope, live_found, child_knows, child_place}
-use Rattle.rt_moves.proofs.Woven.{owner, Fits, Behind, After, Stack, InSlot, Attached, HasKid, ToMake, Full, Whole, kids_same, whole_same}
+use Rattle.rt_moves.proofs.Woven.{owner, Fits, Behind, After, Stack, InSlot, Whole, kids_same, whole_same}
 use Rattle.rt_moves.proofs.Lists.{every_join, Pairs}
-use Rattle.rt_moves.proofs.Patched.{by_side, Turns, IsRow, Aside, Idle, behind_row, Ours, has_kid_other, stacked, agenda, patched_whole}
+use Rattle.rt_moves.proofs.Patched.{by_side, Turns, IsRow, Aside, Idle, behind_row, Ours, has_kid_other, stacked, patched_whole}
 use Rattle.rt_moves.proofs.Made.{same_rest, other_side, that_side}
 use Rattle.rt_moves.proofs.Taken.{among_slots, live_up}
 use Rattle.rt_moves.proofs.Opens.{Opens, OwnRows, run_opens, row_opens}

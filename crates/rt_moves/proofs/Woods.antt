@@ -12,7 +12,7 @@ use Rattle.rt_model.specs.State.{SideName, MainSide, ChildrenSide, FallbackSide,
 use Rattle.rt_model.specs.Run.{child_at, spots_of}
 use Rattle.rt_model.specs.Boundary.{live_child, children_among, side_scopes, boundary_step}
 use Rattle.rt_model.specs.Removal.{children_below}
-use Rattle.rt_model.specs.Replay.{Entry, Input, Machine, ended_by, numbered, mounted_state, is_due, due, outcome_of, change_by, start}
+use Rattle.rt_model.specs.Replay.{Entry, Input, Machine, ended_by, numbered, mounted_state, is_due, due, outcome_of, change_by}
 use Rattle.rt_model.specs.Causes.{Limits}
 use Rattle.rt_model.specs.Lasting.{IsRooted}
 use Rattle.rt_model.proofs.Maps.{by_test}
@@ -26,7 +26,8 @@ use Rattle.rt_model.proofs.Turns.{stay_stands}
 use Rattle.rt_model.proofs.SideChanges.{Leads as LeadsTo, numbered_stands}
 use Rattle.rt_model.proofs.NumbersRun.{step_leads}
 use Rattle.rt_model.proofs.Begun.{Good, ended_good, row_done}
-use Rattle.rt_model.proofs.NumbersStand.{Awaits, due_match, change_good, Sound, start_sound, child_among}
+use Rattle.rt_model.proofs.NumbersStand.{Awaits, due_match, change_good, Sound, child_among}
+use Rattle.rt_moves.proofs.Begun.{begun_sound}
 use Rattle.rt_moves.specs.Moves.{Move, Silent, Closed, Logged, is_silent, Moves, Leads}
 use Rattle.rt_moves.specs.Removals.{children_at, Apart, Wooded}
 use Rattle.rt_model.specs.Asides.{Aside, aside_state}
@@ -317,7 +318,7 @@ module _ {K : Types} (app : Application K) (lawful : IsLawful K app) where
   pub reached_sound : (limits : Limits) (props : K.Props) (inputs : List (Input K)) (m : Machine K) → Reached app limits props inputs m → Sound app lawful m
   reached_sound limits props inputs m reached =
       reached_keep app limits props inputs (λ (x : Machine K). Sound app lawful x) (λ u v moves leads s. moves_sound limits u v moves leads s) (λ u v a h s. aside_sound u v a h s)
-      (start_sound app lawful props inputs) m reached
+      (λ firsts contexts above. begun_sound app props contexts firsts inputs lawful above) m reached
 
 pub reached_are_wooded : {K : Types} (app : Application K) → ReachedAreWooded app
 reached_are_wooded app lawful limits props inputs m reached alive =

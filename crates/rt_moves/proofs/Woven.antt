@@ -1,12 +1,12 @@
 -- How the open work stands to the tree of scopes.
-use Rattle.std.proofs.Common.{ℕ, ◌+◌, ◌≤◌, ◌<◌, Bool, true, false, List, [], ◌∷◌, ◌++◌, ◌≡◌, ◌⊎◌, inl, inr, refl, sym, ap, ◌∙◌, subst, arith, nat_eq}
+use Rattle.std.proofs.Common.{ℕ, ◌<◌, true, false, List, [], ◌∷◌, ◌≡◌, ◌⊎◌, inl, inr, sym, ap, ◌∙◌, subst, arith, nat_eq}
 use Rattle.std.specs.Prelude.{Option, Some, None}
 use Rattle.std.specs.List.{AllByRecursion}
-use Rattle.rt_model.specs.Tree.{Types, Place, Kind, VComponent, component_at}
-use Rattle.rt_model.specs.State.{SideName, RowStep, State, Item, Draw, Row, Feed, Make, Drop, is_live, height_of}
+use Rattle.rt_model.specs.Tree.{Types, Place, VComponent, component_at}
+use Rattle.rt_model.specs.State.{SideName, State, Item, Draw, Row, Feed, Make, Drop, is_live, height_of}
 use Rattle.rt_model.specs.Run.{child_at}
 use Rattle.rt_model.proofs.Among.{Among}
-use Rattle.rt_moves.proofs.Twigs.{up, below, side_at, kids, slots, HasSlot, SameTwigs, live_by, height_by, up_by, below_by, side_by}
+use Rattle.rt_moves.proofs.Twigs.{up, below, kids, slots, HasSlot, SameTwigs, live_by, height_by, up_by, below_by, side_by}
 
 module _ {K : Types} where
   -- the scope whose side or run an item is of

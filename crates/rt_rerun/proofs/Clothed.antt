@@ -6,19 +6,19 @@ use Rattle.std.proofs.lemmas.Bool.{eqb-true}
 use Rattle.std.proofs.lemmas.List.{append-nil}
 use Rattle.rt_model.specs.Lists.{at, put}
 use Rattle.rt_model.specs.Tree.{Types, Place, Kind, VComponent, Root, Tree, is_suspense_boundary}
-use Rattle.rt_model.specs.World.{Scopes, Elements, at_end, before_render_kind, Application}
+use Rattle.rt_model.specs.World.{Scopes, Elements, at_end, before_render_kind, Firsts, Application}
 use Rattle.rt_model.specs.Laws.{IsLawful}
 use Rattle.rt_model.specs.State.{SideName, MainSide, ChildrenSide, FallbackSide, Fault, IdsExhausted, RowStep, PatchChildren, MadeChildren, RunFallback, ShowFallback, ShowChildren, DropFallback, Resolve, Scope, State, Item, Draw, Row, Feed, Make, Drop, Outcome, Done, Cut, onward, side_of, with_side, new_scope, changed_scope, change, is_live, is_held, height_of}
 use Rattle.rt_model.specs.Run.{child_at, with_next, row_of, hooks_called, unmarked, run_as, run}
 use Rattle.rt_model.specs.Boundary.{drop_items, boundary_step}
 use Rattle.rt_model.specs.Removal.{removed}
-use Rattle.rt_model.specs.Replay.{Input, Machine, numbered, draw_number, with_child, with_new_scope, made_in, keeps, with_props, handed, outcome_of, start}
+use Rattle.rt_model.specs.Replay.{Input, Machine, numbered, draw_number, with_child, with_new_scope, made_in, keeps, with_props, handed, outcome_of}
 use Rattle.rt_model.specs.Causes.{Limits}
 use Rattle.rt_model.proofs.Maps.{by_test, none_some, eq_same, at_put_here, at_put_other}
 use Rattle.rt_model.proofs.Among.{Among, among_right}
 use Rattle.rt_model.proofs.TakesOne.{removal_takes_one}
 use Rattle.rt_moves.specs.Calls.{IsReady}
-use Rattle.rt_moves.specs.Reached.{Reached}
+use Rattle.rt_moves.specs.Reached.{first_scope, start_at, Reached}
 use Rattle.rt_moves.proofs.Twigs.{found_live, up_height, kids}
 use Rattle.rt_moves.proofs.Woven.{owner}
 use Rattle.rt_moves.proofs.Lists.{every_among}
@@ -403,14 +403,15 @@ module _ {K : Types} (app : Application K) (lawful : IsLawful K app) where
       run_begins w v s work h e (Some x) found =
           subst (λ (xs : List (Item K)). Clothed v xs) (append-nil work) (run_clothed w w v s [] work x found e tt (λ j g same. absurd g) (λ t z q there. h.dressed t z there) (inl (h.dressed s x found)))
 
-  first_clothed : (props : K.Props) (inputs : List (Input K)) (v : State K) (work : List (Item K)) → run app (start app props inputs).state 0 ≡ Done v work → Clothed v work
-  first_clothed props inputs v work e =
-      let w : State K = (start app props inputs).state in
-      let x : Scope K = new_scope (Root app.root props) None 0 MainSide in
+  first_clothed : (props : K.Props) (firsts : Firsts) (contexts : List (ℕ × K.Value)) (inputs : List (Input K)) (v : State K) (work : List (Item K))
+      → run app (start_at app props firsts contexts inputs).state 0 ≡ Done v work → Clothed v work
+  first_clothed props firsts contexts inputs v work e =
+      let w : State K = (start_at app props firsts contexts inputs).state in
+      let x : Scope K = first_scope app props contexts in
       subst (λ (xs : List (Item K)). Clothed v xs) (append-nil work)
       (run_clothed w w v 0 [] work x refl e tt (λ j g same. absurd g) (λ t z q there. none_some (ap (λ (b : Bool). if b then Some x else None) q) there) (inr (raw_new {K = K} (Root app.root props) None 0 MainSide)))
 
   -- once the build has begun each scope is dressed
   pub reached_clothed : (limits : Limits) (props : K.Props) (inputs : List (Input K)) (m : Machine K) → Reached app limits props inputs m → m.dead ≡ None → m.built ≡ true → Clothed m.state m.work
   reached_clothed limits props inputs m reached alive built =
-      built_keep app lawful Clothed clothed_lasts limits props inputs m reached alive built (λ v work ready e. first_clothed props inputs v work e)
+      built_keep app lawful Clothed clothed_lasts limits props inputs m reached alive built (λ v work ready e. first_clothed props reached.firsts reached.contexts inputs v work e)

@@ -9,7 +9,7 @@ use Rattle.rt_model.specs.Laws.{IsLawful}
 use Rattle.rt_model.specs.State.{State, Fault, Item, Draw, Row, Feed, Make, Drop, Outcome, Done, Cut, Scope, side_of, is_live, parent_of}
 use Rattle.rt_model.specs.Next.{at_rest}
 use Rattle.rt_model.specs.Run.{run}
-use Rattle.rt_model.specs.Replay.{Entry, Build, Made, Fed, Kept, Rerun, Input, Machine, ended_by, mounted_state, one_more_unit, rested, keeps, fed_child, due_feed, due_item, due, change_by, names_live, if_live, start}
+use Rattle.rt_model.specs.Replay.{Entry, Build, Made, Fed, Kept, Rerun, Input, Machine, ended_by, mounted_state, one_more_unit, rested, keeps, fed_child, due_feed, due_item, due, change_by, names_live, if_live}
 use Rattle.rt_model.specs.Causes.{Limits}
 use Rattle.rt_model.proofs.Among.{among_contained}
 use Rattle.rt_moves.proofs.Twigs.{twig, twig_up, up, found_live}

@@ -1,11 +1,11 @@
 -- What each change keeps of states in which the open work fits the tree, all moves keep.
-use Rattle.std.proofs.Common.{ℕ, ◌+◌, inl, inr, Bool, true, false, List, [], ◌∷◌, ◌++◌, ◌≡◌, ◌⊎◌, refl, sym, ap, ◌∙◌, subst, nat_eq}
+use Rattle.std.proofs.Common.{ℕ, ◌+◌, inl, inr, Bool, true, false, List, [], ◌∷◌, ◌++◌, ◌≡◌, ◌⊎◌, ◌<◌, refl, sym, ap, ◌∙◌, subst, nat_eq}
 use Rattle.std.specs.Prelude.{Option, Some, None, if◌then◌else◌}
 use Rattle.std.proofs.lemmas.Bool.{eqb-true}
 use Rattle.std.proofs.lemmas.List.{append-nil}
 use Rattle.rt_model.specs.Lists.{at}
 use Rattle.rt_model.specs.Tree.{Types}
-use Rattle.rt_model.specs.World.{Application}
+use Rattle.rt_model.specs.World.{Firsts, Application}
 use Rattle.rt_model.specs.Laws.{IsLawful}
 use Rattle.rt_model.specs.State.{SideName, Fault, State, Item, Draw, Row, Feed, Make, Drop, Outcome, Done, Cut, change, is_live, effects_of}
 use Rattle.rt_model.specs.Commands.{unqueued}
@@ -14,7 +14,7 @@ use Rattle.rt_model.specs.Run.{run}
 use Rattle.rt_model.specs.Removal.{next_removed, removed}
 use Rattle.rt_model.specs.Heard.{Listener}
 use Rattle.rt_model.specs.Lasting.{IsRooted}
-use Rattle.rt_model.specs.Replay.{Entry, Build, Taken, Heard, Rerun, Poll, Effects, Removed, Input, Machine, ended_by, mounted_state, if_live, waiting, take_next, one_more_unit, fed_child, keeps, due_item, due_heard, due_work, polled, effects_run, heard_event, heard_first, rested, outcome_of, dropped, change_by, start}
+use Rattle.rt_model.specs.Replay.{Entry, Build, Taken, Heard, Rerun, Poll, Effects, Removed, Input, Machine, ended_by, mounted_state, if_live, waiting, take_next, one_more_unit, fed_child, keeps, due_item, due_heard, due_work, polled, effects_run, heard_event, heard_first, rested, outcome_of, dropped, change_by}
 use Rattle.rt_model.specs.Causes.{Limits}
 use Rattle.rt_model.proofs.Maps.{by_test, pick_true, pick_false}
 use Rattle.rt_model.proofs.SideRuns.{rest_stay}
@@ -25,11 +25,11 @@ use Rattle.rt_model.proofs.Stands.{Stands}
 use Rattle.rt_model.proofs.Turns.{stay_stands}
 use Rattle.rt_moves.specs.Moves.{Move, Silent, Closed, Logged, Inside, is_silent, IsSettled, AtWork, Moves, Leads}
 use Rattle.rt_moves.specs.Calls.{IsReady}
-use Rattle.rt_moves.specs.Reached.{Reached}
+use Rattle.rt_moves.specs.Reached.{Part, start_at, Comes, Reached}
 use Rattle.rt_model.specs.Asides.{Aside, aside_state}
 use Rattle.rt_moves.specs.Asides.{IsAside}
 use Rattle.rt_moves.proofs.Asides.{Beside, beside}
-use Rattle.rt_moves.proofs.Ways.{reached_keep as way_keep}
+use Rattle.rt_moves.proofs.Ways.{comes_keep}
 use Rattle.rt_moves.proofs.OneMoveOnly.{unsettled}
 use Rattle.rt_moves.proofs.Items.{due_at_work}
 use Rattle.rt_moves.proofs.Insides.{alive_before, live_due, made_due, fed_due, fed_change, inside_lasts}
@@ -37,7 +37,7 @@ use Rattle.rt_moves.proofs.Insides as insides
 use Rattle.rt_moves.proofs.Always.{take_work, heard_work}
 use Rattle.rt_moves.proofs.Woven.{Woven, woven_same}
 use Rattle.rt_moves.proofs.Opens.{calm_twigs}
-use Rattle.rt_moves.proofs.Everywhere.{ReadyAt, Anything, work_state, move_ready, moves_ready, aside_ready, start_ready, batch_quiet}
+use Rattle.rt_moves.proofs.Everywhere.{ReadyAt, Anything, work_state, move_ready, moves_ready, aside_ready, begun_ready, batch_quiet}
 use Rattle.rt_moves.proofs.Commanded.{Level}
 use Rattle.rt_moves.proofs.Called.{LevelO, rest_level, mounted_level, polled_level, effects_level}
 use Rattle.rt_rerun.proofs.Calm.{take_level, heard_level, aside_level}
@@ -318,21 +318,25 @@ module _ {K : Types} (app : Application K) (lawful : IsLawful K app) where
         }
 
     -- so it holds wherever moves lead from a start at which it holds
-    pub reached_keep : (limits : Limits) (props : K.Props) (inputs : List (Input K)) (m : Machine K) → Reached app limits props inputs m → m.dead ≡ None → P (start app props inputs).state [] → P m.state m.work
+    pub reached_keep : (limits : Limits) (props : K.Props) (inputs : List (Input K)) (m : Machine K) → (reached : Reached app limits props inputs m)
+        → m.dead ≡ None
+        → P (start_at app props reached.firsts reached.contexts inputs).state []
+        → P m.state m.work
     reached_keep limits props inputs m reached alive p =
         let h : OnWay m =
-        way_keep app limits props inputs (λ (x : Machine K). OnWay x) (λ u v moves leads s. moved_way limits u v moves leads s) (λ u v a is s. aside_way u v a is s)
-        (record { ready = start_ready app lawful props inputs; holds = λ lives. p }) m reached in
+        comes_keep app limits (λ (x : Machine K). OnWay x) (λ u v moves leads s. moved_way limits u v moves leads s) (λ u v a is s. aside_way u v a is s)
+        reached.parts (start_at app props reached.firsts reached.contexts inputs) m reached.comes
+        (record { ready = begun_ready app lawful props reached.firsts reached.contexts inputs reached.above; holds = λ lives. p }) in
         h.holds alive
 
     -- once the build has begun it holds, where it holds after the build's first run
-    module _ (limits : Limits) (props : K.Props) (inputs : List (Input K))
-        (first : (v : State K) (work : List (Item K)) → Ready v work → run app (start app props inputs).state 0 ≡ Done v work → P v work) where
+    module _ (limits : Limits) (props : K.Props) (firsts : Firsts) (contexts : List (ℕ × K.Value)) (inputs : List (Input K)) (above : 0 < firsts.elements)
+        (first : (v : State K) (work : List (Item K)) → Ready v work → run app (start_at app props firsts contexts inputs).state 0 ≡ Done v work → P v work) where
       abbrev begin : Machine K
-      begin = start app props inputs
+      begin = start_at app props firsts contexts inputs
 
       ready : ReadyAt app lawful begin
-      ready = start_ready app lawful props inputs
+      ready = begun_ready app lawful props firsts contexts inputs above
 
       by_moves : (m : Machine K) (moves : List Move) → Leads app limits begin moves m → (m ≡ begin) ⊎ (m.dead ≡ None → P m.state m.work)
       by_moves m [] leads = inl leads
@@ -379,16 +383,20 @@ module _ {K : Types} (app : Application K) (lawful : IsLawful K app) where
                 ];
           }
 
-      way_built : (m : Machine K) → Reached app limits props inputs m → BuiltWay m
-      way_built m reached =
-          way_keep app limits props inputs (λ (x : Machine K). BuiltWay x) (λ u v moves leads s. moved_built u v moves leads s) (λ u v a is s. aside_built u v a is s)
-          (record { set = ready; is = inl refl }) m reached
+      way_built : (m : Machine K) (parts : List (Part K)) → Comes app limits begin parts m → BuiltWay m
+      way_built m parts comes =
+          comes_keep app limits (λ (x : Machine K). BuiltWay x) (λ u v moves leads s. moved_built u v moves leads s) (λ u v a is s. aside_built u v a is s)
+          parts begin m comes (record { set = ready; is = inl refl })
 
-    pub built_keep : (limits : Limits) (props : K.Props) (inputs : List (Input K)) (m : Machine K) → Reached app limits props inputs m → m.dead ≡ None → m.built ≡ true
-        → ((v : State K) (work : List (Item K)) → Ready v work → run app (start app props inputs).state 0 ≡ Done v work → P v work)
+    pub built_keep : (limits : Limits) (props : K.Props) (inputs : List (Input K)) (m : Machine K) → (reached : Reached app limits props inputs m)
+        → m.dead ≡ None
+        → m.built ≡ true
+        → ((v : State K) (work : List (Item K)) → Ready v work
+        → run app (start_at app props reached.firsts reached.contexts inputs).state 0 ≡ Done v work
+        → P v work)
         → P m.state m.work
     built_keep limits props inputs m reached alive built first =
-        elim (way_built limits props inputs first m reached).is [
+        elim (way_built limits props reached.firsts reached.contexts inputs reached.above first m reached.parts reached.comes).is [
           | inl same ↦ let absurdity : true ≡ false = sym built ∙ ap (λ (x : Machine K). x.built) same in cc
           | inr held ↦ held alive
         ]

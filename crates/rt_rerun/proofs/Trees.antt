@@ -3,19 +3,19 @@ use Rattle.std.proofs.Common.{ℕ, ◌+◌, Bool, true, false, List, [], ◌∷�
 use Rattle.std.specs.Prelude.{Option, Some, None, if◌then◌else◌}
 use Rattle.std.proofs.lemmas.Bool.{eqb-true}
 use Rattle.rt_model.specs.Lists.{at, has}
-use Rattle.rt_model.specs.Tree.{Types, Place, VComponent, Root}
-use Rattle.rt_model.specs.World.{Application}
+use Rattle.rt_model.specs.Tree.{Types, Place, VComponent}
+use Rattle.rt_model.specs.World.{Firsts, Application}
 use Rattle.rt_model.specs.Laws.{IsLawful}
 use Rattle.rt_model.specs.State.{SideName, MainSide, Scope, State, Item, Draw, Row, Feed, Make, Drop, Outcome, Done, side_of, new_scope, is_live}
 use Rattle.rt_model.specs.Run.{run}
 use Rattle.rt_model.specs.Removal.{removed}
-use Rattle.rt_model.specs.Replay.{Input, Machine, with_child, outcome_of, start}
+use Rattle.rt_model.specs.Replay.{Input, Machine, with_child, outcome_of}
 use Rattle.rt_model.specs.Causes.{Limits}
 use Rattle.rt_model.proofs.Maps.{by_test, none_some}
 use Rattle.rt_model.proofs.NumbersStand.{child_among}
 use Rattle.rt_model.proofs.TakesOne.{removal_takes_one}
 use Rattle.rt_moves.specs.Calls.{IsReady}
-use Rattle.rt_moves.specs.Reached.{Reached}
+use Rattle.rt_moves.specs.Reached.{first_scope, start_at, Reached}
 use Rattle.rt_moves.proofs.Twigs.{found_live, up_found}
 use Rattle.rt_moves.proofs.Everywhere.{reached_ready}
 use Rattle.rt_moves.specs.Frames.{Stand, stand, shown, Keeps, Leaves, served_by, JoinsO}
@@ -125,11 +125,12 @@ module _ {K : Types} (app : Application K) (lawful : IsLawful K app) where
             topped_by w v t y h (stood_before (at w.scopes t) (at v.scopes t) y ((keeps_of (s ∷ []) [] w v work (run app w s) (run_leaves app w s) e).stands t refl) found) none;
       }
 
-  start_topped : (props : K.Props) (inputs : List (Input K)) → Topped (start app props inputs).state []
-  start_topped props inputs s x found none = one (nat_eq 0 s) refl found
+  start_topped : (props : K.Props) (firsts : Firsts) (contexts : List (ℕ × K.Value)) (inputs : List (Input K))
+      → Topped (start_at app props firsts contexts inputs).state []
+  start_topped props firsts contexts inputs s x found none = one (nat_eq 0 s) refl found
     where
-      one : (b : Bool) → nat_eq 0 s ≡ b → (if b then Some (new_scope {K = K} (Root app.root props) None 0 MainSide) else None) ≡ Some x → (x.height ≡ 0) × (s ≡ 0)
-      one true q e = (ap (λ (z : Scope K). z.height) (sym (same_scope (new_scope {K = K} (Root app.root props) None 0 MainSide) x e)), sym (eqb-true 0 s q))
+      one : (b : Bool) → nat_eq 0 s ≡ b → (if b then Some (first_scope app props contexts) else None) ≡ Some x → (x.height ≡ 0) × (s ≡ 0)
+      one true q e = (ap (λ (z : Scope K). z.height) (sym (same_scope (first_scope app props contexts) x e)), sym (eqb-true 0 s q))
       one false q e = cc
 
   -- a state in which the work fits the tree is one
@@ -149,9 +150,9 @@ module _ {K : Types} (app : Application K) (lawful : IsLawful K app) where
       }
 
   pub reached_topped : (limits : Limits) (props : K.Props) (inputs : List (Input K)) (m : Machine K) → Reached app limits props inputs m → m.dead ≡ None → Topped m.state m.work
-  reached_topped limits props inputs m reached alive = reached_keep app lawful Topped topped_lasts limits props inputs m reached alive (start_topped props inputs)
+  reached_topped limits props inputs m reached alive = reached_keep app lawful Topped topped_lasts limits props inputs m reached alive (start_topped props reached.firsts reached.contexts inputs)
 
   pub reached_are_trees : (limits : Limits) (props : K.Props) (inputs : List (Input K)) (m : Machine K) → Reached app limits props inputs m → m.dead ≡ None → IsTree m.state
   reached_are_trees limits props inputs m reached alive =
       ready_tree m.state m.work (ready_of app lawful m (reached_ready app lawful limits props inputs m reached) alive)
-      (reached_keep app lawful Topped topped_lasts limits props inputs m reached alive (start_topped props inputs))
+      (reached_keep app lawful Topped topped_lasts limits props inputs m reached alive (start_topped props reached.firsts reached.contexts inputs))

@@ -3,22 +3,20 @@ use Rattle.std.proofs.Common.{ℕ, ◌+◌, Bool, true, false, ◌&&◌, ◌||�
 use Rattle.std.proofs.lemmas.List.{append-nil}
 use Rattle.std.specs.Prelude.{Option, Some, None, is_some, if◌then◌else◌}
 use Rattle.rt_model.specs.Tree.{Types}
-use Rattle.rt_model.specs.World.{Application, Event}
+use Rattle.rt_model.specs.World.{Application}
 use Rattle.rt_model.specs.Laws.{IsLawful}
 use Rattle.rt_model.specs.State.{Fault, OutOfTurns, State, Item, Outcome, Done, Cut}
 use Rattle.rt_model.specs.Next.{Work, RerunScope, PollTask, RunEffects, at_rest, next}
 use Rattle.rt_model.specs.Run.{run}
 use Rattle.rt_model.specs.Heard.{Listener}
-use Rattle.rt_model.specs.Replay.{Entry, Build, Taken, Heard, Rerun, Poll, Effects, Input, Machine, ended_by, names_live, if_live, waiting, no_listener, due_heard, due_work, due_any, due, heard_event, rested, one_more_unit, take_next, change_by, start}
+use Rattle.rt_model.specs.Replay.{Entry, Build, Taken, Heard, Input, Machine, ended_by, names_live, if_live, waiting, no_listener, due_heard, due_work, due_any, heard_event, rested, one_more_unit, take_next, start}
 use Rattle.rt_model.specs.Document.{Edit}
-use Rattle.rt_model.specs.Caused.{caused_until}
 use Rattle.rt_model.specs.Causes.{Limits, refusal, replay_within, edits_at_refusal}
 use Rattle.rt_model.specs.Told.{Telling, opens, opened, closed_unit, telling, tell_log}
 use Rattle.rt_moves.proofs.Ways.{start_reached as way_start}
-use Rattle.rt_moves.specs.Moves.{Logged, moves_alone, IsSettled, AtWork, AtRest, IsLogged}
+use Rattle.rt_moves.specs.Moves.{Logged, moves_alone, IsSettled, AtRest, IsLogged}
 use Rattle.rt_moves.specs.Reached.{Reached}
 use Rattle.rt_moves.specs.Units.{unit_told}
-use Rattle.rt_moves.specs.Reports.{ToldSo}
 use Rattle.rt_moves.proofs.Joins.{stays, logs_join}
 use Rattle.rt_moves.proofs.Reports.{reports_go_on}
 use Rattle.rt_moves.proofs.Settling.{settled_stays}
@@ -28,7 +26,7 @@ use Rattle.rt_moves.proofs.Beginnings.{build_logged, rerun_logged, poll_logged, 
 use Rattle.rt_fresh.specs.Due.{DueIsAny}
 use Rattle.rt_turns.specs.Turn.{entry_for, begun_at, unit_of}
 use Rattle.rt_turns.specs.Underway.{Rests, Works, Refused}
-use Rattle.rt_turns.proofs.Underway.{reached_by, told_as}
+use Rattle.rt_turns.proofs.Underway.{reached_by}
 
 -- the test for one unit too many, at rest
 abbrev too_many : ℕ → Bool → Bool → Bool → Option Fault

@@ -2,7 +2,7 @@
 use Rattle.std.proofs.Common.{ℕ, Bool, true, false, List, [], ◌∷◌, ◌++◌, ◌≡◌, refl, sym, ap, ◌∙◌, subst, nat_eq, append_assoc}
 use Rattle.std.proofs.lemmas.List.{append-nil}
 use Rattle.std.specs.Prelude.{Option, Some, None, if◌then◌else◌}
-use Rattle.rt_model.specs.Tree.{Types, Place, VComponent}
+use Rattle.rt_model.specs.Tree.{Types}
 use Rattle.rt_model.specs.World.{Application}
 use Rattle.rt_model.specs.Laws.{IsLawful}
 use Rattle.rt_model.specs.State.{SideName, Fault, State, Item, Draw, Row, Feed, Make, Drop, Outcome, Done, Cut, is_live}

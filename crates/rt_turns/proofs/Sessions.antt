@@ -1,5 +1,5 @@
 -- One report after another, and what a session comes to.
-use Rattle.std.proofs.Common.{ℕ, ◌+◌, Bool, true, false, ◌&&◌, not, List, [], ◌∷◌, ◌++◌, ◌≡◌, refl, sym, ap, ◌∙◌, subst, append_assoc}
+use Rattle.std.proofs.Common.{◌+◌, true, ◌&&◌, not, List, [], ◌∷◌, ◌++◌, ◌≡◌, refl, sym, ap, ◌∙◌, append_assoc}
 use Rattle.std.proofs.lemmas.List.{append-nil}
 use Rattle.std.specs.Prelude.{Option, Some, None, is_some}
 use Rattle.std.specs.List.{AllByRecursion}
@@ -9,16 +9,15 @@ use Rattle.rt_model.specs.World.{Application}
 use Rattle.rt_model.specs.State.{Fault}
 use Rattle.rt_model.specs.Next.{Work, next, owes}
 use Rattle.rt_model.specs.Heard.{Listener}
-use Rattle.rt_model.specs.Replay.{Entry, Input, Machine, waiting, no_listener, is_quiet, start}
+use Rattle.rt_model.specs.Replay.{Entry, Input, Machine, waiting, no_listener, start}
 use Rattle.rt_model.specs.Document.{Edit}
-use Rattle.rt_model.specs.Causes.{Limits, replay_within, refusal}
+use Rattle.rt_model.specs.Causes.{Limits, replay_within}
 use Rattle.rt_model.specs.Told.{Told, Telling, is_settled, edits_of, telling, told_by, tell_log, tell_report, tell_on, one_more, tell_reports}
 use Rattle.rt_model.specs.Reports.{Report, logs_of, OneEach, OneEachThen, Counts, AllCount}
-use Rattle.rt_model.specs.Headline.{TookOf, last_machine}
+use Rattle.rt_model.specs.Headline.{last_machine}
 use Rattle.rt_model.specs.Ran.{Ran, RanTo}
 use Rattle.rt_moves.proofs.Ways.{start_reached as way_start}
 use Rattle.rt_moves.specs.Moves.{AtRest}
-use Rattle.rt_moves.specs.Reports.{ToldSo}
 use Rattle.rt_moves.proofs.Joins.{logs_join}
 use Rattle.rt_turns.specs.Underway.{Rests, Refused}
 use Rattle.rt_turns.specs.Sessions.{Sofar}

@@ -1,21 +1,21 @@
 -- A report goes on, within a unit and to its end, or to a refusal.
 use Rattle.std.proofs.Common.{true, false, List, [], ◌∷◌, ◌++◌, ◌≡◌, refl, sym, ap, ◌∙◌, subst, append_assoc}
-use Rattle.std.specs.Prelude.{Option, Some, None}
+use Rattle.std.specs.Prelude.{Some}
 use Rattle.rt_model.specs.Tree.{Types}
 use Rattle.rt_model.specs.World.{Application}
 use Rattle.rt_model.specs.State.{Fault, State, Item}
-use Rattle.rt_model.specs.Replay.{Entry, Input, Machine, mounted_state, start}
+use Rattle.rt_model.specs.Replay.{Entry, Input, Machine, mounted_state}
 use Rattle.rt_model.specs.Document.{Edit}
 use Rattle.rt_model.specs.Caused.{caused, caused_until}
-use Rattle.rt_model.specs.Causes.{Limits, refusal, edits_at_refusal}
-use Rattle.rt_model.specs.Told.{Telling, opens}
+use Rattle.rt_model.specs.Causes.{Limits, refusal}
+use Rattle.rt_model.specs.Told.{Telling}
 use Rattle.rt_moves.proofs.Ways.{reached_moved}
-use Rattle.rt_moves.specs.Moves.{Move, Silent, Closed, Logged, entries, Inside, busy, IsSettled, AtWork, AtRest, IsClosed, IsLogged, Moves, Leads}
+use Rattle.rt_moves.specs.Moves.{Move, Closed, entries, Inside, busy, IsSettled, AtWork, IsClosed, Leads}
 use Rattle.rt_moves.specs.Words.{Goes}
 use Rattle.rt_moves.specs.Reached.{Reached}
 use Rattle.rt_moves.specs.Units.{ended_unit, with_unit, refused_item, unit_told}
 use Rattle.rt_moves.specs.Reports.{ToldSo}
-use Rattle.rt_moves.proofs.Joins.{Leads-append, still_at_work, goes_on}
+use Rattle.rt_moves.proofs.Joins.{still_at_work, goes_on}
 use Rattle.rt_moves.proofs.Reports.{reports_go_on}
 use Rattle.rt_moves.proofs.Tellings.{told_machine}
 use Rattle.rt_turns.specs.Underway.{Rests, Works, Refused}

@@ -4,7 +4,7 @@ use Rattle.rt_model.specs.Tree.{Types}
 use Rattle.rt_model.specs.World.{Application}
 use Rattle.rt_model.specs.State.{Fault}
 use Rattle.rt_model.specs.Next.{next}
-use Rattle.rt_model.specs.Replay.{Entry, Input, Machine, waiting, start}
+use Rattle.rt_model.specs.Replay.{Entry, Input, Machine, waiting}
 use Rattle.rt_model.specs.Document.{Edit}
 use Rattle.rt_model.specs.Causes.{Limits}
 use Rattle.rt_model.specs.Told.{is_settled}

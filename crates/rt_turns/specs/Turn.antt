@@ -1,5 +1,5 @@
 -- What a runtime does in one turn, with the entries that it leaves.
-use Rattle.std.specs.Prelude.{ℕ, ◌+◌, Bool, true, false, nat_eq, List, [], ◌∷◌, ◌++◌, Some, ◌≡◌, ◌⊎◌}
+use Rattle.std.specs.Prelude.{◌+◌, Bool, true, false, nat_eq, List, [], ◌∷◌, ◌++◌}
 use Rattle.rt_model.specs.Tree.{Types}
 use Rattle.rt_model.specs.World.{Application}
 use Rattle.rt_model.specs.State.{State, Item, Draw, Row, Feed, Make, Drop, Outcome, Done, Cut}
