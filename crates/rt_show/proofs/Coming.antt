@@ -9,6 +9,7 @@ use Rattle.rt_show.specs.declared.words.Wish.{Wish}
 use Rattle.rt_show.specs.declared.words.Wish.TheVariants.{Make}
 use Rattle.rt_show.specs.declared.reason.Stop.{Stop}
 use Rattle.rt_show.specs.declared.reason.Stop.TheVariants as stops
+use Rattle.rt_streams.specs.Writes.{Puts}
 
 -- something is asked for, for which the source is read
 pub asks : (words : List (List ℕ)) (wish : Wish) → wish_of words ≡ Some wish → reads_source wish ≡ true → AskForSource words
@@ -27,7 +28,7 @@ pub reads_none : (words : List (List ℕ)) (left after : Option (List ℕ)) (sb 
 reads_none words left after sb sa same none = inr (same, none)
 
 -- reading stopped, and nothing was written
-pub comes_reading : (words : List (List ℕ)) (wish : Wish) (left after old new : Option (List ℕ)) (sb sa ob oa : ℕ) (stop : Stop)
+pub comes_reading : (words : List (List ℕ)) (wish : Wish) (left after : Option (List ℕ)) (old new : Puts) (sb sa ob oa : ℕ) (stop : Stop)
     → wish_of words ≡ Some wish → reads_source wish ≡ true → ReadsFor (Lacks wish) left after sb sa stop → new ≡ old
     → Comes words left after old new sb sa ob oa (Err stop)
 unfolding asks
@@ -38,14 +39,14 @@ comes_reading words wish left after old new sb sa ob oa stops.Words asked reads 
 comes_reading words wish left after old new sb sa ob oa stops.Fault asked reads read same = absurd read
 comes_reading words wish left after old new sb sa ob oa stops.Out asked reads read same = absurd read
 
-little : (words : List (List ℕ)) (wish : Wish) (said : Asked) (left after old new : Option (List ℕ)) → wish_of words ≡ Some wish
+little : (words : List (List ℕ)) (wish : Wish) (said : Asked) (left after : Option (List ℕ)) (old new : Puts) → wish_of words ≡ Some wish
     → Chooses wish said left after → ((new ≡ old) ⊎ PrintsFront wish said old new) → (new ≡ old) ⊎ Cut words left after old new
 little words wish said left after old new asked chosen (inl same) = inl same
 little words wish said left after old new asked chosen (inr front) =
     inr (record { wish = wish; asked = asked; said = said; chosen = chosen; prints = front })
 
 -- what was chosen was done, or stopped
-pub comes_printing : (words : List (List ℕ)) (wish : Wish) (said : Asked) (left after old new : Option (List ℕ)) (sb sa ob oa : ℕ)
+pub comes_printing : (words : List (List ℕ)) (wish : Wish) (said : Asked) (left after : Option (List ℕ)) (old new : Puts) (sb sa ob oa : ℕ)
     (result : Result (Unit {0}) Stop)
     → wish_of words ≡ Some wish → Chooses wish said left after → Prints wish said old new ob oa result
     → Comes words left after old new sb sa ob oa result

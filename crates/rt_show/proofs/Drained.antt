@@ -41,7 +41,7 @@ use Rattle.rt_show.specs.Posting.{HasComeOver, HasHeadlineOver, HasPosters, IsPo
 use Rattle.rt_show.specs.Runs.{DescribedBy}
 use Rattle.rt_show.specs.Words.{usual}
 use Rattle.rt_show.proofs.Runs.{holds_of, named}
-use Rattle.rt_vdom.specs.Posted.{TookAll, TookFronts, drains_of, lists_of}
+use Rattle.rt_session.specs.Posted.{TookAll, TookFronts, drains_of, lists_of}
 
 -- how many lists, and how long
 
@@ -217,7 +217,7 @@ pub posted_ended : (said : Source) (posts : List (List Post)) (old new : Option 
     → TookFronts posts usual.drain drains fault
     → (ValidOverCuts (meaning_of said) (props_of said) (lists_of posts) (limits_of usual) → fault_of fault ≡ None)
     → Some text ≡ option_map (λ f. line (fault_text f)) (fault_of fault)
-    → IsPostedFault said (posted_text (map edit_of edits) (map report_of shown) (drains_of seen) ++ text)
+    → IsPostedFault said (posted_text (map edit_of edits) (map report_of shown) (drains_of seen) ++ text ∷ [])
 unfolding IsSafeOver
 posted_ended said posts old new edits reports shown drains seen fault text began tells same kept lists came took completes is =
     let name = named (fault_of fault) text is in
@@ -236,5 +236,5 @@ posted_ended said posts old new edits reports shown drains seen fault text began
           let none : fault_of fault ≡ None =
           completes (subst (λ ls. ValidOverCuts (meaning_of said) (props_of said) ls (limits_of usual)) (sym lists) safe) in
           absurd (cc (sym none ∙ name.1));
-      printed = ap (λ last. posted_text (map edit_of edits) (map report_of shown) (drains_of seen) ++ last) name.2;
+      printed = ap (λ (last : List ℕ). posted_text (map edit_of edits) (map report_of shown) (drains_of seen) ++ last ∷ []) name.2;
     }

@@ -1,5 +1,5 @@
 -- The line that is written is that of the verdict.
-use Rattle.std.proofs.Common.{◌≡◌, ◌∙◌, ℕ, List, Result, Ok, Err, IfOk, map, ap, sym}
+use Rattle.std.proofs.Common.{◌≡◌, ◌∙◌, ℕ, List, [], ◌∷◌, Result, Ok, Err, IfOk, map, ap, sym}
 use Rattle.rt_audit.specs.Judging.{verdict_of}
 use Rattle.rt_audit.specs.declared.verdict.Verdict.{Verdict}
 use Rattle.rt_language.specs.Lines.{line}
@@ -38,5 +38,5 @@ judged_of said log given script props inputs (Ok found) same made is =
 judged_of said log given script props inputs (Err e) same made is = tt
 
 -- its line is what is written
-pub written : (said : Asked) (found : Verdict) (text : List ℕ) → verdict_of found ≡ verdict_on said → text ≡ line (verdict_text (verdict_of found)) → IsVerdictText said text
-written said found text is shown = shown ∙ ap (λ (v : verdicts.Verdict). line (verdict_text v)) is
+pub written : (said : Asked) (found : Verdict) (text : List ℕ) → verdict_of found ≡ verdict_on said → text ≡ line (verdict_text (verdict_of found)) → IsVerdictText said (text ∷ [])
+written said found text is shown = ap (λ (t : List ℕ). t ∷ []) (shown ∙ ap (λ (v : verdicts.Verdict). line (verdict_text v)) is)

@@ -3,7 +3,7 @@ use Rattle.std.proofs.Common.{◌≡◌, ◌≢◌, ◌⊎◌, ◌≤◌, ℕ, B
 use Rattle.rt_language.specs.Syntax.{Source}
 use Rattle.rt_sources.specs.Describes.{Describes}
 use Rattle.rt_sources.specs.declared.reading.TheConstants.{SOURCE_LIMIT}
-use Rattle.rt_streams.specs.Writes.{Writes}
+use Rattle.rt_streams.specs.Writes.{Writes, Puts}
 use Rattle.rt_streams.specs.declared.out.OutError.{OutError}
 use Rattle.rt_streams.specs.declared.out.OutError.TheVariants as errors
 use Rattle.rt_show.specs.Outs.{stop_of}
@@ -14,14 +14,14 @@ use Rattle.rt_show.specs.declared.reason.Stop.{Stop}
 use Rattle.rt_show.specs.declared.reason.Stop.TheVariants as stops
 
 -- a text that was not written whole stops the program where the out says
-pub cut_text : (said : Source) (text : List ℕ) (old new : Option (List ℕ)) (before now : ℕ) (error : OutError)
+pub cut_text : (said : Source) (text : List (List ℕ)) (old new : Puts) (before now : ℕ) (error : OutError)
     → IsPostedText said text ⊎ IsPostedFault said text → Writes text old new before now (Err error)
     → PostsAs said old new before now (Err (stop_of error))
 cut_text said text old new before now errors.Failed run put = (put.cause refl, record { text = text; run = run; front = put.front })
 cut_text said text old new before now errors.OutOfMemory run put = inr (record { text = text; run = run; front = put.front })
 
 -- reading stopped, and nothing was written
-pub posts_reading : (left after old new : Option (List ℕ)) (sb sa ob oa : ℕ) (stop : Stop) → Reads left after sb sa stop → new ≡ old
+pub posts_reading : (left after : Option (List ℕ)) (old new : Puts) (sb sa ob oa : ℕ) (stop : Stop) → Reads left after sb sa stop → new ≡ old
     → Posts left after old new sb sa ob oa (Err stop)
 posts_reading left after old new sb sa ob oa stops.Form read same = (inl read, same)
 posts_reading left after old new sb sa ob oa stops.Source read same = (read.0, read.1, same)
@@ -31,12 +31,12 @@ posts_reading left after old new sb sa ob oa stops.Fault read same = absurd read
 posts_reading left after old new sb sa ob oa stops.Out read same = absurd read
 
 -- the source that was read has no list of posts
-pub posts_none : (said : Source) (left after old new : Option (List ℕ)) (sb sa ob oa : ℕ)
+pub posts_none : (said : Source) (left after : Option (List ℕ)) (old new : Puts) (sb sa ob oa : ℕ)
     → DescribedBy said left after → said.posts ≡ [] → new ≡ old → Posts left after old new sb sa ob oa (Err stops.Form)
 posts_none said left after old new sb sa ob oa is none same = (inr (record { said = said; described = is; none = none }), same)
 
 -- the source that was read was run
-pub posts_running : (said : Source) (left after old new : Option (List ℕ)) (sb sa ob oa : ℕ) (result : Result (Unit {0}) Stop)
+pub posts_running : (said : Source) (left after : Option (List ℕ)) (old new : Puts) (sb sa ob oa : ℕ) (result : Result (Unit {0}) Stop)
     → DescribedBy said left after → HasPosters said → PostsAs said old new ob oa result → Posts left after old new sb sa ob oa result
 posts_running said left after old new sb sa ob oa (Ok u) is has run = record { said = said; described = is; posters = has; run = run }
 posts_running said left after old new sb sa ob oa (Err stops.Fault) is has run = record { said = said; described = is; posters = has; run = run }
@@ -58,7 +58,7 @@ none_long : (said : Source) → HasPosters said → said.posts ≡ [] → ⊥
 none_long said has none = let long = subst (λ (ps : List _). 1 ≤ length ps) none has.some in absurd (omega (arith, long))
 
 -- a source that describes none with a list of posts wasn't run
-not_run : (left after old new : Option (List ℕ)) (before now : ℕ) (result : Result (Unit {0}) Stop) (bytes : List ℕ)
+not_run : (left after : Option (List ℕ)) (old new : Puts) (before now : ℕ) (result : Result (Unit {0}) Stop) (bytes : List ℕ)
     → left ≡ Some bytes → ((said : Source) → Describes bytes said → said.posts ≡ []) → Ran left after old new before now result → ⊥
 not_run left after old new before now result bytes told none ran =
     none_long ran.said ran.posters (none ran.said (same_bytes ran.said bytes left after told ran.described))
@@ -77,11 +77,11 @@ not_refused (Some all) after safe (inr empty) =
     safe.some empty.said (same_bytes empty.said safe.bytes (Some all) after safe.told empty.described) empty.none
 
 -- and comes to no fault
-not_faulted : (left after old new : Option (List ℕ)) (before now : ℕ) → SafePosts left → Ran left after old new before now (Err stops.Fault) → ⊥
+not_faulted : (left after : Option (List ℕ)) (old new : Puts) (before now : ℕ) → SafePosts left → Ran left after old new before now (Err stops.Fault) → ⊥
 not_faulted left after old new before now safe ran =
     ran.run.run.unsafe (safe.safe ran.said (same_bytes ran.said safe.bytes left after safe.told ran.described))
 
-refuses_case : (left after old new : Option (List ℕ)) (sb sa ob oa : ℕ) (end : Result (Unit {0}) Stop) (bytes : List ℕ)
+refuses_case : (left after : Option (List ℕ)) (old new : Puts) (sb sa ob oa : ℕ) (end : Result (Unit {0}) Stop) (bytes : List ℕ)
     → Posts left after old new sb sa ob oa end → left ≡ Some bytes → ((said : Source) → Describes bytes said → said.posts ≡ [])
     → (status_of end ≡ 3) ⊎ ((status_of end ≡ 5) ⊎ (status_of end ≡ 7))
 refuses_case left after old new sb sa ob oa (Ok u) bytes posts told none = absurd (not_run left after old new ob oa (Ok u) bytes told none posts)
@@ -94,7 +94,7 @@ refuses_case left after old new sb sa ob oa (Err stops.Form) bytes posts told no
 refuses_case left after old new sb sa ob oa (Err stops.Source) bytes posts told none = inr (inl refl)
 refuses_case left after old new sb sa ob oa (Err stops.Words) bytes posts told none = absurd posts
 
-completes_case : (left after old new : Option (List ℕ)) (sb sa ob oa : ℕ) (end : Result (Unit {0}) Stop)
+completes_case : (left after : Option (List ℕ)) (old new : Puts) (sb sa ob oa : ℕ) (end : Result (Unit {0}) Stop)
     → Posts left after old new sb sa ob oa end → SafePosts left → sa ≤ sb → oa ≤ ob → (status_of end ≡ 0) ⊎ (status_of end ≡ 7)
 completes_case left after old new sb sa ob oa (Ok u) posts safe reads puts = inl refl
 completes_case left after old new sb sa ob oa (Err stops.Fault) posts safe reads puts = absurd (not_faulted left after old new ob oa safe posts)
@@ -105,14 +105,14 @@ completes_case left after old new sb sa ob oa (Err stops.Source) posts safe read
 completes_case left after old new sb sa ob oa (Err stops.Words) posts safe reads puts = absurd posts
 
 -- where the words ask for posters the program doesn't end for its words
-not_words : (b : Bool) (left after old new : Option (List ℕ)) (sb sa ob oa : ℕ) (end : Result (Unit {0}) Stop)
+not_words : (b : Bool) (left after : Option (List ℕ)) (old new : Puts) (sb sa ob oa : ℕ) (end : Result (Unit {0}) Stop)
     → (b ≡ true → Posts left after old new sb sa ob oa end) → end ≡ Err stops.Words → b ≡ false
 not_words false left after old new sb sa ob oa end posts is = refl
 not_words true left after old new sb sa ob oa end posts is =
     absurd (subst (λ (e : Result (Unit {0}) Stop). Posts left after old new sb sa ob oa e) is (posts refl))
 
 -- a status is that of where the program stops
-pub shows_posted : (words : List (List ℕ)) (left after old new : Option (List ℕ)) (sb sa ob oa status : ℕ) (end : Result (Unit {0}) Stop)
+pub shows_posted : (words : List (List ℕ)) (left after : Option (List ℕ)) (old new : Puts) (sb sa ob oa status : ℕ) (end : Result (Unit {0}) Stop)
     → status ≡ status_of end
     → (asks_for_posters words ≡ false → (end ≡ Err stops.Words) × (new ≡ old) × (after ≡ left) × (sa ≡ sb))
     → (asks_for_posters words ≡ true → Posts left after old new sb sa ob oa end)

@@ -2,20 +2,24 @@
 use Rattle.std.proofs.Common.{◌≡◌, ℕ, ◌+◌, ◌<◌, ◌≤◌, suc, List, [], ◌∷◌, ◌++◌, length, take, drop, get_or, Option, Some, None, Result, Ok, Err, refl, ap, sym, ◌∙◌, append_assoc, append-nil, subst, take-append-drop, zero, zero-add, add-zero, arith}
 use Rattle.std.proofs.lemmas.List.{take_all}
 use Rattle.std.proofs.Math.Seq.{take-suc}
-use Rattle.rt_show.specs.Texts.{line_of, lines_of, report_line_of, report_lines_from}
+use Rattle.rt_show.specs.Texts.{line_of, lines_of, report_line_of, report_lines_from, run_lines}
+use Rattle.rt_language.specs.Lines as language
+use Rattle.rt_language.specs.Lines.{edit_lines, report_lines}
+use Rattle.rt_model.specs.Document as documents
 use Rattle.rt_model.specs.Lists.{joined}
+use Rattle.rt_model.specs.Reports as sessions
 use Rattle.rt_reports.specs.declared.report.Report.{Report}
 use Rattle.rt_edits.specs.declared.edit.Edit.{Edit}
-use Rattle.rt_streams.specs.Writes.{grown, Writes}
+use Rattle.rt_streams.specs.Writes.{grown, Writes, Puts}
 use Rattle.rt_streams.specs.declared.out.OutError.{OutError}
 
 -- what is written twice is written at once
-grown_twice : (old : Option (List ℕ)) (xs ys : List ℕ) → grown (grown old xs) ys ≡ grown old (xs ++ ys)
+grown_twice : (old : Puts) (xs ys : List (List ℕ)) → grown (grown old xs) ys ≡ grown old (xs ++ ys)
 grown_twice None xs ys = refl
 grown_twice (Some es) xs ys = ap Some (append_assoc es xs ys)
 
 -- one text and then another
-pub writes_both : (a b : List ℕ) (old mid new : Option (List ℕ)) (before between after : ℕ) (result : Result (Unit {0}) OutError) →
+pub writes_both : (a b : List (List ℕ)) (old mid new : Puts) (before between after : ℕ) (result : Result (Unit {0}) OutError) →
     Writes a old mid before between (Ok tt) → Writes b mid new between after result → Writes (a ++ b) old new before after result
 writes_both a b old mid new before between after (Ok u) first second = record {
   ok = second.ok ∙ ap (λ o. grown o b) first.ok ∙ grown_twice old a b;
@@ -41,7 +45,7 @@ writes_both a b old mid new before between after (Err error) first second = reco
 }
 
 -- where the first text ends in an error, the second isn't begun
-pub writes_first : (a b : List ℕ) (old new : Option (List ℕ)) (before after : ℕ) (error : OutError) →
+pub writes_first : (a b : List (List ℕ)) (old new : Puts) (before after : ℕ) (error : OutError) →
     Writes a old new before after (Err error) → Writes (a ++ b) old new before after (Err error)
 writes_first a b old new before after error first = record {
   ok = tt;
@@ -55,46 +59,91 @@ writes_first a b old new before after error first = record {
   cause = first.cause;
 }
 
-pub joined_append : (xs ys : List (List ℕ)) → joined (xs ++ ys) ≡ joined xs ++ joined ys
+joined_append : {A : Type 0} (xs ys : List (List A)) → joined (xs ++ ys) ≡ joined xs ++ joined ys
 joined_append [] ys = refl
 joined_append (x ∷ xs) ys = ap (λ text. x ++ text) (joined_append xs ys) ∙ sym (append_assoc x (joined xs) (joined ys))
 
+-- what is put of a run, one line behind the other, is its text
+pub run_text : (edits : List documents.Edit) (reports : List sessions.Report) → joined (run_lines edits reports) ≡ language.text_of edits reports
+run_text edits reports = joined_append (edit_lines edits) (report_lines 0 reports)
+
+-- and with one line more
+pub ended_text : (edits : List documents.Edit) (reports : List sessions.Report) (last : List ℕ)
+    → joined (run_lines edits reports ++ last ∷ []) ≡ language.text_of edits reports ++ last
+ended_text edits reports last =
+    joined_append (run_lines edits reports) (last ∷ []) ∙ ap (λ (text : List ℕ). text ++ joined (last ∷ [])) (run_text edits reports)
+    ∙ ap (λ (text : List ℕ). language.text_of edits reports ++ text) (append-nil last)
+
 -- one more line of some
-joined_take : (lines : List (List ℕ)) (at : ℕ) (line : List ℕ) → at < length lines → line ≡ get_or lines at line →
-    joined (take (at + 1) lines) ≡ joined (take at lines) ++ line
-joined_take lines at line within is =
+line_take : (lines : List (List ℕ)) (at : ℕ) (line : List ℕ) → at < length lines → line ≡ get_or lines at line →
+    take (at + 1) lines ≡ take at lines ++ line ∷ []
+line_take lines at line within is =
     let one : at + 1 ≡ suc at = omega arith in
-    ap (λ count. joined (take count lines)) one ∙ ap joined (take-suc lines at line within)
-    ∙ joined_append (take at lines) (get_or lines at line ∷ [])
-    ∙ ap (λ text. joined (take at lines) ++ text) (append-nil (get_or lines at line) ∙ sym is)
+    ap (λ count. take count lines) one ∙ take-suc lines at line within ∙ ap (λ (l : List ℕ). take at lines ++ l ∷ []) (sym is)
 
 -- the lines before one, it, and the lines after it
-joined_cut : (lines : List (List ℕ)) (at : ℕ) (line : List ℕ) → at < length lines → line ≡ get_or lines at line →
-    joined lines ≡ (joined (take at lines) ++ line) ++ joined (drop (at + 1) lines)
-joined_cut lines at line within is =
-    ap joined (sym (take-append-drop (at + 1) lines)) ∙ joined_append (take (at + 1) lines) (drop (at + 1) lines)
-    ∙ ap (λ text. text ++ joined (drop (at + 1) lines)) (joined_take lines at line within is)
+line_cut : (lines : List (List ℕ)) (at : ℕ) (line : List ℕ) → at < length lines → line ≡ get_or lines at line →
+    lines ≡ (take at lines ++ line ∷ []) ++ drop (at + 1) lines
+line_cut lines at line within is =
+    sym (take-append-drop (at + 1) lines) ∙ ap (λ text. text ++ drop (at + 1) lines) (line_take lines at line within is)
 
 -- one more line was put
-pub line_put : (lines : List (List ℕ)) (at : ℕ) (line : List ℕ) (old mid new : Option (List ℕ)) (before between after : ℕ) → at < length lines → line ≡ get_or lines at line →
-    Writes (joined (take at lines)) old mid before between (Ok tt) → Writes line mid new between after (Ok tt) → Writes (joined (take (at + 1) lines)) old new before after (Ok tt)
+pub line_put : (lines : List (List ℕ)) (at : ℕ) (line : List ℕ) (old mid new : Puts) (before between after : ℕ) → at < length lines → line ≡ get_or lines at line →
+    Writes (take at lines) old mid before between (Ok tt) → Writes (line ∷ []) mid new between after (Ok tt) → Writes (take (at + 1) lines) old new before after (Ok tt)
 line_put lines at line old mid new before between after within is first second =
-    subst (λ (text : List ℕ). Writes text old new before after (Ok tt)) (sym (joined_take lines at line within is))
-    (writes_both (joined (take at lines)) line old mid new before between after (Ok tt) first second)
+    subst (λ (text : List (List ℕ)). Writes text old new before after (Ok tt)) (sym (line_take lines at line within is))
+    (writes_both (take at lines) (line ∷ []) old mid new before between after (Ok tt) first second)
 
 -- one more line was not put, and then none
-pub line_failed : (lines : List (List ℕ)) (at : ℕ) (line : List ℕ) (old mid new : Option (List ℕ)) (before between after : ℕ) (error : OutError) → at < length lines → line ≡ get_or lines at line →
-    Writes (joined (take at lines)) old mid before between (Ok tt) → Writes line mid new between after (Err error) → Writes (joined lines) old new before after (Err error)
+pub line_failed : (lines : List (List ℕ)) (at : ℕ) (line : List ℕ) (old mid new : Puts) (before between after : ℕ) (error : OutError) → at < length lines → line ≡ get_or lines at line →
+    Writes (take at lines) old mid before between (Ok tt) → Writes (line ∷ []) mid new between after (Err error) → Writes lines old new before after (Err error)
 line_failed lines at line old mid new before between after error within is first second =
-    subst (λ (text : List ℕ). Writes text old new before after (Err error)) (sym (joined_cut lines at line within is))
-    (writes_first (joined (take at lines) ++ line) (joined (drop (at + 1) lines)) old new before after error
-    (writes_both (joined (take at lines)) line old mid new before between after (Err error) first second))
+    subst (λ (text : List (List ℕ)). Writes text old new before after (Err error)) (sym (line_cut lines at line within is))
+    (writes_first (take at lines ++ line ∷ []) (drop (at + 1) lines) old new before after error
+    (writes_both (take at lines) (line ∷ []) old mid new before between after (Err error) first second))
 
 -- all lines were put
-pub lines_put : (lines : List (List ℕ)) (at : ℕ) (old new : Option (List ℕ)) (before after : ℕ) → length lines ≤ at →
-    Writes (joined (take at lines)) old new before after (Ok tt) → Writes (joined lines) old new before after (Ok tt)
+pub lines_put : (lines : List (List ℕ)) (at : ℕ) (old new : Puts) (before after : ℕ) → length lines ≤ at →
+    Writes (take at lines) old new before after (Ok tt) → Writes lines old new before after (Ok tt)
 lines_put lines at old new before after all put =
-    subst (λ (text : List ℕ). Writes text old new before after (Ok tt)) (ap joined (take_all at lines all)) put
+    subst (λ (text : List (List ℕ)). Writes text old new before after (Ok tt)) (take_all at lines all) put
+
+-- the same of parts of some lines each
+
+joined_take : (parts : List (List (List ℕ))) (at : ℕ) (part : List (List ℕ)) → at < length parts → part ≡ get_or parts at part →
+    joined (take (at + 1) parts) ≡ joined (take at parts) ++ part
+joined_take parts at part within is =
+    let one : at + 1 ≡ suc at = omega arith in
+    ap (λ count. joined (take count parts)) one ∙ ap joined (take-suc parts at part within)
+    ∙ joined_append (take at parts) (get_or parts at part ∷ [])
+    ∙ ap (λ text. joined (take at parts) ++ text) (append-nil (get_or parts at part) ∙ sym is)
+
+joined_cut : (parts : List (List (List ℕ))) (at : ℕ) (part : List (List ℕ)) → at < length parts → part ≡ get_or parts at part →
+    joined parts ≡ (joined (take at parts) ++ part) ++ joined (drop (at + 1) parts)
+joined_cut parts at part within is =
+    ap joined (sym (take-append-drop (at + 1) parts)) ∙ joined_append (take (at + 1) parts) (drop (at + 1) parts)
+    ∙ ap (λ text. text ++ joined (drop (at + 1) parts)) (joined_take parts at part within is)
+
+-- one more part was put
+pub part_put : (parts : List (List (List ℕ))) (at : ℕ) (part : List (List ℕ)) (old mid new : Puts) (before between after : ℕ) → at < length parts → part ≡ get_or parts at part →
+    Writes (joined (take at parts)) old mid before between (Ok tt) → Writes part mid new between after (Ok tt) → Writes (joined (take (at + 1) parts)) old new before after (Ok tt)
+part_put parts at part old mid new before between after within is first second =
+    subst (λ (text : List (List ℕ)). Writes text old new before after (Ok tt)) (sym (joined_take parts at part within is))
+    (writes_both (joined (take at parts)) part old mid new before between after (Ok tt) first second)
+
+-- one more part was not put whole, and then none
+pub part_failed : (parts : List (List (List ℕ))) (at : ℕ) (part : List (List ℕ)) (old mid new : Puts) (before between after : ℕ) (error : OutError) → at < length parts → part ≡ get_or parts at part →
+    Writes (joined (take at parts)) old mid before between (Ok tt) → Writes part mid new between after (Err error) → Writes (joined parts) old new before after (Err error)
+part_failed parts at part old mid new before between after error within is first second =
+    subst (λ (text : List (List ℕ)). Writes text old new before after (Err error)) (sym (joined_cut parts at part within is))
+    (writes_first (joined (take at parts) ++ part) (joined (drop (at + 1) parts)) old new before after error
+    (writes_both (joined (take at parts)) part old mid new before between after (Err error) first second))
+
+-- all parts were put
+pub parts_put : (parts : List (List (List ℕ))) (at : ℕ) (old new : Puts) (before after : ℕ) → length parts ≤ at →
+    Writes (joined (take at parts)) old new before after (Ok tt) → Writes (joined parts) old new before after (Ok tt)
+parts_put parts at old new before after all put =
+    subst (λ (text : List (List ℕ)). Writes text old new before after (Ok tt)) (ap joined (take_all at parts all)) put
 
 edits_length : (edits : List Edit) → length (lines_of edits) ≡ length edits
 edits_length [] = refl
@@ -106,20 +155,20 @@ line_at [] at edit within is = absurd (omega arith)
 line_at (first ∷ edits) zero edit within is = ap line_of is
 line_at (first ∷ edits) (suc at) edit within is = line_at edits at edit (omega arith) is
 
-pub edit_put : (edits : List Edit) (at : ℕ) (edit : Edit) (old mid new : Option (List ℕ)) (before between after : ℕ) → at < length edits → edit ≡ get_or edits at edit →
-    Writes (joined (take at (lines_of edits))) old mid before between (Ok tt) → Writes (line_of edit) mid new between after (Ok tt) →
-    Writes (joined (take (at + 1) (lines_of edits))) old new before after (Ok tt)
+pub edit_put : (edits : List Edit) (at : ℕ) (edit : Edit) (old mid new : Puts) (before between after : ℕ) → at < length edits → edit ≡ get_or edits at edit →
+    Writes (take at (lines_of edits)) old mid before between (Ok tt) → Writes (line_of edit ∷ []) mid new between after (Ok tt) →
+    Writes (take (at + 1) (lines_of edits)) old new before after (Ok tt)
 edit_put edits at edit old mid new before between after within is first second =
     line_put (lines_of edits) at (line_of edit) old mid new before between after (rw (edits_length edits) within) (line_at edits at edit within is) first second
 
-pub edit_failed : (edits : List Edit) (at : ℕ) (edit : Edit) (old mid new : Option (List ℕ)) (before between after : ℕ) (error : OutError) → at < length edits → edit ≡ get_or edits at edit →
-    Writes (joined (take at (lines_of edits))) old mid before between (Ok tt) → Writes (line_of edit) mid new between after (Err error) →
-    Writes (joined (lines_of edits)) old new before after (Err error)
+pub edit_failed : (edits : List Edit) (at : ℕ) (edit : Edit) (old mid new : Puts) (before between after : ℕ) (error : OutError) → at < length edits → edit ≡ get_or edits at edit →
+    Writes (take at (lines_of edits)) old mid before between (Ok tt) → Writes (line_of edit ∷ []) mid new between after (Err error) →
+    Writes (lines_of edits) old new before after (Err error)
 edit_failed edits at edit old mid new before between after error within is first second =
     line_failed (lines_of edits) at (line_of edit) old mid new before between after error (rw (edits_length edits) within) (line_at edits at edit within is) first second
 
-pub edits_put : (edits : List Edit) (at : ℕ) (old new : Option (List ℕ)) (before after : ℕ) → length edits ≤ at →
-    Writes (joined (take at (lines_of edits))) old new before after (Ok tt) → Writes (joined (lines_of edits)) old new before after (Ok tt)
+pub edits_put : (edits : List Edit) (at : ℕ) (old new : Puts) (before after : ℕ) → length edits ≤ at →
+    Writes (take at (lines_of edits)) old new before after (Ok tt) → Writes (lines_of edits) old new before after (Ok tt)
 edits_put edits at old new before after all put = lines_put (lines_of edits) at old new before after (rw (edits_length edits) all) put
 
 reports_length : (number : ℕ) (reports : List Report) → length (report_lines_from number reports) ≡ length reports
@@ -140,18 +189,18 @@ report_from : (reports : List Report) (at : ℕ) (report : Report) → at < leng
     report_line_of at report ≡ get_or (report_lines_from 0 reports) at (report_line_of at report)
 report_from reports at report within is = rw (zero-add at) at (report_at 0 reports at report within is)
 
-pub report_put : (reports : List Report) (at : ℕ) (report : Report) (old mid new : Option (List ℕ)) (before between after : ℕ) → at < length reports → report ≡ get_or reports at report →
-    Writes (joined (take at (report_lines_from 0 reports))) old mid before between (Ok tt) → Writes (report_line_of at report) mid new between after (Ok tt) →
-    Writes (joined (take (at + 1) (report_lines_from 0 reports))) old new before after (Ok tt)
+pub report_put : (reports : List Report) (at : ℕ) (report : Report) (old mid new : Puts) (before between after : ℕ) → at < length reports → report ≡ get_or reports at report →
+    Writes (take at (report_lines_from 0 reports)) old mid before between (Ok tt) → Writes (report_line_of at report ∷ []) mid new between after (Ok tt) →
+    Writes (take (at + 1) (report_lines_from 0 reports)) old new before after (Ok tt)
 report_put reports at report old mid new before between after within is first second =
     line_put (report_lines_from 0 reports) at (report_line_of at report) old mid new before between after (rw (reports_length 0 reports) within) (report_from reports at report within is) first second
 
-pub report_failed : (reports : List Report) (at : ℕ) (report : Report) (old mid new : Option (List ℕ)) (before between after : ℕ) (error : OutError) → at < length reports → report ≡ get_or reports at report →
-    Writes (joined (take at (report_lines_from 0 reports))) old mid before between (Ok tt) → Writes (report_line_of at report) mid new between after (Err error) →
-    Writes (joined (report_lines_from 0 reports)) old new before after (Err error)
+pub report_failed : (reports : List Report) (at : ℕ) (report : Report) (old mid new : Puts) (before between after : ℕ) (error : OutError) → at < length reports → report ≡ get_or reports at report →
+    Writes (take at (report_lines_from 0 reports)) old mid before between (Ok tt) → Writes (report_line_of at report ∷ []) mid new between after (Err error) →
+    Writes (report_lines_from 0 reports) old new before after (Err error)
 report_failed reports at report old mid new before between after error within is first second =
     line_failed (report_lines_from 0 reports) at (report_line_of at report) old mid new before between after error (rw (reports_length 0 reports) within) (report_from reports at report within is) first second
 
-pub reports_put : (reports : List Report) (at : ℕ) (old new : Option (List ℕ)) (before after : ℕ) → length reports ≤ at →
-    Writes (joined (take at (report_lines_from 0 reports))) old new before after (Ok tt) → Writes (joined (report_lines_from 0 reports)) old new before after (Ok tt)
+pub reports_put : (reports : List Report) (at : ℕ) (old new : Puts) (before after : ℕ) → length reports ≤ at →
+    Writes (take at (report_lines_from 0 reports)) old new before after (Ok tt) → Writes (report_lines_from 0 reports) old new before after (Ok tt)
 reports_put reports at old new before after all put = lines_put (report_lines_from 0 reports) at old new before after (rw (reports_length 0 reports) all) put

@@ -1,5 +1,5 @@
 -- The texts of runs, by what a session tells of its reports and of the edits that its sink took.
-use Rattle.std.proofs.Common.{◌≡◌, ◌∙◌, ℕ, List, [], ◌++◌, Option, Some, None, Err, map, refl, ap, sym, subst, inl, inr}
+use Rattle.std.proofs.Common.{◌≡◌, ◌∙◌, ℕ, List, [], ◌∷◌, ◌++◌, Option, Some, None, Err, map, refl, ap, sym, subst, inl, inr}
 use Rattle.std.specs.Prelude.{option_map}
 use Rattle.rt_edits.specs.Sinks as sinks
 use Rattle.rt_edits.specs.declared.edit.Edit.{Edit}
@@ -21,7 +21,7 @@ use Rattle.rt_reports.specs.Seen.{fault_of, limits_of, report_of}
 use Rattle.rt_reports.specs.declared.report.Report.{Report}
 use Rattle.rt_reports.specs.declared.fault.SessionFault.{SessionFault}
 use Rattle.rt_reports.specs.declared.limits.Limits.{Limits}
-use Rattle.rt_streams.specs.Writes.{Writes}
+use Rattle.rt_streams.specs.Writes.{Writes, Puts}
 use Rattle.rt_streams.specs.declared.out.OutError.{OutError}
 use Rattle.rt_streams.specs.declared.out.OutError.TheVariants as errors
 use Rattle.rt_script.specs.Applications.{meaning_of_script, props_of_script}
@@ -32,16 +32,16 @@ use Rattle.rt_show.specs.Asked.{Asked}
 use Rattle.rt_show.specs.Outs.{stop_of}
 use Rattle.rt_show.specs.Ready.{IsMeant, MadeOf}
 use Rattle.rt_show.specs.Words.{usual}
-use Rattle.rt_show.specs.Texts.{text_of}
+use Rattle.rt_show.specs.Texts.{run_lines_of}
 use Rattle.rt_show.specs.Runs.{HasHeadline, HasCome, IsRunText, IsFaultText, IsSummary, IsDoneText, IsEndedText, Prints}
 use Rattle.rt_show.specs.declared.words.Wish.{Wish}
 
 -- a text of a run that was not written whole stops the program where the out says
-pub cut_done : (wish : Wish) (said : Asked) (text : List ℕ) (old new : Option (List ℕ)) (before now : ℕ) (error : OutError) → IsDoneText wish said text → Writes text old new before now (Err error) → Prints wish said old new before now (Err (stop_of error))
+pub cut_done : (wish : Wish) (said : Asked) (text : List (List ℕ)) (old new : Puts) (before now : ℕ) (error : OutError) → IsDoneText wish said text → Writes text old new before now (Err error) → Prints wish said old new before now (Err (stop_of error))
 cut_done wish said text old new before now errors.Failed run put = (put.cause refl, record { text = text; run = inl run; front = put.front })
 cut_done wish said text old new before now errors.OutOfMemory run put = inr (record { text = text; run = inl run; front = put.front })
 
-pub cut_ended : (wish : Wish) (said : Asked) (text : List ℕ) (old new : Option (List ℕ)) (before now : ℕ) (error : OutError) → IsEndedText wish said text → Writes text old new before now (Err error) → Prints wish said old new before now (Err (stop_of error))
+pub cut_ended : (wish : Wish) (said : Asked) (text : List (List ℕ)) (old new : Puts) (before now : ℕ) (error : OutError) → IsEndedText wish said text → Writes text old new before now (Err error) → Prints wish said old new before now (Err (stop_of error))
 cut_ended wish said text old new before now errors.Failed run put = (put.cause refl, record { text = text; run = inr run; front = put.front })
 cut_ended wish said text old new before now errors.OutOfMemory run put = inr (record { text = text; run = inr run; front = put.front })
 
@@ -126,16 +126,16 @@ came_to limits said old new edits ended shown fault began tells same came =
 
 -- edits and reports are the text of a run that was done
 pub run_of : (limits : Limits) (said : Source) (edits : List Edit) (shown : List Report)
-    → HasHeadline limits said (Some (map edit_of edits)) (map report_of shown) → IsRunText limits said (text_of edits shown)
+    → HasHeadline limits said (Some (map edit_of edits)) (map report_of shown) → IsRunText limits said (run_lines_of edits shown)
 run_of limits said edits shown held = record { edits = map edit_of edits; reports = map report_of shown; headline = held; printed = refl }
 
 -- a summary is that of reports
 pub summed_up : (rows : ℕ) (source : Source) (reports shown : List Report) (said : List ℕ) → shown ≡ reports
-    → HasHeadline usual source None (map report_of reports) → said ≡ summary_line rows (map report_of shown) → IsSummary rows source said
+    → HasHeadline usual source None (map report_of reports) → said ≡ summary_line rows (map report_of shown) → IsSummary rows source (said ∷ [])
 summed_up rows source reports shown said same held is = record {
   reports = map report_of shown;
   headline = subst (λ (r : List Report). HasHeadline usual source None (map report_of r)) (sym same) held;
-  printed = is;
+  printed = ap (λ (text : List ℕ). text ∷ []) is;
 }
 
 -- a line that is printed of a fault is that of a fault of the model
@@ -148,7 +148,7 @@ pub ended_by : (limits : Limits) (said : Source) (old new : Option (List Edit)) 
     old ≡ Some [] → new ≡ Some edits → shown ≡ ended.reports →
     ((fault : model.Fault) → fault_of ended.fault ≡ Some fault →
     CameAt (meaning_of said) (props_of said) (inputs_of said.inputs) (limits_of limits) old new (map report_of ended.reports) fault) →
-    Some text ≡ option_map (λ f. line (fault_text f)) (fault_of ended.fault) → IsFaultText limits said (text_of edits shown ++ text)
+    Some text ≡ option_map (λ f. line (fault_text f)) (fault_of ended.fault) → IsFaultText limits said (run_lines_of edits shown ++ text ∷ [])
 ended_by limits said old new edits ended shown text began tells same came is =
     let name = named (fault_of ended.fault) text is in
     record {
@@ -156,5 +156,5 @@ ended_by limits said old new edits ended shown text began tells same came is =
       reports = map report_of shown;
       fault = name.0;
       headline = came_to limits said old new edits ended shown name.0 began tells same (came name.0 name.1);
-      printed = ap (λ last. text_of edits shown ++ last) name.2;
+      printed = ap (λ (last : List ℕ). run_lines_of edits shown ++ last ∷ []) name.2;
     }

@@ -25,6 +25,7 @@ use Rattle.rt_show.specs.declared.words.Wish.TheVariants.{Run, Make, Screen, Aud
 use Rattle.rt_show.specs.declared.reason.Stop.{Stop}
 use Rattle.rt_show.specs.declared.reason.Stop.TheVariants as stops
 use Rattle.rt_show.proofs.Viewing.{came_before}
+use Rattle.rt_streams.specs.Writes.{Puts}
 
 -- words that ask for something are known
 known_asked : (words : List (List ℕ)) (wish : Wish) → wish_of words ≡ Some wish → wish_of words ≢ None
@@ -106,7 +107,7 @@ safe_said limits said (Some all) after safe chosen =
     let same : chosen.bytes ≡ safe.bytes = cc (safe.told, (chosen.whole).1) in
     safe.safe said (subst (λ (bytes : List ℕ). Describes bytes said) same chosen.described)
 
-ended_text : (wish : Wish) (said : Asked) (left after : Option (List ℕ)) (text : List ℕ) → CanBeDone wish left → Chooses wish said left after
+ended_text : (wish : Wish) (said : Asked) (left after : Option (List ℕ)) (text : List (List ℕ)) → CanBeDone wish left → Chooses wish said left after
     → IsEndedText wish said text → ⊥
 ended_text (Run limits) said left after text can chosen ended =
     never_came limits said.source ended.edits ended.reports ended.fault (safe_said limits said.source left after can chosen) ended.headline
@@ -116,14 +117,14 @@ ended_text (Screen size) said left after text can chosen ended =
     never_came usual said.source ended.edits ended.reports ended.fault (safe_said usual said.source left after can chosen)
     (came_before usual said.source ended.edits ended.reports ended.fault ended.shown ended.headline)
 
-never_ended : (words : List (List ℕ)) (wish : Wish) (left after old new : Option (List ℕ)) → Ended words left after old new
+never_ended : (words : List (List ℕ)) (wish : Wish) (left after : Option (List ℕ)) (old new : Puts) → Ended words left after old new
     → wish_of words ≡ Some wish → CanBeDone wish left → ⊥
 never_ended words wish left after old new ended asked can =
     let is : wish ≡ ended.wish = cc (sym asked ∙ ended.asked) in
     ended_text ended.wish ended.said left after (ended.prints).text (subst (λ (w : Wish). CanBeDone w left) is can) ended.chosen (ended.prints).run
 
 -- each way to stop has its status
-shows_case : (words : List (List ℕ)) (left after old new : Option (List ℕ)) (sb sa ob oa : ℕ) (result : Result (Unit {0}) Stop)
+shows_case : (words : List (List ℕ)) (left after : Option (List ℕ)) (old new : Puts) (sb sa ob oa : ℕ) (result : Result (Unit {0}) Stop)
     → ReadsAsked words left after sb sa → Comes words left after old new sb sa ob oa result
     → Shows words left after old new sb sa ob oa (status_of result)
 shows_case words left after old new sb sa ob oa (Ok u) read comes = record {
@@ -233,7 +234,7 @@ shows_case words left after old new sb sa ob oa (Err stops.OutOfMemory) read com
 }
 
 -- a status is that of where the program stops
-pub shows : (words : List (List ℕ)) (left after old new : Option (List ℕ)) (sb sa ob oa status : ℕ) (result : Result (Unit {0}) Stop)
+pub shows : (words : List (List ℕ)) (left after : Option (List ℕ)) (old new : Puts) (sb sa ob oa status : ℕ) (result : Result (Unit {0}) Stop)
     → status ≡ status_of result → ReadsAsked words left after sb sa → Comes words left after old new sb sa ob oa result
     → Shows words left after old new sb sa ob oa status
 shows words left after old new sb sa ob oa status result is read comes = rw is (shows_case words left after old new sb sa ob oa result read comes)

@@ -117,7 +117,7 @@ screen_of size said edits shown seen held =
 pub record Ended (size : Size) (said : Source) (edits : List Edit) (reports : List Report) (text : List ℕ) : Type 0 where
   pub seen : List Forest
   pub shows : ShowInTurn edits reports seen
-  pub run : IsEndedScreenText size said (screen_text size seen ++ text)
+  pub run : IsEndedScreenText size said (screen_text size seen ++ text ∷ [])
 
 pub screen_ended : (size : Size) (said : Source) (old new : Option (List Edit)) (edits : List Edit) (ended : SessionFault) (shown : List code.Report) (text : List ℕ)
     → old ≡ Some [] → new ≡ Some edits → shown ≡ ended.reports
@@ -137,6 +137,6 @@ screen_ended size said old new edits ended shown text began tells same came is =
         fault = name.0;
         shown = held.0;
         headline = held.1;
-        printed = ap (λ last. screen_text size held.0 ++ last) name.2;
+        printed = ap (λ (last : List ℕ). screen_text size held.0 ++ last ∷ []) name.2;
       };
     }

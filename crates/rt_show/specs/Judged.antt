@@ -1,5 +1,5 @@
 -- What is printed of a recorded run: the verdict on it.
-use Rattle.std.specs.Prelude.{◌≡◌, ℕ, List, ◌++◌, codes, decimal, Option, Some}
+use Rattle.std.specs.Prelude.{◌≡◌, ℕ, List, [], ◌∷◌, ◌++◌, codes, decimal, Option, Some}
 use Rattle.rt_language.specs.Meaning.{meaning_of, props_of, inputs_of}
 use Rattle.rt_language.specs.Lines.{line}
 use Rattle.rt_language.specs.Syntax.{Source}
@@ -19,8 +19,8 @@ unfoldable pub verdict_on : Asked → Verdict
 verdict_on said = verdict (meaning_of said.source) (props_of said.source) (inputs_of said.source.inputs) said.log
 
 -- a text is the line of the verdict
-abbrev pub IsVerdictText : Asked → List ℕ → Type 0
-IsVerdictText said text = text ≡ line (verdict_text (verdict_on said))
+abbrev pub IsVerdictText : Asked → List (List ℕ) → Type 0
+IsVerdictText said text = text ≡ line (verdict_text (verdict_on said)) ∷ []
 
 -- an input was read to its end, and its bytes describe a recorded run
 pub record RecordedBy (said : Asked) (left after : Option (List ℕ)) : Type 0 where

@@ -4,7 +4,6 @@ use Rattle.rt_edits.specs.declared.doc_node.DocNode.{DocNode}
 use Rattle.rt_edits.specs.declared.edit.Edit as code
 use Rattle.rt_mirror.specs.Mirror.{forest_of}
 use Rattle.rt_documents.specs.Cuts.{LeadsTo}
-use Rattle.rt_model.specs.Lists.{joined}
 use Rattle.rt_model.specs.Tree.{Types}
 use Rattle.rt_model.specs.Document.{Forest, Edit}
 use Rattle.rt_model.specs.State.{Fault}
@@ -17,7 +16,7 @@ use Rattle.rt_language.specs.Meaning.{meaning_of, props_of, inputs_of}
 use Rattle.rt_language.specs.Syntax.{Source}
 use Rattle.rt_reports.specs.Seen.{limits_of}
 use Rattle.rt_reports.specs.declared.limits.Limits.{Limits}
-use Rattle.rt_streams.specs.Writes.{Writes}
+use Rattle.rt_streams.specs.Writes.{Writes, Puts}
 use Rattle.rt_streams.specs.declared.out.OutError.{OutError}
 use Rattle.rt_text.specs.Layout.{fitted, layout}
 use Rattle.rt_text.specs.Printed.{picture}
@@ -34,8 +33,8 @@ pictures width height number rows (shown ∷ later) =
     picture number rows (layout width height shown) ++ pictures width height (number + 1) (layout width height shown) later
 
 -- the text of a screen of a size, empty at first, by what shows after each report
-abbrev pub screen_text : Size → List Forest → List ℕ
-screen_text size shown = joined (pictures size.width size.height 0 (fitted size.height []) shown)
+abbrev pub screen_text : Size → List Forest → List (List ℕ)
+screen_text size shown = pictures size.width size.height 0 (fitted size.height []) shown
 
 module _ {K : Types} where
   -- what shows after each report
@@ -55,7 +54,7 @@ HasViewsBefore limits said edits reports fault shown =
     × (shown ≡ views_of came.told)
 
 -- the text of a run that was done on a screen
-pub record IsScreenText (size : Size) (said : Source) (text : List ℕ) : Type 0 where
+pub record IsScreenText (size : Size) (said : Source) (text : List (List ℕ)) : Type 0 where
   pub edits : List Edit
   pub reports : List Report
   pub shown : List Forest
@@ -64,14 +63,14 @@ pub record IsScreenText (size : Size) (said : Source) (text : List ℕ) : Type 0
   pub printed : text ≡ screen_text size shown
 
 -- the text of a run that a fault ended: that of the finished reports, and the line of the fault
-pub record IsEndedScreenText (size : Size) (said : Source) (text : List ℕ) : Type 0 where
+pub record IsEndedScreenText (size : Size) (said : Source) (text : List (List ℕ)) : Type 0 where
   pub edits : List Edit
   pub reports : List Report
   pub fault : Fault
   pub shown : List Forest
   -- they are those of a session of the source, which came to the fault
   pub headline : HasViewsBefore usual said edits reports fault shown
-  pub printed : text ≡ screen_text size shown ++ line (fault_text fault)
+  pub printed : text ≡ screen_text size shown ++ line (fault_text fault) ∷ []
 
 -- the edits of reports, cut by their counts, lead from document to document, and none is refused
 abbrev pub LeadAlong : List Report → List code.Edit → List DocNode → List (List DocNode) → Type 0
@@ -89,11 +88,11 @@ pub record ShowInTurn (edits : List code.Edit) (reports : List Report) (shown : 
 
 -- the rows of a report were put, and then the screen has this document, drawn
 pub record Draws
-    (number : ℕ) (next : List DocNode) (old new : Screen) (written now : Option (List ℕ)) (before after : ℕ)
+    (number : ℕ) (next : List DocNode) (old new : Screen) (written now : Puts) (before after : ℕ)
     (result : Result (Unit {0}) OutError)
     : Type 0 where
   pub writes :
-      Writes (joined (picture number (rows_of old) (layout (width_of old) (height_of old) (forest_of next))))
+      Writes (picture number (rows_of old) (layout (width_of old) (height_of old) (forest_of next)))
       written now before after result
   pub document : OnOk result (nodes_of new ≡ next)
   pub rows : OnOk result (rows_of new ≡ layout (width_of old) (height_of old) (forest_of next))

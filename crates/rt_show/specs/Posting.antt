@@ -1,7 +1,6 @@
 -- What the program prints of a run whose source's posters post, and what its statuses say.
 use Rattle.std.specs.Prelude.{◌≡◌, ◌≢◌, ◌↔◌, ◌⊎◌, ℕ, ◌+◌, ◌<◌, ◌≤◌, Bool, true, false, List, [], ◌∷◌, ◌++◌, length, map, bytes_eq, codes, All, Option, Some, Result, Ok, Err}
 use Rattle.rt_language.specs.Lines.{line, fault_text, taken_text}
-use Rattle.rt_language.specs.Lines as language
 use Rattle.rt_language.specs.Meaning.{meaning_of, post_of, props_of}
 use Rattle.rt_language.specs.Syntax.{PostSource, Source}
 use Rattle.rt_model.specs.Document.{Edit}
@@ -15,9 +14,10 @@ use Rattle.rt_reports.specs.Seen.{limits_of}
 use Rattle.rt_sources.specs.Describes.{Describes}
 use Rattle.rt_streams.specs.Reads.{Advances}
 use Rattle.rt_streams.specs.declared.reading.TheConstants.{MOST_BYTES}
-use Rattle.rt_streams.specs.Writes.{grown, AddsFront}
+use Rattle.rt_streams.specs.Writes.{grown, AddsFront, Puts}
 use Rattle.rt_show.specs.Runs.{DescribedBy, IsRefused}
 use Rattle.rt_show.specs.Statuses.{status_of}
+use Rattle.rt_show.specs.Texts.{run_lines}
 use Rattle.rt_show.specs.Words.{usual}
 use Rattle.rt_show.specs.declared.reason.Stop.{Stop}
 use Rattle.rt_show.specs.declared.reason.Stop.TheVariants as stops
@@ -43,14 +43,14 @@ abbrev pub drain_lines : ℕ → List Message → List (List ℕ)
 drain_lines number [] = []
 drain_lines number (message ∷ messages) = line (taken_text number message) ∷ drain_lines number messages
 
--- the lines of the messages of drains, the first of which has the report with this number
-abbrev pub taken_lines : ℕ → List (List Message) → List (List ℕ)
+-- the lines of the messages of drains, drain by drain, the first of which has the report with this number
+abbrev pub taken_lines : ℕ → List (List Message) → List (List (List ℕ))
 taken_lines number [] = []
-taken_lines number (drain ∷ drains) = joined (drain_lines number drain) ∷ taken_lines (number + 1) drains
+taken_lines number (drain ∷ drains) = drain_lines number drain ∷ taken_lines (number + 1) drains
 
 -- the edits that were taken, the reports, and the messages, of which those of the first drain have report 1
-abbrev pub posted_text : List Edit → List Report → List (List Message) → List ℕ
-posted_text edits reports drains = language.text_of edits reports ++ joined (taken_lines 1 drains)
+abbrev pub posted_text : List Edit → List Report → List (List Message) → List (List ℕ)
+posted_text edits reports drains = run_lines edits reports ++ joined (taken_lines 1 drains)
 
 -- a source has the headline over these drains with these edits and reports
 unfoldable pub HasHeadlineOver : Source → List (List Message) → List Edit → List Report → Type 0
@@ -67,7 +67,7 @@ unfoldable pub IsSafeOver : Source → Type 0
 IsSafeOver said = ValidOverCuts (meaning_of said) (props_of said) (lists_in said) (limits_of usual)
 
 -- the text of a run that was done
-pub record IsPostedText (said : Source) (text : List ℕ) : Type 0 where
+pub record IsPostedText (said : Source) (text : List (List ℕ)) : Type 0 where
   pub edits : List Edit
   pub reports : List Report
   -- all that the posters post, in the order in which it was taken
@@ -77,7 +77,7 @@ pub record IsPostedText (said : Source) (text : List ℕ) : Type 0 where
   pub printed : text ≡ posted_text edits reports drains
 
 -- the text of a run that a fault ended
-pub record IsPostedFault (said : Source) (text : List ℕ) : Type 0 where
+pub record IsPostedFault (said : Source) (text : List (List ℕ)) : Type 0 where
   pub edits : List Edit
   pub reports : List Report
   -- of each poster a front of what it posts
@@ -88,28 +88,28 @@ pub record IsPostedFault (said : Source) (text : List ℕ) : Type 0 where
   pub come : HasComeOver said drains edits reports fault
   -- it doesn't come where no cut leads to one
   pub unsafe : IsSafeOver said → ⊥
-  pub printed : text ≡ posted_text edits reports drains ++ line (fault_text fault)
+  pub printed : text ≡ posted_text edits reports drains ++ line (fault_text fault) ∷ []
 
 -- this text of a run that was done was written
-pub record PostsDone (said : Source) (old new : Option (List ℕ)) : Type 0 where
-  pub text : List ℕ
+pub record PostsDone (said : Source) (old new : Puts) : Type 0 where
+  pub text : List (List ℕ)
   pub run : IsPostedText said text
   pub written : new ≡ grown old text
 
 -- this text of a run that a fault ended was written
-pub record PostsEnded (said : Source) (old new : Option (List ℕ)) : Type 0 where
-  pub text : List ℕ
+pub record PostsEnded (said : Source) (old new : Puts) : Type 0 where
+  pub text : List (List ℕ)
   pub run : IsPostedFault said text
   pub written : new ≡ grown old text
 
 -- a front of the text of a run was written
-pub record PostsFront (said : Source) (old new : Option (List ℕ)) : Type 0 where
-  pub text : List ℕ
+pub record PostsFront (said : Source) (old new : Puts) : Type 0 where
+  pub text : List (List ℕ)
   pub run : IsPostedText said text ⊎ IsPostedFault said text
   pub front : AddsFront old new text
 
 -- what a run comes to, by what is written and the out's count of failures, before and after
-abbrev pub PostsAs : Source → (old new : Option (List ℕ)) → (before now : ℕ) → Result (Unit {0}) Stop → Type 0
+abbrev pub PostsAs : Source → (old new : Puts) → (before now : ℕ) → Result (Unit {0}) Stop → Type 0
 PostsAs said old new before now (Ok u) = PostsDone said old new
 PostsAs said old new before now (Err stops.Fault) = PostsEnded said old new
 PostsAs said old new before now (Err stops.Out) = (before < now) × PostsFront said old new
@@ -119,7 +119,7 @@ PostsAs said old new before now (Err stops.Form) = ⊥
 PostsAs said old new before now (Err stops.Source) = ⊥
 
 -- the input was read to its end, and its bytes describe a source whose run came to this
-pub record Ran (left after old new : Option (List ℕ)) (before now : ℕ) (result : Result (Unit {0}) Stop) : Type 0 where
+pub record Ran (left after : Option (List ℕ)) (old new : Puts) (before now : ℕ) (result : Result (Unit {0}) Stop) : Type 0 where
   pub said : Source
   pub described : DescribedBy said left after
   pub posters : HasPosters said
@@ -133,7 +133,8 @@ pub record HasNoPosts (left after : Option (List ℕ)) : Type 0 where
 
 -- what the program comes to where the words ask for posters
 abbrev pub Posts :
-    (left after old new : Option (List ℕ)) → (source_before source_after out_before out_after : ℕ) → Result (Unit {0}) Stop → Type 0
+    (left after : Option (List ℕ)) (old new : Puts) → (source_before source_after out_before out_after : ℕ)
+    → Result (Unit {0}) Stop → Type 0
 Posts left after old new source_before source_after out_before out_after (Ok u) = Ran left after old new out_before out_after (Ok u)
 Posts left after old new source_before source_after out_before out_after (Err stops.Fault) =
     Ran left after old new out_before out_after (Err stops.Fault)
@@ -159,7 +160,7 @@ pub record SafePosts (left : Option (List ℕ)) : Type 0 where
 -- what a status says: it is that of an end, and the end says what became of the words, the input and the out
 pub record ShowsPosted
     (words : List (List ℕ))
-    (left after old new : Option (List ℕ)) (source_before source_after out_before out_after status : ℕ)
+    (left after : Option (List ℕ)) (old new : Puts) (source_before source_after out_before out_after status : ℕ)
     : Type 0 where
   pub end : Result (Unit {0}) Stop
   pub is : status ≡ status_of end

@@ -1,8 +1,8 @@
 -- What the program is given, what it prints of it, and how a run of it comes out.
-use Rattle.std.specs.Prelude.{◌≡◌, ◌⊎◌, ℕ, ◌<◌, List, Option, Some, None, Result, Ok, Err}
+use Rattle.std.specs.Prelude.{◌≡◌, ◌⊎◌, ℕ, ◌<◌, List, [], ◌∷◌, ◌++◌, Option, Some, None, Result, Ok, Err}
 use Rattle.rt_streams.specs.Reads.{Advances, IsWhole, IsLonger}
 use Rattle.rt_streams.specs.declared.reading.TheConstants.{MOST_BYTES}
-use Rattle.rt_streams.specs.Writes.{grown, AddsFront}
+use Rattle.rt_streams.specs.Writes.{grown, AddsFront, Puts}
 use Rattle.rt_model.specs.Document.{Edit}
 use Rattle.rt_model.specs.State.{Fault}
 use Rattle.rt_model.specs.Reports.{Report}
@@ -10,7 +10,7 @@ use Rattle.rt_model.specs.Causes.{IsValid}
 use Rattle.rt_model.specs.Headline.{Headline, CameTo}
 use Rattle.rt_language.specs.Syntax.{Source}
 use Rattle.rt_language.specs.Meaning.{meaning_of, props_of, inputs_of}
-use Rattle.rt_language.specs.Lines.{text_of, fault_text_of}
+use Rattle.rt_language.specs.Lines.{line, fault_text}
 use Rattle.rt_language.specs.Generated.{generated, summary_line}
 use Rattle.rt_reports.specs.Seen.{limits_of}
 use Rattle.rt_reports.specs.declared.limits.Limits.{Limits}
@@ -20,6 +20,7 @@ use Rattle.rt_show.specs.Words.{usual}
 use Rattle.rt_show.specs.Asked.{Asked, SaysNone}
 use Rattle.rt_show.specs.Judged.{IsVerdictText, RecordedBy, RecordedInput}
 use Rattle.rt_show.specs.Pictures.{IsScreenText, IsEndedScreenText}
+use Rattle.rt_show.specs.Texts.{run_lines}
 use Rattle.rt_show.specs.declared.words.Wish.{Wish}
 use Rattle.rt_show.specs.declared.words.Wish.TheVariants.{Run, Make, Screen, Audit}
 use Rattle.rt_show.specs.declared.reason.Stop.{Stop}
@@ -64,59 +65,59 @@ unfoldable pub HasCome : Limits → Source → List Edit → List Report → Fau
 HasCome limits said edits reports fault =
     CameTo (meaning_of said) (props_of said) (inputs_of said.inputs) (limits_of limits) (Some edits) reports fault
 
--- the text of a run that was done: lines of edits, and lines of reports, numbered from 0
-pub record IsRunText (limits : Limits) (said : Source) (text : List ℕ) : Type 0 where
+-- the text of a run that was done, which is put line by line: lines of edits, and lines of reports, numbered from 0
+pub record IsRunText (limits : Limits) (said : Source) (text : List (List ℕ)) : Type 0 where
   pub edits : List Edit
   pub reports : List Report
   -- they are those of a session of the source
   pub headline : HasHeadline limits said (Some edits) reports
-  pub printed : text ≡ text_of edits reports
+  pub printed : text ≡ run_lines edits reports
 
 -- the text of a run that a fault ended: lines of edits and of finished reports, and the line of the fault
-pub record IsFaultText (limits : Limits) (said : Source) (text : List ℕ) : Type 0 where
+pub record IsFaultText (limits : Limits) (said : Source) (text : List (List ℕ)) : Type 0 where
   pub edits : List Edit
   pub reports : List Report
   pub fault : Fault
   -- they are those of a session of the source, which came to the fault
   pub headline : HasCome limits said edits reports fault
-  pub printed : text ≡ fault_text_of edits reports fault
+  pub printed : text ≡ run_lines edits reports ++ line (fault_text fault) ∷ []
 
 -- the line that sums up the reports of a run of so many rows
-pub record IsSummary (rows : ℕ) (said : Source) (text : List ℕ) : Type 0 where
+pub record IsSummary (rows : ℕ) (said : Source) (text : List (List ℕ)) : Type 0 where
   pub reports : List Report
   -- they are those of a session of the source
   pub headline : HasHeadline usual said None reports
-  pub printed : text ≡ summary_line rows reports
+  pub printed : text ≡ summary_line rows reports ∷ []
 
 -- the text of what was done: what each wish says of a source and of bytes
-abbrev pub IsDoneText : Wish → Asked → List ℕ → Type 0
+abbrev pub IsDoneText : Wish → Asked → List (List ℕ) → Type 0
 IsDoneText (Run limits) said text = IsRunText limits said.source text
 IsDoneText (Make rows) said text = IsSummary rows said.source text
 IsDoneText (Screen size) said text = IsScreenText size said.source text
 IsDoneText Audit said text = IsVerdictText said text
 
 -- the text of what a fault ended; a run that is only summed up, or that a log is held against, prints nothing then
-abbrev pub IsEndedText : Wish → Asked → List ℕ → Type 0
+abbrev pub IsEndedText : Wish → Asked → List (List ℕ) → Type 0
 IsEndedText (Run limits) said text = IsFaultText limits said.source text
 IsEndedText (Make rows) said text = ⊥
 IsEndedText (Screen size) said text = IsEndedScreenText size said.source text
 IsEndedText Audit said text = ⊥
 
 -- what was written is a front of the text of a run
-pub record PrintsFront (wish : Wish) (said : Asked) (old new : Option (List ℕ)) : Type 0 where
-  pub text : List ℕ
+pub record PrintsFront (wish : Wish) (said : Asked) (old new : Puts) : Type 0 where
+  pub text : List (List ℕ)
   pub run : IsDoneText wish said text ⊎ IsEndedText wish said text
   pub front : AddsFront old new text
 
 -- what was written is this text of a run that was done
-pub record PrintsDone (wish : Wish) (said : Asked) (old new : Option (List ℕ)) : Type 0 where
-  pub text : List ℕ
+pub record PrintsDone (wish : Wish) (said : Asked) (old new : Puts) : Type 0 where
+  pub text : List (List ℕ)
   pub run : IsDoneText wish said text
   pub written : new ≡ grown old text
 
 -- what was written is this text of a run that a fault ended
-pub record PrintsEnded (wish : Wish) (said : Asked) (old new : Option (List ℕ)) : Type 0 where
-  pub text : List ℕ
+pub record PrintsEnded (wish : Wish) (said : Asked) (old new : Puts) : Type 0 where
+  pub text : List (List ℕ)
   pub run : IsEndedText wish said text
   pub written : new ≡ grown old text
 
@@ -154,7 +155,7 @@ abbrev pub Reads : (left after : Option (List ℕ)) → (before now : ℕ) → S
 Reads left after before now stop = ReadsFor SaysNone left after before now stop
 
 -- what a run comes to, by what is written and the out's count of failures, before and after
-abbrev pub Prints : Wish → Asked → (old new : Option (List ℕ)) → (before now : ℕ) → Result (Unit {0}) Stop → Type 0
+abbrev pub Prints : Wish → Asked → (old new : Puts) → (before now : ℕ) → Result (Unit {0}) Stop → Type 0
 Prints wish said old new before now (Ok u) = PrintsDone wish said old new
 Prints wish said old new before now (Err stops.Fault) = PrintsEnded wish said old new
 Prints wish said old new before now (Err stops.Out) = (before < now) × PrintsFront wish said old new

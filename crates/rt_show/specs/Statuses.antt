@@ -3,6 +3,7 @@ use Rattle.std.specs.Prelude.{◌≡◌, ◌≢◌, ◌↔◌, ◌⊎◌, ℕ, �
 use Rattle.rt_show.specs.Asked.{Asked, Lacks}
 use Rattle.rt_streams.specs.Reads.{Advances}
 use Rattle.rt_streams.specs.declared.reading.TheConstants.{MOST_BYTES}
+use Rattle.rt_streams.specs.Writes.{Puts}
 use Rattle.rt_show.specs.Words.{wish_of, AskForSource}
 use Rattle.rt_show.specs.Runs.{CanBeDone, Chooses, IsUnfit, PrintsDone, PrintsEnded, PrintsFront}
 use Rattle.rt_show.specs.declared.words.Wish.{Wish}
@@ -20,7 +21,7 @@ status_of (Err stops.Out) = 6
 status_of (Err stops.OutOfMemory) = 7
 
 -- what the words ask for was chosen and done, and its text was written
-pub record Done (words : List (List ℕ)) (left after old new : Option (List ℕ)) : Type 0 where
+pub record Done (words : List (List ℕ)) (left after : Option (List ℕ)) (old new : Puts) : Type 0 where
   pub wish : Wish
   pub asked : wish_of words ≡ Some wish
   pub said : Asked
@@ -28,7 +29,7 @@ pub record Done (words : List (List ℕ)) (left after old new : Option (List ℕ
   pub prints : PrintsDone wish said old new
 
 -- what the words ask for was chosen and ended in a fault, and its text with the fault's line was written
-pub record Ended (words : List (List ℕ)) (left after old new : Option (List ℕ)) : Type 0 where
+pub record Ended (words : List (List ℕ)) (left after : Option (List ℕ)) (old new : Puts) : Type 0 where
   pub wish : Wish
   pub asked : wish_of words ≡ Some wish
   pub said : Asked
@@ -36,7 +37,7 @@ pub record Ended (words : List (List ℕ)) (left after old new : Option (List �
   pub prints : PrintsEnded wish said old new
 
 -- what the words ask for was chosen, and a front of the text of a run was written
-pub record Cut (words : List (List ℕ)) (left after old new : Option (List ℕ)) : Type 0 where
+pub record Cut (words : List (List ℕ)) (left after : Option (List ℕ)) (old new : Puts) : Type 0 where
   pub wish : Wish
   pub asked : wish_of words ≡ Some wish
   pub said : Asked
@@ -45,8 +46,8 @@ pub record Cut (words : List (List ℕ)) (left after old new : Option (List ℕ)
 
 -- what the program comes to, by its words, what is left of the input, what is written, and the counts of failures, before and after
 abbrev pub Comes :
-    List (List ℕ) → (left after old new : Option (List ℕ)) → (source_before source_after out_before out_after : ℕ) → Result (Unit {0}) Stop
-    → Type 0
+    List (List ℕ) → (left after : Option (List ℕ)) (old new : Puts) → (source_before source_after out_before out_after : ℕ)
+    → Result (Unit {0}) Stop → Type 0
 Comes words left after old new source_before source_after out_before out_after (Ok u) = Done words left after old new
 Comes words left after old new source_before source_after out_before out_after (Err stops.Words) = (wish_of words ≡ None) × (new ≡ old)
 Comes words left after old new source_before source_after out_before out_after (Err stops.Form) =
@@ -67,7 +68,7 @@ ReadsAsked words left after source_before source_after =
 -- what a status says, with the words, what is left of the input, what is written, and the counts of failures, before and after
 pub record Shows
     (words : List (List ℕ))
-    (left after old new : Option (List ℕ)) (source_before source_after out_before out_after status : ℕ)
+    (left after : Option (List ℕ)) (old new : Puts) (source_before source_after out_before out_after status : ℕ)
     : Type 0 where
   pub known : (status ≤ 7) × (status ≢ 1)
   pub reads : ReadsAsked words left after source_before source_after

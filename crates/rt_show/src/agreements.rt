@@ -1,7 +1,13 @@
-//! Numbers that stand in two crates, each with its own use, are the same.
-ghost use Rattle.std.specs.Prelude.{◌≡◌};
+//! What stands in two crates, each with its own use, is the same.
+ghost use Rattle.std.specs.Prelude.{◌≡◌, ◌++◌, ◌∷◌, [], List};
+ghost use Rattle.rt_language.specs.Lines.{line, fault_text, text_of, fault_text_of};
 ghost use Rattle.rt_model.specs.Causes.{usual as usual_ones};
+ghost use Rattle.rt_model.specs.Document.{Edit};
+ghost use Rattle.rt_model.specs.Lists.{joined};
+ghost use Rattle.rt_model.specs.Reports.{Report};
+ghost use Rattle.rt_model.specs.State.{Fault};
 ghost use Rattle.rt_reports.specs.Seen.{limits_of};
+ghost use Rattle.rt_show.specs.Texts.{run_lines};
 ghost use Rattle.rt_show.specs.Words.{usual};
 ghost use Rattle.rt_sources.specs.declared.reading.TheConstants.{SOURCE_LIMIT};
 ghost use Rattle.rt_streams.specs.declared.reading.TheConstants.{MOST_BYTES};
@@ -14,4 +20,12 @@ pub fn usual_limits_agree()
 /// As many bytes are read of an input as a source may have.
 pub fn most_bytes_agree()
     ensures agree { MOST_BYTES ≡ SOURCE_LIMIT }
+{}
+
+/// The lines that are put of a run, one behind the other, are its text.
+pub fn run_texts_agree()
+    ensures done { (edits : List Edit) (reports : List Report) →
+        joined (run_lines edits reports) ≡ text_of edits reports }
+    ensures ended { (edits : List Edit) (reports : List Report) (fault : Fault) →
+        joined (run_lines edits reports ++ line (fault_text fault) ∷ []) ≡ fault_text_of edits reports fault }
 {}

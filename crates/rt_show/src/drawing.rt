@@ -11,9 +11,9 @@ use crate::top::{Prepared, prepare, run_script, said};
 use crate::words::{Size, USUAL};
 use rt_edits::Mutations;
 use rt_print::fault_line;
+use rt_session::SessionFault;
 use rt_streams::Out;
 use rt_syntax::Source as Described;
-use rt_vdom::SessionFault;
 use std::alloc::Global;
 
 /// Runs an application and puts the rows that change on a screen, report by report; of a fault
@@ -27,7 +27,7 @@ pub(crate) fn draw<O: Out>(
 ) -> Result<(), Stop>
     requires size { IsSize size }
     ensures prints { Prints (wishes.Screen size) (alone (source_of described))
-        (O.written out.old) (O.written out.new) (O.faults out.old) (O.faults out.new) result }
+        (O.puts out.old) (O.puts out.new) (O.faults out.old) (O.faults out.new) result }
 {
     let Prepared {
         script,

@@ -1,8 +1,7 @@
 //! Putting the rows of a screen that change, report by report.
-ghost use Rattle.std.specs.Prelude.{◌≡◌, ◌∷◌, ◌++◌, List as Items, map, take, drop};
+ghost use Rattle.std.specs.Prelude.{◌≡◌, [], ◌∷◌, ◌++◌, List as Items, map, take, drop};
 ghost use Rattle.rt_edits.specs.declared.doc_node.DocNode.{DocNode};
 ghost use Rattle.rt_mirror.specs.Mirror.{forest_of};
-ghost use Rattle.rt_model.specs.Lists.{joined};
 ghost use Rattle.rt_documents.specs.Cuts.{LeadsTo};
 ghost use Rattle.rt_reports.specs.Seen.{report_of};
 ghost use Rattle.rt_text.specs.Printed.{row_line, screen_line};
@@ -20,8 +19,8 @@ use std::alloc::Global;
 
 /// Puts the line of a row.
 fn put_row<O: Out>(alloc: Global, row: &Row, out: &mut O) -> Result<(), OutError>
-    ensures writes { Writes (row_line row.now)
-        (O.written out.old) (O.written out.new) (O.faults out.old) (O.faults out.new) result }
+    ensures writes { Writes (row_line row.now ∷ [])
+        (O.puts out.old) (O.puts out.new) (O.faults out.old) (O.faults out.new) result }
 {
     let line = row_line(alloc, row)?;
     out.put(line.as_slice())
@@ -29,8 +28,8 @@ fn put_row<O: Out>(alloc: Global, row: &Row, out: &mut O) -> Result<(), OutError
 
 /// Puts the lines of rows.
 fn put_rows<O: Out>(alloc: Global, rows: &[Row], out: &mut O) -> Result<(), OutError>
-    ensures writes { Writes (joined (map row_line rows.now))
-        (O.written out.old) (O.written out.new) (O.faults out.old) (O.faults out.new) result }
+    ensures writes { Writes (map row_line rows.now)
+        (O.puts out.old) (O.puts out.new) (O.faults out.old) (O.faults out.new) result }
 {
     for row in rows {
         put_row(alloc, row, out)?;
@@ -40,8 +39,8 @@ fn put_rows<O: Out>(alloc: Global, rows: &[Row], out: &mut O) -> Result<(), OutE
 
 /// Puts the line with which the rows of a report begin.
 fn put_screen<O: Out>(alloc: Global, number: u64, out: &mut O) -> Result<(), OutError>
-    ensures writes { Writes (screen_line number)
-        (O.written out.old) (O.written out.new) (O.faults out.old) (O.faults out.new) result }
+    ensures writes { Writes (screen_line number ∷ [])
+        (O.puts out.old) (O.puts out.new) (O.faults out.old) (O.faults out.new) result }
 {
     let line = screen_line(alloc, number)?;
     out.put(line.as_slice())
@@ -54,8 +53,8 @@ fn put_changed<O: Out>(
     rows: &[Row],
     out: &mut O,
 ) -> Result<(), OutError>
-    ensures writes { Writes (joined (screen_line number ∷ map row_line rows.now))
-        (O.written out.old) (O.written out.new) (O.faults out.old) (O.faults out.new) result }
+    ensures writes { Writes (screen_line number ∷ map row_line rows.now)
+        (O.puts out.old) (O.puts out.new) (O.faults out.old) (O.faults out.new) result }
 {
     put_screen(alloc, number, out)?;
     put_rows(alloc, rows, out)
@@ -71,7 +70,7 @@ fn put_picture<O: Out>(
 ) -> Result<(), OutError>
     ensures draws { (next : Items DocNode) → LeadsTo edits.now (nodes_of screen.old) next →
         Draws number next screen.old screen.new
-        (O.written out.old) (O.written out.new) (O.faults out.old) (O.faults out.new) result }
+        (O.puts out.old) (O.puts out.new) (O.faults out.old) (O.faults out.new) result }
 {
     let Ok(()) = screen.take_all(alloc, edits) else {
         return Err(OutError::OutOfMemory);
@@ -102,9 +101,9 @@ fn put_pictures<O: Out>(
 ) -> Result<(), OutError>
     ensures writes { (documents : _) →
         LeadAlong (map report_of reports.now) edits.now (nodes_of screen.old) documents →
-        Writes (joined (pictures (width_of screen.old) (height_of screen.old) 0
-        (rows_of screen.old) (map forest_of documents)))
-        (O.written out.old) (O.written out.new) (O.faults out.old) (O.faults out.new) result }
+        Writes (pictures (width_of screen.old) (height_of screen.old) 0
+        (rows_of screen.old) (map forest_of documents))
+        (O.puts out.old) (O.puts out.new) (O.faults out.old) (O.faults out.new) result }
 {
     let mut left = edits;
     for (number, report) in reports.iter().enumerate() {
@@ -126,7 +125,7 @@ pub(crate) fn put_screens<O: Out>(
     requires size { IsSize size }
     ensures writes { (shown : _) → ShowInTurn edits.now (map report_of reports.now) shown →
         Writes (screen_text size shown)
-        (O.written out.old) (O.written out.new) (O.faults out.old) (O.faults out.new) result }
+        (O.puts out.old) (O.puts out.new) (O.faults out.old) (O.faults out.new) result }
 {
     let mut screen = Screen::new(alloc, size.width, size.height)?;
     put_pictures(alloc, &mut screen, edits, reports, out)
@@ -144,8 +143,8 @@ pub(crate) fn put_ended_screens<O: Out>(
 ) -> Result<(), OutError>
     requires size { IsSize size }
     ensures writes { (shown : _) → ShowInTurn edits.now (map report_of reports.now) shown →
-        Writes (screen_text size shown ++ line.now)
-        (O.written out.old) (O.written out.new) (O.faults out.old) (O.faults out.new) result }
+        Writes (screen_text size shown ++ line.now ∷ [])
+        (O.puts out.old) (O.puts out.new) (O.faults out.old) (O.faults out.new) result }
 {
     put_screens(alloc, size, edits, reports, out)?;
     out.put(line)

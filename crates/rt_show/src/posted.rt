@@ -10,7 +10,7 @@ ghost use Rattle.rt_show.specs.Ready.{MadeOf};
 ghost use Rattle.rt_show.specs.Words.{usual};
 ghost use Rattle.rt_show.specs.declared.reason.Stop.TheVariants as stops;
 ghost use Rattle.rt_syntax.specs.Mirror.{source_of};
-ghost use Rattle.rt_vdom.specs.Posted.{TookAll, TookFronts, drains_of, lists_of};
+ghost use Rattle.rt_session.specs.Posted.{TookAll, TookFronts, drains_of, lists_of};
 
 use crate::reason::{Stop, fault_said};
 use crate::taking::{put_ended_posted, put_posted};
@@ -22,10 +22,10 @@ use rt_print::fault_line;
 use rt_refusals::unknown_word;
 use rt_script::{Script, posts_of};
 use rt_script_values::Props;
+use rt_session::{Posted, PostedFault, session_posted};
 use rt_streams::{Out, Source};
 use rt_syntax::Source as Described;
 use rt_values::{List, Text};
-use rt_vdom::{Posted, PostedFault, session_posted};
 use std::alloc::Global;
 use std::sync::Wait;
 use std::thread::Threads;
@@ -91,7 +91,7 @@ fn run<R: Threads + Wait + Sync, O: Out, G: Gate>(
     line: &mut Option<String>,
 ) -> Result<(), Stop>
     requires posters { HasPosters (source_of described) }
-    ensures posts { PostsAs (source_of described) (O.written out.old) (O.written out.new)
+    ensures posts { PostsAs (source_of described) (O.puts out.old) (O.puts out.new)
         (O.faults out.old) (O.faults out.new) result }
 {
     let posts = posts_of(alloc, described.posts.as_slice())?;
@@ -153,10 +153,10 @@ fn shown<R: Threads + Wait + Sync, S: Source, O: Out, G: Gate>(
     line: &mut Option<String>,
 ) -> Result<(), Stop>
     ensures unasked { posting.asks_for_posters words.now ≡ false →
-        (result ≡ Err stops.Words) × (O.written out.new ≡ O.written out.old)
+        (result ≡ Err stops.Words) × (O.puts out.new ≡ O.puts out.old)
         × (S.left source.new ≡ S.left source.old) × (S.faults source.new ≡ S.faults source.old) }
     ensures posts { posting.asks_for_posters words.now ≡ true →
-        Posts (S.left source.old) (S.left source.new) (O.written out.old) (O.written out.new)
+        Posts (S.left source.old) (S.left source.new) (O.puts out.old) (O.puts out.new)
         (S.faults source.old) (S.faults source.new) (O.faults out.old) (O.faults out.new) result }
 {
     if !asks_for_posters(words) {
@@ -183,7 +183,7 @@ pub fn show_posted<R: Threads + Wait + Sync, S: Source, O: Out, G: Gate>(
     gate: &G,
 ) -> u8
     ensures shows { ShowsPosted words.now (S.left source.old) (S.left source.new)
-        (O.written out.old) (O.written out.new)
+        (O.puts out.old) (O.puts out.new)
         (S.faults source.old) (S.faults source.new) (O.faults out.old) (O.faults out.new) result }
 {
     let mut line = None;
@@ -201,7 +201,7 @@ pub fn show_posted_and_say<R: Threads + Wait + Sync, S: Source, O: Out, G: Gate>
     line: &mut Option<String>,
 ) -> u8
     ensures shows { ShowsPosted words.now (S.left source.old) (S.left source.new)
-        (O.written out.old) (O.written out.new)
+        (O.puts out.old) (O.puts out.new)
         (S.faults source.old) (S.faults source.new) (O.faults out.old) (O.faults out.new) result }
 {
     match shown(rt, alloc, words, source, out, gate, line) {

@@ -2,9 +2,9 @@
 ghost use Rattle.std.specs.Prelude.{◌≡◌, Err};
 ghost use Rattle.rt_show.specs.Statuses.{status_of};
 
+use rt_session::Fault;
 use rt_streams::OutError;
 use rt_values::{OutOfMemory, ScopeId};
-use rt_vdom::Fault;
 use std::alloc::Global;
 
 /// Why the program doesn't come to its end.

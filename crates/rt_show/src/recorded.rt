@@ -88,7 +88,7 @@ fn verdict_line(alloc: Global, verdict: Verdict) -> Result<Text, OutOfMemory>
 /// Writes the verdict on a recorded run.
 #[tactic(auto, using(crate::proofs::Judged::written))]
 pub(crate) fn judge<O: Out>(alloc: Global, run: Run, out: &mut O) -> Result<(), Stop>
-    ensures prints { Prints wishes.Audit (asked_of run) (O.written out.old) (O.written out.new)
+    ensures prints { Prints wishes.Audit (asked_of run) (O.puts out.old) (O.puts out.new)
         (O.faults out.old) (O.faults out.new) result }
 {
     let verdict = judged(alloc, run)?;

@@ -1,12 +1,12 @@
 //! Putting the lines of messages that were taken, each by one call of the out.
-ghost use Rattle.std.specs.Prelude.{◌++◌, map};
+ghost use Rattle.std.specs.Prelude.{◌++◌, ◌∷◌, [], map};
 ghost use Rattle.rt_language.specs.Lines.{line, taken_text};
 ghost use Rattle.rt_mirror.specs.Mirror.{edit_of};
 ghost use Rattle.rt_model.specs.Lists.{joined};
 ghost use Rattle.rt_reports.specs.Seen.{message_of, report_of};
 ghost use Rattle.rt_show.specs.Posting.{drain_lines, posted_text, taken_lines};
 ghost use Rattle.rt_streams.specs.Writes.{Writes};
-ghost use Rattle.rt_vdom.specs.Posted.{drains_of};
+ghost use Rattle.rt_session.specs.Posted.{drains_of};
 
 use crate::writing::put_run;
 use rt_edits::Edit;
@@ -24,8 +24,8 @@ fn put_message<O: Out>(
     message: &Msg,
     out: &mut O,
 ) -> Result<(), OutError>
-    ensures writes { Writes (line (taken_text number (message_of message.now)))
-        (O.written out.old) (O.written out.new) (O.faults out.old) (O.faults out.new) result }
+    ensures writes { Writes (line (taken_text number (message_of message.now)) ∷ [])
+        (O.puts out.old) (O.puts out.new) (O.faults out.old) (O.faults out.new) result }
 {
     let line = taken_line(alloc, number, message)?;
     out.put(line.as_slice())
@@ -33,8 +33,8 @@ fn put_message<O: Out>(
 
 /// Puts the lines of a drain's messages.
 fn put_drain<O: Out>(alloc: Global, number: u64, drain: &[Msg], out: &mut O) -> Result<(), OutError>
-    ensures writes { Writes (joined (drain_lines number (map message_of drain.now)))
-        (O.written out.old) (O.written out.new) (O.faults out.old) (O.faults out.new) result }
+    ensures writes { Writes (drain_lines number (map message_of drain.now))
+        (O.puts out.old) (O.puts out.new) (O.faults out.old) (O.faults out.new) result }
 {
     for message in drain {
         put_message(alloc, number, message, out)?;
@@ -45,7 +45,7 @@ fn put_drain<O: Out>(alloc: Global, number: u64, drain: &[Msg], out: &mut O) -> 
 /// Puts the lines of the messages of drains. The first drain has report 1.
 fn put_drains<O: Out>(alloc: Global, drains: &[List<Msg>], out: &mut O) -> Result<(), OutError>
     ensures writes { Writes (joined (taken_lines 1 (drains_of drains.now)))
-        (O.written out.old) (O.written out.new) (O.faults out.old) (O.faults out.new) result }
+        (O.puts out.old) (O.puts out.new) (O.faults out.old) (O.faults out.new) result }
 {
     for (at, drain) in drains.iter().enumerate() {
         put_drain(alloc, at as u64 + 1, drain.as_slice(), out)?;
@@ -63,14 +63,13 @@ pub fn put_posted<O: Out>(
     out: &mut O,
 ) -> Result<(), OutError>
     ensures writes { Writes (posted_text (map edit_of edits.now) (map report_of reports.now) (drains_of drains.now))
-        (O.written out.old) (O.written out.new) (O.faults out.old) (O.faults out.new) result }
+        (O.puts out.old) (O.puts out.new) (O.faults out.old) (O.faults out.new) result }
 {
     put_run(alloc, edits, reports, out)?;
     put_drains(alloc, drains, out)
 }
 
 /// The same, and one line more.
-#[tactic(auto, using(crate::proofs::Puts::writes_first))]
 pub fn put_ended_posted<O: Out>(
     alloc: Global,
     edits: &[Edit],
@@ -79,8 +78,8 @@ pub fn put_ended_posted<O: Out>(
     line: &[u8],
     out: &mut O,
 ) -> Result<(), OutError>
-    ensures writes { Writes (posted_text (map edit_of edits.now) (map report_of reports.now) (drains_of drains.now) ++ line.now)
-        (O.written out.old) (O.written out.new) (O.faults out.old) (O.faults out.new) result }
+    ensures writes { Writes (posted_text (map edit_of edits.now) (map report_of reports.now) (drains_of drains.now) ++ line.now ∷ [])
+        (O.puts out.old) (O.puts out.new) (O.faults out.old) (O.faults out.new) result }
 {
     put_posted(alloc, edits, reports, drains, out)?;
     out.put(line)

@@ -24,11 +24,11 @@ use rt_print::fault_line;
 use rt_refusals::{refusal, too_long, unknown_word};
 use rt_script::{Script, inputs_of};
 use rt_script_values::Props;
+use rt_session::{Input, Limits, Report, SessionFault, session};
 use rt_sources::read_source;
 use rt_streams::{Out, ReadError, Source, read_all};
 use rt_syntax::Source as Described;
 use rt_values::{List, OutOfMemory, Text};
-use rt_vdom::{Input, Limits, Report, SessionFault, session};
 use std::alloc::Global;
 
 /// Where bytes break the form, and what was wanted there; None where there is no memory to say it.
@@ -135,7 +135,7 @@ fn run<O: Out>(
     out: &mut O,
     line: &mut Option<String>,
 ) -> Result<(), Stop>
-    ensures prints { Prints (wishes.Run limits) (alone (source_of described)) (O.written out.old) (O.written out.new)
+    ensures prints { Prints (wishes.Run limits) (alone (source_of described)) (O.puts out.old) (O.puts out.new)
         (O.faults out.old) (O.faults out.new) result }
 {
     let Prepared {
@@ -189,7 +189,7 @@ fn make(alloc: Global, rows: u64) -> Result<List<Report>, OutOfMemory>
 #[tactic(auto, using(crate::proofs::Runs::summed_up))]
 fn sum_up<O: Out>(alloc: Global, rows: u64, out: &mut O) -> Result<(), Stop>
     requires few { rows ≤ 10000 }
-    ensures prints { Prints (wishes.Make rows) (alone (language.generated rows)) (O.written out.old) (O.written out.new)
+    ensures prints { Prints (wishes.Make rows) (alone (language.generated rows)) (O.puts out.old) (O.puts out.new)
         (O.faults out.old) (O.faults out.new) result }
 {
     let reports = make(alloc, rows)?;
@@ -210,7 +210,7 @@ fn shown<S: Source, O: Out>(
     ensures reads { ReadsAsked words.now (S.left source.old) (S.left source.new)
         (S.faults source.old) (S.faults source.new) }
     ensures comes { Comes words.now (S.left source.old) (S.left source.new)
-        (O.written out.old) (O.written out.new)
+        (O.puts out.old) (O.puts out.new)
         (S.faults source.old) (S.faults source.new) (O.faults out.old) (O.faults out.new) result }
 {
     match wish_of(words) {
@@ -238,7 +238,7 @@ fn shown<S: Source, O: Out>(
 /// application of so many rows, and writes a summary. The answer is the status.
 pub fn show<S: Source, O: Out>(alloc: Global, words: &[Text], source: &mut S, out: &mut O) -> u8
     ensures shows { Shows words.now (S.left source.old) (S.left source.new)
-        (O.written out.old) (O.written out.new)
+        (O.puts out.old) (O.puts out.new)
         (S.faults source.old) (S.faults source.new) (O.faults out.old) (O.faults out.new) result }
 {
     let mut line = None;
@@ -255,7 +255,7 @@ pub fn show_and_say<S: Source, O: Out>(
     line: &mut Option<String>,
 ) -> u8
     ensures shows { Shows words.now (S.left source.old) (S.left source.new)
-        (O.written out.old) (O.written out.new)
+        (O.puts out.old) (O.puts out.new)
         (S.faults source.old) (S.faults source.new) (O.faults out.old) (O.faults out.new) result }
 {
     match shown(alloc, words, source, out, line) {

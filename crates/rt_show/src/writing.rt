@@ -1,7 +1,6 @@
 //! Putting what the program prints, each line by one call of the out.
-ghost use Rattle.std.specs.Prelude.{◌++◌};
-ghost use Rattle.rt_model.specs.Lists.{joined};
-ghost use Rattle.rt_show.specs.Texts.{line_of, lines_of, report_line_of, report_lines_from, text_of};
+ghost use Rattle.std.specs.Prelude.{◌++◌, ◌∷◌, []};
+ghost use Rattle.rt_show.specs.Texts.{line_of, lines_of, report_line_of, report_lines_from, run_lines_of};
 ghost use Rattle.rt_streams.specs.Writes.{Writes};
 
 use rt_edits::Edit;
@@ -12,8 +11,8 @@ use std::alloc::Global;
 
 /// Puts the line of an edit.
 fn put_edit<O: Out>(alloc: Global, edit: &Edit, out: &mut O) -> Result<(), OutError>
-    ensures writes { Writes (line_of edit.now)
-        (O.written out.old) (O.written out.new) (O.faults out.old) (O.faults out.new) result }
+    ensures writes { Writes (line_of edit.now ∷ [])
+        (O.puts out.old) (O.puts out.new) (O.faults out.old) (O.faults out.new) result }
 {
     let line = edit_line(alloc, edit)?;
     out.put(line.as_slice())
@@ -21,8 +20,8 @@ fn put_edit<O: Out>(alloc: Global, edit: &Edit, out: &mut O) -> Result<(), OutEr
 
 /// Puts the lines of edits.
 fn put_edits<O: Out>(alloc: Global, edits: &[Edit], out: &mut O) -> Result<(), OutError>
-    ensures writes { Writes (joined (lines_of edits.now))
-        (O.written out.old) (O.written out.new) (O.faults out.old) (O.faults out.new) result }
+    ensures writes { Writes (lines_of edits.now)
+        (O.puts out.old) (O.puts out.new) (O.faults out.old) (O.faults out.new) result }
 {
     for edit in edits {
         put_edit(alloc, edit, out)?;
@@ -37,8 +36,8 @@ fn put_report<O: Out>(
     report: &Report,
     out: &mut O,
 ) -> Result<(), OutError>
-    ensures writes { Writes (report_line_of number report.now)
-        (O.written out.old) (O.written out.new) (O.faults out.old) (O.faults out.new) result }
+    ensures writes { Writes (report_line_of number report.now ∷ [])
+        (O.puts out.old) (O.puts out.new) (O.faults out.old) (O.faults out.new) result }
 {
     let line = report_line(alloc, number, report)?;
     out.put(line.as_slice())
@@ -46,8 +45,8 @@ fn put_report<O: Out>(
 
 /// Puts the lines of reports, numbered from 0.
 fn put_reports<O: Out>(alloc: Global, reports: &[Report], out: &mut O) -> Result<(), OutError>
-    ensures writes { Writes (joined (report_lines_from 0 reports.now))
-        (O.written out.old) (O.written out.new) (O.faults out.old) (O.faults out.new) result }
+    ensures writes { Writes (report_lines_from 0 reports.now)
+        (O.puts out.old) (O.puts out.new) (O.faults out.old) (O.faults out.new) result }
 {
     for (number, report) in reports.iter().enumerate() {
         put_report(alloc, number as u64, report, out)?;
@@ -63,15 +62,14 @@ pub fn put_run<O: Out>(
     reports: &[Report],
     out: &mut O,
 ) -> Result<(), OutError>
-    ensures writes { Writes (text_of edits.now reports.now)
-        (O.written out.old) (O.written out.new) (O.faults out.old) (O.faults out.new) result }
+    ensures writes { Writes (run_lines_of edits.now reports.now)
+        (O.puts out.old) (O.puts out.new) (O.faults out.old) (O.faults out.new) result }
 {
     put_edits(alloc, edits, out)?;
     put_reports(alloc, reports, out)
 }
 
 /// Puts the lines of edits, those of reports, and one line more.
-#[tactic(auto, using(crate::proofs::Puts::writes_first))]
 pub fn put_ended_run<O: Out>(
     alloc: Global,
     edits: &[Edit],
@@ -79,8 +77,8 @@ pub fn put_ended_run<O: Out>(
     line: &[u8],
     out: &mut O,
 ) -> Result<(), OutError>
-    ensures writes { Writes (text_of edits.now reports.now ++ line.now)
-        (O.written out.old) (O.written out.new) (O.faults out.old) (O.faults out.new) result }
+    ensures writes { Writes (run_lines_of edits.now reports.now ++ line.now ∷ [])
+        (O.puts out.old) (O.puts out.new) (O.faults out.old) (O.faults out.new) result }
 {
     put_run(alloc, edits, reports, out)?;
     out.put(line)

@@ -63,7 +63,9 @@ fn run<O: Out>(
     let mut written = BytesOut::new(alloc, List::from_slice(alloc, &[put])?);
     let mut line = None;
     let status = show_and_say(alloc, words, &mut source, &mut written, &mut line);
-    out.put(written.written())?;
+    for text in written.puts() {
+        out.put(text.as_slice())?;
+    }
     let end = match line {
         Some(line) => format!(in alloc; "status {status}: {line}\n")?,
         None => format!(in alloc; "status {status}\n")?,

@@ -1,4 +1,4 @@
-//! Outs that keep in memory what was written.
+//! Outs that keep in memory what was put, put by put.
 ghost use Rattle.std.specs.Prelude.{◌≡◌, [], Some};
 ghost use Rattle.rt_streams.specs.Failures.{failures};
 
@@ -7,34 +7,37 @@ use crate::schedule::Schedule;
 use rt_values::List;
 use std::alloc::Global;
 
-/// Keeps what is written, of which some puts fail, and then write nothing.
+/// Keeps what is put, of which some puts fail, and then keep nothing.
 #[derive(Drop)]
 pub struct BytesOut {
-    bytes: Vec<u8>,
+    alloc: Global,
+    puts: List<List<u8>>,
     schedule: Schedule,
 }
 
 impl BytesOut {
     /// An empty out that fails at the numbered puts, counted from 1.
     pub fn new(alloc: Global, fails: List<u64>) -> BytesOut
-        ensures empty { ⟦<BytesOut as Out>⟧.written result ≡ Some [] }
+        ensures empty { ⟦<BytesOut as Out>⟧.puts result ≡ Some [] }
         ensures none { ⟦<BytesOut as Out>⟧.faults result ≡ failures fails 0 }
     {
         BytesOut {
-            bytes: Vec::new(alloc),
+            alloc,
+            puts: List::new(alloc),
             schedule: Schedule::new(fails),
         }
     }
 
-    pub fn written(&self) -> &[u8]
-        ensures told { ⟦<BytesOut as Out>⟧.written self.now ≡ Some result.now }
+    /// What each put that didn't fail was of, in order.
+    pub fn puts(&self) -> &[List<u8>]
+        ensures told { ⟦<BytesOut as Out>⟧.puts self.now ≡ Some result.now }
     {
-        self.bytes.as_slice()
+        self.puts.as_slice()
     }
 }
 
 impl Out for BytesOut {
-    ghost written = { λ out. Some out.bytes.items };
+    ghost puts = { λ out. Some out.puts };
 
     ghost faults = { λ out. failures out.schedule.fails out.schedule.calls };
 
@@ -42,40 +45,45 @@ impl Out for BytesOut {
         if self.schedule.fails_next() {
             return Err(OutError::Failed);
         }
-        self.bytes.extend_from_slice(bytes)?;
+        let kept = List::from_slice(self.alloc, bytes)?;
+        self.puts.push(kept)?;
         Ok(())
     }
 }
 
-/// Keeps what is written, and never fails.
+/// Keeps what is put, and never fails.
 #[derive(Drop)]
 pub struct SureOut {
-    bytes: Vec<u8>,
+    alloc: Global,
+    puts: List<List<u8>>,
 }
 
 impl SureOut {
     pub fn new(alloc: Global) -> SureOut
-        ensures empty { ⟦<SureOut as Out>⟧.written result ≡ Some [] }
+        ensures empty { ⟦<SureOut as Out>⟧.puts result ≡ Some [] }
     {
         SureOut {
-            bytes: Vec::new(alloc),
+            alloc,
+            puts: List::new(alloc),
         }
     }
 
-    pub fn written(&self) -> &[u8]
-        ensures told { ⟦<SureOut as Out>⟧.written self.now ≡ Some result.now }
+    /// What each put was of, in order.
+    pub fn puts(&self) -> &[List<u8>]
+        ensures told { ⟦<SureOut as Out>⟧.puts self.now ≡ Some result.now }
     {
-        self.bytes.as_slice()
+        self.puts.as_slice()
     }
 }
 
 impl Out for SureOut {
-    ghost written = { λ out. Some out.bytes.items };
+    ghost puts = { λ out. Some out.puts };
 
     ghost faults = { λ _. 0 };
 
     fn put(&mut self, bytes: &[u8]) -> Result<(), OutError> {
-        self.bytes.extend_from_slice(bytes)?;
+        let kept = List::from_slice(self.alloc, bytes)?;
+        self.puts.push(kept)?;
         Ok(())
     }
 }

@@ -1,6 +1,6 @@
 //! Where bytes are written.
-ghost use Rattle.std.specs.Prelude.{◌≡◌, ℕ, List, Option};
-ghost use Rattle.rt_streams.specs.Writes.{Writes};
+ghost use Rattle.std.specs.Prelude.{◌≡◌, ◌∷◌, [], ℕ};
+ghost use Rattle.rt_streams.specs.Writes.{Puts, Writes};
 
 use rt_values::OutOfMemory;
 use std::alloc::AllocError;
@@ -38,13 +38,13 @@ impl From<OutOfMemory> for OutError {
 
 /// A place that takes bytes in order.
 pub trait Out: Drop {
-    /// The bytes that were written, where the out tells them.
-    ghost written: { Self → Option (List ℕ) };
+    /// What each put that came through was of, in order, where the out tells it.
+    ghost puts: { Self → Puts };
 
     /// How many puts have failed.
     ghost faults: { Self → ℕ };
 
-    /// Writes all of the bytes, or after an error a part of them from the front.
+    /// Writes all of the bytes. After an error an out that tells its puts took all of them or none.
     fn put(&mut self, bytes: &[u8]) -> Result<(), OutError>
-        ensures writes { Writes bytes.now (written self.old) (written self.new) (faults self.old) (faults self.new) result };
+        ensures writes { Writes (bytes.now ∷ []) (puts self.old) (puts self.new) (faults self.old) (faults self.new) result };
 }

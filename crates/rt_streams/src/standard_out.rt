@@ -1,4 +1,4 @@
-//! Standard output as an out. It tells nothing of its content: what the system takes is trusted.
+//! Standard output as an out. It tells nothing of its puts: what the system takes is trusted.
 ghost use Rattle.std.specs.Prelude.{◌≡◌, ◌<◌, ◌≤◌, None, IsErr, IsErrOf};
 
 use crate::out::{Out, OutError};
@@ -33,7 +33,7 @@ impl<'a, R: Print> StandardOut<'a, R> {
 }
 
 impl<'a, R: Print> Out for StandardOut<'a, R> {
-    ghost written = { λ _. None };
+    ghost puts = { λ _. None };
 
     ghost faults = { λ out. out.faults };
 

@@ -1,5 +1,5 @@
 -- What is put is the text of a screen, or a front of it.
-use Rattle.std.proofs.Common.{rules, ◌≡◌, ◌++◌, Some, Err}
+use Rattle.std.proofs.Common.{rules, ◌≡◌, [], ◌∷◌, ◌++◌, Some, Err}
 use Rattle.std.specs.Prelude.{option_map}
 use Rattle.rt_language.specs.Lines.{line, fault_text}
 use Rattle.rt_reports.specs.Seen.{fault_of}
@@ -57,7 +57,7 @@ returns g c =
     (c.in-Err.ensures.came_to (source_of c.args.described) c.in_ok-script.ensures.made) names in
     record {
       prints = record {
-        text = screen_text c.args.size ended.seen ++ c.as_slice-in-Err-2.result.now;
+        text = screen_text c.args.size ended.seen ++ c.as_slice-in-Err-2.result.now ∷ [];
         run = ended.run;
         written = (c.in_ok-put_ended_screens-in-Err.ensures.writes ended.seen ended.shows).ok;
       };

@@ -1,6 +1,5 @@
 -- The rows follow the line that begins them.
-use Rattle.std.proofs.Common.{rules, ◌≡◌, map, Err}
-use Rattle.rt_model.specs.Lists.{joined}
+use Rattle.std.proofs.Common.{rules, ◌≡◌, [], ◌∷◌, map, Err}
 use Rattle.rt_text.specs.Printed.{row_line, screen_line}
 use Rattle.rt_show.proofs.Puts.{writes_both, writes_first}
 use Rattle.rt_show.proofs.pictures.put_changed.Goals as goal
@@ -13,5 +12,5 @@ returns-in_err-put_screen g c =
     let failed : c.from_residual.result ≡ Err c.in_err-put_screen.field-0.0 = search rules in
     record {
       writes = rw failed
-          (writes_first (screen_line c.args.number) (joined (map row_line c.args.rows.now)) _ _ _ _ c.in_err-put_screen.field-0.0 c.in_err-put_screen.ensures.writes);
+          (writes_first (screen_line c.args.number ∷ []) (map row_line c.args.rows.now) _ _ _ _ c.in_err-put_screen.field-0.0 c.in_err-put_screen.ensures.writes);
     }

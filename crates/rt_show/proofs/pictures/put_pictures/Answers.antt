@@ -5,7 +5,7 @@ use Rattle.rt_show.proofs.pictures.put_pictures.Goals as goal
 
 pub loop-number-init : goal.loop-number-init
 loop-number-init g c = λ documents led.
-    pictures_begin c.args.reports.now c.args.edits.now c.args.screen.now documents (g.O.Out.written c.args.out.now) (g.O.Out.faults c.args.out.now) led
+    pictures_begin c.args.reports.now c.args.edits.now c.args.screen.now documents (g.O.Out.puts c.args.out.now) (g.O.Out.faults c.args.out.now) led
 
 pub loop-number-preserved : goal.loop-number-preserved
 loop-number-preserved g c = λ documents led.

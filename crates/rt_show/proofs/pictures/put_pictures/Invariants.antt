@@ -11,4 +11,4 @@ abbrev pub invariant-loop-number : goal.invariant-loop-number
 invariant-loop-number g l =
     (documents : List (List DocNode)) → LeadAlong (map report_of l.reports) l.edits (nodes_of l.fn.screen) documents
     → GoesOn (width_of l.fn.screen) (height_of l.fn.screen) (rows_of l.fn.screen) documents (drop l.number (map report_of l.reports)) l.number l.left l.screen
-    (g.O.Out.written l.fn.out) (g.O.Out.written l.out) (g.O.Out.faults l.fn.out) (g.O.Out.faults l.out)
+    (g.O.Out.puts l.fn.out) (g.O.Out.puts l.out) (g.O.Out.faults l.fn.out) (g.O.Out.faults l.out)

@@ -8,7 +8,7 @@ use Rattle.rt_reports.specs.Seen.{fault_of, limits_of, report_of}
 use Rattle.rt_show.specs.Words.{usual}
 use Rattle.rt_show.proofs.Runs.{of_source}
 use Rattle.rt_show.proofs.posted.post_script.Goals as goal
-use Rattle.rt_vdom.specs.Posted.{drains_of, lists_of}
+use Rattle.rt_session.specs.Posted.{drains_of, lists_of}
 
 pub returns-clause-headline : goal.returns-clause-headline
 returns-clause-headline g c = λ said inputs made.

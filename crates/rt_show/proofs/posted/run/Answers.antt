@@ -1,5 +1,5 @@
 -- What is put is the text of a run with its messages, or a front of it.
-use Rattle.std.proofs.Common.{rules, ◌≡◌, ◌≤◌, ◌++◌, Some, Err, length, map, inl, inr, ◌∙◌, ap, subst, sym}
+use Rattle.std.proofs.Common.{rules, ◌≡◌, ◌≤◌, [], ◌∷◌, ◌++◌, Some, Err, length, map, inl, inr, ◌∙◌, ap, subst, sym}
 use Rattle.std.specs.Prelude.{option_map}
 use Rattle.rt_language.specs.Lines.{line, fault_text}
 use Rattle.rt_mirror.specs.Mirror.{edit_of}
@@ -11,7 +11,7 @@ use Rattle.rt_show.specs.Posting.{IsPostedFault, IsPostedText, lists_in, posted_
 use Rattle.rt_show.proofs.Drained.{lists_count, lists_said, lists_short, posted_done, posted_ended}
 use Rattle.rt_show.proofs.Postings.{cut_text}
 use Rattle.rt_show.proofs.posted.run.Goals as goal
-use Rattle.rt_vdom.specs.Posted.{drains_of, lists_of}
+use Rattle.rt_session.specs.Posted.{drains_of, lists_of}
 
 pub post_script-requires-clause-some : goal.post_script-requires-clause-some
 post_script-requires-clause-some g c = λ lives outlive.
@@ -59,7 +59,7 @@ returns-in_err-put_ended_posted-in-Err g c =
     let lists : lists_of c.in_ok-posts.posts ≡ lists_in (source_of c.args.described) = lists_said c.in_ok-posts.posts c.args.described (c.in_ok-posts.ensures.posts ∙ ap (λ ls. map (map posted_of) ls) c.as_slice.ensures.items) in
     let same : c.as_slice-in-Err-3.result.now ≡ c.in-Some.last = search rules in
     let names : Some c.as_slice-in-Err-3.result.now ≡ option_map (λ f. line (fault_text f)) (fault_of c.in-Err.field-0.fault) = cc (same, c.in-Some.is, c.in_ok-last-in-Err.ensures.line) in
-    let run : IsPostedFault (source_of c.args.described) (posted_text (map edit_of c.edits-in-Err.result.now) (map report_of c.as_slice-in-Err.result.now) (drains_of c.as_slice-in-Err-2.result.now) ++ c.as_slice-in-Err-3.result.now) =
+    let run : IsPostedFault (source_of c.args.described) (posted_text (map edit_of c.edits-in-Err.result.now) (map report_of c.as_slice-in-Err.result.now) (drains_of c.as_slice-in-Err-2.result.now) ++ c.as_slice-in-Err-3.result.now ∷ []) =
     posted_ended (source_of c.args.described) c.in_ok-posts.posts _ _ c.edits-in-Err.result.now c.in-Err.field-0.reports c.as_slice-in-Err.result.now c.in-Err.field-0.drains c.as_slice-in-Err-2.result.now
     c.in-Err.field-0.fault c.as_slice-in-Err-3.result.now c.default_list-sink.ensures.taken c.edits-in-Err.ensures.taken c.as_slice-in-Err.ensures.items c.as_slice-in-Err-2.ensures.items lists
     (c.in-Err.ensures.came_to (source_of c.args.described) _ c.in_ok-script.ensures.made) c.in-Err.ensures.took_fronts (c.in-Err.ensures.completes (source_of c.args.described) _ c.in_ok-script.ensures.made) names in
@@ -70,13 +70,13 @@ returns g c =
     let lists : lists_of c.in_ok-posts.posts ≡ lists_in (source_of c.args.described) = lists_said c.in_ok-posts.posts c.args.described (c.in_ok-posts.ensures.posts ∙ ap (λ ls. map (map posted_of) ls) c.as_slice.ensures.items) in
     let same : c.as_slice-in-Err-3.result.now ≡ c.in-Some.last = search rules in
     let names : Some c.as_slice-in-Err-3.result.now ≡ option_map (λ f. line (fault_text f)) (fault_of c.in-Err.field-0.fault) = cc (same, c.in-Some.is, c.in_ok-last-in-Err.ensures.line) in
-    let run : IsPostedFault (source_of c.args.described) (posted_text (map edit_of c.edits-in-Err.result.now) (map report_of c.as_slice-in-Err.result.now) (drains_of c.as_slice-in-Err-2.result.now) ++ c.as_slice-in-Err-3.result.now) =
+    let run : IsPostedFault (source_of c.args.described) (posted_text (map edit_of c.edits-in-Err.result.now) (map report_of c.as_slice-in-Err.result.now) (drains_of c.as_slice-in-Err-2.result.now) ++ c.as_slice-in-Err-3.result.now ∷ []) =
     posted_ended (source_of c.args.described) c.in_ok-posts.posts _ _ c.edits-in-Err.result.now c.in-Err.field-0.reports c.as_slice-in-Err.result.now c.in-Err.field-0.drains c.as_slice-in-Err-2.result.now
     c.in-Err.field-0.fault c.as_slice-in-Err-3.result.now c.default_list-sink.ensures.taken c.edits-in-Err.ensures.taken c.as_slice-in-Err.ensures.items c.as_slice-in-Err-2.ensures.items lists
     (c.in-Err.ensures.came_to (source_of c.args.described) _ c.in_ok-script.ensures.made) c.in-Err.ensures.took_fronts (c.in-Err.ensures.completes (source_of c.args.described) _ c.in_ok-script.ensures.made) names in
     record {
       posts = record {
-        text = posted_text (map edit_of c.edits-in-Err.result.now) (map report_of c.as_slice-in-Err.result.now) (drains_of c.as_slice-in-Err-2.result.now) ++ c.as_slice-in-Err-3.result.now;
+        text = posted_text (map edit_of c.edits-in-Err.result.now) (map report_of c.as_slice-in-Err.result.now) (drains_of c.as_slice-in-Err-2.result.now) ++ c.as_slice-in-Err-3.result.now ∷ [];
         run = run;
         written = c.in_ok-put_ended_posted-in-Err.ensures.writes.ok;
       };

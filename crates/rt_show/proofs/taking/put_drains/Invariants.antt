@@ -7,4 +7,4 @@ use Rattle.rt_show.proofs.taking.put_drains.Given as goal
 
 abbrev pub invariant-loop-at : goal.invariant-loop-at
 invariant-loop-at g l =
-    Writes (joined (take l.at (lines_from 1 l.drains))) (g.O.Out.written l.fn.out) (g.O.Out.written l.out) (g.O.Out.faults l.fn.out) (g.O.Out.faults l.out) (Ok tt)
+    Writes (joined (take l.at (lines_from 1 l.drains))) (g.O.Out.puts l.fn.out) (g.O.Out.puts l.out) (g.O.Out.faults l.fn.out) (g.O.Out.faults l.out) (Ok tt)

@@ -11,7 +11,7 @@ returns-in_err-described-in-Some-Run-clause-comes g c =
     let asked : wish_of c.args.words.now ≡ Some (Run c.in-Some-Run.limits) = search rules in
     rw stopped (comes_reading c.args.words.now (Run c.in-Some-Run.limits)
     (g.S.Source.left c.args.source.now) (g.S.Source.left c.read_application.new.source)
-    (g.O.Out.written c.args.out.now) (g.O.Out.written c.args.out.now)
+    (g.O.Out.puts c.args.out.now) (g.O.Out.puts c.args.out.now)
     (g.S.Source.faults c.args.source.now) (g.S.Source.faults c.read_application.new.source)
     (g.O.Out.faults c.args.out.now) (g.O.Out.faults c.args.out.now) c.in_err-described-in-Some-Run.field-0.0
     asked refl c.in_err-described-in-Some-Run.ensures.reads refl)
@@ -22,7 +22,7 @@ returns-in_err-described-in-Some-Screen-clause-comes g c =
     let asked : wish_of c.args.words.now ≡ Some (Screen c.in-Some-Screen.size) = search rules in
     rw stopped (comes_reading c.args.words.now (Screen c.in-Some-Screen.size)
     (g.S.Source.left c.args.source.now) (g.S.Source.left c.read_application-in-Some-Screen.new.source)
-    (g.O.Out.written c.args.out.now) (g.O.Out.written c.args.out.now)
+    (g.O.Out.puts c.args.out.now) (g.O.Out.puts c.args.out.now)
     (g.S.Source.faults c.args.source.now) (g.S.Source.faults c.read_application-in-Some-Screen.new.source)
     (g.O.Out.faults c.args.out.now) (g.O.Out.faults c.args.out.now) c.in_err-described-in-Some-Screen.field-0.0
     asked refl c.in_err-described-in-Some-Screen.ensures.reads refl)
