@@ -1,0 +1,2 @@
+mod Placeholders
+mod Short

@@ -1,0 +1,70 @@
+-- What a posted session tells of its end.
+use Rattle.std.proofs.Common.{◌≡◌, ◌≢◌, ℕ, List, map, refl, sym, ◌∙◌, subst, inl, inr}
+use Rattle.std.specs.Prelude.{◌⊎◌, Option}
+use Rattle.rt_edits.specs.declared.edit.Edit.{Edit}
+use Rattle.rt_headline.specs.Sessions.{FinishedHold}
+use Rattle.rt_inbox.specs.declared.message.Msg.{Msg}
+use Rattle.rt_inbox.specs.declared.message.Post.{Post}
+use Rattle.rt_machine.specs.Sessions.{Broken, BrokeOff, CameAt, FinishedAt}
+use Rattle.rt_machine.specs.Short.{PartBy, PartOf}
+use Rattle.rt_machine.specs.declared.ended.Ended.{Ended}
+use Rattle.rt_machine.proofs.Short.{short_as}
+use Rattle.rt_model.specs.Causes.{Limits}
+use Rattle.rt_model.specs.Document as doc
+use Rattle.rt_model.specs.Laws.{IsLawful}
+use Rattle.rt_model.specs.Merge.{AreSized, HasFronts}
+use Rattle.rt_model.specs.Replay.{Input}
+use Rattle.rt_model.specs.Reports.{Report}
+use Rattle.rt_model.specs.State as model
+use Rattle.rt_model.specs.Tree.{Types}
+use Rattle.rt_model.specs.World.{Application}
+use Rattle.rt_reports.specs.declared.fault.Fault.{Fault}
+use Rattle.rt_reports.specs.declared.fault.Fault.TheVariants as faults
+use Rattle.rt_session.specs.Posted.{BreaksOff, TookFronts, drains_of, lists_of}
+use Rattle.rt_session.specs.Sittings.{IsWanting}
+use Rattle.rt_session.proofs.Held.{held_of}
+
+module _ {K : Types} (app : Application K) (props : K.Props) (inputs : List (Input K)) (limits : Limits) (before now : Option (List Edit))
+    (reports : List Report) (ended : Ended) (fault : Fault) where
+  -- it broke off, or memory is told to be wanting for a fault
+  pub breaks_off : FinishedHold app
+      → IsLawful K app
+      → ((cause : model.Fault) → FinishedAt app props inputs limits before now reports cause → CameAt app props inputs limits before now reports cause)
+      → ((taken edits : List doc.Edit) → PartBy ended taken edits → PartOf fault taken edits)
+      → (IsWanting ended → fault ≡ faults.OutOfMemory)
+      → BrokeOff app props inputs limits before now reports (PartBy ended)
+      ⊎ (IsWanting ended × (cause : model.Fault) × FinishedAt app props inputs limits before now reports cause)
+      → BreaksOff app props inputs limits before now reports fault
+  breaks_off law lawful came parts wants (inl broke) =
+      inl
+      (record {
+        broke = record {
+          wrote = broke.wrote;
+          told = broke.told;
+          ran_short = short_as app limits props inputs _ _ _ _ parts broke.ran_short;
+        };
+        held = held_of app props inputs limits _ _ _ law lawful broke.ran_short;
+      })
+  breaks_off law lawful came parts wants (inr covered) = inr (wants covered.0, covered.1, came covered.1 covered.2)
+
+-- where it wasn't
+fronts_other : (posts : List (List Post)) (drains : List (List Msg)) (ended : Ended) (fault : Fault)
+    → (IsWanting ended → fault ≡ faults.OutOfMemory)
+    → IsWanting ended ⊎ HasFronts (drains_of drains) (lists_of posts)
+    → fault ≢ faults.OutOfMemory
+    → HasFronts (drains_of drains) (lists_of posts)
+fronts_other posts drains ended fault wants (inl memory) other = absurd (other (wants memory))
+fronts_other posts drains ended fault wants (inr fronts) other = fronts
+
+-- the drains hold fronts, unless memory was wanting
+pub fronts_told : (posts said : List (List Post)) (most : ℕ) (drains : List (List Msg)) (ended : Ended) (fault : Fault)
+    → posts ≡ said
+    → (IsWanting ended → fault ≡ faults.OutOfMemory)
+    → AreSized most (drains_of drains)
+    → IsWanting ended ⊎ HasFronts (drains_of drains) (lists_of posts)
+    → TookFronts said most drains fault
+fronts_told posts said most drains ended fault same wants sized fronts =
+    record {
+      sized = sized;
+      fronts = λ other. subst (λ ps. HasFronts (drains_of drains) (lists_of ps)) same (fronts_other posts drains ended fault wants fronts other);
+    }

@@ -1,0 +1,4 @@
+pub mod Merges
+pub mod Posted
+pub mod Sittings
+pub mod Meetings
