@@ -1,0 +1,22 @@
+use Rattle.std.proofs.Common.{ℕ, ◌+◌, length, ap, ◌∙◌}
+use Rattle.std.specs.Prelude.{OnOk, Result, Ok, Err}
+use Rattle.rt_model.specs.Rendering.{passes}
+use Rattle.rt_state.specs.Mirror.{state_of}
+use Rattle.rt_rounds.proofs.passing.rendering_rest.Goals as goal
+
+pub returns : goal.returns
+returns g c =
+    record {
+      rests =
+          on c.pass_all.result c.pass_all.ensures
+          (
+          λ passed kept.
+          passed kept
+          ∙ ap (λ n. passes n (state_of kept c.look.new.self)) (λ i. c.len.ensures.items i + c.len-2.ensures.items i)
+          ∙ ap (λ x. passes (length x.seen + length x.queued) x) (c.in_ok-look.ensures kept)
+          );
+    }
+  where
+    on : {A E : Type 0} {X Y : Type 0} (r : Result A E) → OnOk r X → (X → Y) → OnOk r Y
+    on (Ok a) h f = f h
+    on (Err e) h f = tt

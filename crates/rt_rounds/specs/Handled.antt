@@ -1,0 +1,79 @@
+-- What an event that a program raises does on a machine, from one rest to the next.
+use Rattle.std.specs.Prelude.{◌≡◌, ℕ, Bool, true, List, [], Some, Result, Ok, Err}
+use Rattle.rt_calls.specs.Answers.{event_of}
+use Rattle.rt_model.specs.Lists.{Text}
+use Rattle.rt_model.specs.OneLog.{types}
+use Rattle.rt_model.specs.Tree.{Types}
+use Rattle.rt_model.specs.World.{Application}
+use Rattle.rt_model.specs.State as model
+use Rattle.rt_model.specs.Replay as replay
+use Rattle.rt_model.specs.Causes as causes
+use Rattle.rt_model.specs.Told.{Telling, telling}
+use Rattle.rt_model.specs.Asides.{Raised, resting, set_aside}
+use Rattle.rt_moves.specs.Moves.{AtRest}
+use Rattle.rt_moves.specs.Reports.{ToldSo}
+use Rattle.rt_doms.specs.Doms.{HandleRan, NoneOpens}
+use Rattle.rt_machine.specs.Machines.{machine_of, noted}
+use Rattle.rt_machine.specs.declared.machine.Machine.{Machine}
+use Rattle.rt_parts.specs.declared.event.Event.{Event}
+use Rattle.rt_state.specs.Mirror.{Unkept}
+use Rattle.rt_state.specs.Names.{fault_of}
+use Rattle.rt_state.specs.declared.names.Stop.{Stop}
+use Rattle.rt_state.specs.declared.names.Stop.TheVariants as stops
+use Rattle.rt_rounds.specs.Rounds.{RestsAt}
+
+module _ {K : Types} (app : Application K) (from : replay.Machine K) where
+  -- listeners of an event were called: within whatever limits this log leads to this machine, and nothing was written
+  pub record HeardSo (log : List replay.Entry) (m : replay.Machine K) : Type 0 where
+    -- no unit is begun
+    pub alone : NoneOpens log
+    pub rest : AtRest m
+    pub built : m.built ≡ true
+    pub so : (limits : causes.Limits) → ToldSo app limits from log (record (telling from) { machine = m })
+
+  -- one of them was cut by a fault
+  pub record HeardCut (log : List replay.Entry) (fault : model.Fault) : Type 0 where
+    pub alone : NoneOpens log
+    pub last : Telling K
+    pub so : (limits : causes.Limits) → ToldSo app limits from log last
+    pub dead : last.machine.dead ≡ Some fault
+
+module _ {P C Q V H T E L : Type 0} (app : Application (types C Q V H T E L)) (from : replay.Machine (types C Q V H T E L)) where
+  -- listeners were called as long as one waited, by what is answered
+  abbrev pub HearsAll : Machine P C Q V H T E L → Result (Unit {0}) Stop → Type 0
+  HearsAll m (Ok u) =
+      (h : Unkept (types C Q V H T E L))
+      × HeardSo app from (noted m) (machine_of h [] 0 m)
+      × (replay.waiting (machine_of h [] 0 m) ≡ [])
+  HearsAll m (Err stops.OutOfMemory) = Unit {0}
+  HearsAll m (Err (stops.Fault what)) = HeardCut app from (noted m) (fault_of what)
+
+module _ {C Q V H T E L : Type 0} (app : Application (types C Q V H T E L)) (w : model.State (types C Q V H T E L))
+    (name : Text) (payload : L) (element : ℕ) (bubbles prevented : Bool) where
+  -- those that hear it were called one after another, until none waited: no edit was written, and the event is as the last one
+  -- left it
+  pub record HeardBy (log : List replay.Entry) (last : replay.Machine (types C Q V H T E L)) (event : Event L) : Type 0 where
+    -- no unit is begun
+    pub alone : NoneOpens log
+    pub ran : (limits : causes.Limits) → HandleRan app limits w (Raised name payload element bubbles prevented) log [] last
+    pub left : last.event ≡ Some (event_of event)
+
+  -- one of them came to a fault
+  pub record HeardUpTo (fault : model.Fault) : Type 0 where
+    pub log : List replay.Entry
+    pub cut : HeardCut app (set_aside app (resting w) (Raised name payload element bubbles prevented)) log fault
+
+module _ {P C Q V H T E L : Type 0} (app : Application (types C Q V H T E L)) (w : model.State (types C Q V H T E L))
+    (name : Text) (payload : L) (element : ℕ) (bubbles prevented : Bool) where
+  -- the event was handled, and the machine rests
+  pub record HeardOn (event : Event L) (m : Machine P C Q V H T E L) : Type 0 where
+    pub log : List replay.Entry
+    pub last : replay.Machine (types C Q V H T E L)
+    pub heard : HeardBy app w name payload element bubbles prevented log last event
+    pub rests : RestsAt last.state m
+
+  -- by what is answered
+  abbrev pub HearsOn : Result (Event L) Stop → Machine P C Q V H T E L → Type 0
+  HearsOn (Ok event) m = HeardOn event m
+  HearsOn (Err stops.OutOfMemory) m = Unit {0}
+  HearsOn (Err (stops.Fault what)) m = HeardUpTo app w name payload element bubbles prevented (fault_of what)

@@ -1,0 +1,167 @@
+-- What a program's call does on a machine, from one rest to the next.
+use Rattle.std.specs.Prelude.{◌≡◌, ◌⊎◌, ℕ, true, List, [], ◌∷◌, map, length, Option, Some, None, Result, Ok, Err}
+use Rattle.rt_edits.specs.Sinks.{grown}
+use Rattle.rt_edits.specs.declared.edit.Edit.{Edit}
+use Rattle.rt_mirror.specs.Mirror.{edit_of}
+use Rattle.rt_model.specs.Document as document
+use Rattle.rt_model.specs.Next.{at_rest}
+use Rattle.rt_model.specs.OneLog.{types}
+use Rattle.rt_model.specs.Tree.{Types}
+use Rattle.rt_model.specs.World.{Application, Firsts}
+use Rattle.rt_model.specs.State as model
+use Rattle.rt_model.specs.Replay as replay
+use Rattle.rt_model.specs.Causes as causes
+use Rattle.rt_model.specs.Causes.{refusal, edits_at_refusal}
+use Rattle.rt_model.specs.Told.{Telling}
+use Rattle.rt_moves.specs.Reports.{ToldSo}
+use Rattle.rt_doms.specs.Doms.{Until, Events, Renders, NoneOpens, GivenBuildRan, CallRan, CallSpent, CallStopped, RenderRan, RenderStopped, left_by}
+use Rattle.rt_reports.specs.Seen.{entry_of}
+use Rattle.rt_reports.specs.declared.report.Report.{Report}
+use Rattle.rt_state.specs.Mirror.{Unkept, state_of}
+use Rattle.rt_machine.specs.Machines.{fault_in, noted}
+use Rattle.rt_machine.specs.Short.{Short, PartBy}
+use Rattle.rt_machine.specs.declared.ended.Ended.{Ended}
+use Rattle.rt_machine.specs.declared.machine.Machine.{Machine}
+
+-- but for the first entry of a log none begins a unit
+abbrev pub OpensFirst : List replay.Entry → Type 0
+OpensFirst [] = Unit {0}
+OpensFirst (e ∷ more) = NoneOpens more
+
+module _ {P C Q V H T E L : Type 0} where
+  -- nothing is at work, and no entry waits for a report
+  pub record Idle (m : Machine P C Q V H T E L) : Type 0 where
+    pub work : m.work ≡ []
+    pub hearing : m.hearing ≡ None
+    pub first : m.first ≡ None
+    pub course : (m.course).entries ≡ []
+
+  -- nothing is at work, and the machine stands for this state; the entries of the call are still there
+  pub record DoneAt (x : model.State (types C Q V H T E L)) (m : Machine P C Q V H T E L) : Type 0 where
+    pub work : m.work ≡ []
+    pub hearing : m.hearing ≡ None
+    pub first : m.first ≡ None
+    pub kept : Unkept (types C Q V H T E L)
+    pub is : state_of kept (m.scopes).state ≡ x
+
+  -- a machine at rest at a state of the definitions
+  pub record RestsAt (w : model.State (types C Q V H T E L)) (m : Machine P C Q V H T E L) : Type 0 where
+    pub idle : Idle m
+    pub kept : Unkept (types C Q V H T E L)
+    pub is : state_of kept (m.scopes).state ≡ w
+
+module _ {K : Types} (app : Application K) (limits : causes.Limits) (from : replay.Machine K) where
+  -- a build that began here came to a fault: a log at whose end the definitions refuse, and the sink took the edits up to there
+  pub record CutFrom (before after : Option (List Edit)) (fault : model.Fault) : Type 0 where
+    pub wrote : List Edit
+    pub told : after ≡ grown before wrote
+    pub log : List replay.Entry
+    -- no entry but the build begins a unit
+    pub alone : OpensFirst log
+    pub last : Telling K
+    pub so : ToldSo app limits from log last
+    pub cause : refusal limits last.machine ≡ Some fault
+    pub edits_are : edits_at_refusal app limits last ≡ map edit_of wrote
+
+  -- it broke off, for want of memory or at its sink: the sink took the edits of the units that were finished, and a part of those
+  -- of the one that was cut
+  pub record BrokeFrom (before after : Option (List Edit)) (ended : Ended) : Type 0 where
+    pub wrote : List Edit
+    pub told : after ≡ grown before wrote
+    pub short : Short app limits (PartBy ended) from (map edit_of wrote)
+
+module _ {K : Types} (app : Application K) (limits : causes.Limits) (w : model.State K) where
+  -- what is proved of a call that ended, by what it goes up to: a render goes up to there in its two parts
+  abbrev pub RanBy : Until → List replay.Entry → List document.Edit → replay.Machine K → Type 0
+  RanBy Renders log edits v = RenderRan app limits w log edits v
+  RanBy until log edits v = CallRan app limits until w log edits v
+
+  -- and of one that came to a fault: a render stops while events are processed, or after that
+  abbrev pub StoppedBy : Until → List replay.Entry → List document.Edit → model.Fault → Type 0
+  StoppedBy Renders log edits fault = CallStopped app limits Events w log edits fault ⊎ RenderStopped app limits w log edits fault
+  StoppedBy until log edits fault = CallStopped app limits until w log edits fault
+
+module _ {P C Q V H T E L : Type 0} (app : Application (types C Q V H T E L)) (limits : causes.Limits)
+    (w : model.State (types C Q V H T E L)) where
+  -- a call that takes unit after unit ended: its report is that of what it did, the sink took its edits, and the machine rests
+  -- at the state as the test for the end left it
+  pub record RanOn (until : Until) (before after : Option (List Edit)) (report : Report) (m : Machine P C Q V H T E L) :
+      Type 0 where
+    pub wrote : List Edit
+    pub told : after ≡ grown before wrote
+    pub counted : length wrote ≡ report.edits
+    pub last : replay.Machine (types C Q V H T E L)
+    pub ran : RanBy app limits w until (map entry_of report.log) (map edit_of wrote) last
+    pub enabled : report.default_enabled ≡ true
+    pub rests : RestsAt (left_by until last.state) m
+
+  -- units were spent: the machine rests, with what is owed
+  pub record SpentOn (log : List replay.Entry) (edits : List document.Edit) (m : Machine P C Q V H T E L) : Type 0 where
+    pub last : replay.Machine (types C Q V H T E L)
+    pub spent : CallSpent app limits w log edits last
+    pub rests : RestsAt (at_rest last.state) m
+
+  -- it came to a fault of the definitions
+  pub record StoppedOn (until : Until) (before after : Option (List Edit)) (fault : model.Fault)
+      (m : Machine P C Q V H T E L) : Type 0 where
+    pub wrote : List Edit
+    pub told : after ≡ grown before wrote
+    pub log : List replay.Entry
+    pub stopped : StoppedBy app limits w until log (map edit_of wrote) fault
+    pub spent : (units : ℕ) → fault ≡ model.OutOfTurns units → SpentOn log (map edit_of wrote) m
+
+  -- before its report is made: its entries are those of the machine
+  pub record WentTo (until : Until) (before after : Option (List Edit)) (count : ℕ) (m : Machine P C Q V H T E L) : Type 0 where
+    pub wrote : List Edit
+    pub told : after ≡ grown before wrote
+    pub counted : length wrote ≡ count
+    pub last : replay.Machine (types C Q V H T E L)
+    pub ran : RanBy app limits w until (noted m) (map edit_of wrote) last
+    pub enabled : m.default_enabled ≡ true
+    pub rests : DoneAt (left_by until last.state) m
+
+  pub record SpentTo (log : List replay.Entry) (edits : List document.Edit) (m : Machine P C Q V H T E L) : Type 0 where
+    pub last : replay.Machine (types C Q V H T E L)
+    pub spent : CallSpent app limits w log edits last
+    pub rests : DoneAt (at_rest last.state) m
+
+  pub record WentUpTo (until : Until) (before after : Option (List Edit)) (fault : model.Fault) (m : Machine P C Q V H T E L) :
+      Type 0 where
+    pub wrote : List Edit
+    pub told : after ≡ grown before wrote
+    pub stopped : StoppedBy app limits w until (noted m) (map edit_of wrote) fault
+    pub spent : (units : ℕ) → fault ≡ model.OutOfTurns units → SpentTo (noted m) (map edit_of wrote) m
+
+  abbrev pub WentOn : Until → Option (List Edit) → Option (List Edit) → Result ℕ Ended → Machine P C Q V H T E L → Type 0
+  WentOn until before after (Ok count) m = WentTo until before after count m
+  WentOn until before after (Err ended) m =
+      (fault : model.Fault) → fault_in ended ≡ Some fault → WentUpTo until before after fault m
+
+  -- by what is answered
+  abbrev pub RunsOn : Until → Option (List Edit) → Option (List Edit) → Result Report Ended → Machine P C Q V H T E L → Type 0
+  RunsOn until before after (Ok report) m = RanOn until before after report m
+  RunsOn until before after (Err ended) m =
+      (fault : model.Fault) → fault_in ended ≡ Some fault → StoppedOn until before after fault m
+
+module _ {P C Q V H T E L : Type 0} (app : Application (types C Q V H T E L)) (limits : causes.Limits) (props : Q)
+    (firsts : Firsts) (provided : List (ℕ × V)) where
+  -- the build ended: its report, what the sink took, and the machine rests where the build ended
+  pub record BuiltOn (before after : Option (List Edit)) (report : Report) (m : Machine P C Q V H T E L) : Type 0 where
+    pub wrote : List Edit
+    pub told : after ≡ grown before wrote
+    pub counted : length wrote ≡ report.edits
+    pub last : replay.Machine (types C Q V H T E L)
+    pub ran : GivenBuildRan app limits props firsts provided (map entry_of report.log) (map edit_of wrote) last
+    -- no entry but the build begins a unit
+    pub alone : OpensFirst (map entry_of report.log)
+    pub enabled : report.default_enabled ≡ true
+    pub rests : RestsAt last.state m
+
+module _ {K : Types} (app : Application K) (limits : causes.Limits) (props : K.Props) (firsts : Firsts)
+    (provided : List (ℕ × K.Value)) where
+  -- the build came to a fault of the definitions, or broke off
+  abbrev pub BuildCut : Option (List Edit) → Option (List Edit) → Ended → Type 0
+  BuildCut before after ended =
+      ((fault : model.Fault) → fault_in ended ≡ Some fault
+      → CutFrom app limits (replay.start_with app props firsts provided []) before after fault)
+      × (fault_in ended ≡ None → BrokeFrom app limits (replay.start_with app props firsts provided []) before after ended)

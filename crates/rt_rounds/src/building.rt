@@ -1,0 +1,95 @@
+//! The build alone, and the end of what is at work.
+ghost use Rattle.std.specs.Prelude.{◌≡◌, ◌<◌, true, false, [], None, IfOk, IfErr};
+ghost use Rattle.rt_model.specs.Replay.{first_state, provided_all};
+ghost use Rattle.rt_model.specs.World.{Firsts};
+ghost use Rattle.rt_machine.specs.Ends.{Ends, Took};
+ghost use Rattle.rt_machine.specs.Machines.{IsFresh, fault_in};
+ghost use Rattle.rt_machine.specs.Stands.{Broke, StandsAt};
+ghost use Rattle.rt_rounds.specs.Going.{FinishesAs};
+ghost use Rattle.rt_reports.specs.Counted.{CountsLog};
+ghost use Rattle.rt_reports.specs.Seen.{limits_of};
+ghost use Rattle.rt_rounds.specs.Rounds.{BuildCut, BuiltOn};
+ghost use Rattle.rt_state.specs.Mirror.{at_first, state_of};
+
+use rt_calls::{App, Calls};
+use rt_edits::WriteMutations;
+use rt_machine::{Ended, Machine, sum};
+use rt_reports::{Entry, Limits, Report};
+use rt_state::Stop;
+
+/// Builds, and ends with the build: nothing that is owed then is taken. Its report.
+pub fn build_report<A: App, M: WriteMutations>(
+    machine: &mut Machine<A>,
+    app: &A,
+    calls: &mut Calls,
+    limits: Limits,
+    sink: &mut M,
+) -> Result<Report, Ended>
+    // From whatever numbers on, and whatever the root provides; elements have no number below 1.
+    ensures builds { IfOk result (λ report. (props : _) (firsts : Firsts) (provided : _) →
+        0 < firsts.elements → IsFresh machine.old →
+        state_of at_first machine.old.scopes.state ≡ provided_all (A.meaning app.now)
+        (first_state (A.meaning app.now).root props firsts) provided →
+        BuiltOn (A.meaning app.now) (limits_of limits) props firsts provided
+        (M.taken sink.old) (M.taken sink.new) report machine.new) }
+    ensures cut { IfErr result (λ ended. (props : _) (firsts : Firsts) (provided : _) →
+        0 < firsts.elements → IsFresh machine.old →
+        state_of at_first machine.old.scopes.state ≡ provided_all (A.meaning app.now)
+        (first_state (A.meaning app.now).root props firsts) provided →
+        BuildCut (A.meaning app.now) (limits_of limits) props firsts provided
+        (M.taken sink.old) (M.taken sink.new) ended) }
+    ensures counts { IfOk result (λ report. CountsLog report) }
+    ensures took { IfOk result (λ report. Took (M.taken sink.old) (M.taken sink.new)
+        (M.faults sink.old) (M.faults sink.new) report.edits) }
+    ensures err { IfErr result (λ ended. Ends limits 0
+        (M.taken sink.old) (M.taken sink.new) (M.faults sink.old) (M.faults sink.new) ended) }
+{
+    machine.build(app, calls)?;
+    let edits = finish(machine, app, calls, limits, sink)?;
+    Ok(machine.report(Entry::Build, edits)?)
+}
+
+/// Goes on with the build or the unit at work until it has ended. The answer is how many edits were
+/// written.
+pub(crate) fn finish<A: App, M: WriteMutations>(
+    machine: &mut Machine<A>,
+    app: &A,
+    calls: &mut Calls,
+    limits: Limits,
+    sink: &mut M,
+) -> Result<u64, Ended>
+    ensures finishes { (r : _) (edits : _) →
+        StandsAt (A.meaning app.now) (limits_of limits) r edits machine.old →
+        FinishesAs (A.meaning app.now) (limits_of limits) r edits
+        (M.taken sink.old) (M.taken sink.new) machine.old machine.new result }
+    // For want of memory, or at its sink.
+    ensures breaks { IfErr result (λ ended. (r : _) (edits : _) → fault_in ended ≡ None →
+        StandsAt (A.meaning app.now) (limits_of limits) r edits machine.old →
+        Broke (A.meaning app.now) (limits_of limits) r edits
+        (M.taken sink.old) (M.taken sink.new) ended) }
+    ensures ok { IfOk result (λ taken. Took (M.taken sink.old) (M.taken sink.new)
+        (M.faults sink.old) (M.faults sink.new) taken) }
+    ensures err { IfErr result (λ ended. Ends limits 0
+        (M.taken sink.old) (M.taken sink.new) (M.faults sink.old) (M.faults sink.new) ended) }
+{
+    let mut edits = 0u64;
+    for _turn in 0..u64::MAX {
+        if rests(machine) {
+            return Ok(edits);
+        }
+        // Something is at work here, so that a turn has something to do.
+        let Some(written) = machine.turn(app, calls, limits, sink)? else {
+            return Err(Ended::Run(Stop::OutOfMemory));
+        };
+        edits = sum(edits, written)?;
+    }
+    Err(Ended::Run(Stop::OutOfMemory))
+}
+
+/// Whether neither the build nor a unit is at work.
+pub(crate) fn rests<A: App>(machine: &Machine<A>) -> bool
+    ensures rests { result ≡ true → (machine.now.work ≡ []) × (machine.now.first ≡ None) }
+    ensures works { result ≡ false → machine.now.work ≡ [] → machine.now.first ≡ None → ⊥ }
+{
+    machine.work.is_empty() && machine.first.is_none()
+}

@@ -1,0 +1,68 @@
+//! Up to where a call takes unit after unit.
+ghost use Rattle.std.specs.Prelude.{◌≡◌, OnOk};
+ghost use Rattle.rt_doms.specs.Doms.{ends_by, left_by};
+ghost use Rattle.rt_model.specs.Next.{at_rest};
+ghost use Rattle.rt_rounds.specs.Untils.{until_of};
+ghost use Rattle.rt_state.specs.Mirror.{state_of};
+
+use crate::owed::{finds, owes};
+use rt_parts::Parts;
+use rt_state::State;
+use rt_values::OutOfMemory;
+use std::alloc::Global;
+
+/// Up to where a call goes on.
+#[derive(Clone, Copy, Debug, PartialEq, Eq)]
+pub enum Until {
+    /// A scope is seen, or nothing is owed.
+    Events,
+    /// Nothing is seen or queued.
+    Renders,
+    /// Nothing is owed.
+    Settles,
+}
+
+/// Whether a call ends here. The state stays as it is.
+pub(crate) fn ends<P: Parts>(state: &State<P>, until: Until) -> bool
+    ensures { (g : _) → result ≡ ends_by (until_of until) (state_of g state.now) }
+{
+    match until {
+        Until::Events => !state.seen.is_empty() || !owes(state),
+        Until::Renders => !finds(state),
+        Until::Settles => !owes(state),
+    }
+}
+
+/// Leaves the state as the test for the end does.
+pub(crate) fn leave<P: Parts>(
+    alloc: Global,
+    state: &mut State<P>,
+    until: Until,
+) -> Result<(), OutOfMemory>
+    ensures { OnOk result ((g : _) →
+        state_of g state.new ≡ left_by (until_of until) (state_of g state.old)) }
+{
+    match until {
+        Until::Events => {
+            if state.seen.is_empty() {
+                rest(alloc, state)
+            } else {
+                Ok(())
+            }
+        }
+        Until::Renders => {
+            let _next = state.drop_paused();
+            Ok(())
+        }
+        Until::Settles => rest(alloc, state),
+    }
+}
+
+/// Leaves the state as the test for what comes next does.
+fn rest<P: Parts>(alloc: Global, state: &mut State<P>) -> Result<(), OutOfMemory>
+    ensures { OnOk result ((g : _) →
+        state_of g state.new ≡ at_rest (state_of g state.old)) }
+{
+    let _next = state.at_rest(alloc)?;
+    Ok(())
+}
