@@ -1,12 +1,7 @@
-mod Ending
-pub mod Held
-mod Agreeing
-mod Cuts
-mod Keeping
-mod Going
-mod Building
-mod Failing
-mod Holding
-mod Gathering
-mod Telling
-mod Owning
+mod Looked
+mod Standing
+mod Ran
+mod Failed
+mod Polled
+mod Answered
+mod Rooted

@@ -1,4 +1,4 @@
-pub mod Merges
-pub mod Posted
-pub mod Sittings
-pub mod Meetings
+pub mod Doms
+pub mod Calls
+pub mod Runs
+pub mod Handles

@@ -1,15 +1,26 @@
-//! The component runtime: a session builds an application, and then takes in one input after
-//! another.
+//! The component runtime: a runtime that a program keeps and calls, and a session, which builds an
+//! application and then takes in one input after another.
 #![tactic(auto)]
 
-pub mod app;
-mod meeting;
-mod merges;
-mod posted;
-mod runner;
-mod sitting;
+mod asking;
+mod contexts;
+mod dom;
+mod errors;
+mod events;
+mod looking;
+mod making;
+mod poll;
+mod refusal;
+mod rendering;
+mod suspense;
+mod tasks;
 
-pub use merges::merges_agree;
-pub use posted::{Posted, PostedFault, session_posted};
+pub use dom::VirtualDom;
+pub use poll::Poll;
+pub use refusal::DomFault;
+pub use rt_boundary::{ErrorContext, SuspenseContext};
+pub use rt_inbox::Drained;
 pub use rt_reports::{Counter, Entry, Fault, Input, Limits, Msg, Post, Report, SessionFault};
-pub use runner::session;
+pub use rt_scopes::{ScopeState, Scopes};
+pub use rt_session::{Posted, PostedFault, app, session, session_posted};
+pub use tasks::{TaskCalls, task_new};

@@ -1,0 +1,172 @@
+//! What a call answered, in lines.
+
+use rt_edits::{Edit, Mutations};
+use rt_print::{edit_line, report_line};
+use rt_script_values::{Content, Value};
+use rt_values::{List, OutOfMemory, ScopeId, Task};
+use rt_vdom::{DomFault, Fault, Poll, Report};
+use std::alloc::{AllocError, Global};
+
+pub(crate) fn put_value(alloc: Global, out: &mut String, value: &Value) -> Result<(), AllocError> {
+    match value.content() {
+        Content::None => out.push_str("n"),
+        Content::Number(number) => out.push_str(format!(in alloc; "i{number}")?.as_str()),
+        Content::Text(text) => {
+            out.push_str("s")?;
+            out.push_str(text.as_str())
+        }
+        Content::Cell(cell) => out.push_str(format!(in alloc; "c{cell}")?.as_str()),
+        Content::Task(task) => out.push_str(format!(in alloc; "t{task}")?.as_str()),
+    }
+}
+
+pub(crate) fn put_fault(
+    alloc: Global,
+    out: &mut String,
+    fault: DomFault,
+) -> Result<(), AllocError> {
+    match fault {
+        DomFault::NotBuilt => out.push_str("NotBuilt\n"),
+        DomFault::AlreadyBuilt => out.push_str("AlreadyBuilt\n"),
+        DomFault::Failed => out.push_str("Failed\n"),
+        DomFault::Run(fault) => put_run(alloc, out, fault),
+    }
+}
+
+fn put_run(alloc: Global, out: &mut String, fault: Fault) -> Result<(), AllocError> {
+    let said = match fault {
+        Fault::OutOfMemory => format!(in alloc; "fault 1\n")?,
+        Fault::SinkFault => format!(in alloc; "fault 2\n")?,
+        Fault::OutOfTurns { units } => format!(in alloc; "fault 3 {units}\n")?,
+        Fault::TooDeep { height } => format!(in alloc; "fault 4 {height}\n")?,
+        Fault::IdsExhausted { what: _ } => format!(in alloc; "fault 5\n")?,
+        Fault::HookChanged {
+            scope,
+            index,
+            kept,
+            asked,
+        } => format!(in alloc; "fault 6 {} {index} {kept} {asked}\n", scope.0)?,
+        Fault::NoSuchTask { scope, task } => format!(in alloc; "fault 7 {} {}\n", scope.0, task.0)?,
+        Fault::BadNode { scope } => format!(in alloc; "fault 8 {}\n", scope.0)?,
+    };
+    out.push_str(said.as_str())
+}
+
+fn put_bytes(out: &mut String, bytes: &[u8]) -> Result<(), AllocError> {
+    match str::from_utf8(bytes) {
+        Ok(text) => out.push_str(text),
+        Err(_other) => out.push_str("?\n"),
+    }
+}
+
+pub(crate) fn put_edits(alloc: Global, out: &mut String, edits: &[Edit]) -> Result<(), AllocError> {
+    for edit in edits {
+        match edit_line(alloc, edit) {
+            Ok(line) => put_bytes(out, line.as_slice())?,
+            Err(OutOfMemory) => out.push_str("memory\n")?,
+        }
+    }
+    Ok(())
+}
+
+pub(crate) fn put_report(
+    alloc: Global,
+    out: &mut String,
+    report: &Report,
+) -> Result<(), AllocError> {
+    match report_line(alloc, 0, report) {
+        Ok(line) => put_bytes(out, line.as_slice()),
+        Err(OutOfMemory) => out.push_str("memory\n"),
+    }
+}
+
+pub(crate) fn put_done(
+    alloc: Global,
+    out: &mut String,
+    done: Result<(), DomFault>,
+) -> Result<(), AllocError> {
+    match done {
+        Ok(()) => out.push_str("ok\n"),
+        Err(fault) => put_fault(alloc, out, fault),
+    }
+}
+
+pub(crate) fn put_flag(
+    alloc: Global,
+    out: &mut String,
+    done: Result<bool, DomFault>,
+) -> Result<(), AllocError> {
+    match done {
+        Ok(true) => out.push_str("true\n"),
+        Ok(false) => out.push_str("false\n"),
+        Err(fault) => put_fault(alloc, out, fault),
+    }
+}
+
+pub(crate) fn put_poll(
+    alloc: Global,
+    out: &mut String,
+    done: Result<Poll<()>, DomFault>,
+) -> Result<(), AllocError> {
+    match done {
+        Ok(Poll::Ready(())) => out.push_str("Ready\n"),
+        Ok(Poll::Pending) => out.push_str("Pending\n"),
+        Err(fault) => put_fault(alloc, out, fault),
+    }
+}
+
+pub(crate) fn put_reported(
+    alloc: Global,
+    out: &mut String,
+    sink: &Mutations,
+    done: Result<Report, DomFault>,
+) -> Result<(), AllocError> {
+    put_edits(alloc, out, sink.edits())?;
+    match done {
+        Ok(report) => put_report(alloc, out, &report),
+        Err(fault) => put_fault(alloc, out, fault),
+    }
+}
+
+pub(crate) fn put_vec(
+    alloc: Global,
+    out: &mut String,
+    done: Result<Mutations, DomFault>,
+) -> Result<(), AllocError> {
+    match done {
+        Ok(sink) => {
+            put_edits(alloc, out, sink.edits())?;
+            out.push_str("vec\n")
+        }
+        Err(fault) => put_fault(alloc, out, fault),
+    }
+}
+
+pub(crate) fn put_task(
+    alloc: Global,
+    out: &mut String,
+    done: Result<Option<Task>, DomFault>,
+) -> Result<(), AllocError> {
+    match done {
+        Ok(Some(task)) => out.push_str(format!(in alloc; "task {}\n", task.0)?.as_str()),
+        Ok(None) => out.push_str("none\n"),
+        Err(fault) => put_fault(alloc, out, fault),
+    }
+}
+
+pub(crate) fn put_resolved(
+    alloc: Global,
+    out: &mut String,
+    done: Result<List<ScopeId>, DomFault>,
+) -> Result<(), AllocError> {
+    match done {
+        Ok(resolved) => {
+            out.push_str("resolved")?;
+            for scope in resolved.as_slice() {
+                out.push_str(format!(in alloc; " {}", scope.0)?.as_str())?;
+            }
+            out.push_str("\n")
+        }
+        Err(fault) => put_fault(alloc, out, fault),
+    }
+}

@@ -1,0 +1,65 @@
+-- What stands of a dom after a fault.
+use Rattle.std.proofs.Common.{ℕ, Bool, true, false, ◌≡◌, refl, sym, ap, ◌∙◌}
+use Rattle.std.specs.Prelude.{Option, Some, None, if◌then◌else◌}
+use Rattle.rt_model.specs.State as model
+use Rattle.rt_model.proofs.Maps.{pick_true, pick_false}
+use Rattle.rt_machine.specs.Machines.{fault_in}
+use Rattle.rt_machine.specs.declared.ended.Ended.{Ended}
+use Rattle.rt_machine.specs.declared.ended.Ended.TheVariants as ends
+use Rattle.rt_reports.specs.Seen.{fault_of}
+use Rattle.rt_reports.specs.declared.fault.Fault.{Fault}
+use Rattle.rt_reports.specs.declared.fault.Fault.TheVariants as faults
+use Rattle.rt_state.specs.declared.names.Fault.TheVariants as causes
+use Rattle.rt_state.specs.declared.names.Stop.{Stop}
+use Rattle.rt_state.specs.declared.names.Stop.TheVariants as stops
+use Rattle.rt_vdom.specs.Calls.{FailsAt, spent_in}
+use Rattle.rt_vdom.specs.declared.dom.Stage.{Stage}
+use Rattle.rt_vdom.specs.declared.dom.Stage.TheVariants as stages
+use Rattle.rt_vdom.specs.declared.dom.VirtualDom.{VirtualDom}
+use Rattle.rt_vdom.specs.declared.refusal.DomFault.TheVariants as refusals
+
+-- a run's own end spends no units
+pub run_unspent : (stop : Stop) → false ≡ spent_in (fault_in (ends.Run stop))
+run_unspent stops.OutOfMemory = refl
+run_unspent (stops.Fault (causes.IdsExhausted what)) = refl
+run_unspent (stops.Fault (causes.HookChanged scope index kept asked)) = refl
+run_unspent (stops.Fault (causes.NoSuchTask scope task)) = refl
+run_unspent (stops.Fault (causes.BadNode scope)) = refl
+
+module _ {P C Q V H T E L : Type 0} (new : VirtualDom P C Q V H T E L) where
+  fails_at : (fault : Fault) → (spent_in (fault_of fault) ≡ true → new.stage ≡ stages.Built)
+      → (spent_in (fault_of fault) ≡ false → new.stage ≡ stages.Failed)
+      → FailsAt new (refusals.Run fault)
+  fails_at (faults.OutOfTurns units) spent failed = spent refl
+  fails_at faults.OutOfMemory spent failed = failed refl
+  fails_at faults.SinkFault spent failed = failed refl
+  fails_at (faults.TooDeep height) spent failed = failed refl
+  fails_at (faults.IdsExhausted what) spent failed = failed refl
+  fails_at (faults.HookChanged scope index kept asked) spent failed = failed refl
+  fails_at (faults.NoSuchTask scope task) spent failed = failed refl
+  fails_at (faults.BadNode scope) spent failed = failed refl
+
+  -- by the stage that is left, of the fault that is answered
+  pub fails_as : (ended : Ended) (fault : Fault) (spent : Bool) → fault_of fault ≡ fault_in ended → spent ≡ spent_in (fault_in ended)
+      → (old : Stage) → old ≡ stages.Built → new.stage ≡ (if spent then old else stages.Failed)
+      → FailsAt new (refusals.Run fault)
+  fails_as ended fault spent same says old built is =
+      fails_at fault
+      (
+      λ q.
+      let spends : spent ≡ true = says ∙ ap (λ (o : Option model.Fault). spent_in o) (sym same) ∙ q in
+      is ∙ pick_true old stages.Failed spends ∙ built
+      )
+      (
+      λ q.
+      let no_more : spent ≡ false = says ∙ ap (λ (o : Option model.Fault). spent_in o) (sym same) ∙ q in
+      is ∙ pick_false old stages.Failed no_more
+      )
+
+-- where units are spent the stage stays
+pub stage_kept : (ended : Ended) (spent : Bool) (old new : Stage) (units : ℕ) → spent ≡ spent_in (fault_in ended)
+    → fault_in ended ≡ Some (model.OutOfTurns units)
+    → new ≡ (if spent then old else stages.Failed)
+    → new ≡ old
+stage_kept ended spent old new units says out is =
+    let spends : spent ≡ true = says ∙ ap (λ (o : Option model.Fault). spent_in o) out in is ∙ pick_true old stages.Failed spends

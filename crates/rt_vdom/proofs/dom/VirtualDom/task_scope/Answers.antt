@@ -1,0 +1,25 @@
+-- By the row that was found.
+use Rattle.std.proofs.Common.{Some, None}
+use Rattle.rt_state.specs.Mirror.{task_of}
+use Rattle.rt_state.proofs.Each.{found-each}
+use Rattle.rt_vdom.specs.Doms.{StateIn}
+use Rattle.rt_vdom.proofs.Looked.{scope_there, scope_gone}
+use Rattle.rt_vdom.proofs.dom.VirtualDom.task_scope.Goals as goal
+
+pub returns-in-Some : goal.returns-in-Some
+returns-in-Some g c =
+    record {
+      scope =
+          λ kept.
+          scope_there (StateIn kept c.args.self.now) c.args.task.0 (task_of c.in-Some.row.now)
+          (found-each task_of ((c.args.self.now.machine).scopes).state.tasks c.args.task.0 (Some c.in-Some.row.now) c.in-Some.ensures.value);
+    }
+
+pub returns-in-None : goal.returns-in-None
+returns-in-None g c =
+    record {
+      scope =
+          λ kept.
+          scope_gone (StateIn kept c.args.self.now) c.args.task.0
+          (found-each task_of ((c.args.self.now.machine).scopes).state.tasks c.args.task.0 None c.in-None.ensures.value);
+    }

@@ -1,0 +1,54 @@
+//! What a program provides to all scopes.
+
+ghost use Rattle.std.specs.Prelude.{◌≡◌, IfOk, IfErr, OnOk};
+ghost use Rattle.rt_reports.specs.declared.fault.Fault.TheVariants as faults;
+ghost use Rattle.rt_vdom.specs.Calls.{Keeps, LeavesAll, ProvidesAtRoot, RefusedFailed, WantsMemory};
+
+use crate::dom::{Stage, VirtualDom};
+use crate::refusal::DomFault;
+use rt_calls::App;
+use rt_reports::Fault;
+use rt_values::OutOfMemory;
+
+impl<A: App> VirtualDom<A> {
+    /// The dom whose root wrapper provides a value of a kind. A refusal drops the dom.
+    pub fn with_root_context(self, kind: u32, value: A::Value) -> Result<VirtualDom<A>, Fault>
+        ensures provided { IfOk result (λ dom.
+            ProvidesAtRoot (λ app. A.meaning app) kind value self dom) }
+        ensures owned { IfOk result (λ dom. Keeps self dom) }
+        ensures cause { IfErr result (λ fault. fault ≡ faults.OutOfMemory) }
+    {
+        let mut dom = self;
+        dom.leads();
+        let alloc = dom.machine.scopes.alloc;
+        dom.machine
+            .scopes
+            .state
+            .provide_asked(alloc, 0, kind, value)?;
+        Ok(dom)
+    }
+
+    /// The root wrapper provides a value of a kind, before the build too.
+    pub fn provide_root_context(&mut self, kind: u32, value: A::Value) -> Result<(), DomFault>
+        ensures provided { OnOk result
+            (ProvidesAtRoot (λ app. A.meaning app) kind value self.old self.new) }
+        ensures refused { RefusedFailed WantsMemory self.old self.new result }
+        ensures owned { Keeps self.old self.new }
+        ensures kept { LeavesAll self.old self.new result }
+    {
+        self.leads();
+        let alloc = self.machine.scopes.alloc;
+        match self.stage {
+            Stage::Failed => Err(DomFault::Failed),
+            _ => match self
+                .machine
+                .scopes
+                .state
+                .provide_asked(alloc, 0, kind, value)
+            {
+                Ok(()) => Ok(()),
+                Err(OutOfMemory) => Err(DomFault::Run(Fault::OutOfMemory)),
+            },
+        }
+    }
+}

@@ -1,0 +1,67 @@
+//! Events.
+
+ghost use Rattle.std.specs.Prelude.{◌≡◌, IfErr};
+ghost use Rattle.rt_vdom.specs.Calls.{CausesAt, FailsOn, Keeps, Ran, WantsBuilt};
+ghost use Rattle.rt_vdom.specs.Handles.{Handles};
+
+use crate::dom::{Stage, VirtualDom};
+use crate::refusal::DomFault;
+use rt_calls::App;
+use rt_machine::Ended;
+use rt_parts::Event;
+use rt_rounds::handle;
+use rt_values::{ElementId, OutOfMemory, Text};
+
+impl<A: App> VirtualDom<A> {
+    /// Calls the listeners that hear an event at an element: where it propagates from the element
+    /// outwards until one stops it, else those of the element alone. The event as the last one left it.
+    pub fn handle_event(
+        &mut self,
+        name: &str,
+        event: Event<A::Payload>,
+        element: ElementId,
+    ) -> Result<Event<A::Payload>, DomFault>
+        ensures handles { Handles (λ app. A.meaning app) name.now event element.0
+            self.old self.new result }
+        ensures refused { WantsBuilt Ran self.old self.new result }
+        ensures owned { Keeps self.old self.new }
+        ensures fails { FailsOn self.new result }
+        ensures caused { IfErr result (λ fault. CausesAt self.old.limits 0 0 fault) }
+    {
+        match self.stage {
+            Stage::Failed => Err(DomFault::Failed),
+            Stage::Fresh => Err(DomFault::NotBuilt),
+            Stage::Built => match Text::from_str(self.machine.scopes.alloc, name) {
+                Ok(name) => self.hear(&name, event, element),
+                Err(OutOfMemory) => Err(self.out_of_memory()),
+            },
+        }
+    }
+
+    /// The same, by a text.
+    fn hear(
+        &mut self,
+        name: &Text,
+        event: Event<A::Payload>,
+        element: ElementId,
+    ) -> Result<Event<A::Payload>, DomFault>
+        ensures handles { Handles (λ app. A.meaning app) name.now event element.0
+            self.old self.new result }
+        ensures refused { IfErr result (λ fault. Ran fault) }
+        ensures owned { Keeps self.old self.new }
+        ensures fails { self.old.stage ≡ Stage.Built → FailsOn self.new result }
+        ensures caused { IfErr result (λ fault. CausesAt self.old.limits 0 0 fault) }
+    {
+        match handle(
+            &mut self.machine,
+            &self.app,
+            &mut self.calls,
+            name,
+            event,
+            element,
+        ) {
+            Ok(event) => Ok(event),
+            Err(stop) => Err(self.ended(Ended::Run(stop))),
+        }
+    }
+}

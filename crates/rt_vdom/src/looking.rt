@@ -1,0 +1,164 @@
+//! What a program asks of a dom, without memory.
+ghost use Rattle.std.specs.Prelude.{◌≡◌, IfOk, IfSome, is_some, option_map, option_and_then};
+ghost use Rattle.std.specs.Option.{option_copied};
+ghost use Rattle.rt_model.specs.Lists.{at};
+ghost use Rattle.rt_model.specs.Queries as queries;
+ghost use Rattle.rt_model.specs.State as model;
+ghost use Rattle.rt_model.specs.View as views;
+ghost use Rattle.rt_mirror.specs.Mirror.{forest_of};
+ghost use Rattle.rt_calls.specs.Calls.{number_of};
+ghost use Rattle.rt_state.specs.Outputs.{scope_seen};
+ghost use Rattle.rt_vdom.specs.Doms.{HasRoot, IsCurrent, StateIn};
+
+use crate::dom::VirtualDom;
+use rt_boundary::SuspenseContext;
+use rt_calls::App;
+use rt_edits::DocNode;
+use rt_queries::{is_descendant, provided_above, provided_here};
+use rt_scopes::{ScopeState, Scopes, get_scope};
+use rt_shown::{Look, nodes_of};
+use rt_values::{List, OutOfMemory, ScopeId, Task};
+
+impl<A: App> VirtualDom<A> {
+    /// A live scope. None where it isn't live.
+    pub fn get_scope(&self, id: ScopeId) -> Option<ScopeState<'_, A>>
+        ensures scope { (g : _) →
+            option_map scope_seen result ≡ at (StateIn g self.now).scopes id.0 }
+        ensures number { IfSome result (λ state. state.id ≡ id) }
+    {
+        get_scope(&self.machine.scopes.state, id)
+    }
+
+    /// The root wrapper, scope 0. None at most of a dom that has failed.
+    pub fn base_scope(&self) -> Option<ScopeState<'_, A>>
+        ensures scope { (g : _) → option_map scope_seen result ≡ at (StateIn g self.now).scopes 0 }
+        ensures number { IfSome result (λ state. (state.id).0 ≡ 0) }
+        ensures live { HasRoot (λ app. A.meaning app) (is_some result) self.now }
+    {
+        get_scope(&self.machine.scopes.state, ScopeId(0))
+    }
+
+    /// All that the dom keeps. Wherever it stands for a state each live scope is current, or it is owed a
+    /// run, or was passed over.
+    pub fn scopes(&self) -> &Scopes<A>
+        ensures scopes { result.now ≡ self.now.machine.scopes }
+        ensures current { IsCurrent (λ app. A.meaning app) self.now }
+    {
+        &self.machine.scopes
+    }
+
+    /// The parent of a live scope. None of the root wrapper, and of a scope that isn't live.
+    pub fn parent_scope(&self, scope: ScopeId) -> Option<ScopeId>
+        ensures parent { (g : _) → number_of result
+            ≡ model.parent_of (StateIn g self.now).scopes scope.0 }
+    {
+        match self.machine.scopes.state.scope(scope.0) {
+            Some(found) => found.row.parent,
+            None => None,
+        }
+    }
+
+    /// Whether a live scope stands below another one. No scope stands below itself.
+    pub fn is_descendant_of(&self, us: ScopeId, other: ScopeId) -> bool
+        ensures below { (g : _) →
+            result ≡ queries.is_descendant (StateIn g self.now) us.0 other.0 }
+    {
+        is_descendant(&self.machine.scopes.state, us.0, other.0)
+    }
+
+    /// The number of scopes above a live scope. None where it isn't live.
+    pub fn height(&self, id: ScopeId) -> Option<u64>
+        ensures height { (g : _) → result
+            ≡ option_map (λ scope. scope.height) (at (StateIn g self.now).scopes id.0) }
+    {
+        match self.machine.scopes.state.scope(id.0) {
+            Some(found) => Some(found.rest.height),
+            None => None,
+        }
+    }
+
+    /// The scope with which a task ends. None where the task isn't live.
+    pub fn task_scope(&self, task: Task) -> Option<ScopeId>
+        ensures scope { (g : _) → number_of result
+            ≡ option_map (λ row. row.scope) (at (StateIn g self.now).tasks task.0) }
+    {
+        match self.machine.scopes.state.tasks.get(task.0) {
+            Some(row) => Some(ScopeId(row.scope)),
+            None => None,
+        }
+    }
+
+    /// The task that was polled when a live task was spawned. None where there was none.
+    pub fn parent_task(&self, task: Task) -> Option<Task>
+        ensures parent { (g : _) → option_map (λ parent. parent.0) result
+            ≡ option_and_then (λ row. row.parent) (at (StateIn g self.now).tasks task.0) }
+    {
+        match self.machine.scopes.state.tasks.get(task.0) {
+            Some(row) => named(row.parent),
+            None => None,
+        }
+    }
+
+    /// The nearest suspense boundary from a scope upwards. None where there is none.
+    pub fn suspense_context(&self, scope: ScopeId) -> Option<SuspenseContext>
+        ensures nearest { (g : _) → option_map (λ context. context.scope.0) result
+            ≡ model.suspense_context (StateIn g self.now) scope.0 }
+    {
+        match self.machine.scopes.state.suspense_context(scope.0) {
+            Some(boundary) => Some(SuspenseContext {
+                scope: ScopeId(boundary),
+            }),
+            None => None,
+        }
+    }
+
+    /// What the nearest scope provides of a kind, from this one upwards. None where no scope does.
+    pub fn consume_context(&self, id: ScopeId, kind: u32) -> Option<&A::Value>
+        ensures provided { (g : _) → option_copied result
+            ≡ queries.provided_above (StateIn g self.now) id.0 kind }
+    {
+        provided_above(&self.machine.scopes.state, id.0, kind)
+    }
+
+    /// What a scope itself provides of a kind. None where it provides none, and where it isn't live.
+    pub fn has_context(&self, id: ScopeId, kind: u32) -> Option<&A::Value>
+        ensures provided { (g : _) → option_copied result
+            ≡ queries.provided_here (StateIn g self.now) id.0 kind }
+    {
+        provided_here(&self.machine.scopes.state, id.0, kind)
+    }
+
+    /// The nodes of a scope as the document has them, or would have them where the scope is hidden. None
+    /// where it isn't live.
+    pub fn nodes_of(&self, id: ScopeId) -> Result<Option<List<DocNode>>, OutOfMemory>
+        ensures nodes { IfOk result (λ found. IfSome found (λ nodes. (g : _) →
+            forest_of nodes ≡ views.nodes_of (StateIn g self.now) id.0)) }
+        ensures live { IfOk result (λ found. (g : _) →
+            is_some found ≡ model.is_live (StateIn g self.now) id.0) }
+    {
+        if self.machine.scopes.state.is_live(id.0) {
+            Ok(Some(self.nodes_at(id.0)?))
+        } else {
+            Ok(None)
+        }
+    }
+
+    /// The nodes of a scope.
+    fn nodes_at(&self, scope: u64) -> Result<List<DocNode>, OutOfMemory>
+        ensures { IfOk result (λ nodes. (g : _) →
+            forest_of nodes ≡ views.nodes_of (StateIn g self.now) scope) }
+    {
+        let look = Look::now(&self.machine.scopes.state.rows);
+        nodes_of(self.machine.scopes.alloc, &look, scope)
+    }
+}
+
+/// The task of a number.
+fn named(number: Option<u64>) -> Option<Task>
+    ensures { option_map (λ task. task.0) result ≡ number }
+{
+    match number {
+        Some(number) => Some(Task(number)),
+        None => None,
+    }
+}

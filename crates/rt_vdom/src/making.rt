@@ -1,0 +1,192 @@
+//! A dom is made, built and closed.
+ghost use Rattle.std.specs.Prelude.{◌≡◌, ◌≤◌, [], None, Some, Ok, IfOk, IfErr};
+ghost use Rattle.rt_calls.specs.Calls.{firsts_of};
+ghost use Rattle.rt_model.specs.Replay.{ones};
+ghost use Rattle.rt_reports.specs.Counted.{CountsLog};
+ghost use Rattle.rt_reports.specs.declared.fault.Fault.TheVariants as faults;
+ghost use Rattle.rt_machine.specs.Ends.{Causes};
+ghost use Rattle.rt_vdom.specs.Calls.{CausesAt, Closes, FailsAll, Keeps, Ran, WantsFresh};
+ghost use Rattle.rt_vdom.specs.Doms.{IsStarted};
+ghost use Rattle.rt_vdom.specs.Runs.{Builds, BuildsToList, Prebuilt};
+
+use crate::dom::{Stage, VirtualDom};
+use crate::refusal::DomFault;
+use rt_calls::{App, Firsts};
+use rt_edits::{Mutations, NoOpMutations, WriteMutations};
+use rt_machine::{Ended, Machine};
+use rt_reports::{Fault, Limits, Report};
+use rt_rounds::{build_report, close};
+use std::alloc::Global;
+
+impl<A: App> VirtualDom<A> {
+    /// A dom that isn't built yet, of the application's root with the props that it has where none are
+    /// handed in.
+    pub fn new(alloc: Global, app: A, limits: Limits) -> Result<VirtualDom<A>, Fault>
+        ensures started { IfOk result (λ dom.
+            IsStarted (λ app. A.meaning app) app (A.props_of_none app) ones [] limits dom) }
+        ensures cause { IfErr result (λ fault. fault ≡ faults.OutOfMemory) }
+    {
+        let props = app.empty_props(alloc)?;
+        VirtualDom::new_with_props(alloc, app, props, limits)
+    }
+
+    /// A dom that isn't built yet, of the application's root with these props.
+    pub fn new_with_props(
+        alloc: Global,
+        app: A,
+        props: A::Props,
+        limits: Limits,
+    ) -> Result<VirtualDom<A>, Fault>
+        ensures started { IfOk result (λ dom.
+            IsStarted (λ app. A.meaning app) app props ones [] limits dom) }
+        ensures cause { IfErr result (λ fault. fault ≡ faults.OutOfMemory) }
+    {
+        let (machine, calls) = Machine::start(alloc, &app, props)?;
+        Ok(VirtualDom {
+            app,
+            calls,
+            machine,
+            limits,
+            stage: Stage::Fresh,
+        })
+    }
+
+    /// A dom that isn't built yet, whose counters begin at these numbers.
+    pub fn new_from(
+        alloc: Global,
+        app: A,
+        props: A::Props,
+        limits: Limits,
+        firsts: Firsts,
+    ) -> Result<VirtualDom<A>, Fault>
+        ensures started { IfOk result (λ dom.
+            IsStarted (λ app. A.meaning app) app props (firsts_of firsts) [] limits dom) }
+        ensures cause { IfErr result (λ fault. fault ≡ faults.OutOfMemory) }
+    {
+        let (machine, calls) = Machine::start_from(alloc, &app, props, firsts)?;
+        Ok(VirtualDom {
+            app,
+            calls,
+            machine,
+            limits,
+            stage: Stage::Fresh,
+        })
+    }
+
+    /// A dom that is built, of the application's root with the props that it has where none are handed
+    /// in. What it writes goes nowhere.
+    pub fn prebuilt(alloc: Global, app: A, limits: Limits) -> Result<VirtualDom<A>, Fault>
+        ensures built { IfOk result (λ dom.
+            Prebuilt (λ app. A.meaning app) app (A.props_of_none app) limits dom) }
+        ensures cause { IfErr result (λ fault. Causes limits 0 0 fault) }
+    {
+        let mut dom = VirtualDom::new(alloc, app, limits)?;
+        match dom.rebuild_in_place() {
+            Ok(_report) => Ok(dom),
+            Err(DomFault::Run(fault)) => Err(fault),
+            Err(_other) => Err(Fault::OutOfMemory),
+        }
+    }
+
+    /// Runs the root and all below it, and writes what shows. Nothing is polled.
+    pub fn rebuild<M: WriteMutations>(&mut self, to: &mut M) -> Result<Report, DomFault>
+        ensures builds { Builds (λ app. A.meaning app) (M.taken to.old) (M.taken to.new)
+            self.old self.new result }
+        ensures counts { IfOk result (λ report. CountsLog report) }
+        ensures refused { WantsFresh Ran self.old self.new result }
+        ensures owned { Keeps self.old self.new }
+        ensures fails { FailsAll self.new result }
+        ensures caused { IfErr result (λ fault.
+            CausesAt self.old.limits (M.faults to.old) (M.faults to.new) fault) }
+        ensures counted { M.faults to.old ≤ M.faults to.new }
+    {
+        match self.stage {
+            Stage::Failed => Err(DomFault::Failed),
+            Stage::Built => Err(DomFault::AlreadyBuilt),
+            Stage::Fresh => self.build(to),
+        }
+    }
+
+    /// The build of a fresh dom.
+    fn build<M: WriteMutations>(&mut self, to: &mut M) -> Result<Report, DomFault>
+        ensures builds { Builds (λ app. A.meaning app) (M.taken to.old) (M.taken to.new)
+            self.old self.new result }
+        ensures counts { IfOk result (λ report. CountsLog report) }
+        ensures refused { IfErr result (λ fault. Ran fault) }
+        ensures owned { Keeps self.old self.new }
+        ensures fails { FailsAll self.new result }
+        ensures caused { IfErr result (λ fault.
+            CausesAt self.old.limits (M.faults to.old) (M.faults to.new) fault) }
+        ensures counted { M.faults to.old ≤ M.faults to.new }
+    {
+        match build_report(
+            &mut self.machine,
+            &self.app,
+            &mut self.calls,
+            self.limits,
+            to,
+        ) {
+            Ok(report) => {
+                self.stage = Stage::Built;
+                Ok(report)
+            }
+            Err(ended) => {
+                self.stage = Stage::Failed;
+                Err(DomFault::Run(ended.fault()))
+            }
+        }
+    }
+
+    /// The same, with what it writes going nowhere.
+    pub fn rebuild_in_place(&mut self) -> Result<Report, DomFault>
+        ensures builds { Builds (λ app. A.meaning app) None None self.old self.new result }
+        ensures counts { IfOk result (λ report. CountsLog report) }
+        ensures refused { WantsFresh Ran self.old self.new result }
+        ensures owned { Keeps self.old self.new }
+        ensures fails { FailsAll self.new result }
+        ensures caused { IfErr result (λ fault. CausesAt self.old.limits 0 0 fault) }
+    {
+        let mut to = NoOpMutations;
+        self.rebuild(&mut to)
+    }
+
+    /// The same, answering what it writes.
+    pub fn rebuild_to_vec(&mut self) -> Result<Mutations, DomFault>
+        ensures builds { BuildsToList (λ app. A.meaning app)
+            (λ to. ⟦<Mutations as WriteMutations>⟧.taken to) self.old self.new result }
+        ensures refused { WantsFresh Ran self.old self.new result }
+        ensures owned { Keeps self.old self.new }
+        ensures fails { FailsAll self.new result }
+        ensures caused { IfErr result (λ fault. CausesAt self.old.limits 0 0 fault) }
+    {
+        let mut to = Mutations::default_list(self.machine.scopes.alloc);
+        self.rebuild(&mut to)?;
+        Ok(to)
+    }
+
+    /// Removes all scopes, from the greatest order down, with their clean-ups. Of a dom that has failed
+    /// no clean-up is called. The application.
+    pub fn close(self) -> Result<A, Fault>
+        ensures handed { IfOk result (λ app. app ≡ self.app) }
+        ensures failed { self.stage ≡ Stage.Failed → result ≡ Ok self.app }
+        ensures closed { Closes (λ app. A.meaning app) self result }
+        ensures caused { IfErr result (λ fault. Causes self.limits 0 0 fault) }
+    {
+        let VirtualDom {
+            app,
+            calls,
+            machine,
+            limits: _,
+            stage,
+        } = self;
+        let mut calls = calls;
+        let mut machine = machine;
+        match stage {
+            Stage::Failed => Ok(app),
+            _ => match close(&mut machine, &app, &mut calls) {
+                Ok(()) => Ok(app),
+                Err(stop) => Err(Ended::Run(stop).fault()),
+            },
+        }
+    }
+}

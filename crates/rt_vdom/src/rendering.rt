@@ -1,0 +1,171 @@
+//! Calls that take unit after unit.
+ghost use Rattle.std.specs.Prelude.{◌≡◌, ◌≤◌, ◌&&◌, None, IfOk, IfErr, OnOk};
+ghost use Rattle.rt_reports.specs.Counted.{CountsLog};
+ghost use Rattle.rt_doms.specs.Doms.{Events, Renders, Settles};
+ghost use Rattle.rt_rounds.specs.Untils.{until_of};
+ghost use Rattle.rt_vdom.specs.Calls.{CausesAt, Does, FailsOn, Keeps, Ran, WantsBuilt, WantsMemory};
+ghost use Rattle.rt_vdom.specs.Doms.{StateIn};
+ghost use Rattle.rt_vdom.specs.Handles.{Works, answers, sees_none, taken_in};
+ghost use Rattle.rt_vdom.specs.Runs.{Runs, RunsOnce, RunsToList, Settled};
+
+use crate::dom::{Stage, VirtualDom};
+use crate::poll::{Poll, pending_where};
+use crate::refusal::DomFault;
+use rt_calls::App;
+use rt_edits::{Mutations, NoOpMutations, WriteMutations};
+use rt_inbox::Drained;
+use rt_machine::post_messages;
+use rt_reports::Report;
+use rt_rounds::{Until, run_report};
+use rt_values::OutOfMemory;
+
+impl<A: App> VirtualDom<A> {
+    /// A look; then polls while no scope is seen, and where no task is queued a batch of effects.
+    pub fn process_events(&mut self) -> Result<Report, DomFault>
+        ensures runs { Runs (λ app. A.meaning app) Events None None
+            self.old self.new result }
+        ensures counts { IfOk result (λ report. CountsLog report) }
+        ensures refused { WantsBuilt Ran self.old self.new result }
+        ensures owned { Keeps self.old self.new }
+        ensures fails { FailsOn self.new result }
+        ensures caused { IfErr result (λ fault.
+            CausesAt self.old.limits 0 0 fault) }
+    {
+        let mut to = NoOpMutations;
+        self.run(Until::Events, &mut to)
+    }
+
+    /// The same, and then work until no scope is seen and no task is queued.
+    pub fn render_immediate<M: WriteMutations>(&mut self, to: &mut M) -> Result<Report, DomFault>
+        ensures runs { Runs (λ app. A.meaning app) Renders (M.taken to.old) (M.taken to.new)
+            self.old self.new result }
+        ensures once { RunsOnce (λ app. A.meaning app) self.old self.new result }
+        ensures counts { IfOk result (λ report. CountsLog report) }
+        ensures refused { WantsBuilt Ran self.old self.new result }
+        ensures owned { Keeps self.old self.new }
+        ensures fails { FailsOn self.new result }
+        ensures caused { IfErr result (λ fault.
+            CausesAt self.old.limits (M.faults to.old) (M.faults to.new) fault) }
+        ensures counted { M.faults to.old ≤ M.faults to.new }
+    {
+        self.run(Until::Renders, to)
+    }
+
+    /// The same, answering what it writes.
+    pub fn render_immediate_to_vec(&mut self) -> Result<Mutations, DomFault>
+        ensures runs { RunsToList (λ app. A.meaning app) Renders
+            (λ to. ⟦<Mutations as WriteMutations>⟧.taken to) self.old self.new result }
+        ensures refused { WantsBuilt Ran self.old self.new result }
+        ensures owned { Keeps self.old self.new }
+        ensures fails { FailsOn self.new result }
+        ensures caused { IfErr result (λ fault. CausesAt self.old.limits 0 0 fault) }
+    {
+        let mut to = Mutations::default_list(self.machine.scopes.alloc);
+        self.render_immediate(&mut to)?;
+        Ok(to)
+    }
+
+    /// Work until nothing is owed.
+    pub fn settle<M: WriteMutations>(&mut self, to: &mut M) -> Result<Report, DomFault>
+        ensures runs { Runs (λ app. A.meaning app) Settles (M.taken to.old) (M.taken to.new)
+            self.old self.new result }
+        ensures settled { Settled (λ app. A.meaning app) self.old self.new result }
+        ensures counts { IfOk result (λ report. CountsLog report) }
+        ensures refused { WantsBuilt Ran self.old self.new result }
+        ensures owned { Keeps self.old self.new }
+        ensures fails { FailsOn self.new result }
+        ensures caused { IfErr result (λ fault.
+            CausesAt self.old.limits (M.faults to.old) (M.faults to.new) fault) }
+        ensures counted { M.faults to.old ≤ M.faults to.new }
+    {
+        self.run(Until::Settles, to)
+    }
+
+    /// Takes messages in, and processes events. Pending where no scope is seen then and no message was
+    /// left to drain.
+    pub fn poll_work(&mut self, drained: &Drained) -> Result<Poll<()>, DomFault>
+        ensures works { Works (λ app. A.meaning app) drained.now self.old self.new result }
+        ensures refused { WantsBuilt Ran self.old self.new result }
+        ensures owned { Keeps self.old self.new }
+        ensures fails { FailsOn self.new result }
+        ensures caused { IfErr result (λ fault. CausesAt self.old.limits 0 0 fault) }
+    {
+        match self.stage {
+            Stage::Failed => Err(DomFault::Failed),
+            Stage::Fresh => Err(DomFault::NotBuilt),
+            Stage::Built => {
+                self.take_messages(drained)?;
+                let mut nowhere = NoOpMutations;
+                self.go_on(Until::Events, &mut nowhere)?;
+                Ok(self.waits(drained.emptied))
+            }
+        }
+    }
+
+    /// Pending where no scope is seen, and no message was left to drain.
+    fn waits(&self, emptied: bool) -> Poll<()>
+        ensures waits { (g : _) → result ≡ answers (sees_none (StateIn g self.now).seen && emptied) }
+    {
+        pending_where(self.machine.scopes.state.seen.is_empty() & emptied)
+    }
+
+    /// Does what messages ask for, in order.
+    pub(crate) fn take_messages(&mut self, drained: &Drained) -> Result<(), DomFault>
+        ensures taken { Does (λ app. A.meaning app) (λ w. taken_in w drained.now)
+            self.old self.new result }
+        ensures staged { OnOk result (self.new.stage ≡ self.old.stage) }
+        ensures refused { IfErr result (λ fault. WantsMemory fault) }
+        ensures owned { Keeps self.old self.new }
+        ensures fails { FailsOn self.new result }
+    {
+        self.leads();
+        match post_messages(&mut self.machine.scopes.state, drained.messages.as_slice()) {
+            Ok(()) => Ok(()),
+            Err(OutOfMemory) => Err(self.out_of_memory()),
+        }
+    }
+
+    /// Takes unit after unit, up to where the call ends.
+    fn run<M: WriteMutations>(&mut self, until: Until, to: &mut M) -> Result<Report, DomFault>
+        ensures runs { Runs (λ app. A.meaning app) (until_of until) (M.taken to.old) (M.taken to.new)
+            self.old self.new result }
+        ensures counts { IfOk result (λ report. CountsLog report) }
+        ensures refused { WantsBuilt Ran self.old self.new result }
+        ensures owned { Keeps self.old self.new }
+        ensures fails { FailsOn self.new result }
+        ensures caused { IfErr result (λ fault.
+            CausesAt self.old.limits (M.faults to.old) (M.faults to.new) fault) }
+        ensures counted { M.faults to.old ≤ M.faults to.new }
+    {
+        match self.stage {
+            Stage::Failed => Err(DomFault::Failed),
+            Stage::Fresh => Err(DomFault::NotBuilt),
+            Stage::Built => self.go_on(until, to),
+        }
+    }
+
+    /// Takes unit after unit of a built dom.
+    fn go_on<M: WriteMutations>(&mut self, until: Until, to: &mut M) -> Result<Report, DomFault>
+        ensures runs { Runs (λ app. A.meaning app) (until_of until) (M.taken to.old) (M.taken to.new)
+            self.old self.new result }
+        ensures counts { IfOk result (λ report. CountsLog report) }
+        ensures refused { IfErr result (λ fault. Ran fault) }
+        ensures owned { Keeps self.old self.new }
+        ensures fails { self.old.stage ≡ Stage.Built → FailsOn self.new result }
+        ensures caused { IfErr result (λ fault.
+            CausesAt self.old.limits (M.faults to.old) (M.faults to.new) fault) }
+        ensures counted { M.faults to.old ≤ M.faults to.new }
+    {
+        match run_report(
+            &mut self.machine,
+            &self.app,
+            &mut self.calls,
+            until,
+            self.limits,
+            to,
+        ) {
+            Ok(report) => Ok(report),
+            Err(ended) => Err(self.ended(ended)),
+        }
+    }
+}
