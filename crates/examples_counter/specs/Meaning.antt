@@ -2,21 +2,8 @@
 use Rattle.std.proofs.Common.{zero, suc, refl}
 use Rattle.std.specs.Prelude.{ℕ, ◌+◌, ◌≡◌, codes, decimal, min, nat_eq, List, [], ◌∷◌, Option, Some, None}
 use Rattle.std.specs.List.{slice_get}
-use Rattle.rt_programs.proofs.Lawful.{coded_tests, plain_tests}
-use Rattle.rt_app.specs.Cells.{Keeping}
-use Rattle.rt_app.specs.Means.{AllDecide}
-use Rattle.rt_nodes.specs.declared.vnode.DynamicNode.TheVariants as slots
-use Rattle.rt_app.specs.Markup.{clickable_over, labelled}
-use Rattle.rt_app.specs.Mirror.{tree_of}
-use Rattle.rt_app.specs.Nothing.{Nothing}
-use Rattle.rt_app.specs.OneLog.{types}
-use Rattle.rt_app.specs.Paged.{Paged}
-use Rattle.rt_app.specs.Pages.{Page, Reply, Pages}
-use Rattle.rt_app.specs.Shown.{placeholder_tree}
-use Rattle.rt_app.specs.Tree.{Types}
-use Rattle.rt_nodes.specs.declared.vnode.VComponent.TheVariants.{App}
-use Rattle.rt_nodes.specs.declared.vnode.VNode.{VNode}
-use Rattle.rt_app.specs.World.{Event, last_number}
+use Rattle.rt_app.specs.Words.{AllDecide, Event, Keeping, Nothing, Page, Paged, Pages, Reply, Types, VNode}
+use Rattle.rt_app.specs.Words.{child, clickable_over, coded_tests, labelled, last_number, placeholder_tree, plain_tests, tree_of, types}
 use Rattle.examples_counter.specs.declared.counter.Component.{Component}
 use Rattle.examples_counter.specs.declared.counter.Component.TheVariants.{Top, Shown}
 use Rattle.examples_counter.specs.declared.counter.Counter.{Counter}
@@ -34,7 +21,7 @@ CounterTree = VNode (Paged Counter Component ℕ ℕ ℕ Nothing Nothing Nothing
 
 -- a button of a scope that raises a cell, and the count below it
 abbrev pub button : ℕ → ℕ → ℕ → CounterTree
-button scope cell count = clickable_over (codes "button") (codes "raise") scope cell (slots.Component (App Shown count))
+button scope cell count = clickable_over (codes "button") (codes "raise") scope cell (child Shown count)
 
 -- a count in bold
 abbrev pub bold : ℕ → CounterTree

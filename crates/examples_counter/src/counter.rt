@@ -4,8 +4,8 @@ ghost use Rattle.std.specs.Option.{option_copied};
 ghost use Rattle.examples_counter.specs.Meaning as meaning;
 
 use rt_app::{
-    DynamicNode, Event, KeepsCells, List, Nothing, OutOfMemory, Paged, Pages, Part, Parts, ScopeId,
-    Text, VComponent, VNode, clickable_over, labelled, one,
+    Event, KeepsCells, List, Nothing, OutOfMemory, Paged, Pages, Part, Parts, ScopeId, Text, VNode,
+    child, clickable_over, labelled, one,
 };
 use std::alloc::Global;
 
@@ -182,11 +182,8 @@ fn button(
 ) -> Result<VNode<Counted>, OutOfMemory>
     ensures tree { IfOk result (λ tree. tree ≡ meaning.button scope.0 cell count) }
 {
-    let child = DynamicNode::Component(VComponent::App {
-        component: Component::Shown,
-        props: count,
-    });
-    clickable_over(alloc, "button", "raise", scope, cell, child)
+    let below = child(Component::Shown, count);
+    clickable_over(alloc, "button", "raise", scope, cell, below)
 }
 
 /// The count in bold.

@@ -1,23 +1,10 @@
 -- What the router shows, what its calls are, and that its tests decide.
 use Rattle.std.proofs.Common.{zero, suc, refl}
 use Rattle.std.specs.Prelude.{ℕ, false, List, [], ◌∷◌, codes, nat_eq, ◌≡◌, Option, Some, None, if◌then◌else◌}
-use Rattle.rt_programs.proofs.Lawful.{coded_tests, plain_tests}
-use Rattle.rt_app.specs.Bodied.{Bodied}
-use Rattle.rt_app.specs.Bodies.{ProgramsDecide}
-use Rattle.rt_app.specs.Cells.{Keeping, own_cell}
-use Rattle.rt_nodes.specs.declared.vnode.DynamicNode.{DynamicNode}
-use Rattle.rt_nodes.specs.declared.vnode.DynamicNode.TheVariants as slots
-use Rattle.rt_app.specs.Markup.{block, clickable, labelled, slot}
-use Rattle.rt_app.specs.Mirror.{tree_of}
-use Rattle.rt_app.specs.Nothing.{Nothing}
-use Rattle.rt_app.specs.OneLog.{types}
-use Rattle.rt_app.specs.Program.{Program, done, current_scope, read, write, provide, consume_context, Programs}
-use Rattle.rt_app.specs.Sequence.{go_on}
-use Rattle.rt_app.specs.Shown.{placeholder_tree}
-use Rattle.rt_app.specs.Tree.{Types, Element, rendered}
-use Rattle.rt_nodes.specs.declared.vnode.VComponent.TheVariants.{App}
-use Rattle.rt_nodes.specs.declared.vnode.VNode.{VNode}
-use Rattle.rt_app.specs.World.{Event, nothing, ready}
+use Rattle.rt_app.specs.Words.{Bodied, Element, Event, Keeping, Nothing, Program, Programs, ProgramsDecide, Types, VNode}
+use Rattle.rt_app.specs.Words.{block, child, clickable, coded_tests, consume_context, current_scope, done, go_on, labelled}
+use Rattle.rt_app.specs.Words.{nothing, own_cell, placeholder_tree, plain_tests, provide, read, ready, rendered, slot, tree_of}
+use Rattle.rt_app.specs.Words.{types, write}
 use Rattle.examples_router.specs.declared.router.Component.{Component}
 use Rattle.examples_router.specs.declared.router.Component.TheVariants.{Top, Link, Page}
 use Rattle.examples_router.specs.declared.router.Router.{Router}
@@ -29,20 +16,13 @@ RouterTypes = types Component ℕ ℕ ℕ Nothing Nothing Nothing
 abbrev pub keeping : Keeping ℕ
 keeping = record { kind = 0; keeps = λ n. n; kept = λ n. Some n }
 
--- the application, and a tree of it
-abbrev pub Own : Type 0
-Own = Bodied Router Component ℕ ℕ ℕ Nothing Nothing Nothing
-
+-- a tree of the application
 abbrev pub RouterTree : Type 0
-RouterTree = VNode Own Component ℕ ℕ ℕ Nothing Nothing Nothing
+RouterTree = VNode (Bodied Router Component ℕ ℕ ℕ Nothing Nothing Nothing) Component ℕ ℕ ℕ Nothing Nothing Nothing
 
 -- the name of a route
 abbrev pub name_of : ℕ → List ℕ → List ℕ
 name_of route other = if nat_eq route 0 then codes "Home" else if nat_eq route 1 then codes "Plants" else other
-
--- a component in a slot
-abbrev pub standing : Component → ℕ → DynamicNode Own Component ℕ ℕ ℕ Nothing Nothing Nothing
-standing c props = slots.Component (App c props)
 
 -- three links, and the page below them
 abbrev pub all : RouterTree
@@ -51,7 +31,7 @@ all =
     (slot 0 ∷ slot 1 ∷ slot 2 ∷ slot 3 ∷ [])
     ((0 ∷ []) ∷ (1 ∷ []) ∷ (2 ∷ []) ∷ (3 ∷ []) ∷ [])
     []
-    (standing Link 0 ∷ standing Link 1 ∷ standing Link 2 ∷ standing Page 0 ∷ [])
+    (child Link 0 ∷ child Link 1 ∷ child Link 2 ∷ child Page 0 ∷ [])
     []
 
 -- a link of a scope to a route

@@ -4,6 +4,5 @@
 #![tactic(auto)]
 
 mod router;
-mod trees;
 
 pub use router::{Component, Routed, Router};

@@ -1,17 +1,14 @@
 //! The router's components and its links.
-ghost use Rattle.std.specs.Prelude.{◌≡◌, ◌<◌, ◌-◌, IfOk, OnOk};
-ghost use Rattle.rt_app.specs.Answers.{event_of, step_of};
-ghost use Rattle.rt_app.specs.Comes.{ComesIfRemembered};
-ghost use Rattle.rt_app.specs.Mirror.{element_of};
-ghost use Rattle.rt_app.specs.World.{nothing};
+ghost use Rattle.std.specs.Prelude.{◌≡◌, IfOk};
+ghost use Rattle.rt_app.specs.Words.{ComesIfRemembered, element_of};
 ghost use Rattle.examples_router.specs.Meaning as meaning;
 ghost use Rattle.examples_router.specs.Meaning.{body, programs, decides};
 ghost use Rattle.examples_router.specs.declared.router.Component.TheVariants as components;
 
-use crate::trees::{all, heading, link};
 use rt_app::{
-    Bodied, Bodies, BodyCx, Cx, Element, Event, KeepsCells, Nothing, OutOfMemory, Part, Parts,
-    TaskStep, VNode, own_cell, remembered,
+    Bodied, Bodies, BodyCx, Cx, Element, Event, KeepsCells, List, Nothing, OutOfMemory, Part,
+    Parts, ScopeId, TaskStep, Text, VNode, block, child, clickable, labelled, own_cell, path,
+    remembered, slot, two,
 };
 use std::alloc::Global;
 
@@ -46,8 +43,51 @@ impl Part for Component {
     }
 }
 
+/// The name of a route.
+fn name_of(route: u64, other: &'static str) -> &'static str
+    ensures name { result.now ≡ meaning.name_of route other.now }
+{
+    if route == 0 {
+        "Home"
+    } else if route == 1 {
+        "Plants"
+    } else {
+        other
+    }
+}
+
+/// The links and the page below them.
+fn all(alloc: Global) -> Result<VNode<Routed>, OutOfMemory>
+    ensures tree { IfOk result (λ tree. tree ≡ meaning.all) }
+{
+    let mut roots = two(alloc, slot(0), slot(1))?;
+    roots.append(two(alloc, slot(2), slot(3))?)?;
+    let mut paths = two(alloc, path(alloc, &[0])?, path(alloc, &[1])?)?;
+    paths.append(two(alloc, path(alloc, &[2])?, path(alloc, &[3])?)?)?;
+    let mut slots = two(alloc, child(Component::Link, 0), child(Component::Link, 1))?;
+    slots.append(two(alloc, child(Component::Link, 2), child(Component::Page, 0))?)?;
+    let none = List::new(alloc);
+    block(alloc, roots, paths, none, slots, List::new(alloc))
+}
+
+/// A link to a route.
+fn link(alloc: Global, scope: ScopeId, to: u64) -> Result<VNode<Routed>, OutOfMemory>
+    ensures tree { IfOk result (λ tree. tree ≡ meaning.link scope.0 to) }
+{
+    let words = Text::from_str(alloc, name_of(to, "Nowhere"))?;
+    clickable(alloc, "a", words, scope, to)
+}
+
+/// The page of a route.
+fn heading(alloc: Global, route: u64) -> Result<VNode<Routed>, OutOfMemory>
+    ensures tree { IfOk result (λ tree. tree ≡ meaning.heading route) }
+{
+    let words = Text::from_str(alloc, name_of(route, "Not found"))?;
+    labelled(alloc, "h1", words)
+}
+
 /// The body at the top.
-#[tactic(auto, using(rt_bodies::proofs::Refused::hooking, rt_programs::proofs::Steps::at_provide))]
+#[tactic(auto, using(rt_app::proofs::Rules::hooking, rt_app::proofs::Rules::looking))]
 fn top(alloc: Global, cx: &mut BodyCx<'_, Routed>) -> Result<Element<Routed>, OutOfMemory>
     ensures came { IfOk result (λ answer.
         ComesIfRemembered cx.old cx.new (body components.Top 0) (element_of answer)) }
@@ -61,7 +101,7 @@ fn top(alloc: Global, cx: &mut BodyCx<'_, Routed>) -> Result<Element<Routed>, Ou
 }
 
 /// The body of the page.
-#[tactic(auto, using(rt_bodies::proofs::Refused::hooking, rt_programs::proofs::Steps::looking))]
+#[tactic(auto, using(rt_app::proofs::Rules::hooking, rt_app::proofs::Rules::looking))]
 fn page(alloc: Global, cx: &mut BodyCx<'_, Routed>) -> Result<Element<Routed>, OutOfMemory>
     ensures came { IfOk result (λ answer.
         ComesIfRemembered cx.old cx.new (body components.Page 0) (element_of answer)) }
@@ -126,18 +166,14 @@ impl Bodies for Router {
         Ok(0)
     }
 
-    #[tactic(auto, using(rt_bodies::proofs::Refused::hooking, rt_programs::proofs::Steps::looking))]
+    #[tactic(auto, using(rt_app::proofs::Rules::hooking, rt_app::proofs::Rules::looking))]
     fn body(
         &self,
         alloc: Global,
         component: &Component,
         props: &u64,
         cx: &mut BodyCx<'_, Routed>,
-    ) -> Result<Element<Routed>, OutOfMemory>
-        ensures came { IfOk result (λ answer. ComesIfRemembered cx.old cx.new
-            (body component.now props.now) (element_of answer)) }
-        ensures world { cx.new.world ≡ cx.old.world }
-    {
+    ) -> Result<Element<Routed>, OutOfMemory> {
         match component {
             Component::Top => top(alloc, cx),
             Component::Link => {
@@ -148,46 +184,34 @@ impl Bodies for Router {
         }
     }
 
-    #[tactic(auto, using(rt_bodies::proofs::Refused::hooking))]
+    #[tactic(auto, using(rt_app::proofs::Rules::hooking))]
     fn step(
         &self,
         _alloc: Global,
-        state: Nothing,
-        cx: &mut Cx<'_, Routed>,
-    ) -> Result<TaskStep<Nothing>, OutOfMemory>
-        ensures came { IfOk result (λ step. ComesIfRemembered cx.old cx.new
-            (programs.poll state) (step_of step)) }
-        ensures world { cx.new.world ≡ cx.old.world }
-    {
+        _state: Nothing,
+        _cx: &mut Cx<'_, Routed>,
+    ) -> Result<TaskStep<Nothing>, OutOfMemory> {
         Ok(TaskStep::Ready)
     }
 
-    #[tactic(auto, using(rt_bodies::proofs::Refused::hooking))]
+    #[tactic(auto, using(rt_app::proofs::Rules::hooking))]
     fn effect(
         &self,
         _alloc: Global,
-        effect: &Nothing,
-        cx: &mut Cx<'_, Routed>,
-    ) -> Result<(), OutOfMemory>
-        ensures came { OnOk result (ComesIfRemembered cx.old cx.new
-            (programs.effect effect.now) nothing) }
-        ensures world { cx.new.world ≡ cx.old.world }
-    {
+        _effect: &Nothing,
+        _cx: &mut Cx<'_, Routed>,
+    ) -> Result<(), OutOfMemory> {
         Ok(())
     }
 
-    #[tactic(auto, using(rt_bodies::proofs::Refused::hooking, rt_programs::proofs::Steps::looking))]
+    #[tactic(auto, using(rt_app::proofs::Rules::hooking, rt_app::proofs::Rules::looking))]
     fn hear(
         &self,
         alloc: Global,
         handler: &u64,
-        event: &mut Event<Nothing>,
+        _event: &mut Event<Nothing>,
         cx: &mut Cx<'_, Routed>,
-    ) -> Result<(), OutOfMemory>
-        ensures came { OnOk result (ComesIfRemembered cx.old cx.new
-            (programs.handle handler.now (event_of event.old)) (event_of event.new)) }
-        ensures world { cx.new.world ≡ cx.old.world }
-    {
+    ) -> Result<(), OutOfMemory> {
         match remembered(cx.try_consume_context(alloc, PATH))? {
             Some(cell) => remembered(cx.write(cell, *handler)),
             None => Ok(()),

@@ -4,4 +4,4 @@
 
 mod signal;
 
-pub use signal::{Signal, waking};
+pub use signal::{Pair, Signal, own_pair, spawn_once, still_waking, waking};

@@ -2,19 +2,8 @@
 use Rattle.std.proofs.Common.{refl}
 use Rattle.std.specs.Prelude.{ℕ, ◌+◌, true, codes, decimal, min, nat_eq, List, [], ◌∷◌, Option, Some, None}
 use Rattle.std.specs.List.{slice_get}
-use Rattle.rt_programs.proofs.Lawful.{plain_tests}
-use Rattle.rt_app.specs.Cells.{Keeping}
-use Rattle.rt_app.specs.Markup.{clickable}
-use Rattle.rt_app.specs.Means.{AllDecide}
-use Rattle.rt_app.specs.Mirror.{tree_of}
-use Rattle.rt_app.specs.Nothing.{Nothing}
-use Rattle.rt_app.specs.OneLog.{types}
-use Rattle.rt_app.specs.Paged.{Paged}
-use Rattle.rt_app.specs.Pages.{Page, Reply, Pages}
-use Rattle.rt_app.specs.Shown.{placeholder_tree}
-use Rattle.rt_app.specs.Tree.{Types}
-use Rattle.rt_app.specs.VNode.{VNode}
-use Rattle.rt_app.specs.World.{Event, last_number}
+use Rattle.rt_app.specs.Words.{AllDecide, Event, Keeping, Nothing, Page, Paged, Pages, Reply, Types, VNode}
+use Rattle.rt_app.specs.Words.{clickable, last_number, placeholder_tree, plain_tests, tree_of, types}
 use Rattle.examples_template.specs.declared.application.Application.{Application}
 
 abbrev pub OwnTypes : Types

@@ -1,3 +1,4 @@
+pub mod Words
 pub use Rattle.rt_bodies.specs.Comes
 pub use Rattle.rt_calls.specs.Answers
 pub use Rattle.rt_calls.specs.Calls
@@ -41,3 +42,7 @@ pub use Rattle.rt_parts.specs.declared.attribute.Attribute
 pub use Rattle.rt_parts.specs.declared.attribute.AttributeValue
 pub use Rattle.rt_parts.specs.declared.template.TemplateAttribute
 pub use Rattle.rt_parts.specs.declared.template.TemplateNode
+pub use Rattle.rt_vdom.specs.Calls as DomCalls
+pub use Rattle.rt_vdom.specs.Doms
+pub use Rattle.rt_vdom.specs.Handles
+pub use Rattle.rt_vdom.specs.Runs

@@ -2,6 +2,8 @@
 //! public name of the runtime that such code needs.
 #![tactic(auto)]
 
+pub mod dom;
+
 pub use rt_bodies::{KeepsCells, Nothing, own_cell, remembered, unless_refused};
 pub use rt_calls::{App, BodyCx, BodyTurn, Cx, CxFault, TaskStep, Turn};
 pub use rt_cells::{ReactiveContext, Source, Target};
@@ -10,7 +12,7 @@ pub use rt_edits::{
     NoOpMutations, SinkError, WriteMutations,
 };
 pub use rt_markup::{
-    block, clickable, clickable_over, element, labelled, listens, one, path, slot, text, two,
+    block, child, clickable, clickable_over, element, labelled, listens, one, path, slot, text, two,
 };
 pub use rt_nodes::{
     DynamicNode, Element, ErrorBoundaryProps, ErrorHandler, Fallback, FragmentProps,
@@ -28,5 +30,5 @@ pub use rt_programs::{
     programs_go_on, reports_show_pages, unread_runs_nothing,
 };
 pub use rt_reports::{Counter, Entry, Fault, Input, Limits, Msg, Post, Report, SessionFault};
+pub use rt_session::session;
 pub use rt_values::{Boxed, ElementId, List, OutOfMemory, Part, ScopeId, Task, Text};
-pub use rt_vdom::session;

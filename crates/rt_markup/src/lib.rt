@@ -4,5 +4,5 @@
 mod blocks;
 mod parts;
 
-pub use blocks::{block, clickable, clickable_over, labelled, listens};
+pub use blocks::{block, child, clickable, clickable_over, labelled, listens};
 pub use parts::{element, one, path, slot, text, two};

@@ -1,3 +1,4 @@
 pub mod Contexts
+pub mod Following
 pub mod Lists
 pub mod Placeholders
