@@ -4,10 +4,10 @@ use Rattle.std.specs.Prelude.{Some}
 use Rattle.rt_values.specs.declared.names.ScopeId.{ScopeId}
 use Rattle.rt_values.specs.declared.element.ElementId.{ElementId}
 use Rattle.rt_nodes.specs.declared.vnode.VNode.{VNode}
-use Rattle.rt_shapes.specs.declared.place.Step.{Step}
+use Rattle.rt_plan.specs.declared.place.Step.{Step}
 use Rattle.rt_plan.specs.Making.{make_tree}
-use Rattle.rt_patch.specs.Gathered.{no_number, no_scope, nothing_kept}
-use Rattle.rt_patch.specs.Steps.{Answer}
+use Rattle.rt_tree.specs.Gathered.{no_number, no_scope, nothing_kept}
+use Rattle.rt_tree.specs.Steps.{Answer}
 use Rattle.rt_model.specs.Lists.{kept_by}
 use Rattle.rt_model.specs.OneLog.{types}
 use Rattle.rt_model.specs.Tree.{Types, Spot, node_at, component_at, spots}

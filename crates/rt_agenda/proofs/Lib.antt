@@ -1,3 +1,21 @@
+pub mod PieceLemmas
+pub mod EditLemmas
+pub mod ReadLemmas
+pub mod SweepLemmas
+pub mod RunLemmas
+pub mod TreeInduction
+pub mod HiddenPlans
+pub mod QuietPlans
+pub mod HiddenLemmas
+pub mod BuiltLemmas
+pub mod LostLemmas
+pub mod ExchangeLemmas
+pub mod ReplacedLemmas
+pub mod GrownLemmas
+pub mod ApartLemmas
+pub mod CountedLemmas
+pub mod LastLemmas
+pub mod RootLemmas
 mod Events
 mod EventSpots
 mod Branches

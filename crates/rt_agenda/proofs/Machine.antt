@@ -3,11 +3,11 @@ use Rattle.std.proofs.Common.{Bool, true, false, List, [], ◌∷◌, ◌++◌, 
 use Rattle.rt_values.specs.declared.names.ScopeId.{ScopeId}
 use Rattle.rt_values.specs.declared.element.ElementId.{ElementId}
 use Rattle.rt_edits.specs.declared.doc_node.DocNode.{DocNode}
-use Rattle.rt_shapes.specs.declared.instruction.Instruction.{Instruction}
-use Rattle.rt_shapes.specs.declared.instruction.Instruction.TheVariants as i
-use Rattle.rt_patch.specs.Building.{closed, taken}
-use Rattle.rt_patch.specs.Gathered.{Kept, no_number, no_scope, first_or, after_first, last_or, number_back, numbers_of, with_number, with_child, losing, leaving, drawing, making, after_replaced}
-use Rattle.rt_patch.specs.Steps.{Answer, numbered, answered, Rest, removing, replaced, steps}
+use Rattle.rt_plan.specs.declared.instruction.Instruction.{Instruction}
+use Rattle.rt_plan.specs.declared.instruction.Instruction.TheVariants as i
+use Rattle.rt_tree.specs.Building.{closed, taken}
+use Rattle.rt_tree.specs.Gathered.{Kept, no_number, no_scope, first_or, after_first, last_or, number_back, numbers_of, with_number, with_child, losing, leaving, drawing, making, after_replaced}
+use Rattle.rt_tree.specs.Steps.{Answer, numbered, answered, Rest, removing, replaced, steps}
 use Rattle.rt_model.specs.Tree.{Types}
 use Rattle.rt_agenda.specs.Answered.{AreAnswered, numbers_drawn, scopes_made, wanted_in}
 use Rattle.rt_agenda.specs.Deeds.{Deed, keeps, loses, draws, feeds, leaves, makes}

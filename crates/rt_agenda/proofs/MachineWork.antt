@@ -3,12 +3,12 @@ use Rattle.std.proofs.Common.{ℕ, Bool, true, false, List, [], ◌∷◌, ◌++
 use Rattle.rt_values.specs.declared.names.ScopeId.{ScopeId}
 use Rattle.rt_values.specs.declared.element.ElementId.{ElementId}
 use Rattle.rt_edits.specs.declared.doc_node.DocNode.{DocNode}
-use Rattle.rt_shapes.specs.declared.instruction.Instruction.{Instruction}
-use Rattle.rt_shapes.specs.declared.instruction.Instruction.TheVariants as i
-use Rattle.rt_patch.specs.declared.step.PatchStep.TheVariants as s
-use Rattle.rt_patch.specs.Building.{closed, taken}
-use Rattle.rt_patch.specs.Gathered.{Kept, no_number, no_scope, first_or, after_first, last_or, number_back, numbers_of, with_number, with_child, losing, leaving, drawing, making, after_replaced}
-use Rattle.rt_patch.specs.Steps.{Answer, numbered, answered, Rest, removing, replaced, ends, steps}
+use Rattle.rt_plan.specs.declared.instruction.Instruction.{Instruction}
+use Rattle.rt_plan.specs.declared.instruction.Instruction.TheVariants as i
+use Rattle.rt_tree.specs.declared.step.PatchStep.TheVariants as s
+use Rattle.rt_tree.specs.Building.{closed, taken}
+use Rattle.rt_tree.specs.Gathered.{Kept, no_number, no_scope, first_or, after_first, last_or, number_back, numbers_of, with_number, with_child, losing, leaving, drawing, making, after_replaced}
+use Rattle.rt_tree.specs.Steps.{Answer, numbered, answered, Rest, removing, replaced, ends, steps}
 use Rattle.rt_model.specs.Lists.{kept_by}
 use Rattle.rt_model.specs.OneLog.{types}
 use Rattle.rt_model.specs.Tree.{Types}

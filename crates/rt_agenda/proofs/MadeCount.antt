@@ -1,8 +1,8 @@
 -- As many child scopes are made as the plan asks for.
 use Rattle.std.proofs.Common.{suc, true, false, List, [], ◌∷◌, ◌≡◌, length, refl, ap}
-use Rattle.rt_shapes.specs.declared.instruction.Instruction.{Instruction}
-use Rattle.rt_shapes.specs.declared.instruction.Instruction.TheVariants as i
-use Rattle.rt_patch.specs.Steps.{Answer, numbered, answered}
+use Rattle.rt_plan.specs.declared.instruction.Instruction.{Instruction}
+use Rattle.rt_plan.specs.declared.instruction.Instruction.TheVariants as i
+use Rattle.rt_tree.specs.Steps.{Answer, numbered, answered}
 use Rattle.rt_model.specs.Lists.{kept_by}
 use Rattle.rt_agenda.specs.Answered.{AreAnswered, scopes_made, wanted_in}
 use Rattle.rt_agenda.specs.Kept.{scope_numbers}

@@ -2,7 +2,7 @@
 use Rattle.std.proofs.Common.{Bool, List, [], ◌≡◌, true, false, refl, sym, ap, ◌∙◌, subst}
 use Rattle.rt_nodes.specs.NodeTest.{fits}
 use Rattle.rt_nodes.specs.declared.vnode.VNode.{VNode}
-use Rattle.rt_shapes.specs.declared.place.Step.{Step}
+use Rattle.rt_plan.specs.declared.place.Step.{Step}
 use Rattle.rt_plan.specs.Alike.{Equality}
 use Rattle.rt_plan.specs.Pairing.{pair_tree}
 use Rattle.rt_model.specs.Laws.{Tests}

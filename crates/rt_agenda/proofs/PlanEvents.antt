@@ -7,16 +7,16 @@ use Rattle.rt_nodes.specs.declared.vnode.VNode.{VNode}
 use Rattle.rt_nodes.specs.declared.vnode.VComponent.{VComponent as CodeComponent}
 use Rattle.rt_nodes.specs.declared.vnode.DynamicNode.{DynamicNode}
 use Rattle.rt_nodes.specs.declared.vnode.DynamicNode.TheVariants as s
-use Rattle.rt_shapes.specs.declared.instruction.Instruction.{Instruction}
-use Rattle.rt_shapes.specs.declared.instruction.Instruction.TheVariants as i
-use Rattle.rt_shapes.specs.declared.place.Step.{Step}
+use Rattle.rt_plan.specs.declared.instruction.Instruction.{Instruction}
+use Rattle.rt_plan.specs.declared.instruction.Instruction.TheVariants as i
+use Rattle.rt_plan.specs.declared.place.Step.{Step}
 use Rattle.rt_plan.specs.Alike.{Equality, are_alike}
-use Rattle.rt_shapes.specs.Counting.{ahead_of, count_value}
+use Rattle.rt_plan.specs.Counting.{ahead_of, count_value}
 use Rattle.rt_plan.specs.Losing.{lose_all, lose_tree, lose_value}
 use Rattle.rt_plan.specs.Making.{make_tree, make_value}
-use Rattle.rt_shapes.specs.Places.{step_to}
+use Rattle.rt_plan.specs.Places.{step_to}
 use Rattle.rt_plan.specs.Pairing.{at_both, pair_all, ending, replaced, replaced_tree, replaced_value, pair_attributes, grown, shrunk, pair_rest, pair_tokens, pair_tree, pair_value, paired}
-use Rattle.rt_shapes.specs.Tokens.{tokens_in}
+use Rattle.rt_plan.specs.Tokens.{tokens_in}
 use Rattle.rt_plan.proofs.PairingLemmas.{pair_tree_same, pair_tree_other, Text_Placeholder, Text_Component, Text_Fragment, Placeholder_Text, Placeholder_Component, Placeholder_Fragment, Component_Text, Component_Placeholder, Component_Fragment, Fragment_Text, Fragment_Placeholder, Fragment_Component, Text_Text, Placeholder_Placeholder, Component_fed, Component_left, none_none, none_some, some_none, some_some}
 use Rattle.rt_plan.proofs.Walks.{said, said-append, paired-visit, attributes-said, ending-said, grown-said}
 use Rattle.rt_model.specs.OneLog.{types}

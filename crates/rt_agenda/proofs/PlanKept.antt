@@ -4,7 +4,7 @@ use Rattle.rt_values.specs.declared.names.ScopeId.{ScopeId}
 use Rattle.rt_values.specs.declared.element.ElementId.{ElementId}
 use Rattle.rt_nodes.specs.declared.vnode.VNode.{VNode}
 use Rattle.rt_plan.specs.Pairing.{pair_tree}
-use Rattle.rt_patch.specs.Gathered.{no_number, no_scope, nothing_kept}
+use Rattle.rt_tree.specs.Gathered.{no_number, no_scope, nothing_kept}
 use Rattle.rt_model.specs.OneLog.{types}
 use Rattle.rt_model.specs.Run.{kept_children, kept_numbers, serves}
 use Rattle.rt_model.specs.Tree.{spots}

@@ -9,12 +9,12 @@ use Rattle.rt_nodes.specs.declared.vnode.VNode.{VNode}
 use Rattle.rt_nodes.specs.declared.vnode.VComponent.{VComponent as CodeComponent}
 use Rattle.rt_nodes.specs.declared.vnode.DynamicNode.{DynamicNode, the_lemmas}
 use Rattle.rt_nodes.specs.declared.vnode.DynamicNode.TheVariants as s
-use Rattle.rt_shapes.specs.declared.instruction.Instruction.{Instruction}
-use Rattle.rt_shapes.specs.declared.instruction.Instruction.TheVariants as i
-use Rattle.rt_shapes.specs.declared.place.Step.{Step}
+use Rattle.rt_plan.specs.declared.instruction.Instruction.{Instruction}
+use Rattle.rt_plan.specs.declared.instruction.Instruction.TheVariants as i
+use Rattle.rt_plan.specs.declared.place.Step.{Step}
 use Rattle.rt_plan.specs.Losing.{lose_all, lose_fragment, lose_tree, lose_value, nothing_lost}
 use Rattle.rt_plan.specs.Making.{nothing, items_made, make_tree, make_value}
-use Rattle.rt_shapes.specs.Places.{step_to}
+use Rattle.rt_plan.specs.Places.{step_to}
 use Rattle.rt_plan.proofs.MakingLemmas.{make_Text, make_Placeholder, make_Component, make_none, make_some}
 use Rattle.rt_plan.proofs.Walks.{said, said-append, visit_node, visit_nodes, lost-visit, made-visit}
 use Rattle.rt_model.specs.OneLog.{types}

@@ -2,9 +2,9 @@
 use Rattle.std.specs.Prelude.{true, false, List, [], ◌∷◌, ◌++◌}
 use Rattle.rt_values.specs.declared.names.ScopeId.{ScopeId}
 use Rattle.rt_values.specs.declared.element.ElementId.{ElementId}
-use Rattle.rt_shapes.specs.declared.instruction.Instruction.{Instruction}
-use Rattle.rt_shapes.specs.declared.instruction.Instruction.TheVariants as i
-use Rattle.rt_patch.specs.Steps.{Answer, numbered, answered}
+use Rattle.rt_plan.specs.declared.instruction.Instruction.{Instruction}
+use Rattle.rt_plan.specs.declared.instruction.Instruction.TheVariants as i
+use Rattle.rt_tree.specs.Steps.{Answer, numbered, answered}
 
 -- what may be waited for: a number, a new child scope, the nodes of a scope
 pub data Wanted : Type 0 where

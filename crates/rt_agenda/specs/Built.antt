@@ -3,10 +3,10 @@ use Rattle.std.specs.Prelude.{◌≡◌, ℕ, Bool, List, []}
 use Rattle.rt_values.specs.declared.names.ScopeId.{ScopeId}
 use Rattle.rt_values.specs.declared.element.ElementId.{ElementId}
 use Rattle.rt_nodes.specs.declared.vnode.VNode.{VNode}
-use Rattle.rt_shapes.specs.declared.place.Step.{Step}
+use Rattle.rt_plan.specs.declared.place.Step.{Step}
 use Rattle.rt_plan.specs.Making.{make_tree}
-use Rattle.rt_patch.specs.Gathered.{nothing_kept}
-use Rattle.rt_patch.specs.Steps.{Answer, steps}
+use Rattle.rt_tree.specs.Gathered.{nothing_kept}
+use Rattle.rt_tree.specs.Steps.{Answer, steps}
 use Rattle.rt_model.specs.OneLog.{types}
 use Rattle.rt_model.specs.World.{Application}
 use Rattle.rt_model.specs.State.{SideName}

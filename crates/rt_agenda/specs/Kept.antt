@@ -4,11 +4,11 @@ use Rattle.rt_values.specs.declared.names.ScopeId.{ScopeId}
 use Rattle.rt_values.specs.declared.element.ElementId.{ElementId}
 use Rattle.rt_nodes.specs.declared.vnode.VNode.{VNode}
 use Rattle.rt_nodes.specs.NodeTest.{fits}
-use Rattle.rt_shapes.specs.declared.place.Step.{Step}
+use Rattle.rt_plan.specs.declared.place.Step.{Step}
 use Rattle.rt_plan.specs.Alike.{Equality}
 use Rattle.rt_plan.specs.Pairing.{pair_tree}
-use Rattle.rt_patch.specs.Gathered.{nothing_kept}
-use Rattle.rt_patch.specs.Steps.{Answer, steps}
+use Rattle.rt_tree.specs.Gathered.{nothing_kept}
+use Rattle.rt_tree.specs.Steps.{Answer, steps}
 use Rattle.rt_model.specs.Lists.{or_else}
 use Rattle.rt_model.specs.Laws.{Tests}
 use Rattle.rt_model.specs.OneLog.{types}

@@ -1,3 +1,17 @@
+pub mod Pieces
+pub mod FlatEdits
+pub mod Runs
+pub mod Sweep
+pub mod Hidden
+pub mod Blocks
+pub mod MadeNodes
+pub mod LostNodes
+pub mod Exchanged
+pub mod Grown
+pub mod Replaced
+pub mod Apart
+pub mod Counted
+pub mod LastRoot
 pub mod Deeds
 pub mod Plans
 pub mod Taken

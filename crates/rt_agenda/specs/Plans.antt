@@ -1,7 +1,7 @@
 -- What the instructions of a plan do to the numbers and the child scopes of a block.
 use Rattle.std.specs.Prelude.{List, [], ◌∷◌, ◌++◌}
-use Rattle.rt_shapes.specs.declared.instruction.Instruction.{Instruction}
-use Rattle.rt_shapes.specs.declared.instruction.Instruction.TheVariants as i
+use Rattle.rt_plan.specs.declared.instruction.Instruction.{Instruction}
+use Rattle.rt_plan.specs.declared.instruction.Instruction.TheVariants as i
 use Rattle.rt_model.specs.OneLog.{types}
 use Rattle.rt_agenda.specs.Deeds.{Deed, keeps, loses, draws, feeds, leaves, makes, component_of}
 

@@ -2,6 +2,6 @@ pub use Rattle.rt_programs.proofs.Lawful
 pub use Rattle.rt_programs.proofs.Steps
 pub use Rattle.rt_bodies.proofs.Meant
 pub use Rattle.rt_bodies.proofs.Refused
-pub use Rattle.rt_pages.proofs.Contexts
-pub use Rattle.rt_pages.proofs.Following
+pub use Rattle.rt_bodies.proofs.Contexts
+pub use Rattle.rt_bodies.proofs.Following
 pub mod Rules

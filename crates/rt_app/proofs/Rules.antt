@@ -1,7 +1,7 @@
 -- The rules that an author's functions name: what each call of a `Cx` comes to, and what follows it.
 pub use Rattle.rt_bodies.proofs.Refused.{drawn, unkept}
-pub use Rattle.rt_pages.proofs.Contexts.{at_new_context, at_run_in, at_reset, at_leave}
-pub use Rattle.rt_pages.proofs.Following.{one_after}
+pub use Rattle.rt_bodies.proofs.Contexts.{at_new_context, at_run_in, at_reset, at_leave}
+pub use Rattle.rt_bodies.proofs.Following.{one_after}
 pub use Rattle.rt_programs.proofs.Steps.{on, at_done, at_scope, at_task, at_generation, at_read, at_new_cell, at_write, at_drop_cell}
 pub use Rattle.rt_programs.proofs.Steps.{at_hook_is_new, at_use_hook, at_use_effect, at_consume_context, at_provide}
 pub use Rattle.rt_programs.proofs.Steps.{at_spawn, at_remove_future, at_wake, at_set_active, at_queue_effect, at_resolved, at_freeze}

@@ -16,8 +16,8 @@ pub use Rattle.rt_model.specs.Program
 pub use Rattle.rt_model.specs.Tree
 pub use Rattle.rt_model.specs.World
 pub use Rattle.rt_nodes.specs.Shown
-pub use Rattle.rt_pages.specs.Bodies
-pub use Rattle.rt_present.specs.First
+pub use Rattle.rt_bodies.specs.Bodies
+pub use Rattle.rt_programs.specs.First
 pub use Rattle.rt_programs.specs.Author
 pub use Rattle.rt_programs.specs.Came
 pub use Rattle.rt_programs.specs.Cells
@@ -36,8 +36,8 @@ pub use Rattle.rt_edits.specs.declared.edit.Edit
 pub use Rattle.rt_nodes.specs.declared.vnode.DynamicNode
 pub use Rattle.rt_nodes.specs.declared.vnode.VComponent
 pub use Rattle.rt_nodes.specs.declared.vnode.VNode
-pub use Rattle.rt_pages.specs.declared.paged.Paged
-pub use Rattle.rt_pages.specs.declared.bodied.Bodied
+pub use Rattle.rt_bodies.specs.declared.paged.Paged
+pub use Rattle.rt_bodies.specs.declared.bodied.Bodied
 pub use Rattle.rt_parts.specs.declared.attribute.Attribute
 pub use Rattle.rt_parts.specs.declared.attribute.AttributeValue
 pub use Rattle.rt_parts.specs.declared.template.TemplateAttribute

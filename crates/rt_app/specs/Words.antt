@@ -17,9 +17,9 @@ pub use Rattle.rt_model.specs.World.{Event, TaskStep, pending, ready, nothing, l
 pub use Rattle.rt_nodes.specs.Shown.{placeholder_tree}
 pub use Rattle.rt_nodes.specs.declared.vnode.DynamicNode.{DynamicNode}
 pub use Rattle.rt_nodes.specs.declared.vnode.VNode.{VNode}
-pub use Rattle.rt_pages.specs.Bodies.{ProgramsDecide}
-pub use Rattle.rt_pages.specs.declared.bodied.Bodied.{Bodied}
-pub use Rattle.rt_pages.specs.declared.paged.Paged.{Paged}
+pub use Rattle.rt_bodies.specs.Bodies.{ProgramsDecide}
+pub use Rattle.rt_bodies.specs.declared.bodied.Bodied.{Bodied}
+pub use Rattle.rt_bodies.specs.declared.paged.Paged.{Paged}
 pub use Rattle.rt_programs.proofs.Lawful.{coded_tests, pair_tests, plain_tests}
 pub use Rattle.rt_programs.specs.Came.{Came, came, reached}
 pub use Rattle.rt_programs.specs.Cells.{Keeping, own_cell}

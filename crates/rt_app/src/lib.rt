@@ -4,7 +4,10 @@
 
 pub mod dom;
 
-pub use rt_bodies::{KeepsCells, Nothing, own_cell, remembered, unless_refused};
+pub use rt_bodies::{
+    Bodied, Bodies, KeepsCells, Nothing, Paged, Pages, own_cell, read_all, remembered,
+    unless_refused, write_all,
+};
 pub use rt_calls::{App, BodyCx, BodyTurn, Cx, CxFault, TaskStep, Turn};
 pub use rt_cells::{ReactiveContext, Source, Target};
 pub use rt_edits::{
@@ -18,16 +21,14 @@ pub use rt_nodes::{
     DynamicNode, Element, ErrorBoundaryProps, ErrorHandler, Fallback, FragmentProps,
     SuspenseBoundaryProps, VComponent, VNode,
 };
-pub use rt_pages::{Bodied, Bodies, Paged, Pages, read_all, write_all};
 pub use rt_parts::{
     Attribute, AttributeValue, CapturedError, Event, ListenerCallback, Parts, RenderError,
     SuspendedFuture, Template, TemplateAttribute, TemplateNode,
 };
-pub use rt_present::first_pages_show;
 pub use rt_programs::{
-    coded_tests, current_pages_show, heard_from_below, memoized_are_lawful, pages_are_lawful,
-    pages_show_present_values, pair_tests, plain_tests, programs_come_to_their_meaning,
-    programs_go_on, reports_show_pages, unread_runs_nothing,
+    coded_tests, current_pages_show, first_pages_show, heard_from_below, memoized_are_lawful,
+    pages_are_lawful, pages_show_present_values, pair_tests, plain_tests,
+    programs_come_to_their_meaning, programs_go_on, reports_show_pages, unread_runs_nothing,
 };
 pub use rt_reports::{Counter, Entry, Fault, Input, Limits, Msg, Post, Report, SessionFault};
 pub use rt_session::session;

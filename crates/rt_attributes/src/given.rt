@@ -10,8 +10,7 @@ use rt_edits::Edit;
 use rt_nodes::VNode;
 use rt_parts::{Attribute, Parts, Template, TemplateAttribute};
 use rt_places::{Kind, Numbers, Piece, Place, pieces_of, place_inside};
-use rt_shared::Shared;
-use rt_values::{List, OutOfMemory};
+use rt_values::{List, OutOfMemory, Shared};
 use rt_work::number_at;
 use std::alloc::Global;
 

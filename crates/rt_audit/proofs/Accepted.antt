@@ -21,7 +21,7 @@ use Rattle.rt_moves.proofs.Fuel.{fuel_suffices}
 use Rattle.rt_moves.proofs.Joins.{entries-append, Leads-append}
 use Rattle.rt_moves.proofs.Logs.{settles}
 use Rattle.rt_moves.proofs.Settling.{settled_stays}
-use Rattle.rt_turns.specs.Underway.{Rests, Works, Refused}
+use Rattle.rt_fresh.specs.Underway.{Rests, Works, Refused}
 use Rattle.rt_state.specs.Names.{fault_of}
 use Rattle.rt_state.specs.declared.names.Fault.{Fault}
 use Rattle.rt_state.specs.declared.names.Fault.TheVariants as faults

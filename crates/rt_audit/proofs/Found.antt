@@ -12,7 +12,7 @@ use Rattle.rt_model.specs.Replay.{Entry, replay_on}
 use Rattle.rt_model.specs.Causes as causes
 use Rattle.rt_model.specs.Reports.{is_opening}
 use Rattle.rt_model.specs.Told.{count_entries, is_settled}
-use Rattle.rt_turns.proofs.Sessions.{rest_owes_none}
+use Rattle.rt_fresh.proofs.Sessions.{rest_owes_none}
 use Rattle.rt_reports.specs.Seen.{entry_of}
 use Rattle.rt_reports.specs.declared.entry.Entry.{Entry as Noted}
 use Rattle.rt_state.specs.Names.{fault_of}
@@ -23,7 +23,7 @@ use Rattle.rt_machine.specs.Stands.{Going, StandsAt, CameTo, TurnsAs}
 use Rattle.rt_machine.specs.declared.ended.Ended.{Ended}
 use Rattle.rt_machine.specs.declared.ended.Ended.TheVariants as ends
 use Rattle.rt_machine.specs.declared.machine.Machine.{Machine}
-use Rattle.rt_verdicts.specs.Verdicts.{Verdict, Refused, opening, verdict_on}
+use Rattle.rt_rows.specs.Verdicts.{Verdict, Refused, opening, verdict_on}
 use Rattle.rt_audit.specs.Fronts.{IsFront, PartsAt, GoesOn}
 use Rattle.rt_audit.specs.Finding.{ComesTo, IsBehind, Says, Fell, Rests, TurnsTo, Keeps, at_rest}
 use Rattle.rt_audit.specs.Judging.{StopsIn, PassesTo, FindsIn}

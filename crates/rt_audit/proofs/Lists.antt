@@ -14,8 +14,8 @@ use Rattle.rt_model.specs.Replay.{Entry, Build, Taken, if_live, due_heard, due_w
 use Rattle.rt_model.specs.Causes as causes
 use Rattle.rt_reports.specs.Seen.{entry_of}
 use Rattle.rt_reports.specs.declared.entry.Entry.{Entry as Noted}
-use Rattle.rt_turns.specs.Turn.{unit_of}
-use Rattle.rt_turns.proofs.Beginnings.{due_at_rest}
+use Rattle.rt_fresh.specs.Turn.{unit_of}
+use Rattle.rt_fresh.proofs.Beginnings.{due_at_rest}
 use Rattle.rt_state.specs.Mirror.{Unkept, at_first, state_of}
 use Rattle.rt_state.specs.Names.{fault_of}
 use Rattle.rt_state.specs.declared.names.Fault.{Fault}
@@ -26,7 +26,7 @@ use Rattle.rt_machine.specs.Stands.{Follows}
 use Rattle.rt_machine.specs.declared.course.Course.{Course}
 use Rattle.rt_machine.specs.declared.machine.Machine.{Machine}
 use Rattle.rt_machine.proofs.Opening.{building, taking, stands_built, built_refused, stands_taken}
-use Rattle.rt_verdicts.specs.Verdicts.{Verdict, Accepted, Refused, opening, is_placed, verdict_on, verdict_from, verdict}
+use Rattle.rt_rows.specs.Verdicts.{Verdict, Accepted, Refused, opening, is_placed, verdict_on, verdict_from, verdict}
 use Rattle.rt_audit.specs.Finding.{Keeps}
 use Rattle.rt_audit.specs.Fronts.{begins_with}
 use Rattle.rt_audit.specs.Judging.{verdict_of, ended, AfterFault, JudgesOf, ListJudged, Reaches}

@@ -10,8 +10,8 @@ use Rattle.rt_state.specs.declared.names.Stop.TheVariants as stops
 use Rattle.rt_machine.specs.Machines.{noted}
 use Rattle.rt_machine.specs.Stands.{Going, Follows}
 use Rattle.rt_machine.specs.declared.machine.Machine.{Machine}
-use Rattle.rt_verdicts.specs.Verdicts as verdicts
-use Rattle.rt_verdicts.specs.Verdicts.{opening, verdict_on, verdict_from}
+use Rattle.rt_rows.specs.Verdicts as verdicts
+use Rattle.rt_rows.specs.Verdicts.{opening, verdict_on, verdict_from}
 use Rattle.rt_audit.specs.Finding.{Keeps, Rests}
 use Rattle.rt_audit.specs.declared.following.Found.{Found}
 use Rattle.rt_audit.specs.declared.following.Found.TheVariants as found

@@ -5,7 +5,7 @@ ghost use Rattle.rt_machine.specs.Machines.{IsFresh};
 ghost use Rattle.rt_machine.specs.Stands.{Follows};
 ghost use Rattle.rt_reports.specs.Seen.{entry_of, input_of, limits_of};
 ghost use Rattle.rt_state.specs.Mirror.{at_first, state_of};
-ghost use Rattle.rt_verdicts.specs.Verdicts.{verdict};
+ghost use Rattle.rt_rows.specs.Verdicts.{verdict};
 ghost use Rattle.rt_audit.specs.Finding.{boundless};
 ghost use Rattle.rt_audit.specs.Judging.{verdict_of, ended, AfterFault, ListJudged, Reaches, StepsOn};
 

@@ -1,10 +1,22 @@
-//! Bodies that are written with the calls of a `Cx`, and the programs in data that they mean.
+//! Bodies that are written with the calls of a `Cx`, and the programs in data that they mean; and
+//! applications from what an author gives: pages, whose answers are functions of the values of cells,
+//! or such bodies.
 #![tactic(auto)]
 
 mod answers;
+mod bodied;
+mod bodies;
 mod cells;
 mod nothing;
+mod paged;
+mod pages;
+mod rows;
 
 pub use answers::{remembered, unless_refused};
+pub use bodied::Bodied;
+pub use bodies::Bodies;
 pub use cells::{KeepsCells, own_cell};
 pub use nothing::Nothing;
+pub use paged::Paged;
+pub use pages::Pages;
+pub use rows::{read_all, write_all};

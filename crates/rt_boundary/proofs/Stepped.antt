@@ -11,7 +11,7 @@ use Rattle.rt_model.specs.Tree.{Types, Element, SuspenseBoundary}
 use Rattle.rt_model.specs.World.{Application}
 use Rattle.rt_model.specs.State.{ChildrenSide, FallbackSide, RowStep, ShowFallback, ShowChildren, DropFallback, Resolve, Scope, State, Done, change, empty_side, is_live}
 use Rattle.rt_model.specs.Boundary.{boundary_step, called_back, counts_render, drop_items, row_step, side_scopes}
-use Rattle.rt_sides.specs.Sides.{fallback_scopes_in}
+use Rattle.rt_scopes.specs.Sides.{fallback_scopes_in}
 use Rattle.rt_state.specs.Effects.{callbacks_of}
 
 -- what holds of the row that was found holds of the one that is there

@@ -5,3 +5,5 @@ pub mod Contents
 pub mod Applied
 pub mod Back
 pub mod Cut
+pub mod Components
+pub mod Keeping

@@ -4,7 +4,7 @@ use crate::telling::{put_edits, put_value};
 use rt_edits::{DocNode, Edit};
 use rt_parts::CapturedError;
 use rt_script::Script;
-use rt_script_values::Value;
+use rt_script_views::Value;
 use rt_values::{ElementId, List, OutOfMemory, ScopeId, Task};
 use rt_vdom::{ErrorContext, SuspenseContext, TaskCalls, VirtualDom};
 use std::alloc::{AllocError, Global};

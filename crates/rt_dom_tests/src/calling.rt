@@ -10,7 +10,7 @@ use rt_cells::ReactiveContext;
 use rt_edits::{FailingMutations, Mutations};
 use rt_parts::Event;
 use rt_script::Script;
-use rt_script_values::{Doing, Standing};
+use rt_script_views::{Doing, Standing};
 use rt_values::{ElementId, List, OutOfMemory, ScopeId, Task, Text};
 use rt_vdom::{ErrorContext, SuspenseContext, TaskCalls, VirtualDom, task_new};
 use std::alloc::Global;

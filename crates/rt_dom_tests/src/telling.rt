@@ -2,7 +2,7 @@
 
 use rt_edits::{Edit, Mutations};
 use rt_print::{edit_line, report_line};
-use rt_script_values::{Content, Value};
+use rt_script_views::{Content, Value};
 use rt_values::{List, OutOfMemory, ScopeId, Task};
 use rt_vdom::{DomFault, Fault, Poll, Report};
 use std::alloc::{AllocError, Global};

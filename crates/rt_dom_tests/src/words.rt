@@ -1,7 +1,7 @@
 //! Words of a line, as what they name.
 
 use rt_inbox::{Msg, Post};
-use rt_script_values::{Content, Value};
+use rt_script_views::{Content, Value};
 use rt_values::{List, OutOfMemory, ScopeId, Task, Text};
 use rt_vdom::Drained;
 use std::alloc::{AllocError, Global};

@@ -5,9 +5,9 @@ use Rattle.std.specs.Cmp.Lexicographic.{slice_cmp}
 use Rattle.serde_json.specs.Data.{Data}
 use Rattle.serde_json.specs.View.{view, items_view}
 use Rattle.serde_json.specs.declared.value.Value.{Value}
-use Rattle.rt_expressions.specs.declared.names.Names.{Names}
-use Rattle.rt_expressions.specs.declared.names.Signature.{Signature}
-use Rattle.rt_expressions.specs.Names.{signature_from}
+use Rattle.rt_expressions.specs.declared.signatures.Names.{Names}
+use Rattle.rt_expressions.specs.declared.signatures.Signature.{Signature}
+use Rattle.rt_expressions.specs.Signatures.{signature_from}
 use Rattle.rt_expressions.specs.Expressions.{expression_of, expression_step}
 use Rattle.rt_expressions.specs.Kinds.{place_from, put_found, found_in_items, found_below, found_in}
 

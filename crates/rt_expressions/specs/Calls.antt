@@ -2,13 +2,13 @@
 use Rattle.std.specs.Prelude.{ℕ, List, length, ◌==◌, Option, Some, None, option_and_then, if◌then◌else◌, codes}
 use Rattle.serde_json.specs.Data.{Data, Items}
 use Rattle.serde_json.specs.Find.{get}
-use Rattle.rt_fields.specs.Fields.{text_at, list_at}
-use Rattle.rt_fields.specs.Lists.{read_each}
-use Rattle.rt_fields.specs.Names.{place_of}
+use Rattle.rt_expressions.specs.Fields.{text_at, list_at}
+use Rattle.rt_expressions.specs.Lists.{read_each}
+use Rattle.rt_expressions.specs.Names.{place_of}
 use Rattle.rt_syntax.specs.declared.expression.Expression.{Expression}
-use Rattle.rt_expressions.specs.declared.names.Names.{Names}
-use Rattle.rt_expressions.specs.declared.names.Signature.{Signature}
-use Rattle.rt_expressions.specs.Names.{signature_of}
+use Rattle.rt_expressions.specs.declared.signatures.Names.{Names}
+use Rattle.rt_expressions.specs.declared.signatures.Signature.{Signature}
+use Rattle.rt_expressions.specs.Signatures.{signature_of}
 use Rattle.rt_expressions.specs.Expressions.{expression_in}
 
 -- the expression at a key

@@ -2,14 +2,14 @@
 use Rattle.std.specs.Prelude.{ℕ, zero, suc, ℤ, List, Option, Some, None, option_map, option_and_then, if◌then◌else◌}
 use Rattle.serde_json.specs.Data.{Data}
 use Rattle.serde_json.specs.Find.{as_str, as_array}
-use Rattle.rt_fields.specs.Keys.{only_member}
-use Rattle.rt_fields.specs.Fields.{integer, is_zero}
-use Rattle.rt_fields.specs.Lists.{read_each}
-use Rattle.rt_fields.specs.Names.{place_of}
+use Rattle.rt_expressions.specs.Keys.{only_member}
+use Rattle.rt_expressions.specs.Fields.{integer, is_zero}
+use Rattle.rt_expressions.specs.Lists.{read_each}
+use Rattle.rt_expressions.specs.Names.{place_of}
 use Rattle.rt_syntax.specs.declared.expression.Literal.TheVariants as literals
 use Rattle.rt_syntax.specs.declared.expression.Expression.{Expression}
 use Rattle.rt_syntax.specs.declared.expression.Expression.TheVariants as e
-use Rattle.rt_expressions.specs.declared.names.Names.{Names}
+use Rattle.rt_expressions.specs.declared.signatures.Names.{Names}
 use Rattle.rt_expressions.specs.declared.forms.Form.{Form}
 use Rattle.rt_expressions.specs.declared.forms.Form.TheVariants.{Get, Read, LookUp, Cat, If, Two, One, Said}
 use Rattle.rt_expressions.specs.Forms.{form_of, said, paired, chosen, single_of}

@@ -3,8 +3,8 @@ use Rattle.std.specs.Prelude.{ℕ, zero, suc, List, [], ◌∷◌, ◌+◌, inse
 use Rattle.std.specs.Ordering.{nat_cmp, match_ordering}
 use Rattle.std.specs.Cmp.Lexicographic.{slice_cmp}
 use Rattle.serde_json.specs.Data.{Data, null, boolean, number, string, array, object, Items, no_items, item, Members, no_members, member}
-use Rattle.rt_fields.specs.Keys.{is_object_of}
-use Rattle.rt_fields.specs.Fields.{text_at}
+use Rattle.rt_expressions.specs.Keys.{is_object_of}
+use Rattle.rt_expressions.specs.Fields.{text_at}
 
 -- where a key belongs among keys in order, counted from a place on; none where it is one of them
 abbrev pub place_from : ℕ → List ℕ → List (List ℕ) → Option ℕ

@@ -1,5 +1,13 @@
+pub mod Keys
+pub mod Fields
 pub mod Names
+pub mod Lists
+pub mod Signatures
 pub mod Forms
 pub mod Expressions
 pub mod Calls
 pub mod Kinds
+pub mod ViewForms
+pub mod Attributes
+pub mod Parts
+pub mod Views

@@ -1,13 +1,32 @@
--- What the names of a source stand for.
-use Rattle.std.specs.Prelude.{ℕ, List, [], ◌∷◌, ◌+◌, Option, Some, None, if◌then◌else◌, bytes_eq}
-use Rattle.rt_expressions.specs.declared.names.Signature.{Signature}
+-- Names: which texts are one, where one is bound, and lists of names that differ.
+use Rattle.std.specs.Prelude.{ℕ, List, [], ◌∷◌, ◌++◌, ◌+◌, Bool, ◌&&◌, ◌||◌, ◌==◌, not, length, Option, Some, None, option_and_then, is_some, if◌then◌else◌, bytes_eq}
+use Rattle.std.specs.List.{list_all}
+use Rattle.std.specs.Char.{is_ascii_alphanumeric}
+use Rattle.serde_json.specs.Data.{Data, Items}
+use Rattle.serde_json.specs.Find.{as_str}
+use Rattle.rt_expressions.specs.Lists.{steps}
 
--- the place of what has a name, counted from a place on, and how many params it has
-abbrev pub signature_from : ℕ → List ℕ → List Signature → Option (ℕ × ℕ)
-signature_from at name [] = None
-signature_from at name (next ∷ signatures) = if bytes_eq next.name name then Some (at, next.params)
-    else signature_from (at + 1) name signatures
+-- an ASCII letter or digit, `-` or `_`
+abbrev pub is_name_byte : ℕ → Bool
+is_name_byte byte = is_ascii_alphanumeric byte || (byte == 45 || byte == 95)
 
--- the place from 0 of what has a name, and how many params it has
-unfoldable pub signature_of : List Signature → List ℕ → Option (ℕ × ℕ)
-signature_of signatures name = signature_from 0 name signatures
+-- such bytes alone, at least one
+abbrev pub is_name : List ℕ → Bool
+is_name text = not (length text == 0) && list_all is_name_byte text
+
+-- the last place of a name among those from a place on, or the place before them
+abbrev pub place_from : ℕ → List ℕ → List (List ℕ) → Option ℕ → Option ℕ
+place_from at name [] before = before
+place_from at name (next ∷ names) before = place_from (at + 1) name names (if bytes_eq next name then Some at else before)
+
+-- the last place of a name, from 0
+unfoldable pub place_of : List (List ℕ) → List ℕ → Option ℕ
+place_of names name = place_from 0 name names None
+
+-- one more text, which isn't among those before it
+abbrev pub one_more_text : List (List ℕ) → Data → Option (List (List ℕ))
+one_more_text texts d = option_and_then (λ text. if is_some (place_of texts text) then None else Some (texts ++ text ∷ [])) (as_str d)
+
+-- the texts of a list, where each item is one and no two are the same
+abbrev pub distinct_texts : Items → Option (List (List ℕ))
+distinct_texts = steps one_more_text []

@@ -4,8 +4,9 @@ ghost use Rattle.serde_json.specs.View.{view, items_view};
 ghost use Rattle.rt_expressions.specs.Calls.{expression_at, variable_at, call_in, call_at};
 
 use crate::expressions::{read_expression, read_expressions};
-use crate::names::{Names, Signature, signature_of};
-use rt_fields::{list_at, place_of, text_at};
+use crate::fields::{list_at, text_at};
+use crate::names::place_of;
+use crate::signatures::{Names, Signature, signature_of};
 use rt_syntax::Expression;
 use rt_values::{List, OutOfMemory, Text};
 use serde_json::Value;

@@ -2,14 +2,16 @@
 ghost use Rattle.std.specs.Prelude.{◌≡◌, IfOk, option_map, option_and_then};
 ghost use Rattle.serde_json.specs.View.{view, items_view};
 ghost use Rattle.serde_json.specs.Find.{as_str};
-ghost use Rattle.rt_fields.specs.Lists.{read_each};
-ghost use Rattle.rt_fields.specs.Names.{place_of};
+ghost use Rattle.rt_expressions.specs.Lists.{read_each};
+ghost use Rattle.rt_expressions.specs.Names.{place_of};
 ghost use Rattle.rt_expressions.specs.Expressions.{expression_of, formed, row, expression_in};
 
+use crate::fields::is_zero;
 use crate::forms::{Form, form_of};
-use crate::names::Names;
+use crate::keys::only_member;
+use crate::names::place_of;
 use crate::operands::{chosen, paired, said, single_of};
-use rt_fields::{is_zero, only_member, place_of};
+use crate::signatures::Names;
 use rt_syntax::{Expression, Literal};
 use rt_values::{List, OutOfMemory, Text};
 use serde_json::Value;

@@ -3,7 +3,8 @@ ghost use Rattle.std.specs.Prelude.{◌≡◌, ◌≤◌, IfOk, IfSome, length, 
 ghost use Rattle.serde_json.specs.View.{view, items_view, members_view};
 ghost use Rattle.rt_expressions.specs.Kinds.{place_among, put_among, key_in, put_found, found_in, found_below, found_in_items, found_in_members, found_at, found_in_each, kinds_in};
 
-use rt_fields::{is_object_of, text_at};
+use crate::fields::text_at;
+use crate::keys::is_object_of;
 use rt_values::{OutOfMemory, Text};
 use serde_json::{Map, Value};
 use std::alloc::Global;

@@ -1,34 +1,56 @@
-//! What the names of a source stand for.
-ghost use Rattle.std.specs.Prelude.{◌≡◌};
-ghost use Rattle.rt_expressions.specs.Names.{signature_of};
+//! Names: which texts are one, where one is bound, and lists of names that differ.
+ghost use Rattle.std.specs.Prelude.{◌≡◌, IfOk, option_map};
+ghost use Rattle.serde_json.specs.View.{items_view};
+ghost use Rattle.rt_expressions.specs.Names.{is_name, place_of, distinct_texts};
 
-use rt_values::{List, Text};
+use rt_values::{OutOfMemory, Text};
+use serde_json::Value;
+use std::alloc::Global;
 
-/// What is used by its name, and with how many values.
-#[derive(Debug, Drop)]
-pub struct Signature {
-    pub name: Text,
-    pub params: u64,
-}
-
-/// The names that a whole source has: keys of contexts, components, actions and tasks, each in order.
-#[derive(Debug, Drop)]
-pub struct Names {
-    pub kinds: List<Text>,
-    pub components: List<Signature>,
-    pub actions: List<Signature>,
-    pub tasks: List<Signature>,
-}
-
-/// The place from 0 of what has this name, and how many params it has.
-#[tactic(auto, using(crate::proofs::Reading::signature_next), unfolding(crate::specs::Names::signature_of))]
-pub fn signature_of(signatures: &[Signature], name: &str) -> Option<(u64, u64)>
-    ensures place { result ≡ signature_of signatures.now name.now }
+/// Whether a text is ASCII letters, digits, `-` and `_`, at least one of them.
+pub fn is_name(text: &str) -> bool
+    ensures name { result ≡ is_name text.now }
 {
-    for at in 0..signatures.len() {
-        if signatures[at].name.as_str() == name {
-            return Some((at as u64, signatures[at].params));
+    let bytes = text.as_bytes();
+    if bytes.is_empty() {
+        return false;
+    }
+    for byte in bytes {
+        if !(byte.is_ascii_alphanumeric() || *byte == b'-' || *byte == b'_') {
+            return false;
         }
     }
-    None
+    true
+}
+
+/// The place from 0 of the last of the names that is this one.
+#[tactic(auto, using(crate::proofs::Steps::place_next), unfolding(crate::specs::Names::place_of))]
+pub fn place_of(names: &[Text], name: &str) -> Option<u64>
+    ensures place { result ≡ place_of names.now name.now }
+{
+    let mut place = None;
+    for at in 0..names.len() {
+        if names[at].as_str() == name {
+            place = Some(at as u64);
+        }
+    }
+    place
+}
+
+/// The texts of a list, where each of its values is one and no two are the same.
+pub fn distinct_texts(alloc: Global, values: &[Value]) -> Result<Option<Vec<Text>>, OutOfMemory>
+    ensures texts { IfOk result (λ texts. option_map (λ kept. kept.items) texts
+        ≡ distinct_texts (items_view values.now)) }
+{
+    let mut texts = Vec::new(alloc);
+    for value in values {
+        let Some(text) = value.as_str() else {
+            return Ok(None);
+        };
+        if place_of(&texts, text).is_some() {
+            return Ok(None);
+        }
+        texts.push(Text::from_str(alloc, text)?)?;
+    }
+    Ok(Some(texts))
 }

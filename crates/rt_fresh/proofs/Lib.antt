@@ -28,3 +28,7 @@ mod Due
 pub mod Limited
 mod Passed
 mod Rendered
+pub mod Underway
+pub mod Items
+pub mod Beginnings
+pub mod Sessions

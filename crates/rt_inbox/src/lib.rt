@@ -1,20 +1,27 @@
-//! Messages from threads: posters post into one queue, and one owner takes what they posted.
+//! Messages from threads: posts go in, and one owner takes them; posters as threads of their own, each
+//! of which posts its list while the owner drains.
 #![tactic(auto)]
 
 mod gate;
 mod inbox;
 mod laws;
 mod line;
+mod making;
+mod meeting;
 mod message;
 mod notifier;
 mod owner;
+mod posters;
 mod taken;
 mod view;
 
 pub use gate::{Gate, NoGate};
 pub use inbox::Inbox;
 pub use laws::steps_keep_the_rule;
+pub use making::posters_for;
+pub use meeting::meet;
 pub use message::{Drained, Msg, Post, Refused};
 pub use notifier::Notifier;
 pub use owner::Owner;
+pub use posters::{Poster, post_lists};
 pub use taken::{Taken, finish};

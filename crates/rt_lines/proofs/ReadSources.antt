@@ -5,16 +5,16 @@ use Rattle.std.specs.List.{AllByRecursion}
 use Rattle.std.proofs.lemmas.Option.{option_and_then_some}
 use Rattle.serde_json.specs.Data.{Data}
 use Rattle.serde_json.specs.Find.{get}
-use Rattle.rt_fields.specs.Keys.{is_object_of}
-use Rattle.rt_fields.specs.Fields.{list_at, list_or_empty}
-use Rattle.rt_expressions.specs.declared.names.Names.{Names}
-use Rattle.rt_statements.specs.declared.forms.Place.TheVariants.{Body}
-use Rattle.rt_statements.specs.Statements.{block_in}
+use Rattle.rt_expressions.specs.Keys.{is_object_of}
+use Rattle.rt_expressions.specs.Fields.{list_at, list_or_empty}
+use Rattle.rt_expressions.specs.declared.signatures.Names.{Names}
+use Rattle.rt_sources.specs.declared.forms.Place.TheVariants.{Body}
+use Rattle.rt_sources.specs.Statements.{block_in}
 use Rattle.rt_syntax.specs.declared.statement.Statement.{Statement}
 use Rattle.rt_syntax.specs.declared.source.ComponentSource.{ComponentSource}
 use Rattle.rt_syntax.specs.declared.view.ViewNode.{ViewNode}
 use Rattle.rt_syntax.specs.Mirror.{component_of, view_of}
-use Rattle.rt_views.specs.Views.{view_in}
+use Rattle.rt_expressions.specs.Views.{view_in}
 use Rattle.rt_sources.specs.Signatures.{params_in}
 use Rattle.rt_sources.specs.Definitions.{shown, component_in, components_at}
 use Rattle.rt_sources.specs.Describes.{IsSource, Describes}

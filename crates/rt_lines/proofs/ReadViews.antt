@@ -6,11 +6,11 @@ use Rattle.std.proofs.lemmas.Option.{none-some, same_Some, option_and_then_some}
 use Rattle.serde_json.specs.Data.{Data, Items, no_items, item, Members, no_members, member}
 use Rattle.serde_json.specs.Find.{get, at, as_str, as_array, as_object}
 use Rattle.rt_model.proofs.Conjunctions.{and-left, and-right}
-use Rattle.rt_fields.specs.Keys.{is_object_of}
-use Rattle.rt_fields.specs.Fields.{text_at, list_at, list_or_empty, is_zero_at}
-use Rattle.rt_fields.specs.Lists.{in_front, read_each, read_members, each_member}
-use Rattle.rt_fields.specs.Names.{is_name_byte, is_name}
-use Rattle.rt_expressions.specs.declared.names.Names.{Names}
+use Rattle.rt_expressions.specs.Keys.{is_object_of}
+use Rattle.rt_expressions.specs.Fields.{text_at, list_at, list_or_empty, is_zero_at}
+use Rattle.rt_expressions.specs.Lists.{in_front, read_each, read_members, each_member}
+use Rattle.rt_expressions.specs.Names.{is_name_byte, is_name}
+use Rattle.rt_expressions.specs.declared.signatures.Names.{Names}
 use Rattle.rt_expressions.specs.Expressions.{expression_in}
 use Rattle.rt_expressions.specs.Calls.{expression_at, call_at}
 use Rattle.rt_language.specs.Syntax as language
@@ -26,14 +26,14 @@ use Rattle.rt_syntax.specs.declared.view.ViewNode.TheOpen.{ViewNode-F}
 use Rattle.rt_syntax.specs.declared.view.ViewNode.TheFolds.{fold-ViewSlot}
 use Rattle.rt_syntax.specs.declared.view.ViewSlot.{ViewSlot}
 use Rattle.rt_syntax.specs.declared.view.ViewSlot.TheVariants as slots
-use Rattle.rt_views.specs.declared.forms.Leaf.{Leaf}
-use Rattle.rt_views.specs.declared.forms.Leaf.TheVariants as leaves
-use Rattle.rt_views.specs.declared.forms.Form.{Form}
-use Rattle.rt_views.specs.declared.forms.Form.TheVariants as forms
-use Rattle.rt_views.specs.Forms.{form_in}
-use Rattle.rt_views.specs.Attributes.{static_or, attribute_in, listener_in, attributes_at, listeners_at, all_in}
-use Rattle.rt_views.specs.Parts.{component_use, use_at, leaf_of, named, name_or_none, namespace_in}
-use Rattle.rt_views.specs.Views.{views_of, kids_of, element_with, element_of, list_of, view_at, picked, pick_of, fragment_of, boundary_with, boundary_of, formed, text_or, node_of, view_in}
+use Rattle.rt_expressions.specs.declared.view_forms.Leaf.{Leaf}
+use Rattle.rt_expressions.specs.declared.view_forms.Leaf.TheVariants as leaves
+use Rattle.rt_expressions.specs.declared.view_forms.Form.{Form}
+use Rattle.rt_expressions.specs.declared.view_forms.Form.TheVariants as forms
+use Rattle.rt_expressions.specs.ViewForms.{form_in}
+use Rattle.rt_expressions.specs.Attributes.{static_or, attribute_in, listener_in, attributes_at, listeners_at, all_in}
+use Rattle.rt_expressions.specs.Parts.{component_use, use_at, leaf_of, named, name_or_none, namespace_in}
+use Rattle.rt_expressions.specs.Views.{views_of, kids_of, element_with, element_of, list_of, view_at, picked, pick_of, fragment_of, boundary_with, boundary_of, formed, text_or, node_of, view_in}
 use Rattle.rt_lines.specs.Plain.{IsName, IsNamespace}
 use Rattle.rt_lines.specs.Named.{NamedAttribute, NamedView, NamedViewSlot}
 

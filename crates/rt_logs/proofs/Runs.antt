@@ -10,7 +10,7 @@ use Rattle.std.specs.Map.{remove_entry}
 use Rattle.serde_json.specs.Data.{Data, Items, Members, object, member}
 use Rattle.serde_json.specs.Find.{get, as_array}
 use Rattle.serde_json.specs.Read.{read}
-use Rattle.rt_fields.specs.Fields.{list_at}
+use Rattle.rt_expressions.specs.Fields.{list_at}
 use Rattle.serde_json.specs.View.{view, members_view}
 use Rattle.serde_json.specs.declared.value.Value.{Value, Object}
 use Rattle.serde_json.proofs.Views.{view-Object}

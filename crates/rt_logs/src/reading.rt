@@ -6,7 +6,7 @@ ghost use Rattle.rt_logs.specs.Reading.{ReadsLog};
 ghost use Rattle.rt_logs.specs.Runs.{Gathers, ReadsRun, ReadsBytes};
 
 use crate::words::lists;
-use rt_fields::list_at;
+use rt_expressions::list_at;
 use rt_reports::Entry;
 use rt_sources::{SOURCE_LIMIT, source_in};
 use rt_syntax::Source;

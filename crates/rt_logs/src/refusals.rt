@@ -1,7 +1,7 @@
 //! Why bytes are no recorded run.
 
 use crate::reading::without_log;
-use rt_refusals::refusal;
+use crate::sources::refusal;
 use rt_values::OutOfMemory;
 use serde_json::Value;
 use serde_json::error::Category;

@@ -18,7 +18,7 @@ use Rattle.rt_state.specs.declared.names.Stop.{Stop}
 use Rattle.rt_state.specs.declared.names.Stop.TheVariants as stops
 use Rattle.rt_state.specs.Made.{IsMade}
 use Rattle.rt_state.specs.declared.names.Fault.TheVariants.{the_data as CodeFault}
-use Rattle.rt_turns.specs.Turn.{again, and_then, turn_of}
+use Rattle.rt_fresh.specs.Turn.{again, and_then, turn_of}
 use Rattle.rt_machine.specs.Notes.{NotedBy}
 
 -- a copy that was made is the value itself

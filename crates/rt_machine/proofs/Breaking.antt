@@ -19,9 +19,9 @@ use Rattle.rt_reports.specs.declared.limits.Limits.{Limits}
 use Rattle.rt_state.specs.Mirror.{Unkept, state_of}
 use Rattle.rt_state.specs.Names.{fault_of}
 use Rattle.rt_state.specs.declared.names.Stop.TheVariants as stops
-use Rattle.rt_turns.specs.Turn.{turn_of, entries_at}
-use Rattle.rt_turns.proofs.Items.{works_cut, works_deep}
-use Rattle.rt_turns.proofs.Underway.{works_close}
+use Rattle.rt_fresh.specs.Turn.{turn_of, entries_at}
+use Rattle.rt_fresh.proofs.Items.{works_cut, works_deep}
+use Rattle.rt_fresh.proofs.Underway.{works_close}
 use Rattle.rt_machine.proofs.Orderly.{orderly_reached}
 use Rattle.rt_work.specs.Items.{work_of}
 use Rattle.rt_machine.specs.Ends.{Explains}

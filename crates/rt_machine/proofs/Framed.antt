@@ -20,7 +20,7 @@ use Rattle.rt_shown.specs.Look.{Sight, sight_of}
 use Rattle.rt_shown.specs.Stands.{Stands}
 use Rattle.rt_shown.specs.declared.look.Stood.{Stood}
 use Rattle.rt_shown.proofs.Standing.{stands_changed}
-use Rattle.rt_turns.specs.Turn.{and_then, again, turn_of}
+use Rattle.rt_fresh.specs.Turn.{and_then, again, turn_of}
 use Rattle.rt_machine.specs.Changes.{AllKept, changes_of, changes_of_fed, unless}
 
 module _ {K : Types} where

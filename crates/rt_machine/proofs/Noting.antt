@@ -21,7 +21,7 @@ use Rattle.rt_state.specs.declared.names.Fault.TheVariants as faults
 use Rattle.rt_state.specs.declared.names.Stop.{Stop}
 use Rattle.rt_state.specs.declared.names.Stop.TheVariants as stops
 use Rattle.rt_state.specs.declared.state.State as code
-use Rattle.rt_turns.specs.Turn.{entries_at, entry_for}
+use Rattle.rt_fresh.specs.Turn.{entries_at, entry_for}
 use Rattle.rt_machine.specs.Keeps.{UnlessBroke, LogsOne, Logs, LogsLater, Spends, TurnKeeps, WorkKeeps}
 use Rattle.rt_machine.specs.Machines.{HearsAs, BeginsAs, ServesAs, fault_in, noted}
 use Rattle.rt_machine.specs.declared.ended.Ended.{Ended}

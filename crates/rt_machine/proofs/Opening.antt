@@ -24,9 +24,9 @@ use Rattle.rt_reports.specs.declared.report.Report.{Report}
 use Rattle.rt_state.specs.Mirror.{Unkept, at_first, scopes_of, state_of}
 use Rattle.rt_state.specs.Names.{fault_of}
 use Rattle.rt_state.specs.declared.names.Stop.TheVariants as stops
-use Rattle.rt_turns.specs.Turn.{unit_of, entry_for, begun_at}
-use Rattle.rt_turns.specs.Underway.{Rests, Works, Refused}
-use Rattle.rt_turns.proofs.Beginnings.{rests_begin, rests_cut, rests_spent, opens_taken, opens_build, build_cut}
+use Rattle.rt_fresh.specs.Turn.{unit_of, entry_for, begun_at}
+use Rattle.rt_fresh.specs.Underway.{Rests, Works, Refused}
+use Rattle.rt_fresh.proofs.Beginnings.{rests_begin, rests_cut, rests_spent, opens_taken, opens_build, build_cut}
 use Rattle.rt_work.specs.Items.{work_of}
 use Rattle.rt_machine.specs.Machines.{machine_of, open_work, noted, first_in, fault_in, IsFresh, Did, WasCut, BeginsAs, RemembersFor, Remembers}
 use Rattle.rt_machine.specs.Stands.{Going, StandsFor, StandsAt, StandsQuiet, Follows, Over, Reported}

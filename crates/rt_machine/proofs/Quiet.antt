@@ -15,7 +15,7 @@ use Rattle.rt_state.specs.Mirror.{Unkept}
 use Rattle.rt_state.specs.Names.{fault_of}
 use Rattle.rt_state.specs.declared.names.Stop.{Stop}
 use Rattle.rt_state.specs.declared.names.Stop.TheVariants as stops
-use Rattle.rt_turns.specs.Underway.{Rests, Works, Refused}
+use Rattle.rt_fresh.specs.Underway.{Rests, Works, Refused}
 use Rattle.rt_work.specs.Items.{item_of}
 use Rattle.rt_work.specs.declared.item.Item.{Item}
 use Rattle.rt_machine.specs.Machines.{machine_of, open_work, noted, first_in, fault_in, HearsAs, RemembersFor}

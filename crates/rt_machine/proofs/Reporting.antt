@@ -21,7 +21,7 @@ use Rattle.rt_state.specs.Mirror.{at_first, state_of}
 use Rattle.rt_state.specs.Names.{fault_of}
 use Rattle.rt_state.specs.declared.names.Stop.{Stop}
 use Rattle.rt_state.specs.declared.names.Stop.TheVariants as stops
-use Rattle.rt_turns.specs.Underway.{Refused}
+use Rattle.rt_fresh.specs.Underway.{Refused}
 use Rattle.rt_machine.specs.Machines.{noted, fault_in, IsFresh, Builds}
 use Rattle.rt_machine.specs.Sessions.{FinishedAt, BrokeOff}
 use Rattle.rt_machine.specs.Short.{PartBy}

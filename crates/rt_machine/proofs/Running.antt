@@ -20,9 +20,9 @@ use Rattle.rt_model.specs.Told.{count_entries}
 use Rattle.rt_reports.specs.Seen.{entry_of, report_of}
 use Rattle.rt_reports.specs.Counted.{CountsLog, BeginsOneEach, logs_in}
 use Rattle.rt_reports.specs.declared.report.Report.{Report}
-use Rattle.rt_turns.specs.Sessions.{Sofar}
-use Rattle.rt_turns.specs.Underway.{Rests}
-use Rattle.rt_turns.proofs.Sessions.{rest_owes_none, sofar_none, sofar_more, sofar_ran, sofar_ran_to}
+use Rattle.rt_fresh.specs.Sessions.{Sofar}
+use Rattle.rt_fresh.specs.Underway.{Rests}
+use Rattle.rt_fresh.proofs.Sessions.{rest_owes_none, sofar_none, sofar_more, sofar_ran, sofar_ran_to}
 use Rattle.rt_machine.specs.Machines.{noted, fault_in}
 use Rattle.rt_machine.specs.Sessions.{Finished, FinishedAt, BrokeOff}
 use Rattle.rt_machine.specs.Runs as machine

@@ -17,10 +17,10 @@ use Rattle.rt_moves.specs.Reports.{ToldSo}
 use Rattle.rt_moves.proofs.Joins.{logs_join}
 use Rattle.rt_moves.proofs.Reports.{reports_go_on}
 use Rattle.rt_reports.specs.Counted.{BeginsOneEach}
-use Rattle.rt_turns.specs.Sessions.{Sofar}
-use Rattle.rt_turns.specs.Turn.{entries_at}
-use Rattle.rt_turns.specs.Underway.{Rests, Works, Refused}
-use Rattle.rt_turns.proofs.Underway.{works_close}
+use Rattle.rt_fresh.specs.Sessions.{Sofar}
+use Rattle.rt_fresh.specs.Turn.{entries_at}
+use Rattle.rt_fresh.specs.Underway.{Rests, Works, Refused}
+use Rattle.rt_fresh.proofs.Underway.{works_close}
 use Rattle.rt_machine.specs.Short.{Short, RanShort}
 
 -- a list of entries of which none begins a unit, and another one

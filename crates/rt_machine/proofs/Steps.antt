@@ -18,7 +18,7 @@ use Rattle.rt_state.specs.Names.{fault_of}
 use Rattle.rt_state.specs.declared.names.Stop.{Stop}
 use Rattle.rt_state.specs.declared.names.Stop.TheVariants as stops
 use Rattle.rt_shown.specs.Stands.{Stands}
-use Rattle.rt_turns.specs.Turn.{turn_of, unit_of, entry_for}
+use Rattle.rt_fresh.specs.Turn.{turn_of, unit_of, entry_for}
 use Rattle.rt_machine.specs.Changes.{AllKept, KeepsFor, changes_of}
 use Rattle.rt_machine.specs.Machines.{first_in, is_rerun, DidAs, BeginsAs, ServesAs, RemembersFor, Remembers, StillRemembers, KeepsLow, KeepsOn}
 use Rattle.rt_machine.specs.Notes.{NotedBy}

@@ -22,11 +22,11 @@ use Rattle.rt_reports.specs.Seen.{entry_of}
 use Rattle.rt_state.specs.Mirror.{Unkept, state_of}
 use Rattle.rt_state.specs.Names.{fault_of}
 use Rattle.rt_state.specs.declared.names.Stop.TheVariants as stops
-use Rattle.rt_turns.specs.Turn.{turn_of, entries_at}
-use Rattle.rt_turns.specs.Underway.{Rests, Works, Refused}
-use Rattle.rt_turns.proofs.Items.{works_turn, works_cut, works_deep}
-use Rattle.rt_turns.proofs.Underway.{works_close}
-use Rattle.rt_turns.proofs.Beginnings.{rests_heard, heard_cut}
+use Rattle.rt_fresh.specs.Turn.{turn_of, entries_at}
+use Rattle.rt_fresh.specs.Underway.{Rests, Works, Refused}
+use Rattle.rt_fresh.proofs.Items.{works_turn, works_cut, works_deep}
+use Rattle.rt_fresh.proofs.Underway.{works_close}
+use Rattle.rt_fresh.proofs.Beginnings.{rests_heard, heard_cut}
 use Rattle.rt_work.specs.Items.{work_of}
 use Rattle.rt_machine.specs.Machines.{machine_of, open_work, noted, first_in, fault_in, Did, WasCut, ServesAs, HeardOne, HeardPart, RemembersFor, StillRemembers, KeepsOn}
 use Rattle.rt_machine.specs.Stands.{Going, StandsFor, StandsAt, StandsBefore, StandsQuiet, Settled, CameTo, GoesOn}

@@ -19,7 +19,7 @@ use Rattle.rt_state.specs.declared.names.Stop.TheVariants as stops
 use Rattle.rt_shown.specs.Hearing.{listener_in, listeners_of}
 use Rattle.rt_shown.specs.Stands.{Stands}
 use Rattle.rt_shown.specs.declared.hearing.Listener.{Listener}
-use Rattle.rt_turns.specs.Turn.{turn_of, entries_at, unit_of, entry_for}
+use Rattle.rt_fresh.specs.Turn.{turn_of, entries_at, unit_of, entry_for}
 use Rattle.rt_work.specs.Items.{work_of}
 use Rattle.rt_machine.specs.Hearings.{listeners_in, event_in, bubbles_in}
 use Rattle.rt_machine.specs.declared.ended.Ended.{Ended}

@@ -12,7 +12,7 @@ use Rattle.rt_model.specs.Reports.{OneEach, InputsFrom}
 use Rattle.rt_reports.specs.Seen.{report_of}
 use Rattle.rt_reports.specs.Counted.{AllCountLogs, BeginsOneEach, logs_in}
 use Rattle.rt_reports.specs.declared.report.Report.{Report}
-use Rattle.rt_turns.specs.Sessions as turns
+use Rattle.rt_fresh.specs.Sessions as turns
 use Rattle.rt_machine.specs.Stands.{Follows, RunsAs}
 use Rattle.rt_machine.specs.declared.ended.Ended.{Ended}
 use Rattle.rt_machine.specs.declared.machine.Machine.{Machine}

@@ -16,7 +16,7 @@ use Rattle.rt_moves.specs.Reached.{Reached}
 use Rattle.rt_reports.specs.Seen.{entry_of, report_of}
 use Rattle.rt_reports.specs.declared.report.Report.{Report}
 use Rattle.rt_state.specs.Mirror.{Unkept}
-use Rattle.rt_turns.specs.Underway.{Rests, Works, Refused}
+use Rattle.rt_fresh.specs.Underway.{Rests, Works, Refused}
 use Rattle.rt_machine.specs.Machines.{machine_of, noted, first_in, open_work, fault_in, RemembersFor}
 use Rattle.rt_machine.specs.Sessions.{Finished, FinishedAt, BrokeOff}
 use Rattle.rt_machine.specs.Short.{Short, PartBy}

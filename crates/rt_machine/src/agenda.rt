@@ -10,7 +10,7 @@ ghost use Rattle.rt_places.specs.Places.{kind_of, place_of, side_name_of};
 ghost use Rattle.rt_reports.specs.Seen.{limits_of};
 ghost use Rattle.rt_scopes.specs.Outcomes.{StateComes};
 ghost use Rattle.rt_state.specs.Mirror.{state_of};
-ghost use Rattle.rt_turns.specs.Turn.{again, turn_of, entries_at};
+ghost use Rattle.rt_fresh.specs.Turn.{again, turn_of, entries_at};
 ghost use Rattle.rt_work.specs.Items.{item_of, work_of};
 ghost use Rattle.rt_machine.specs.Notes.{NotedBy};
 
@@ -23,8 +23,7 @@ use rt_nodes::VComponent;
 use rt_parts::Parts;
 use rt_places::{Kind, Place, SideName};
 use rt_reports::{Entry, Limits};
-use rt_scopes::Scopes;
-use rt_sides::{fed_child, next_removed};
+use rt_scopes::{Scopes, fed_child, next_removed};
 use rt_state::{State, Stop};
 use rt_values::{List, OutOfMemory, Part, ScopeId, both};
 use rt_work::Item;

@@ -7,7 +7,7 @@ ghost use Rattle.rt_reports.specs.Seen.{entry_of, limits_of};
 ghost use Rattle.rt_scopes.specs.Outcomes.{StateComes};
 ghost use Rattle.rt_state.specs.Mirror.{scopes_of};
 ghost use Rattle.rt_state.specs.Names.{work_of as model_work};
-ghost use Rattle.rt_turns.specs.Turn.{entry_for, unit_of};
+ghost use Rattle.rt_fresh.specs.Turn.{entry_for, unit_of};
 ghost use Rattle.rt_work.specs.Items.{work_of};
 ghost use Rattle.rt_machine.specs.Ends.{Explains};
 ghost use Rattle.rt_machine.specs.Machines.{Begins, BeginsUnit, Builds, fault_in, first_in, is_rerun, RemembersAt};

@@ -7,8 +7,7 @@ use rt_nodes::{DynamicNode, VComponent, VNode};
 use rt_parts::{
     Attribute, AttributeValue, ListenerCallback, Parts, Template, TemplateAttribute, TemplateNode,
 };
-use rt_shared::Shared;
-use rt_values::{List, OutOfMemory, ScopeId, Text, both};
+use rt_values::{List, OutOfMemory, ScopeId, Shared, Text, both};
 use std::alloc::Global;
 
 /// An attribute that hears events: its name is `on` and the event's name. The handler is called in

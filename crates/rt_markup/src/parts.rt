@@ -3,8 +3,7 @@ ghost use Rattle.std.specs.Prelude.{◌≡◌, ◌∷◌, [], IfOk};
 ghost use Rattle.rt_markup.specs.Markup as markup;
 
 use rt_parts::{TemplateAttribute, TemplateNode};
-use rt_shared::Shared;
-use rt_values::{List, OutOfMemory, Text};
+use rt_values::{List, OutOfMemory, Shared, Text};
 use std::alloc::Global;
 
 /// A list of one item.

@@ -6,8 +6,7 @@ ghost use Rattle.rt_nodes.specs.Places.{InTemplate, APlaceholder, node_places, s
 ghost use Rattle.rt_nodes.specs.Shown.{placeholder_tree};
 
 use rt_parts::{Attribute, Parts, RenderError, Template, TemplateNode};
-use rt_shared::Shared;
-use rt_values::{Boxed, List, OutOfMemory, Part, Text, both};
+use rt_values::{Boxed, List, OutOfMemory, Part, Shared, Text, both};
 use std::alloc::Global;
 
 /// What a component's body answers: a tree, or an error or suspension.

@@ -2,8 +2,7 @@
 
 ghost use Rattle.std.specs.Prelude.{◌≡◌, ◌↔◌, IsTrue, IfOk};
 
-use rt_shared::Shared;
-use rt_values::{List, OutOfMemory, Part, Text, both};
+use rt_values::{List, OutOfMemory, Part, Shared, Text, both};
 use std::alloc::Global;
 
 /// The static part of a tree. Slots are numbered from 0 as they are met depth first: an element,

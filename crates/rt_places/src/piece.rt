@@ -5,8 +5,7 @@ ghost use Rattle.rt_mirror.specs.Mirror.{attribute_in};
 ghost use Rattle.rt_places.specs.Pieces.{met_element, node_met, piece_of, row_met};
 
 use rt_parts::{TemplateAttribute, TemplateNode};
-use rt_shared::Shared;
-use rt_values::{List, OutOfMemory, Part, both};
+use rt_values::{List, OutOfMemory, Part, Shared, both};
 use std::alloc::Global;
 
 /// One thing that is met, with its path.

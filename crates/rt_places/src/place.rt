@@ -6,8 +6,7 @@ ghost use Rattle.rt_mirror.specs.Sealed.{template_of};
 ghost use Rattle.rt_places.specs.Places.{at_path, kind_of, place_of};
 
 use rt_parts::Template;
-use rt_shared::Shared;
-use rt_values::{List, OutOfMemory, Part, both, copy_slice, same_slice};
+use rt_values::{List, OutOfMemory, Part, Shared, both, copy_slice, same_slice};
 use std::alloc::Global;
 
 /// What kind of document node stands at a place.

@@ -10,8 +10,7 @@ use crate::piece::{Piece, pieces_of};
 use crate::place::{Kind, Place, place_inside, place_of_item};
 use rt_nodes::{DynamicNode, VComponent, VNode};
 use rt_parts::Parts;
-use rt_shared::Shared;
-use rt_values::{List, OutOfMemory};
+use rt_values::{List, OutOfMemory, Shared};
 use std::alloc::Global;
 
 /// What stands at a place: one node of the document, or a component.

@@ -8,12 +8,12 @@ use Rattle.rt_nodes.specs.declared.vnode.DynamicNode.TheFolds.{para-roll-VNode, 
 use Rattle.rt_nodes.specs.declared.vnode.VComponent.{VComponent}
 use Rattle.rt_nodes.specs.declared.vnode.VNode.{VNode}
 use Rattle.std.specs.List.{slice_index_or}
-use Rattle.rt_shapes.specs.Counting.{count_value}
+use Rattle.rt_plan.specs.Counting.{count_value}
 use Rattle.rt_plan.specs.declared.anchor.Anchor.{Anchor}
 use Rattle.rt_plan.specs.declared.anchor.Anchor.TheVariants.{Number, Child}
 use Rattle.rt_plan.specs.Anchors.{counted, kept_of, last_among, last_item, last_of_tree, last_of_value, last_tree_step, last_value_step}
 use Rattle.rt_plan.specs.Making.{With, plans_of}
-use Rattle.rt_shapes.specs.Tokens.{tokens_in}
+use Rattle.rt_plan.specs.Tokens.{tokens_in}
 
 module _ {P C Q V H T E L : Type 0} where
   abbrev with_last : (DynamicNode P C Q V H T E L) → With (DynamicNode P C Q V H T E L) Anchor

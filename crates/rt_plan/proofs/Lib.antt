@@ -1,3 +1,6 @@
+pub mod CountingLemmas
+pub mod AttributesLemmas
+pub mod ShapesLemmas
 pub mod LosingLemmas
 pub mod MakingLemmas
 pub mod AnchorLemmas

@@ -4,8 +4,8 @@ use Rattle.std.specs.Prelude.{Result, Ok, Err, OnOk, None, slice_get}
 use Rattle.std.specs.List.{slice_index_or}
 use Rattle.rt_nodes.specs.declared.vnode.DynamicNode.{DynamicNode}
 use Rattle.rt_plan.specs.Losing.{lose_token, lose_value, nothing_lost}
-use Rattle.rt_shapes.specs.declared.tokens.Token.{Token}
-use Rattle.rt_shapes.specs.declared.tokens.Token.TheVariants.{Slot}
+use Rattle.rt_plan.specs.declared.tokens.Token.{Token}
+use Rattle.rt_plan.specs.declared.tokens.Token.TheVariants.{Slot}
 
 -- an item of a list that is mapped to functions, at its argument
 pub item_at : {V A B : Type 0} (f : V → A → B) (values : List V) (id : ℕ) (value : V) (other : A → B) (a : A) → id < length values → value ≡ get_or values id value → slice_index_or (map f values) id other a ≡ f value a

@@ -7,13 +7,13 @@ use Rattle.rt_nodes.specs.declared.vnode.DynamicNode.TheViews.{out-VNode, roll-o
 use Rattle.rt_nodes.specs.declared.vnode.DynamicNode.TheFolds.{para-roll-VNode, para-roll-DynamicNode}
 use Rattle.rt_nodes.specs.declared.vnode.VComponent.{VComponent}
 use Rattle.rt_nodes.specs.declared.vnode.VNode.{VNode}
-use Rattle.rt_shapes.specs.declared.instruction.Instruction.{Instruction}
-use Rattle.rt_shapes.specs.declared.instruction.Instruction.TheVariants as i
-use Rattle.rt_shapes.specs.declared.instruction.Shape.TheVariants as shape
-use Rattle.rt_shapes.specs.declared.place.Step.{Step}
+use Rattle.rt_plan.specs.declared.instruction.Instruction.{Instruction}
+use Rattle.rt_plan.specs.declared.instruction.Instruction.TheVariants as i
+use Rattle.rt_plan.specs.declared.instruction.Shape.TheVariants as shape
+use Rattle.rt_plan.specs.declared.place.Step.{Step}
 use Rattle.rt_plan.specs.Making.{InSlot, InTree, With, plans_of, items_made, make_fragment, make_pieces, make_tree, make_tree_step, make_value, make_value_step}
-use Rattle.rt_shapes.specs.Pieces.{node_pieces, pieces_among}
-use Rattle.rt_shapes.specs.Shapes.{shown_as}
+use Rattle.rt_plan.specs.Pieces.{node_pieces, pieces_among}
+use Rattle.rt_plan.specs.Shapes.{shown_as}
 
 module _ {P C Q V H T E L : Type 0} (shown : Bool) where
   -- values with what is planned of them

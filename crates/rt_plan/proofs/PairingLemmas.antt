@@ -9,20 +9,20 @@ use Rattle.rt_nodes.specs.declared.vnode.DynamicNode.TheViews.{out-DynamicNode, 
 use Rattle.rt_nodes.specs.declared.vnode.DynamicNode.TheFolds.{para-roll-VNode, para-roll-DynamicNode}
 use Rattle.rt_nodes.specs.declared.vnode.VComponent.{VComponent}
 use Rattle.rt_nodes.specs.declared.vnode.VNode.{VNode}
-use Rattle.rt_shapes.specs.declared.instruction.Instruction.{Instruction}
-use Rattle.rt_shapes.specs.declared.instruction.Instruction.TheVariants as i
-use Rattle.rt_shapes.specs.declared.place.Step.{Step}
-use Rattle.rt_shapes.specs.declared.tokens.Token.{Token}
-use Rattle.rt_shapes.specs.declared.tokens.Token.TheVariants.{Slot}
+use Rattle.rt_plan.specs.declared.instruction.Instruction.{Instruction}
+use Rattle.rt_plan.specs.declared.instruction.Instruction.TheVariants as i
+use Rattle.rt_plan.specs.declared.place.Step.{Step}
+use Rattle.rt_plan.specs.declared.tokens.Token.{Token}
+use Rattle.rt_plan.specs.declared.tokens.Token.TheVariants.{Slot}
 use Rattle.rt_plan.specs.declared.anchor.Anchor.TheVariants.{Child}
 use Rattle.rt_plan.specs.Anchors.{last_of_tree}
 use Rattle.rt_plan.specs.Alike.{Equality, are_alike}
-use Rattle.rt_shapes.specs.Counting.{ahead_of, count_value}
+use Rattle.rt_plan.specs.Counting.{ahead_of, count_value}
 use Rattle.rt_plan.specs.Losing.{lose_fragment, lose_tokens, lose_tree, lose_value}
 use Rattle.rt_plan.specs.Making.{InSlot, InTree, With, plans_of, make_tree, make_value}
 use Rattle.rt_plan.specs.Pairing.{at_both, beside, pair_all, values_of, replaced, replaced_tree, replaced_value, kept_text, attributes_paired, pair_attributes, pair_rest, pair_token, pair_tokens, pair_fragments, pair_text, pair_placeholder, pair_component, pair_fragment, last_before, pair_tree, pair_tree_step, pair_value, pair_value_step, old_of, paired}
-use Rattle.rt_shapes.specs.Tokens.{tokens_in}
-use Rattle.rt_shapes.specs.Places.{step_to}
+use Rattle.rt_plan.specs.Tokens.{tokens_in}
+use Rattle.rt_plan.specs.Places.{step_to}
 
 -- the old value in a slot, and the new one beside it
 module _ {V A : Type 0} (steps : List Step) (slot : ℕ) (path : List ℕ) where

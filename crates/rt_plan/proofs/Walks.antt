@@ -15,24 +15,24 @@ use Rattle.rt_nodes.specs.declared.vnode.VNode.{VNode}
 use Rattle.rt_nodes.specs.declared.vnode.DynamicNode.{DynamicNode, the_lemmas}
 use Rattle.rt_plan.specs.declared.anchor.Anchor.{Anchor}
 use Rattle.rt_plan.specs.declared.anchor.Anchor.TheVariants.{Number, Child}
-use Rattle.rt_shapes.specs.declared.instruction.AttributeChange.{AttributeChange}
-use Rattle.rt_shapes.specs.declared.instruction.Instruction.{Instruction}
-use Rattle.rt_shapes.specs.declared.instruction.Instruction.TheVariants as i
-use Rattle.rt_shapes.specs.declared.instruction.AttributeChange.TheVariants as change
-use Rattle.rt_shapes.specs.declared.instruction.Shape.{Shape}
-use Rattle.rt_shapes.specs.declared.instruction.Shape.TheVariants as shape
-use Rattle.rt_shapes.specs.declared.pieces.Piece.{Piece}
-use Rattle.rt_shapes.specs.declared.pieces.Piece.TheVariants as piece
-use Rattle.rt_shapes.specs.declared.place.Step.{Step}
-use Rattle.rt_shapes.specs.declared.tokens.Token.{Token}
-use Rattle.rt_shapes.specs.declared.tokens.Token.TheVariants as token
-use Rattle.rt_shapes.specs.Attributes.{has_text, has_the_text, has_listener, gone_value, gone_of, gone_slots, come_value, come_of, come_slots}
+use Rattle.rt_plan.specs.declared.instruction.AttributeChange.{AttributeChange}
+use Rattle.rt_plan.specs.declared.instruction.Instruction.{Instruction}
+use Rattle.rt_plan.specs.declared.instruction.Instruction.TheVariants as i
+use Rattle.rt_plan.specs.declared.instruction.AttributeChange.TheVariants as change
+use Rattle.rt_plan.specs.declared.instruction.Shape.{Shape}
+use Rattle.rt_plan.specs.declared.instruction.Shape.TheVariants as shape
+use Rattle.rt_plan.specs.declared.pieces.Piece.{Piece}
+use Rattle.rt_plan.specs.declared.pieces.Piece.TheVariants as piece
+use Rattle.rt_plan.specs.declared.place.Step.{Step}
+use Rattle.rt_plan.specs.declared.tokens.Token.{Token}
+use Rattle.rt_plan.specs.declared.tokens.Token.TheVariants as token
+use Rattle.rt_plan.specs.Attributes.{has_text, has_the_text, has_listener, gone_value, gone_of, gone_slots, come_value, come_of, come_slots}
 use Rattle.rt_plan.specs.Losing.{lose_token, lose_tokens, lose_tree, lose_value, nothing_lost}
 use Rattle.rt_plan.specs.Making.{InSlot, nothing, items_made, make_piece, make_pieces, make_tree, make_value}
 use Rattle.rt_plan.specs.Pairing.{ending, beginning, inserting, last_before, grown, attributes_paired, pair_token, pair_tokens, at_both}
-use Rattle.rt_shapes.specs.Pieces.{Pieces, pieces_step, node_pieces, pieces_among, closing, index_of}
-use Rattle.rt_shapes.specs.Shapes.{shown_as, attrs_with, listeners_with}
-use Rattle.rt_shapes.specs.Tokens.{Tokens, attribute_tokens, tokens_step, node_tokens, tokens_among, tokens_in}
+use Rattle.rt_plan.specs.Pieces.{Pieces, pieces_step, node_pieces, pieces_among, closing, index_of}
+use Rattle.rt_plan.specs.Shapes.{shown_as, attrs_with, listeners_with}
+use Rattle.rt_plan.specs.Tokens.{Tokens, attribute_tokens, tokens_step, node_tokens, tokens_among, tokens_in}
 use Rattle.rt_plan.proofs.MakingLemmas.{make_tree_out}
 
 -- what each comes to, one after another

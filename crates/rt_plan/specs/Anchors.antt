@@ -7,11 +7,11 @@ use Rattle.rt_nodes.specs.declared.vnode.DynamicNode.TheOpen.{DynamicNode-F, VNo
 use Rattle.rt_nodes.specs.declared.vnode.DynamicNode.TheFolds.{para-VNode, para-DynamicNode}
 use Rattle.rt_plan.specs.declared.anchor.Anchor.{Anchor}
 use Rattle.rt_plan.specs.declared.anchor.Anchor.TheVariants.{Number, Child}
-use Rattle.rt_shapes.specs.declared.tokens.Token.{Token}
-use Rattle.rt_shapes.specs.declared.tokens.Token.TheVariants.{Node, Attribute, Slot}
-use Rattle.rt_shapes.specs.Counting.{count_value}
+use Rattle.rt_plan.specs.declared.tokens.Token.{Token}
+use Rattle.rt_plan.specs.declared.tokens.Token.TheVariants.{Node, Attribute, Slot}
+use Rattle.rt_plan.specs.Counting.{count_value}
 use Rattle.rt_plan.specs.Making.{With, plans_of}
-use Rattle.rt_shapes.specs.Tokens.{tokens_in}
+use Rattle.rt_plan.specs.Tokens.{tokens_in}
 
 -- the same root, once further numbers come after it
 abbrev pub further : Anchor → ℕ → Anchor

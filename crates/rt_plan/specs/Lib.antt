@@ -1,3 +1,9 @@
+pub mod Places
+pub mod Tokens
+pub mod Counting
+pub mod Attributes
+pub mod Shapes
+pub mod Pieces
 pub mod Making
 pub mod Losing
 pub mod Anchors

@@ -6,15 +6,15 @@ use Rattle.rt_nodes.specs.declared.vnode.VComponent.{VComponent}
 use Rattle.rt_nodes.specs.declared.vnode.VNode.{VNode}
 use Rattle.rt_nodes.specs.declared.vnode.DynamicNode.TheOpen.{DynamicNode-F, VNode-F}
 use Rattle.rt_nodes.specs.declared.vnode.DynamicNode.TheFolds.{para-VNode, para-DynamicNode}
-use Rattle.rt_shapes.specs.declared.instruction.Instruction.{Instruction}
-use Rattle.rt_shapes.specs.declared.instruction.Instruction.TheVariants as i
-use Rattle.rt_shapes.specs.declared.instruction.Shape.TheVariants as shape
-use Rattle.rt_shapes.specs.declared.pieces.Piece.{Piece}
-use Rattle.rt_shapes.specs.declared.pieces.Piece.TheVariants.{Node, Close, Slot}
-use Rattle.rt_shapes.specs.declared.place.Step.{Step}
-use Rattle.rt_shapes.specs.Pieces.{node_pieces, pieces_among}
-use Rattle.rt_shapes.specs.Shapes.{shown_as}
-use Rattle.rt_shapes.specs.Places.{step_to}
+use Rattle.rt_plan.specs.declared.instruction.Instruction.{Instruction}
+use Rattle.rt_plan.specs.declared.instruction.Instruction.TheVariants as i
+use Rattle.rt_plan.specs.declared.instruction.Shape.TheVariants as shape
+use Rattle.rt_plan.specs.declared.pieces.Piece.{Piece}
+use Rattle.rt_plan.specs.declared.pieces.Piece.TheVariants.{Node, Close, Slot}
+use Rattle.rt_plan.specs.declared.place.Step.{Step}
+use Rattle.rt_plan.specs.Pieces.{node_pieces, pieces_among}
+use Rattle.rt_plan.specs.Shapes.{shown_as}
+use Rattle.rt_plan.specs.Places.{step_to}
 
 -- what stands below the steps to a template
 abbrev pub InTree : Type 0 → Type 0

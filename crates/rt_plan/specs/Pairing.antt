@@ -11,19 +11,19 @@ use Rattle.rt_nodes.specs.declared.vnode.DynamicNode.TheOpen.{DynamicNode-F, VNo
 use Rattle.rt_nodes.specs.declared.vnode.DynamicNode.TheFolds.{para-VNode, para-DynamicNode}
 use Rattle.rt_plan.specs.declared.anchor.Anchor.{Anchor}
 use Rattle.rt_plan.specs.declared.anchor.Anchor.TheVariants.{Number, Child}
-use Rattle.rt_shapes.specs.declared.instruction.Instruction.{Instruction}
-use Rattle.rt_shapes.specs.declared.instruction.Instruction.TheVariants as i
-use Rattle.rt_shapes.specs.declared.place.Step.{Step}
-use Rattle.rt_shapes.specs.declared.tokens.Token.{Token}
-use Rattle.rt_shapes.specs.declared.tokens.Token.TheVariants.{Node, Attribute as AttributeSlot, Slot}
+use Rattle.rt_plan.specs.declared.instruction.Instruction.{Instruction}
+use Rattle.rt_plan.specs.declared.instruction.Instruction.TheVariants as i
+use Rattle.rt_plan.specs.declared.place.Step.{Step}
+use Rattle.rt_plan.specs.declared.tokens.Token.{Token}
+use Rattle.rt_plan.specs.declared.tokens.Token.TheVariants.{Node, Attribute as AttributeSlot, Slot}
 use Rattle.rt_plan.specs.Alike.{Equality, are_alike}
 use Rattle.rt_plan.specs.Anchors.{last_of_tree}
-use Rattle.rt_shapes.specs.Attributes.{attributes_plan}
-use Rattle.rt_shapes.specs.Counting.{ahead_of, count_value}
+use Rattle.rt_plan.specs.Attributes.{attributes_plan}
+use Rattle.rt_plan.specs.Counting.{ahead_of, count_value}
 use Rattle.rt_plan.specs.Losing.{lose_all, lose_fragment, lose_tokens, lose_tree, lose_value}
 use Rattle.rt_plan.specs.Making.{InSlot, InTree, With, plans_of, nothing, items_made, make_tree, make_value}
-use Rattle.rt_shapes.specs.Places.{step_to}
-use Rattle.rt_shapes.specs.Tokens.{tokens_in}
+use Rattle.rt_plan.specs.Places.{step_to}
+use Rattle.rt_plan.specs.Tokens.{tokens_in}
 
 -- the first of two values in one slot, for each slot that both have
 abbrev pub at_both : {V A : Type 0} → List (V → InSlot A) → List V → ℕ → InSlot A

@@ -3,9 +3,10 @@
 ghost use Rattle.std.specs.Prelude.{◌≡◌, IfOk, map};
 ghost use Rattle.rt_plan.specs.Anchors.{further, last_after, last_of_tree, last_of_value, kept_of};
 
+use crate::counting::{count_token, sum};
+use crate::tokens::{Token, tokens_in};
 use rt_nodes::{DynamicNode, VNode};
 use rt_parts::Parts;
-use rt_shapes::{Token, count_token, sum, tokens_in};
 use rt_values::OutOfMemory;
 use std::alloc::Global;
 

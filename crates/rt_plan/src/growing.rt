@@ -4,12 +4,13 @@ ghost use Rattle.std.specs.Prelude.{◌≡◌, ◌≤◌, ◌++◌, length, IfOk
 ghost use Rattle.rt_plan.specs.Pairing.{beginning, grown, inserting, last_before, pair_rest};
 
 use crate::anchor::{Anchor, last_of_tree};
+use crate::instruction::Instruction;
 use crate::losing::lose_trees;
 use crate::making::make_items;
 use crate::replacing::end;
+use crate::spot::Spot;
 use rt_nodes::VNode;
 use rt_parts::Parts;
-use rt_shapes::{Instruction, Spot};
 use rt_values::OutOfMemory;
 use std::alloc::Global;
 

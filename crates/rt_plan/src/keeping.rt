@@ -3,9 +3,12 @@
 ghost use Rattle.std.specs.Prelude.{◌≡◌, ◌++◌, ◌∷◌, [], OnOk};
 ghost use Rattle.rt_plan.specs.Pairing.{kept_text, pair_attributes};
 
+use crate::attributes::plan_attributes;
+use crate::counting::aheads_in;
+use crate::instruction::Instruction;
+use crate::tokens::Token;
 use rt_nodes::{VComponent, VNode};
 use rt_parts::Parts;
-use rt_shapes::{Instruction, Token, aheads_in, plan_attributes};
 use rt_values::{OutOfMemory, Part, Text};
 use std::alloc::Global;
 

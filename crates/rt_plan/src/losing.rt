@@ -3,9 +3,10 @@
 ghost use Rattle.std.specs.Prelude.{◌≡◌, ◌&&◌, ◌++◌, ◌∷◌, [], map, OnOk};
 ghost use Rattle.rt_plan.specs.Losing.{lose_all, lose_token, lose_tree, lose_value};
 
+use crate::instruction::Instruction;
+use crate::tokens::{Token, tokens_in};
 use rt_nodes::{DynamicNode, VNode};
 use rt_parts::Parts;
-use rt_shapes::{Instruction, Token, tokens_in};
 use rt_values::OutOfMemory;
 use std::alloc::Global;
 

@@ -3,11 +3,13 @@
 ghost use Rattle.std.specs.Prelude.{◌≡◌, ◌++◌, ◌∷◌, [], true, false, drop, map, IfOk, OnOk};
 ghost use Rattle.rt_plan.specs.Making.{items_made, make_piece, make_tree, make_value};
 
+use crate::instruction::{Instruction, Shape};
+use crate::pieces::{Piece, pieces_in};
+use crate::place::Step;
+use crate::shapes::{placeholder_shape, text_shape};
+use crate::spot::{Spot, steps_to};
 use rt_nodes::{DynamicNode, VNode};
 use rt_parts::Parts;
-use rt_shapes::{
-    Instruction, Piece, Shape, Spot, Step, pieces_in, placeholder_shape, steps_to, text_shape,
-};
 use rt_values::{List, OutOfMemory};
 use std::alloc::Global;
 

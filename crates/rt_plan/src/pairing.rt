@@ -7,11 +7,14 @@ ghost use Rattle.rt_plan.specs.Pairing.{beside, pair_all, pair_token, pair_tree,
 
 use crate::alike::{are_alike, are_equal};
 use crate::growing::pair_rest;
+use crate::instruction::Instruction;
 use crate::keeping::{feed, keep, pair_attributes, pair_text};
+use crate::place::Step;
 use crate::replacing::{replace_tree, replace_value};
+use crate::spot::{Spot, steps_to};
+use crate::tokens::{Token, tokens_in};
 use rt_nodes::{DynamicNode, VComponent, VNode};
 use rt_parts::Parts;
-use rt_shapes::{Instruction, Spot, Step, Token, steps_to, tokens_in};
 use rt_values::{OutOfMemory, Text};
 use std::alloc::Global;
 

@@ -3,11 +3,13 @@
 ghost use Rattle.std.specs.Prelude.{◌≡◌, ◌++◌, OnOk};
 ghost use Rattle.rt_plan.specs.Pairing.{ending, replaced_tree, replaced_value};
 
+use crate::instruction::Instruction;
 use crate::losing::{lose_tree, lose_value};
 use crate::making::{make_tree, make_value};
+use crate::place::Step;
+use crate::spot::Spot;
 use rt_nodes::{DynamicNode, VNode};
 use rt_parts::Parts;
-use rt_shapes::{Instruction, Spot, Step};
 use rt_values::OutOfMemory;
 use std::alloc::Global;
 

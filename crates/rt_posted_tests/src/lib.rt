@@ -8,6 +8,8 @@ mod lines;
 #[cfg(test)]
 mod meeting;
 #[cfg(test)]
+mod posters;
+#[cfg(test)]
 mod reports;
 mod waiting;
 

@@ -5,7 +5,7 @@ use rt_edits::NoOpMutations;
 use rt_inbox::{Msg, NoGate, Post};
 use rt_print::report_line;
 use rt_script::Script;
-use rt_script_values::Props;
+use rt_script_views::Props;
 use rt_session::{Input, Limits, session, session_posted};
 use rt_sources::read_source;
 use rt_values::{List, Part, ScopeId};

@@ -15,8 +15,7 @@ use rt_bodies::{KeepsCells, own_cell, remembered};
 use rt_calls::{App, BodyCx, BodyTurn, Cx, TaskStep, Turn};
 use rt_nodes::{DynamicNode, Element, VComponent, VNode};
 use rt_parts::{Event, Parts};
-use rt_shared::Shared;
-use rt_values::OutOfMemory;
+use rt_values::{OutOfMemory, Shared};
 use std::alloc::Global;
 use std::sync::Arc;
 

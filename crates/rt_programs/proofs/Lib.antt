@@ -5,3 +5,4 @@ pub mod Lawful
 pub mod Shows
 pub mod Present
 pub mod Author
+pub mod First

@@ -8,3 +8,4 @@ pub mod Shows
 pub mod Present
 pub mod Author
 pub mod Means
+pub mod First

@@ -20,9 +20,9 @@ use Rattle.rt_moves.proofs.Joins.{stays}
 use Rattle.rt_moves.proofs.Reports.{reports_go_on}
 use Rattle.rt_reports.specs.Seen.{entry_of}
 use Rattle.rt_state.specs.Mirror.{Unkept, at_first, state_of}
-use Rattle.rt_turns.specs.Turn.{unit_of}
-use Rattle.rt_turns.specs.Underway.{Works}
-use Rattle.rt_turns.proofs.Underway.{reached_by}
+use Rattle.rt_fresh.specs.Turn.{unit_of}
+use Rattle.rt_fresh.specs.Underway.{Works}
+use Rattle.rt_fresh.proofs.Underway.{reached_by}
 use Rattle.rt_work.specs.Items.{work_of}
 use Rattle.rt_doms.proofs.Given.{provided_by, starts_provide}
 use Rattle.rt_machine.specs.Machines.{machine_of, open_work, noted, first_in, IsFresh, Did}

@@ -23,7 +23,7 @@ use Rattle.rt_moves.proofs.Joins.{logs_join}
 use Rattle.rt_headline.proofs.Reports.{one_machine, one_telling}
 use Rattle.rt_reports.specs.Seen.{entry_of}
 use Rattle.rt_state.specs.Mirror.{Unkept, state_of}
-use Rattle.rt_turns.specs.Underway.{Rests}
+use Rattle.rt_fresh.specs.Underway.{Rests}
 use Rattle.rt_doms.specs.Doms.{Until, Unended, ends_by}
 use Rattle.rt_doms.proofs.Loops.{unended_grows}
 use Rattle.rt_machine.specs.Machines.{machine_of, noted, fault_in}

@@ -21,7 +21,7 @@ use Rattle.rt_moves.proofs.Joins.{logs_join}
 use Rattle.rt_moves.proofs.Reports.{reports_go_on}
 use Rattle.rt_moves.proofs.Settling.{settled_stays}
 use Rattle.rt_moves.proofs.Tellings.{entry_told}
-use Rattle.rt_turns.proofs.Beginnings.{rest_settled}
+use Rattle.rt_fresh.proofs.Beginnings.{rest_settled}
 use Rattle.rt_parts.specs.declared.event.Event.{Event}
 use Rattle.rt_reports.specs.Seen.{entry_of}
 use Rattle.rt_shown.specs.Hearing.{listeners_of}

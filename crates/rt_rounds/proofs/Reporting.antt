@@ -15,7 +15,7 @@ use Rattle.rt_model.specs.Asides.{Looked, resting}
 use Rattle.rt_model.proofs.ToldReplayed.{within-replays}
 use Rattle.rt_reports.specs.Seen.{entry_of}
 use Rattle.rt_state.specs.Mirror.{Unkept, state_of}
-use Rattle.rt_turns.specs.Underway.{Rests}
+use Rattle.rt_fresh.specs.Underway.{Rests}
 use Rattle.rt_work.specs.Items.{work_of}
 use Rattle.rt_doms.specs.Doms.{Until, Events, Renders, LedTo, Unended, CallRan, CallStopped, RenderRan, RenderStopped, ends_by}
 use Rattle.rt_doms.proofs.Leading.{asides_lead}

@@ -11,7 +11,7 @@ use Rattle.rt_model.specs.Replay as replay
 use Rattle.rt_model.specs.Causes as causes
 use Rattle.rt_model.specs.Sentences.{call_refusal}
 use Rattle.rt_state.specs.Mirror.{Unkept, state_of}
-use Rattle.rt_turns.specs.Underway.{Rests}
+use Rattle.rt_fresh.specs.Underway.{Rests}
 use Rattle.rt_doms.specs.Doms.{Until, Events, Renders, Unended, NoneOpens, ends_by}
 use Rattle.rt_machine.specs.Machines.{noted, fault_in}
 use Rattle.rt_machine.specs.Stands.{Going, GoesOn, CameTo}

@@ -1,3 +1,5 @@
+pub mod Verdicts
+pub mod Rows
 pub mod Begun
 pub mod Renders
 pub mod SpentRows

@@ -1,7 +1,8 @@
 //! Worked rows of single cases: counters at their ends, kinds of tasks, events, defaults, refused
-//! edits, namespaces, the node test, what authors are told, what a program asks of a runtime.
+//! edits, namespaces, the node test, what authors are told, what a program asks of a runtime; and what
+//! a recorded log is judged to be.
 //!
-//! The rows stand in specs/; each function claims that its rows compute.
+//! The rows and laws stand in specs/; each function claims that they hold.
 #![tactic(auto)]
 
 mod author_rows;
@@ -14,6 +15,8 @@ mod namespace_rows;
 mod pin_rows;
 mod spent_rows;
 mod suspended_rows;
+mod verdict_rows;
+mod verdicts;
 
 pub use author_rows::{
     callback_without_a_turn, effect_of_a_hidden_scope, provides_two_values, row_is_too_long,
@@ -43,3 +46,5 @@ pub use suspended_rows::{
     frozen_in_a_render, frozen_in_a_session, isomorphic_in_a_render, kinds_in_a_session,
     suspended_in_a_render, two_tasks_in_a_session,
 };
+pub use verdict_rows::{accepted_row, refused_rows};
+pub use verdicts::{accepted_exactly, refused_exactly};

@@ -1,3 +1,6 @@
+pub mod Spots
+pub mod Put
+pub mod Agendas
 pub mod Counted
 pub mod Onward
 pub mod Turns

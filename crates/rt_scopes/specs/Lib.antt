@@ -1,3 +1,5 @@
+pub mod Sides
+pub mod Agendas
 pub mod Counts
 pub mod Outcomes
 pub mod Hooks

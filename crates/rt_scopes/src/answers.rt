@@ -16,12 +16,12 @@ ghost use Rattle.rt_work.specs.Items.{work_of};
 ghost use Rattle.rt_scopes.specs.Bodies.{unanswered};
 ghost use Rattle.rt_scopes.specs.Outcomes.{Comes, no_work};
 
+use crate::agenda::start_agenda;
 use crate::scopes::Scopes;
 use rt_calls::{App, Calls};
 use rt_nodes::{Element, VNode};
 use rt_parts::{CapturedError, RenderError};
 use rt_places::SideName;
-use rt_sides::start_agenda;
 use rt_state::Stop;
 use rt_values::{List, ScopeId};
 use rt_work::Item;

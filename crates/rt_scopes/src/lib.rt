@@ -1,10 +1,13 @@
-//! Calls of an application and what they lead to: a run of a body up to its agenda, effects, polls,
-//! listeners, and the clean-ups of a removal. The names of scopes and calls are given out here.
+//! The sides of scopes, and calls of an application and what they lead to: a run of a body up to its
+//! agenda, effects, polls, listeners, and the clean-ups of a removal. The names of scopes and calls are
+//! given out here.
 #![tactic(auto)]
 
+mod agenda;
 mod answers;
 mod apart;
 mod bodies;
+mod children;
 mod effects;
 mod listeners;
 mod polls;
@@ -13,6 +16,8 @@ mod runs;
 mod scopes;
 mod trees;
 
+pub use agenda::start_agenda;
+pub use children::{children_below, drop_fallback, fed_child, next_removed, side_scopes};
 pub use rt_calls::{
     App, BodyCx, BodyTurn, Calls, Command, Counter, Cx, CxFault, Firsts, Hook, Provided, Rows,
     ScopeRow, TaskStep, Turn, TurnParts, World,

@@ -12,8 +12,7 @@ use rt_nodes::{
     VComponent, VNode,
 };
 use rt_parts::{Parts, Template, TemplateAttribute, TemplateNode};
-use rt_shared::Shared;
-use rt_values::{Boxed, List, OutOfMemory, Text};
+use rt_values::{Boxed, List, OutOfMemory, Shared, Text};
 use std::alloc::Global;
 
 /// The tree of this template, whose one slot has this value.

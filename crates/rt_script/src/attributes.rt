@@ -5,7 +5,7 @@ ghost use Rattle.rt_language.specs.Views as views;
 
 use crate::script::Script;
 use rt_parts::{Attribute, AttributeValue};
-use rt_script_values::{Content, Value, text_of};
+use rt_script_views::{Content, Value, text_of};
 use rt_values::{List, OutOfMemory, Part, Text};
 use std::alloc::Global;
 

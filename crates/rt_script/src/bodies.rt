@@ -19,7 +19,7 @@ use crate::script::Script;
 use rt_bodies::unless_refused;
 use rt_calls::{BodyCx, CxFault};
 use rt_parts::RenderError;
-use rt_script_values::{Doing, Standing, Value, text_of};
+use rt_script_views::{Doing, Standing, Value, text_of};
 use rt_syntax::{Expression, HookTime, SpawnKind, Statement};
 use rt_values::OutOfMemory;
 use std::alloc::Global;

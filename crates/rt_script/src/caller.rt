@@ -7,7 +7,7 @@ ghost use Rattle.rt_script.specs.Seen.{caller_of};
 
 use crate::script::Script;
 use rt_nodes::Element;
-use rt_script_values::{Content, Value};
+use rt_script_views::{Content, Value};
 use rt_values::{List, OutOfMemory, Part, Task, copy_slice};
 use std::alloc::Global;
 use std::mem;

@@ -15,7 +15,7 @@ use crate::script::Script;
 use rt_bodies::remembered;
 use rt_calls::Cx;
 use rt_parts::CapturedError;
-use rt_script_values::{
+use rt_script_views::{
     Content, Value, add, equal, is_absent, less, multiply, not, parse, put_text,
 };
 use rt_syntax::{Expression, Literal};

@@ -23,11 +23,9 @@ use crate::script::Script;
 use rt_calls::BodyCx;
 use rt_nodes::{DynamicNode, VComponent, VNode};
 use rt_parts::{Attribute, AttributeValue, Template};
-use rt_script_values::{Content, Doing, Props, Value, item_count, text_of};
-use rt_script_views::{Fill, Plan, SlotPlan};
-use rt_shared::Shared;
+use rt_script_views::{Content, Doing, Fill, Plan, Props, SlotPlan, Value, item_count, text_of};
 use rt_syntax::ComponentUse;
-use rt_values::{List, OutOfMemory, both};
+use rt_values::{List, OutOfMemory, Shared, both};
 use std::alloc::Global;
 
 /// What the slots of a template are filled with, by number.

@@ -9,7 +9,7 @@ use crate::evaluation::said;
 use crate::script::Script;
 use rt_inbox::{Msg, Post};
 use rt_reports::Input;
-use rt_script_values::Value;
+use rt_script_views::Value;
 use rt_syntax::{InputSource, Literal, PostSource};
 use rt_values::{ElementId, List, OutOfMemory, Part, ScopeId, Task};
 use std::alloc::Global;

@@ -8,7 +8,7 @@ use rt_nodes::{
     DynamicNode, ErrorBoundaryProps, ErrorHandler, Fallback, FragmentProps, SuspenseBoundaryProps,
     VComponent, VNode,
 };
-use rt_script_values::Props;
+use rt_script_views::Props;
 use rt_values::{Boxed, OutOfMemory};
 use std::alloc::Global;
 

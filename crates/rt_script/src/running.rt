@@ -20,7 +20,7 @@ use crate::evaluation::{evaluate, evaluate_all};
 use crate::script::Script;
 use rt_bodies::{remembered, unless_refused};
 use rt_calls::{Cx, CxFault};
-use rt_script_values::{Content, Doing, Standing, Value, text_of};
+use rt_script_views::{Content, Doing, Standing, Value, text_of};
 use rt_syntax::{Expression, SpawnKind, Statement, TaskAct};
 use rt_values::{OutOfMemory, ScopeId, Task};
 use std::alloc::Global;

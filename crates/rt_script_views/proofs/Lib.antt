@@ -1,3 +1,5 @@
+pub mod Digits
+pub mod Sameness
 pub mod Sequence
 pub mod Taken
 pub mod Filled

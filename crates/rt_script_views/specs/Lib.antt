@@ -1,3 +1,5 @@
+pub mod Seen
+pub mod Digits
 pub mod Plans
 pub mod Built
 pub mod Meant

@@ -9,9 +9,8 @@ ghost use Rattle.rt_syntax.specs.Mirror as source;
 ghost use Rattle.rt_script_views.specs.Built.{AttributeBuilt, AttributesBuilt, NodeBuilt, RowBuilt};
 
 use rt_parts::{Template, TemplateAttribute, TemplateNode};
-use rt_shared::Shared;
 use rt_syntax::{ViewAttribute, ViewNode};
-use rt_values::{List, OutOfMemory, Part, both};
+use rt_values::{List, OutOfMemory, Part, Shared, both};
 use std::alloc::Global;
 
 /// A template as far as it is built. Slots are numbered as they are met.

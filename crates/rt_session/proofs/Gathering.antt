@@ -14,8 +14,8 @@ use Rattle.rt_inbox.specs.declared.message.Post.{Post}
 use Rattle.rt_inbox.specs.declared.notifier.Notifier.{Notifier}
 use Rattle.rt_inbox.specs.declared.owner.Owner.{Owner}
 use Rattle.rt_inbox.specs.declared.taken.Taken.{Taken}
-use Rattle.rt_posting.specs.Posted.{AllPosted, AllReady, list_of, notifier_of}
-use Rattle.rt_posting.specs.declared.posters.Poster.{Poster}
+use Rattle.rt_inbox.specs.Posted.{AllPosted, AllReady, list_of, notifier_of}
+use Rattle.rt_inbox.specs.declared.posters.Poster.{Poster}
 use Rattle.rt_session.specs.Meetings.{AllTaken, AreFor, HavePosted}
 
 -- as many posters as lists

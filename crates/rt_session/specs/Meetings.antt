@@ -21,8 +21,8 @@ use Rattle.rt_model.specs.Merge.{AreSized, HasFronts, ValidOverCuts, drained}
 use Rattle.rt_model.specs.OneLog.{types}
 use Rattle.rt_model.specs.State as model
 use Rattle.rt_model.specs.World.{Application}
-use Rattle.rt_posting.specs.Posted.{AllPosted, AllReady}
-use Rattle.rt_posting.specs.declared.posters.Poster.{Poster}
+use Rattle.rt_inbox.specs.Posted.{AllPosted, AllReady}
+use Rattle.rt_inbox.specs.declared.posters.Poster.{Poster}
 use Rattle.rt_reports.specs.Counted.{edits_in}
 use Rattle.rt_reports.specs.Seen.{limits_of, report_of}
 use Rattle.rt_reports.specs.declared.limits.Limits.{Limits}

@@ -4,16 +4,17 @@ ghost use Rattle.std.specs.Prelude.{◌≡◌, ◌≤◌, ◌<◌, ℕ, [], true
 ghost use Rattle.std.specs.Thread.{IsSync};
 ghost use Rattle.rt_inbox.specs.Ends.{IsOwnerOf, taken_of};
 ghost use Rattle.rt_model.specs.Lists.{joined};
-ghost use Rattle.rt_posting.specs.Posted.{AllPosted, AllReady, notifier_of};
+ghost use Rattle.rt_inbox.specs.Posted.{AllPosted, AllReady, notifier_of};
 ghost use Rattle.rt_session.specs.Meetings.{AllTaken, Convened, HasTaken, HavePosted, HoldsAs, MeetsAs, OwnsAs};
 ghost use Rattle.rt_session.specs.Sittings.{Awaits, IsUnbuilt, TakesIn};
 
 use crate::sitting::Sitting;
 use rt_calls::App;
 use rt_edits::WriteMutations;
-use rt_inbox::{Drained, Gate, Inbox, Notifier, Owner, Post, Taken, finish};
+use rt_inbox::{
+    Drained, Gate, Inbox, Notifier, Owner, Post, Poster, Taken, finish, post_lists, posters_for,
+};
 use rt_machine::Ended;
-use rt_posting::{Poster, post_lists, posters_for};
 use rt_reports::Limits;
 use rt_values::{List, OutOfMemory};
 use std::alloc::Global;

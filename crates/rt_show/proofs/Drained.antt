@@ -9,8 +9,8 @@ use Rattle.serde_json.specs.Data.{Data, Items, no_items, item}
 use Rattle.serde_json.specs.Find.{as_array}
 use Rattle.rt_edits.specs.Sinks as sinks
 use Rattle.rt_edits.specs.declared.edit.Edit.{Edit}
-use Rattle.rt_fields.specs.Fields.{list_or_empty}
-use Rattle.rt_fields.specs.Lists.{in_front, read_each}
+use Rattle.rt_expressions.specs.Fields.{list_or_empty}
+use Rattle.rt_expressions.specs.Lists.{in_front, read_each}
 use Rattle.rt_inbox.specs.declared.message.Msg.{Msg}
 use Rattle.rt_inbox.specs.declared.message.Post.{Post}
 use Rattle.rt_inbox.specs.declared.taken.Taken.{Taken}

@@ -12,7 +12,7 @@ use Rattle.rt_reports.specs.Seen.{entry_of}
 use Rattle.rt_reports.specs.declared.entry.Entry.{Entry as Noted}
 use Rattle.rt_script.specs.Applications.{meaning_of_script}
 use Rattle.rt_script.specs.declared.script.Script.{Script}
-use Rattle.rt_verdicts.specs.Verdicts as verdicts
+use Rattle.rt_rows.specs.Verdicts as verdicts
 use Rattle.rt_show.specs.Asked.{Asked}
 use Rattle.rt_show.specs.Judged.{verdict_text, verdict_on, IsVerdictText}
 use Rattle.rt_show.specs.Ready.{MadeOf}

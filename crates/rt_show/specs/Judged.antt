@@ -5,7 +5,7 @@ use Rattle.rt_language.specs.Lines.{line}
 use Rattle.rt_language.specs.Syntax.{Source}
 use Rattle.rt_model.specs.Replay.{Entry}
 use Rattle.rt_streams.specs.Reads.{IsWhole}
-use Rattle.rt_verdicts.specs.Verdicts.{Verdict, Accepted, Refused, verdict}
+use Rattle.rt_rows.specs.Verdicts.{Verdict, Accepted, Refused, verdict}
 use Rattle.rt_logs.specs.Recorded.{DescribesRun}
 use Rattle.rt_show.specs.Asked.{Asked}
 

@@ -14,8 +14,7 @@ use rt_attributes::attributes_in;
 use rt_nodes::{DynamicNode, VNode};
 use rt_parts::{Attribute, Parts, TemplateAttribute, TemplateNode};
 use rt_places::{Kind, Place, path_below, place_inside, place_of_item};
-use rt_shared::Shared;
-use rt_values::{List, OutOfMemory, Part};
+use rt_values::{List, OutOfMemory, Part, Shared};
 use rt_work::{child_at, number_at};
 use std::alloc::Global;
 

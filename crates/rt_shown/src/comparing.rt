@@ -19,8 +19,7 @@ use rt_attributes::attributes_written;
 use rt_nodes::{DynamicNode, VComponent, VNode};
 use rt_parts::Parts;
 use rt_places::{Piece, Place, SideName, pieces_of, place_inside, place_of_item};
-use rt_shared::Shared;
-use rt_values::{List, OutOfMemory, Part};
+use rt_values::{List, OutOfMemory, Part, Shared};
 use rt_work::{child_at, is_same_component};
 use std::alloc::Global;
 

@@ -16,8 +16,7 @@ use rt_edits::{DocKind, DocNode};
 use rt_nodes::{DynamicNode, VNode};
 use rt_parts::{Attribute, Parts, TemplateAttribute, TemplateNode};
 use rt_places::{Kind, Place, Side, path_below, place_inside, place_of_item};
-use rt_shared::Shared;
-use rt_values::{ElementId, List, OutOfMemory, Part, Text, both};
+use rt_values::{ElementId, List, OutOfMemory, Part, Shared, Text, both};
 use rt_work::{child_at, number_at};
 use std::alloc::Global;
 

@@ -11,8 +11,7 @@ use rt_edits::Edit;
 use rt_nodes::{DynamicNode, VNode};
 use rt_parts::Parts;
 use rt_places::{Kind, Place};
-use rt_shared::Shared;
-use rt_values::{ElementId, List, OutOfMemory, Part, Text};
+use rt_values::{ElementId, List, OutOfMemory, Part, Shared, Text};
 use rt_work::number_at;
 use std::alloc::Global;
 

@@ -7,9 +7,9 @@ use Rattle.std.proofs.lemmas.List.{length-map}
 use Rattle.std.proofs.lemmas.Str.{IsUtf8-from_is_utf8}
 use Rattle.serde_json.specs.Data.{Data}
 use Rattle.serde_json.specs.Read.{read}
-use Rattle.rt_fields.specs.Keys.{is_object_of}
-use Rattle.rt_fields.specs.Fields.{list_or_empty}
-use Rattle.rt_fields.specs.Lists.{read_each}
+use Rattle.rt_expressions.specs.Keys.{is_object_of}
+use Rattle.rt_expressions.specs.Fields.{list_or_empty}
+use Rattle.rt_expressions.specs.Lists.{read_each}
 use Rattle.rt_language.specs.Syntax as language
 use Rattle.rt_syntax.specs.declared.expression.Literal.{Literal}
 use Rattle.rt_syntax.specs.declared.source.Source.{Source}

@@ -1,2 +1,4 @@
+pub mod Levels
+pub mod Joined
 pub mod Texts
 pub mod Described

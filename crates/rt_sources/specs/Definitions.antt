@@ -2,16 +2,16 @@
 use Rattle.std.specs.Prelude.{ℕ, List, [], ◌∷◌, Option, None, option_map, option_and_then, if◌then◌else◌, codes}
 use Rattle.serde_json.specs.Data.{Data, Items}
 use Rattle.serde_json.specs.Find.{get, as_array}
-use Rattle.rt_fields.specs.Keys.{is_object_of}
-use Rattle.rt_fields.specs.Fields.{list_at, list_or_empty}
-use Rattle.rt_fields.specs.Lists.{read_each, each_member}
-use Rattle.rt_expressions.specs.declared.names.Names.{Names}
-use Rattle.rt_statements.specs.declared.forms.Place.{Place}
-use Rattle.rt_statements.specs.declared.forms.Place.TheVariants.{Body, Action, Step}
-use Rattle.rt_statements.specs.Statements.{block_in}
+use Rattle.rt_expressions.specs.Keys.{is_object_of}
+use Rattle.rt_expressions.specs.Fields.{list_at, list_or_empty}
+use Rattle.rt_expressions.specs.Lists.{read_each, each_member}
+use Rattle.rt_expressions.specs.declared.signatures.Names.{Names}
+use Rattle.rt_sources.specs.declared.forms.Place.{Place}
+use Rattle.rt_sources.specs.declared.forms.Place.TheVariants.{Body, Action, Step}
+use Rattle.rt_sources.specs.Statements.{block_in}
 use Rattle.rt_syntax.specs.declared.statement.Statement.{Statement}
 use Rattle.rt_syntax.specs.declared.source.ComponentSource.{ComponentSource}
-use Rattle.rt_views.specs.Views.{view_in}
+use Rattle.rt_expressions.specs.Views.{view_in}
 use Rattle.rt_sources.specs.Signatures.{params_in}
 
 -- the statements of a body with its view, which has the names in reach at the end of the body

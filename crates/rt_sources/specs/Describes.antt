@@ -3,10 +3,10 @@ use Rattle.std.specs.Prelude.{◌≡◌, ◌≤◌, ℕ, List, length, map, IsTr
 use Rattle.std.specs.Str.{IsUtf8}
 use Rattle.serde_json.specs.Data.{Data}
 use Rattle.serde_json.specs.Read.{read}
-use Rattle.rt_fields.specs.Keys.{is_object_of}
-use Rattle.rt_fields.specs.Fields.{list_or_empty}
-use Rattle.rt_fields.specs.Lists.{read_each}
-use Rattle.rt_expressions.specs.declared.names.Names.{Names}
+use Rattle.rt_expressions.specs.Keys.{is_object_of}
+use Rattle.rt_expressions.specs.Fields.{list_or_empty}
+use Rattle.rt_expressions.specs.Lists.{read_each}
+use Rattle.rt_expressions.specs.declared.signatures.Names.{Names}
 use Rattle.rt_language.specs.Syntax as language
 use Rattle.rt_syntax.specs.Mirror.{literal_of, statements_of, component_of, post_of, input_of}
 use Rattle.rt_sources.specs.Inputs.{literal_in}

@@ -2,9 +2,9 @@
 use Rattle.std.specs.Prelude.{ℕ, ℤ, List, [], ◌∷◌, length, nat_lt, ◌&&◌, Option, Some, None, option_map, option_and_then, if◌then◌else◌, codes}
 use Rattle.serde_json.specs.Data.{Data}
 use Rattle.serde_json.specs.Find.{get, as_str, as_array}
-use Rattle.rt_fields.specs.Keys.{is_object_of}
-use Rattle.rt_fields.specs.Fields.{text_at, list_at, integer, whole_at, is_zero_at}
-use Rattle.rt_fields.specs.Lists.{read_each}
+use Rattle.rt_expressions.specs.Keys.{is_object_of}
+use Rattle.rt_expressions.specs.Fields.{text_at, list_at, integer, whole_at, is_zero_at}
+use Rattle.rt_expressions.specs.Lists.{read_each}
 use Rattle.rt_syntax.specs.declared.expression.Literal.{Literal}
 use Rattle.rt_syntax.specs.declared.expression.Literal.TheVariants as literals
 use Rattle.rt_syntax.specs.declared.source.PostSource.{PostSource}

@@ -1,3 +1,9 @@
+pub mod Forms
+pub mod Plain
+pub mod Binding
+pub mod Readings
+pub mod Statements
+pub mod Reads
 pub mod Inputs
 pub mod Signatures
 pub mod Definitions

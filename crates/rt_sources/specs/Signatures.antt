@@ -2,11 +2,11 @@
 use Rattle.std.specs.Prelude.{ℕ, List, [], length, Option, Some, None, option_map, option_and_then, codes}
 use Rattle.serde_json.specs.Data.{Data}
 use Rattle.serde_json.specs.Find.{get, as_object}
-use Rattle.rt_fields.specs.Fields.{list_or_empty}
-use Rattle.rt_fields.specs.Lists.{each_member}
-use Rattle.rt_fields.specs.Names.{distinct_texts}
-use Rattle.rt_expressions.specs.declared.names.Signature.{Signature}
-use Rattle.rt_expressions.specs.declared.names.Names.{Names}
+use Rattle.rt_expressions.specs.Fields.{list_or_empty}
+use Rattle.rt_expressions.specs.Lists.{each_member}
+use Rattle.rt_expressions.specs.Names.{distinct_texts}
+use Rattle.rt_expressions.specs.declared.signatures.Signature.{Signature}
+use Rattle.rt_expressions.specs.declared.signatures.Names.{Names}
 use Rattle.rt_expressions.specs.Kinds.{kinds_in}
 
 -- the params of a component, an action or a task: names that differ

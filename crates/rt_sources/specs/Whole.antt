@@ -1,11 +1,11 @@
 -- The source that a value of JSON is.
 use Rattle.std.specs.Prelude.{ℕ, List, [], ◌∷◌, length, nat_lt, ◌==◌, Option, Some, None, option_map, option_and_then, if◌then◌else◌, codes}
 use Rattle.serde_json.specs.Data.{Data}
-use Rattle.rt_fields.specs.Keys.{is_object_of}
-use Rattle.rt_fields.specs.Fields.{text_at, list_or_empty}
-use Rattle.rt_fields.specs.Lists.{read_each}
-use Rattle.rt_expressions.specs.declared.names.Names.{Names}
-use Rattle.rt_expressions.specs.Names.{signature_of}
+use Rattle.rt_expressions.specs.Keys.{is_object_of}
+use Rattle.rt_expressions.specs.Fields.{text_at, list_or_empty}
+use Rattle.rt_expressions.specs.Lists.{read_each}
+use Rattle.rt_expressions.specs.declared.signatures.Names.{Names}
+use Rattle.rt_expressions.specs.Signatures.{signature_of}
 use Rattle.rt_syntax.specs.declared.expression.Literal.{Literal}
 use Rattle.rt_syntax.specs.declared.statement.Statement.{Statement}
 use Rattle.rt_syntax.specs.declared.source.ComponentSource.{ComponentSource}

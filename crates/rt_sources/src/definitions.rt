@@ -1,16 +1,15 @@
 //! Components, actions and tasks.
 ghost use Rattle.std.specs.Prelude.{◌≡◌, IfOk, option_map};
 ghost use Rattle.serde_json.specs.View.{view, items_view, members_view};
-ghost use Rattle.rt_fields.specs.Lists.{read_each, read_members};
+ghost use Rattle.rt_expressions.specs.Lists.{read_each, read_members};
 ghost use Rattle.rt_sources.specs.Definitions.{component_in, action_in, step_in, task_in, components_at, actions_at, tasks_at};
 
+use crate::forms::Place;
 use crate::signatures::params_in;
-use rt_expressions::Names;
-use rt_fields::{is_object_of, list_at, list_or_empty};
-use rt_statements::{Place, read_block};
+use crate::statements::read_block;
+use rt_expressions::{Names, is_object_of, list_at, list_or_empty, read_view};
 use rt_syntax::{ComponentSource, Statement};
 use rt_values::{List, OutOfMemory, Text, copy_slice};
-use rt_views::read_view;
 use serde_json::{Map, Value};
 use std::alloc::Global;
 

@@ -1,10 +1,10 @@
 //! Literals, messages, and what comes from outside.
 ghost use Rattle.std.specs.Prelude.{◌≡◌, IfOk, option_map};
 ghost use Rattle.serde_json.specs.View.{view, items_view};
-ghost use Rattle.rt_fields.specs.Lists.{read_each};
+ghost use Rattle.rt_expressions.specs.Lists.{read_each};
 ghost use Rattle.rt_sources.specs.Inputs.{literal_in, literal_there, literal_at, post_in, poster_in, number_there, number_at, event_in, write_in, drain_in, input_in};
 
-use rt_fields::{is_object_of, is_zero_at, list_at, text_at, whole_at};
+use rt_expressions::{is_object_of, is_zero_at, list_at, text_at, whole_at};
 use rt_syntax::{InputSource, Literal, PostSource};
 use rt_values::{List, OutOfMemory, Text};
 use serde_json::Value;

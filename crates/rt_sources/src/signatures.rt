@@ -1,11 +1,10 @@
 //! The names of a source.
 ghost use Rattle.std.specs.Prelude.{◌≡◌, IfOk, option_map};
 ghost use Rattle.serde_json.specs.View.{view, members_view};
-ghost use Rattle.rt_fields.specs.Lists.{read_members};
+ghost use Rattle.rt_expressions.specs.Lists.{read_members};
 ghost use Rattle.rt_sources.specs.Signatures.{params_in, signature_in, signatures_at, names_in};
 
-use rt_expressions::{Names, Signature, kinds_in};
-use rt_fields::{distinct_texts, list_or_empty};
+use rt_expressions::{Names, Signature, distinct_texts, kinds_in, list_or_empty};
 use rt_values::{List, OutOfMemory, Text};
 use serde_json::{Map, Value};
 use std::alloc::Global;

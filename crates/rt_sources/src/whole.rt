@@ -6,8 +6,7 @@ ghost use Rattle.rt_sources.specs.Whole.{root_in, props_in, inputs_in, posts_in,
 use crate::definitions::{actions_at, components_at, tasks_at};
 use crate::inputs::{inputs_of, literals, posters};
 use crate::signatures::names_in;
-use rt_expressions::{Names, signature_of};
-use rt_fields::{is_object_of, list_or_empty, text_at};
+use rt_expressions::{Names, is_object_of, list_or_empty, signature_of, text_at};
 use rt_syntax::{InputSource, Literal, PostSource, Source};
 use rt_values::{List, OutOfMemory};
 use serde_json::Value;

@@ -1,0 +1,4 @@
+pub mod Ends
+pub mod OrderLemmas
+pub mod Makings
+pub mod MountedLemmas

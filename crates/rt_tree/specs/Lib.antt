@@ -1,3 +1,12 @@
+pub mod Building
+pub mod Gathered
+pub mod Steps
+pub mod Told
+pub mod Counts
+pub mod Left
+pub mod Order
+pub mod Rebuilding
+pub mod Mounted
 pub use Rattle.rt_parts.specs.Texts
 pub use Rattle.rt_parts.specs.Met
 pub use Rattle.rt_parts.specs.Names
@@ -11,10 +20,3 @@ pub use Rattle.rt_edits.specs.Ordered
 pub use Rattle.rt_edits.specs.Document
 pub use Rattle.rt_edits.specs.Laws
 pub use Rattle.rt_edits.specs.Sinks
-pub use Rattle.rt_patch.specs.Building
-pub use Rattle.rt_patch.specs.Steps
-pub use Rattle.rt_patch.specs.Told
-pub use Rattle.rt_patch.specs.Counts
-pub use Rattle.rt_patch.specs.Left
-pub use Rattle.rt_patch.specs.Order
-pub use Rattle.rt_patch.specs.Mounted

@@ -1,7 +1,21 @@
 //! Trees of a component runtime: templates, nodes and their slots, the node test, errors, events,
-//! patches, and the document with its edits. They are made in the crates below.
+//! patches, and the document with its edits. Patches are made here, the others in the crates below.
 #![tactic(auto)]
 
+mod block;
+mod builder;
+mod mounted;
+mod order;
+mod passing;
+mod patch;
+mod rebuild;
+mod step;
+mod turning;
+
+pub use block::Block;
+pub use mounted::nodes_as_built;
+pub use order::steps_in_order;
+pub use patch::Patch;
 pub use rt_edits::{
     DocAttr, DocFault, DocKind, DocNode, Document, Edit, FailingMutations, Mutations,
     NoOpMutations, SinkError, WriteMutations,
@@ -15,7 +29,6 @@ pub use rt_parts::{
     Attribute, AttributeValue, CapturedError, Event, ListenerCallback, Parts, RenderError,
     SuspendedFuture, Template, TemplateAttribute, TemplateNode,
 };
-pub use rt_patch::{
-    Block, Patch, PatchStep, Place, Step, TreeFault, nodes_as_built, steps_in_order,
-};
+pub use rt_plan::{Place, Step};
 pub use rt_values::ElementId;
+pub use step::{PatchStep, TreeFault};

@@ -1,5 +1,5 @@
-//! Plain values that contracts see as what they hold: names and numbers, texts, lists, boxes,
-//! and what can be compared and copied.
+//! The plain values of the workspace: numbers that name things, texts, lists, boxes, finished lists
+//! whose copies share their items, and what can be copied and compared.
 #![tactic(auto)]
 
 mod boxed;
@@ -9,6 +9,7 @@ mod memory;
 mod names;
 mod part;
 mod serials;
+mod shared;
 mod text;
 
 pub use boxed::Boxed;
@@ -18,4 +19,5 @@ pub use memory::{OutOfMemory, both};
 pub use names::{ScopeId, Task};
 pub use part::Part;
 pub use serials::Serials;
+pub use shared::Shared;
 pub use text::Text;

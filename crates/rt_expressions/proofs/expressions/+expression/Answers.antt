@@ -2,7 +2,7 @@
 use Rattle.std.proofs.Common.{rules, ◌≡◌, Some, None}
 use Rattle.serde_json.specs.View.{view}
 use Rattle.rt_expressions.specs.Expressions.{expression_of}
-use Rattle.rt_fields.proofs.Steps.{one_read, one_refused, all_read}
+use Rattle.rt_expressions.proofs.Steps.{one_read, one_refused, all_read}
 use Rattle.rt_expressions.proofs.expressions.+expression.Goals as goal
 
 pub expressions-returns-in_default : goal.expressions-returns-in_default

@@ -1,7 +1,7 @@
 //! Serves the steps of patches, as a layer above does.
 
 ghost use Rattle.std.specs.Prelude.{◌≡◌};
-ghost use Rattle.rt_patch.specs.Left.{awaited, awaits, no_answer};
+ghost use Rattle.rt_tree.specs.Left.{awaited, awaits, no_answer};
 
 use super::printing::{print_nodes, print_step};
 use super::trees::{Numbers, Shape, push, text};

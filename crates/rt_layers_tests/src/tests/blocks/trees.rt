@@ -4,8 +4,7 @@ use rt_nodes::{DynamicNode, VComponent, VNode};
 use rt_parts::{
     Attribute, AttributeValue, ListenerCallback, Parts, Template, TemplateAttribute, TemplateNode,
 };
-use rt_shared::Shared;
-use rt_values::{List, ScopeId, Text};
+use rt_values::{List, ScopeId, Shared, Text};
 use std::alloc::Global;
 use std::process::Abort;
 

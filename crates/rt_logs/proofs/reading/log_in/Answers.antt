@@ -1,7 +1,7 @@
 use Rattle.std.proofs.Common.{rules, ◌≡◌, Some, None}
 use Rattle.std.specs.Prelude.{codes}
 use Rattle.serde_json.specs.View.{view, items_view}
-use Rattle.rt_fields.specs.Fields.{list_at}
+use Rattle.rt_expressions.specs.Fields.{list_at}
 use Rattle.rt_logs.proofs.Runs.{log_reads, no_log}
 use Rattle.rt_logs.proofs.reading.log_in.Goals as goal
 

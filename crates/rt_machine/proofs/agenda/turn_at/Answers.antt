@@ -1,6 +1,6 @@
 use Rattle.std.proofs.Common.{ap}
 use Rattle.rt_state.specs.Mirror.{state_of}
-use Rattle.rt_turns.specs.Turn.{turn_of, entries_at}
+use Rattle.rt_fresh.specs.Turn.{turn_of, entries_at}
 use Rattle.rt_work.specs.Items.{item_of}
 use Rattle.rt_machine.proofs.Arms.{came_as, noted_as}
 use Rattle.rt_machine.proofs.agenda.turn_at.Goals as goal

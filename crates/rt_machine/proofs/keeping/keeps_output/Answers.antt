@@ -2,8 +2,8 @@ use Rattle.std.proofs.Common.{◌∙◌, ap, sym}
 use Rattle.rt_model.specs.Values as values
 use Rattle.rt_mirror.specs.Sealed.{component_of}
 use Rattle.rt_mirror.proofs.SealedComponents.{component_App, component_Root, component_Fragment, component_ErrorBoundary, component_SuspenseBoundary}
-use Rattle.rt_same.specs.One.{is_by_value}
-use Rattle.rt_same.proofs.Keeping.{kept_by_value}
+use Rattle.rt_documents.specs.One.{is_by_value}
+use Rattle.rt_documents.proofs.Keeping.{kept_by_value}
 use Rattle.rt_machine.proofs.Kept.{error_boundary_never}
 use Rattle.rt_machine.proofs.keeping.keeps_output.Goals as goal
 

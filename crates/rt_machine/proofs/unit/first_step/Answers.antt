@@ -3,7 +3,7 @@ use Rattle.std.proofs.lemmas.Result.{err_from_is_err_and}
 use Rattle.rt_model.specs.State.{Done}
 use Rattle.rt_state.specs.Mirror.{state_of}
 use Rattle.rt_state.specs.Names.{work_of as model_work}
-use Rattle.rt_turns.specs.Turn.{unit_of}
+use Rattle.rt_fresh.specs.Turn.{unit_of}
 use Rattle.rt_work.specs.Items.{work_of}
 use Rattle.rt_machine.proofs.Arms.{came_as, cut_as}
 use Rattle.rt_machine.proofs.unit.first_step.Goals as goal

@@ -1,7 +1,7 @@
 -- The pieces that are gone through are those of the tree.
 use Rattle.std.proofs.Common.{◌≡◌, ◌++◌, ◌∙◌, [], map, sym, ap}
 use Rattle.rt_plan.specs.Making.{make_pieces, make_value}
-use Rattle.rt_shapes.specs.Pieces.{node_pieces, pieces_among}
+use Rattle.rt_plan.specs.Pieces.{node_pieces, pieces_among}
 use Rattle.rt_plan.proofs.MakingLemmas.{make_tree_out}
 use Rattle.rt_plan.proofs.making.+make.Goals as goal
 

@@ -2,7 +2,7 @@
 use Rattle.std.specs.List.{slice_index_or}
 use Rattle.std.proofs.Common.{◌<◌, [], length, get_or, map, refl, sym, ap, ◌∙◌, arith}
 use Rattle.rt_plan.specs.Pairing.{beside, pair_token, pair_tree, pair_value, paired}
-use Rattle.rt_shapes.specs.Tokens.{tokens_in}
+use Rattle.rt_plan.specs.Tokens.{tokens_in}
 use Rattle.rt_plan.proofs.LosingLemmas.{on_same}
 use Rattle.rt_plan.proofs.PairingLemmas.{nothing_more, pair_begun, pair_end, paired_all, beside_past, past_olds, slot_at, token_next}
 use Rattle.rt_plan.proofs.pairing.+pair.Goals as goal

@@ -3,7 +3,7 @@ use Rattle.std.proofs.Common.{◌≡◌, ◌≤◌, ◌∙◌, length, List, rul
 use Rattle.std.specs.List.{All}
 use Rattle.rt_inbox.specs.declared.message.Post.{Post}
 use Rattle.rt_inbox.specs.Ends.{posters_of}
-use Rattle.rt_posting.specs.declared.posters.Poster.{Poster}
+use Rattle.rt_inbox.specs.declared.posters.Poster.{Poster}
 use Rattle.rt_session.specs.Meetings.{AreFor}
 use Rattle.rt_session.proofs.Gathering.{are_for}
 use Rattle.rt_session.proofs.meeting.convene.Goals as goal

@@ -2,7 +2,7 @@
 use Rattle.std.proofs.Common.{◌≡◌, ◌+◌, ◌≤◌, ◌++◌, length, map, vec_len}
 use Rattle.std.specs.Vec.{vec_capacity}
 use Rattle.std.specs.Vec.Iter.{into_iter_items, into_iter_len}
-use Rattle.rt_posting.specs.Posted.{notifier_of}
+use Rattle.rt_inbox.specs.Posted.{notifier_of}
 use Rattle.rt_session.proofs.meeting.ends_of.Given as goal
 
 abbrev pub invariant-loop-poster : goal.invariant-loop-poster

@@ -1,8 +1,8 @@
 -- How the meeting ends, by what its parts come to.
 use Rattle.std.proofs.Common.{List, sym, subst}
 use Rattle.std.proofs.lemmas.Result.{err_from_is_err_and}
-use Rattle.rt_posting.specs.Posted.{AllReady}
-use Rattle.rt_posting.specs.declared.posters.Poster.{Poster}
+use Rattle.rt_inbox.specs.Posted.{AllReady}
+use Rattle.rt_inbox.specs.declared.posters.Poster.{Poster}
 use Rattle.rt_session.proofs.Failing.{failed, failed_first, failed_wanting}
 use Rattle.rt_session.proofs.Gathering.{have_posted_in}
 use Rattle.rt_session.proofs.Holding.{left_at_end, met, nothing_yet}

@@ -1,7 +1,7 @@
 -- Each turn of the loop reads one more member, or refuses it.
 use Rattle.std.proofs.Common.{rules, ◌≡◌, Some, None}
 use Rattle.serde_json.specs.View.{view}
-use Rattle.rt_fields.proofs.Steps.{member_read, member_refused, members_read}
+use Rattle.rt_expressions.proofs.Steps.{member_read, member_refused, members_read}
 use Rattle.rt_sources.specs.Definitions.{component_in}
 use Rattle.rt_sources.proofs.definitions.components.Goals as goal
 

@@ -1,8 +1,8 @@
 -- What is read so far stands before the rest.
 use Rattle.std.proofs.Common.{◌≡◌, drop}
 use Rattle.serde_json.specs.View.{items_view}
-use Rattle.rt_fields.specs.Lists.{read_each}
-use Rattle.rt_fields.proofs.Steps.{after}
+use Rattle.rt_expressions.specs.Lists.{read_each}
+use Rattle.rt_expressions.proofs.Steps.{after}
 use Rattle.rt_sources.specs.Inputs.{literal_in}
 use Rattle.rt_sources.proofs.inputs.literals.Given as goal
 

@@ -1,7 +1,7 @@
 -- Each turn of the loop reads one more value, or refuses it.
 use Rattle.std.proofs.Common.{rules, ◌≡◌, Some, None}
 use Rattle.serde_json.specs.View.{view}
-use Rattle.rt_fields.proofs.Steps.{one_read, one_refused, all_read}
+use Rattle.rt_expressions.proofs.Steps.{one_read, one_refused, all_read}
 use Rattle.rt_sources.specs.Inputs.{post_in}
 use Rattle.rt_sources.proofs.inputs.messages.Goals as goal
 

@@ -4,7 +4,7 @@ use Rattle.std.proofs.lemmas.Result.{err_from_is_err_and}
 use Rattle.rt_reports.specs.Seen.{entry_of}
 use Rattle.rt_state.specs.Names.{work_of as model_work}
 use Rattle.rt_state.specs.Mirror.{state_of}
-use Rattle.rt_turns.specs.Turn.{entry_for, unit_of}
+use Rattle.rt_fresh.specs.Turn.{entry_for, unit_of}
 use Rattle.rt_work.specs.Items.{work_of}
 use Rattle.rt_machine.proofs.Arms.{noted_any, noted_one_as}
 use Rattle.rt_machine.proofs.Framed.{length_each}

@@ -6,7 +6,7 @@ use Rattle.rt_state.specs.Names.{work_of}
 use Rattle.rt_machine.proofs.Opening.{stands_begun, none_begun}
 use Rattle.rt_machine.proofs.Turning.{stands_settled}
 use Rattle.rt_state.specs.Mirror.{at_first}
-use Rattle.rt_turns.specs.Turn.{entry_for}
+use Rattle.rt_fresh.specs.Turn.{entry_for}
 use Rattle.rt_machine.proofs.Noting.{wanting_keeps, resting_keeps, begun_keeps, unbegun_keeps}
 use Rattle.rt_machine.proofs.machine.Machine.next_turn.Goals as goal
 

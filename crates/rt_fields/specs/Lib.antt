@@ -1,4 +1,0 @@
-pub mod Keys
-pub mod Fields
-pub mod Names
-pub mod Lists

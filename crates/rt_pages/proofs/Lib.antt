@@ -1,4 +1,0 @@
-pub mod Contexts
-pub mod Following
-pub mod Lists
-pub mod Placeholders

@@ -1,4 +1,0 @@
-pub mod Ends
-pub mod OrderLemmas
-pub mod Makings
-pub mod MountedLemmas

@@ -1,0 +1,23 @@
+-- The agenda of a scope that was found.
+use Rattle.std.proofs.Common.{◌∙◌, sym, ap}
+use Rattle.std.specs.Prelude.{Some, None}
+use Rattle.rt_model.specs.State.{Done}
+use Rattle.rt_mirror.specs.Sealed.{tree_of}
+use Rattle.rt_places.specs.Places.{side_name_of}
+use Rattle.rt_work.specs.Items.{work_of}
+use Rattle.rt_calls.specs.Kept.{scope_of}
+use Rattle.rt_state.specs.Mirror.{state_of}
+use Rattle.rt_state.proofs.Each.{found-each}
+use Rattle.rt_scopes.proofs.Agendas.{begins, not_started}
+use Rattle.rt_scopes.proofs.agenda.start_agenda.Goals as goal
+
+pub returns-in_default : goal.returns-in_default
+returns-in_default g c = λ app tests kept.
+    not_started app (state_of kept c.args.state.now) c.args.scope (side_name_of c.args.name) (tree_of c.args.tree) (found-each scope_of (c.args.state.now.rows).table c.args.scope None c.in_default.ensures)
+    ∙ ap (λ work. Done (state_of kept c.args.state.now) (work_of work)) (sym c.new.ensures.empty)
+
+pub returns : goal.returns
+returns g c = λ app tests kept.
+    begins app (state_of kept c.args.state.now) (state_of kept c.change_side.new.state) c.args.scope c.args.name c.args.tree c.side_of.result.now (scope_of c.in-Some.found.now) _ _
+    (found-each scope_of (c.args.state.now.rows).table c.args.scope (Some c.in-Some.found.now) c.in-Some.ensures)
+    c.side_of.ensures (c.in_ok-work.ensures app tests) (c.in_ok-change_side.ensures kept)

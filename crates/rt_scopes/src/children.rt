@@ -1,0 +1,190 @@
+//! The child scopes of scopes, in tree order.
+ghost use Rattle.std.specs.Prelude.{◌≡◌, ◌++◌, [], None, IfOk, OnOk};
+ghost use Rattle.rt_model.specs.Lists.{at};
+ghost use Rattle.rt_model.specs.State.{change, empty_side};
+ghost use Rattle.rt_model.specs.Boundary.{side_scopes as scopes_on, live_child};
+ghost use Rattle.rt_model.specs.Removal.{children_below as all_below, next_removed as first_removed};
+ghost use Rattle.rt_model.specs.Replay.{fed_child as child_fed};
+ghost use Rattle.rt_places.specs.Places.{place_of, side_name_of, side_of};
+ghost use Rattle.rt_state.specs.Mirror.{state_of};
+ghost use Rattle.rt_scopes.specs.Sides.{child_here, fallback_scopes_in};
+
+use rt_calls::Scope;
+use rt_parts::Parts;
+use rt_places::{Children, Numbers, Side, SideName, Spot, Step};
+use rt_state::{State, side_of};
+use rt_values::{List, OutOfMemory};
+use rt_work::{child_at, spots_of};
+use std::alloc::Global;
+
+/// The live child scopes of a side, in tree order.
+pub fn side_scopes<P: Parts>(
+    alloc: Global,
+    state: &State<P>,
+    side: &Side<P>,
+) -> Result<List<u64>, OutOfMemory>
+    ensures { IfOk result (λ scopes. (g : _) →
+        scopes ≡ scopes_on (state_of g state.now) (side_of side.now)) }
+{
+    let mut scopes = List::new(alloc);
+    let spots = spots_of(alloc, &side.output)?;
+    for spot in spots.as_slice() {
+        add_child(state, &side.children, spot, &mut scopes)?;
+    }
+    Ok(scopes)
+}
+
+/// Puts the child scope at a spot after these, where one is live there.
+fn add_child<P: Parts>(
+    state: &State<P>,
+    children: &Children,
+    spot: &Spot<P>,
+    scopes: &mut List<u64>,
+) -> Result<(), OutOfMemory>
+    ensures { OnOk result ((g : _) → scopes.new
+        ≡ scopes.old ++ child_here (state_of g state.now) children.now spot.now) }
+{
+    match spot {
+        Spot::Node { .. } => Ok(()),
+        Spot::Component { place, .. } => {
+            add_live(state, child_at(children, place.as_slice()), scopes)
+        }
+    }
+}
+
+/// Puts a scope after these, where there is one and it is live.
+fn add_live<P: Parts>(
+    state: &State<P>,
+    scope: Option<u64>,
+    scopes: &mut List<u64>,
+) -> Result<(), OutOfMemory>
+    ensures { OnOk result ((g : _) →
+        scopes.new ≡ scopes.old ++ live_child (state_of g state.now) scope) }
+{
+    match scope {
+        Some(scope) => {
+            if state.is_live(scope) {
+                scopes.push(scope)
+            } else {
+                Ok(())
+            }
+        }
+        None => Ok(()),
+    }
+}
+
+/// The children of a scope, the fallback's before the others.
+pub fn children_below<P: Parts>(
+    alloc: Global,
+    state: &State<P>,
+    scope: u64,
+) -> Result<List<u64>, OutOfMemory>
+    ensures { IfOk result (λ scopes. (g : _) → scopes
+        ≡ all_below (state_of g state.now) (at (state_of g state.now).scopes scope)) }
+{
+    let Some(found) = state.scope(scope) else {
+        return Ok(List::new(alloc));
+    };
+    let mut scopes = side_scopes(alloc, state, &found.rest.fallback_side)?;
+    let children = side_scopes(alloc, state, &found.rest.children_side)?;
+    let main = side_scopes(alloc, state, &found.rest.main_side)?;
+    scopes.append(children)?;
+    scopes.append(main)?;
+    Ok(scopes)
+}
+
+/// The scope that a removal takes first.
+pub fn next_removed<P: Parts>(
+    alloc: Global,
+    state: &State<P>,
+    scope: u64,
+) -> Result<u64, OutOfMemory>
+    ensures { IfOk result (λ leaf. (g : _) → leaf ≡ first_removed (state_of g state.now) scope) }
+{
+    let mut leaf = scope;
+    let count = state.rows.table.as_slice().len();
+    for _step in 0..count {
+        let children = children_below(alloc, state, leaf)?;
+        match children.get(0) {
+            Some(child) => leaf = *child,
+            None => return Ok(leaf),
+        }
+    }
+    Ok(leaf)
+}
+
+/// The child scope at a place of a scope's side.
+pub fn fed_child<P: Parts>(
+    state: &State<P>,
+    scope: u64,
+    side: SideName,
+    place: &[Step],
+) -> Option<u64>
+    ensures { (g : _) → result
+        ≡ child_fed (state_of g state.now) scope (side_name_of side) (place_of place.now) }
+{
+    match state.scope(scope) {
+        Some(found) => child_at(&side_of(found, side).children, place),
+        None => None,
+    }
+}
+
+/// Drops the fallback's output of a boundary, and answers the scopes that stood on it, in tree
+/// order.
+pub fn drop_fallback<P: Parts>(
+    alloc: Global,
+    state: &mut State<P>,
+    boundary: u64,
+) -> Result<List<u64>, OutOfMemory>
+    ensures dropped { OnOk result ((g : _) → state_of g state.new
+        ≡ change (state_of g state.old) boundary (λ x. record x { fallback_side = empty_side })) }
+    ensures scopes { IfOk result (λ scopes. (g : _) → scopes
+        ≡ fallback_scopes_in (state_of g state.old) boundary) }
+{
+    let scopes = fallback_scopes(alloc, state, boundary)?;
+    clear_fallback(alloc, state, boundary)?;
+    Ok(scopes)
+}
+
+/// The scopes on the fallback's side of a live boundary, in tree order.
+fn fallback_scopes<P: Parts>(
+    alloc: Global,
+    state: &State<P>,
+    boundary: u64,
+) -> Result<List<u64>, OutOfMemory>
+    ensures { IfOk result (λ scopes. (g : _) → scopes
+        ≡ fallback_scopes_in (state_of g state.now) boundary) }
+{
+    match state.scope(boundary) {
+        Some(found) => side_scopes(alloc, state, &found.rest.fallback_side),
+        None => Ok(List::new(alloc)),
+    }
+}
+
+/// Leaves a live boundary without a fallback's output.
+fn clear_fallback<P: Parts>(
+    alloc: Global,
+    state: &mut State<P>,
+    boundary: u64,
+) -> Result<(), OutOfMemory>
+    ensures { OnOk result ((g : _) → state_of g state.new
+        ≡ change (state_of g state.old) boundary (λ x. record x { fallback_side = empty_side })) }
+{
+    state.change_scope(
+        boundary,
+        |found: &mut Scope<P>| -> Result<(), OutOfMemory>
+            ensures { OnOk result (found.new ≡ record found.old {
+              rest = record found.old.rest {
+                fallback_side = record { output = None; numbers = []; children = [] };
+              };
+            }) }
+        {
+            found.rest.fallback_side = Side {
+                output: None,
+                numbers: Numbers::new(alloc),
+                children: Children::new(alloc),
+            };
+            Ok(())
+        },
+    )
+}

@@ -1,4 +1,0 @@
-pub mod Underway
-pub mod Items
-pub mod Beginnings
-pub mod Sessions

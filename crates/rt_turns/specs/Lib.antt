@@ -1,4 +1,0 @@
-pub mod Turn
-pub mod Underway
-pub mod Sessions
-pub mod Laws

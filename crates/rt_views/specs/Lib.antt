@@ -1,4 +1,0 @@
-pub mod Forms
-pub mod Attributes
-pub mod Parts
-pub mod Views
