@@ -33,35 +33,36 @@ use Rattle.rt_tree.specs.Gathered.{Kept}
 use Rattle.rt_tree.specs.Steps.{Answer, numbered, answered, Rest, steps}
 use Rattle.rt_agenda.specs.Blocks.{Marks, Laid, Part, no_part, end_part, numbered_part, scope_part, laid_on, both_parts, all_parts, shape_pieces, template_part, fragment_part, tree_part, value_part, block_pieces}
 use Rattle.rt_agenda.specs.Hidden.{IsQuiet}
-use Rattle.rt_agenda.specs.MadeNodes.{drawn_in, scopes_in, nodes_in, built_on, AreAnswersTo, first_steps, BuildsNodes}
+use Rattle.rt_tree.specs.Mounted.{numbers_given, scopes_given, nodes_given, AreFor}
+use Rattle.rt_agenda.specs.MadeNodes.{built_on, first_steps, BuildsNodes}
 use Rattle.rt_agenda.specs.Pieces.{Piece, Head, opened, closed, first_piece, later_pieces, flat}
 use Rattle.rt_agenda.proofs.PieceLemmas.{flat-append, later-Element, first-Element}
 use Rattle.rt_agenda.proofs.TreeInduction.{of_tree, of_value}
 
 -- the marks that answers give, before others
 abbrev marks_of : List Answer → Marks → Marks
-marks_of answers more = record { numbers = drawn_in answers ++ more.numbers; nodes = nodes_in answers ++ more.nodes }
+marks_of answers more = record { numbers = numbers_given answers ++ more.numbers; nodes = nodes_given answers ++ more.nodes }
 
 marks_twice : (one other : List Answer) (more : Marks) → marks_of (one ++ other) more ≡ marks_of one (marks_of other more)
 marks_twice [] other more = refl
 marks_twice (numbered number ∷ one) other more = ap (λ (m : Marks). let all : Marks = record m { numbers = record { 0 = number } ∷ m.numbers } in all) (marks_twice one other more)
 marks_twice (answered scope nodes ∷ one) other more = ap (λ (m : Marks). let all : Marks = record m { nodes = nodes ∷ m.nodes } in all) (marks_twice one other more)
 
-drawn-append : (one other : List Answer) → drawn_in (one ++ other) ≡ drawn_in one ++ drawn_in other
+drawn-append : (one other : List Answer) → numbers_given (one ++ other) ≡ numbers_given one ++ numbers_given other
 drawn-append [] other = refl
 drawn-append (numbered number ∷ one) other = ap (λ (ns : List ElementId). record { 0 = number } ∷ ns) (drawn-append one other)
 drawn-append (answered scope nodes ∷ one) other = drawn-append one other
 
-scopes-append : (one other : List Answer) → scopes_in (one ++ other) ≡ scopes_in one ++ scopes_in other
+scopes-append : (one other : List Answer) → scopes_given (one ++ other) ≡ scopes_given one ++ scopes_given other
 scopes-append [] other = refl
 scopes-append (numbered number ∷ one) other = scopes-append one other
 scopes-append (answered scope nodes ∷ one) other = ap (λ (ss : List ScopeId). scope ∷ ss) (scopes-append one other)
 
 -- the marks of all answers
-pub marks_whole : (answers : List Answer) → marks_of answers (record { numbers = []; nodes = [] }) ≡ record { numbers = drawn_in answers; nodes = nodes_in answers }
+pub marks_whole : (answers : List Answer) → marks_of answers (record { numbers = []; nodes = [] }) ≡ record { numbers = numbers_given answers; nodes = nodes_given answers }
 marks_whole answers =
-    ap (λ (ns : List ElementId). let m : Marks = record { numbers = ns; nodes = nodes_in answers ++ [] } in m) (append-nil (drawn_in answers)) ∙
-    ap (λ (ns : List (List DocNode)). let m : Marks = record { numbers = drawn_in answers; nodes = ns } in m) (append-nil (nodes_in answers))
+    ap (λ (ns : List ElementId). let m : Marks = record { numbers = ns; nodes = nodes_given answers ++ [] } in m) (append-nil (numbers_given answers)) ∙
+    ap (λ (ns : List (List DocNode)). let m : Marks = record { numbers = numbers_given answers; nodes = ns } in m) (append-nil (nodes_given answers))
 
 -- what was gathered, with other numbers, children and nodes
 abbrev gathered : Kept → List ElementId → List ScopeId → List DocNode → Kept
@@ -75,9 +76,9 @@ built_none kept =
 
 built_twice : (kept : Kept) (one other : List Answer) (xs ys : List DocNode) → built_on (built_on kept one xs) other ys ≡ built_on kept (one ++ other) (xs ++ ys)
 built_twice kept one other xs ys =
-    ap (λ (ns : List ElementId). gathered kept ns ((kept.children ++ scopes_in one) ++ scopes_in other) ((kept.built.row ++ xs) ++ ys)) (append_assoc kept.numbers (drawn_in one) (drawn_in other) ∙ ap (λ (ns : List ElementId). kept.numbers ++ ns) (sym (drawn-append one other))) ∙
-    ap (λ (cs : List ScopeId). gathered kept (kept.numbers ++ drawn_in (one ++ other)) cs ((kept.built.row ++ xs) ++ ys)) (append_assoc kept.children (scopes_in one) (scopes_in other) ∙ ap (λ (cs : List ScopeId). kept.children ++ cs) (sym (scopes-append one other))) ∙
-    ap (λ (row : List DocNode). gathered kept (kept.numbers ++ drawn_in (one ++ other)) (kept.children ++ scopes_in (one ++ other)) row) (append_assoc kept.built.row xs ys)
+    ap (λ (ns : List ElementId). gathered kept ns ((kept.children ++ scopes_given one) ++ scopes_given other) ((kept.built.row ++ xs) ++ ys)) (append_assoc kept.numbers (numbers_given one) (numbers_given other) ∙ ap (λ (ns : List ElementId). kept.numbers ++ ns) (sym (drawn-append one other))) ∙
+    ap (λ (cs : List ScopeId). gathered kept (kept.numbers ++ numbers_given (one ++ other)) cs ((kept.built.row ++ xs) ++ ys)) (append_assoc kept.children (scopes_given one) (scopes_given other) ∙ ap (λ (cs : List ScopeId). kept.children ++ cs) (sym (scopes-append one other))) ∙
+    ap (λ (row : List DocNode). gathered kept (kept.numbers ++ numbers_given (one ++ other)) (kept.children ++ scopes_given (one ++ other)) row) (append_assoc kept.built.row xs ys)
 
 -- one part and then another one
 abbrev pub laid_after : List Piece → Laid → Laid
@@ -114,8 +115,8 @@ close_open built id tag namespace attrs listeners nodes =
 
 module _ {P C Q V H T E L : Type 0} where
   -- the answers to two plans, one after the other
-  split : (one other : List (Instruction P C Q V H T E L)) (answers : List Answer) → AreAnswersTo (one ++ other) answers →
-      (first : List Answer) × (second : List Answer) × (answers ≡ first ++ second) × AreAnswersTo one first × AreAnswersTo other second
+  split : (one other : List (Instruction P C Q V H T E L)) (answers : List Answer) → AreFor (one ++ other) answers →
+      (first : List Answer) × (second : List Answer) × (answers ≡ first ++ second) × AreFor one first × AreFor other second
   split [] other answers h = ([], answers, refl, tt, h)
   split (i.Draw places path shape ∷ one) other [] h = absurd h
   split (i.Draw places path shape ∷ one) other (numbered number ∷ answers) h =
@@ -165,7 +166,7 @@ module _ {P C Q V H T E L : Type 0} where
 
   -- a plan that builds the nodes of a part
   abbrev pub Builds : List (Instruction P C Q V H T E L) → Part → Type 0
-  Builds made part = (answers : List Answer) → AreAnswersTo made answers →
+  Builds made part = (answers : List Answer) → AreFor made answers →
       (nodes : List DocNode) × ((more : Marks) → part (marks_of answers more) ≡ (flat nodes, more)) × BuildsNodes made answers nodes
 
   builds_as : (made same : List (Instruction P C Q V H T E L)) (part alike : Part) → made ≡ same → ((marks : Marks) → part marks ≡ alike marks) → Builds same alike → Builds made part
@@ -225,8 +226,8 @@ module _ (P C Q V H T E L : Type 0) where
   )
 
   -- an element with its children
-  only_first : (made : List (Instruction P C Q V H T E L)) (answers one other : List Answer) → answers ≡ one ++ other → AreAnswersTo made one → AreAnswersTo {P = P} {Component = C} {Props = Q} {Value = V} {Handler = H} {TaskState = T} {Effect = E} {Payload = L} (i.Close ∷ []) other → AreAnswersTo made answers
-  only_first made answers one [] e h j = subst (λ (as' : List Answer). AreAnswersTo made as') (sym (e ∙ append-nil one)) h
+  only_first : (made : List (Instruction P C Q V H T E L)) (answers one other : List Answer) → answers ≡ one ++ other → AreFor made one → AreFor {P = P} {Component = C} {Props = Q} {Value = V} {Handler = H} {TaskState = T} {Effect = E} {Payload = L} (i.Close ∷ []) other → AreFor made answers
+  only_first made answers one [] e h j = subst (λ (as' : List Answer). AreFor made as') (sym (e ∙ append-nil one)) h
   only_first made answers one (answer ∷ other) e h j = absurd j
 
   builds_element : (places : List Step) (path : List ℕ) (tag : List ℕ) (namespace : Option (List ℕ)) (attrs : List DocAttr) (listeners : List (List ℕ)) (made : List (Instruction P C Q V H T E L)) (part : Part) → Builds made part →
@@ -257,8 +258,8 @@ module _ (P C Q V H T E L : Type 0) where
               (tt, b.1),
               ap (λ (all : List (Instruction P C Q V H T E L)). first_steps (step ∷ []) (steps all ids scopes begun (answers ++ later))) (append_assoc made (i.Close ∷ []) is) ∙
                   ap (first_steps (step ∷ [])) b.2 ∙
-                  ap (λ (built : Built). first_steps (step ∷ b.0) (steps is ids scopes (let k : Kept = record kept { numbers = (kept.numbers ++ id ∷ []) ++ drawn_in answers; children = kept.children ++ scopes_in answers; built = built } in k) later)) (close_open kept.built id tag namespace attrs listeners a.0) ∙
-                  ap (λ (ns : List ElementId). first_steps (step ∷ b.0) (steps is ids scopes (gathered kept ns (kept.children ++ scopes_in answers) (kept.built.row ++ node ∷ [])) later)) (append_assoc kept.numbers (id ∷ []) (drawn_in answers)),
+                  ap (λ (built : Built). first_steps (step ∷ b.0) (steps is ids scopes (let k : Kept = record kept { numbers = (kept.numbers ++ id ∷ []) ++ numbers_given answers; children = kept.children ++ scopes_given answers; built = built } in k) later)) (close_open kept.built id tag namespace attrs listeners a.0) ∙
+                  ap (λ (ns : List ElementId). first_steps (step ∷ b.0) (steps is ids scopes (gathered kept ns (kept.children ++ scopes_given answers) (kept.built.row ++ node ∷ [])) later)) (append_assoc kept.numbers (id ∷ []) (numbers_given answers)),
             ),
       )
 
@@ -385,8 +386,8 @@ module _ (P C Q V H T E L : Type 0) where
   trees_are_built (tree ∷ trees) places slot k =
       builds_both (make_tree true tree (places ++ step_to slot k ∷ [])) (items_made (map (make_tree true) trees) places slot (k + 1)) (tree_part tree) (all_parts (map tree_part trees)) (tree_is_built tree (places ++ step_to slot k ∷ [])) (trees_are_built trees places slot (k + 1))
 
-  pub making_builds : (tree : VNode P C Q V H T E L) (places : List Step) (answers : List Answer) → AreAnswersTo (make_tree true tree places) answers →
-      (nodes : List DocNode) × (flat nodes ≡ block_pieces tree (drawn_in answers) (nodes_in answers)) × BuildsNodes (make_tree true tree places) answers nodes
+  pub making_builds : (tree : VNode P C Q V H T E L) (places : List Step) (answers : List Answer) → AreFor (make_tree true tree places) answers →
+      (nodes : List DocNode) × (flat nodes ≡ block_pieces tree (numbers_given answers) (nodes_given answers)) × BuildsNodes (make_tree true tree places) answers nodes
   making_builds tree places answers h =
       let a = tree_is_built tree places answers h in
       (a.0, sym (ap (λ (l : Laid). l.0) (ap (tree_part tree) (sym (marks_whole answers)) ∙ a.1 (record { numbers = []; nodes = [] }))), a.2)

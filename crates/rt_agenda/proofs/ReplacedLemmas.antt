@@ -25,7 +25,7 @@ use Rattle.rt_agenda.specs.Blocks.{Laid, block_pieces}
 use Rattle.rt_agenda.specs.Exchanged.{edits_among}
 use Rattle.rt_agenda.specs.FlatEdits.{own_number, piece_numbers, flat_result}
 use Rattle.rt_agenda.specs.LostNodes.{Child, scopes_of, asked}
-use Rattle.rt_agenda.specs.MadeNodes.{drawn_in, nodes_in, AreAnswersTo}
+use Rattle.rt_tree.specs.Mounted.{numbers_given, nodes_given, AreFor}
 use Rattle.rt_agenda.specs.Pieces.{Piece, flat}
 use Rattle.rt_agenda.specs.Replaced.{AreApart, nodes_of}
 use Rattle.rt_agenda.specs.Runs.{run, run_document, AppendNothing}
@@ -160,19 +160,19 @@ module _ (P C Q V H T E L : Type 0) where
   pub others_replace : (equality : Equality C) (old new : VNode P C Q V H T E L) (numbers : List ElementId) (children : List Child) (answers : List Answer)
       (document : List DocNode) (front back rest : List Piece) (first : Piece) →
       equality.templates old.template new.template ≡ false →
-      AreAnswersTo (make_tree true new []) answers →
+      AreFor (make_tree true new []) answers →
       block_pieces old numbers (nodes_of children) ≡ first ∷ rest →
       flat document ≡ front ++ (block_pieces old numbers (nodes_of children) ++ back) →
-      AreApart (piece_numbers (flat document) ++ piece_numbers (block_pieces new (drawn_in answers) (nodes_in answers))) →
+      AreApart (piece_numbers (flat document) ++ piece_numbers (block_pieces new (numbers_given answers) (nodes_given answers))) →
       (made : List DocNode) ×
-      (flat made ≡ front ++ (block_pieces new (drawn_in answers) (nodes_in answers) ++ back)) × (
+      (flat made ≡ front ++ (block_pieces new (numbers_given answers) (nodes_given answers) ++ back)) × (
       run_document (edits_among (steps (pair_tree equality true old new []) numbers (scopes_of children) nothing_kept (asked (lose_tree old true) children ++ answers)).steps) document ≡ Ok made)
   others_replace equality old new own children answers document front back rest first other h some at apart =
       let e = trees_exchange P C Q V H T E L old new [] own children answers h in
       let goes : List DocNode = e.0 in
       let comes : List DocNode = e.1 in
       let old_laid : block_pieces old own (nodes_of children) ≡ flat goes = e.2 in
-      let new_laid : block_pieces new (drawn_in answers) (nodes_in answers) ≡ flat comes = ap (λ (l : Laid). l.0) e.3 in
+      let new_laid : block_pieces new (numbers_given answers) (nodes_given answers) ≡ flat comes = ap (λ (l : Laid). l.0) e.3 in
       let known = a_first goes first rest (sym old_laid ∙ some) in
       let one : DocNode = known.0 in
       let others : List DocNode = known.1 in
@@ -191,9 +191,9 @@ module _ (P C Q V H T E L : Type 0) where
       append-nil (edits_among lead.0) ∙
       lead.1 in
       let at_goes : flat document ≡ front ++ (flat goes ++ back) = at ∙ ap (λ (ps : List Piece). front ++ (ps ++ back)) old_laid in
-      let counted : (number : ℕ) → times number (piece_numbers (flat document) ++ piece_numbers (block_pieces new (drawn_in answers) (nodes_in answers))) ≡ stands number front + ((times number (numbers goes) + stands number back) + times number (numbers comes)) = λ number.
-      times-append number (piece_numbers (flat document)) (piece_numbers (block_pieces new (drawn_in answers) (nodes_in answers))) ∙
-      ap (λ (n : ℕ). n + stands number (block_pieces new (drawn_in answers) (nodes_in answers)))
+      let counted : (number : ℕ) → times number (piece_numbers (flat document) ++ piece_numbers (block_pieces new (numbers_given answers) (nodes_given answers))) ≡ stands number front + ((times number (numbers goes) + stands number back) + times number (numbers comes)) = λ number.
+      times-append number (piece_numbers (flat document)) (piece_numbers (block_pieces new (numbers_given answers) (nodes_given answers))) ∙
+      ap (λ (n : ℕ). n + stands number (block_pieces new (numbers_given answers) (nodes_given answers)))
       (ap (stands number) at_goes ∙ stands-append number front (flat goes ++ back) ∙ ap (λ (n : ℕ). stands number front + n) (stands-append number (flat goes) back ∙ ap (λ (ns : List ℕ). times number ns + stands number back) (piece_numbers-flat goes))) ∙
       ap (λ (ns : List ℕ). (stands number front + (times number (numbers goes) + stands number back)) + times number ns) (ap piece_numbers new_laid ∙ piece_numbers-flat comes) ∙
       omega arith in

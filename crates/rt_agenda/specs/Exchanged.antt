@@ -19,7 +19,8 @@ use Rattle.rt_tree.specs.Gathered.{Kept}
 use Rattle.rt_tree.specs.Steps.{Answer, steps}
 use Rattle.rt_agenda.specs.Blocks.{Part, all_parts, tree_part, value_part}
 use Rattle.rt_agenda.specs.LostNodes.{Child, scopes_of, marks_with, lost_on, asked}
-use Rattle.rt_agenda.specs.MadeNodes.{drawn_in, nodes_in, built_on, AreAnswersTo, first_steps}
+use Rattle.rt_tree.specs.Mounted.{numbers_given, nodes_given, AreFor}
+use Rattle.rt_agenda.specs.MadeNodes.{built_on, first_steps}
 use Rattle.rt_agenda.specs.Pieces.{flat}
 use Rattle.rt_agenda.specs.Sweep.{Cell, Replaced, Shrunk, before_cell, edits_of_cell}
 
@@ -46,7 +47,8 @@ module _ {P Component Props Value Handler TaskState Effect Payload : Type 0} whe
     pub children_left : List Child
     pub before : old (marks_with numbers children) ≡ (before_cell cell, marks_with numbers_left children_left)
     pub leads : (is : List (Instruction P Component Props Value Handler TaskState Effect Payload)) (kept : Kept) (later : List Answer) →
-        (first : List (PatchStep P Component Props Value Handler TaskState Effect Payload)) × (edits_among first ≡ edits_of_cell cell) × (
+        (first : List (PatchStep P Component Props Value Handler TaskState Effect Payload))
+        × (edits_among first ≡ edits_of_cell cell) × (
         steps (plan ++ is) numbers (scopes_of children) (clear_of kept) (answers ++ later) ≡
         first_steps first (steps is numbers_left (scopes_of children_left) (built_on (lost_on (clear_of kept) [] gone drops) given [])
         later))
@@ -55,10 +57,11 @@ module _ {P Component Props Value Handler TaskState Effect Payload : Type 0} whe
   -- the old part and what stands there then is the new one, where there is a first node that goes
   abbrev pub Exchanges : List (Instruction P Component Props Value Handler TaskState Effect Payload) → Part
       → List (Instruction P Component Props Value Handler TaskState Effect Payload) → Part → Type 0
-  Exchanges lost old made new = (numbers : List ElementId) (children : List Child) (answers : List Answer) → AreAnswersTo made answers →
+  Exchanges lost old made new = (numbers : List ElementId) (children : List Child) (answers : List Answer) → AreFor made answers →
       (goes comes : List DocNode) ×
       ((old (marks_with numbers children)).0 ≡ flat goes) ×
-      (new (record { numbers = drawn_in answers; nodes = nodes_in answers }) ≡ (flat comes, record { numbers = []; nodes = [] })) × (
+      (new (record { numbers = numbers_given answers; nodes = nodes_given answers })
+      ≡ (flat comes, record { numbers = []; nodes = [] })) × (
       (one : DocNode) (others : List DocNode) → goes ≡ one ∷ others →
       LeadsTo (replaced true lost made) old (Replaced one others comes) numbers children (asked lost children ++ answers) answers)
 

@@ -16,7 +16,8 @@ use Rattle.rt_tree.specs.Gathered.{no_scope, last_or, number_back, numbers_of, K
 use Rattle.rt_tree.specs.Steps.{Answer, answered, steps}
 use Rattle.rt_agenda.specs.Blocks.{all_parts, tree_part}
 use Rattle.rt_agenda.specs.Exchanged.{clear_of, edits_among}
-use Rattle.rt_agenda.specs.MadeNodes.{drawn_in, nodes_in, built_on, AreAnswersTo, first_steps}
+use Rattle.rt_tree.specs.Mounted.{numbers_given, nodes_given, AreFor}
+use Rattle.rt_agenda.specs.MadeNodes.{built_on, first_steps}
 use Rattle.rt_agenda.specs.Pieces.{flat}
 
 -- the number of the node behind which items come: one of the new block, or the last one of a scope's nodes
@@ -39,9 +40,9 @@ module _ (P Component Props Value Handler TaskState Effect Payload : Type 0) whe
   -- the plan of items that come leads to one edit, which inserts just the nodes of these items
   abbrev pub ItemsCome : Type 0
   ItemsCome = (items : List (VNode P Component Props Value Handler TaskState Effect Payload)) (places : List Step) (slot k : ℕ)
-      (answers : List Answer) → AreAnswersTo (items_made (map (make_tree true) items) places slot k) answers →
+      (answers : List Answer) → AreFor (items_made (map (make_tree true) items) places slot k) answers →
       (comes : List DocNode) ×
-      (all_parts (map tree_part items) (record { numbers = drawn_in answers; nodes = nodes_in answers })
+      (all_parts (map tree_part items) (record { numbers = numbers_given answers; nodes = nodes_given answers })
       ≡ (flat comes, record { numbers = []; nodes = [] })) × (
       (anchor : Anchor) (scope : ScopeId) (nodes : List DocNode)
       (is : List (Instruction P Component Props Value Handler TaskState Effect Payload)) (ids : List ElementId) (scopes : List ScopeId)

@@ -14,7 +14,7 @@ use Rattle.rt_agenda.specs.Blocks.{block_pieces}
 use Rattle.rt_agenda.specs.Exchanged.{edits_among}
 use Rattle.rt_agenda.specs.FlatEdits.{piece_numbers}
 use Rattle.rt_agenda.specs.LostNodes.{Child, scopes_of, asked}
-use Rattle.rt_agenda.specs.MadeNodes.{drawn_in, nodes_in, AreAnswersTo}
+use Rattle.rt_tree.specs.Mounted.{numbers_given, nodes_given, AreFor}
 use Rattle.rt_agenda.specs.Pieces.{Piece, flat}
 use Rattle.rt_agenda.specs.Runs.{run_document}
 
@@ -35,12 +35,12 @@ module _ (P Component Props Value Handler TaskState Effect Payload : Type 0) whe
       (numbers : List ElementId) (children : List Child) (answers : List Answer)
       (document : List DocNode) (front back rest : List Piece) (first : Piece) →
       equality.templates old.template new.template ≡ false →
-      AreAnswersTo (make_tree true new []) answers →
+      AreFor (make_tree true new []) answers →
       block_pieces old numbers (nodes_of children) ≡ first ∷ rest →
       flat document ≡ front ++ (block_pieces old numbers (nodes_of children) ++ back) →
-      AreApart (piece_numbers (flat document) ++ piece_numbers (block_pieces new (drawn_in answers) (nodes_in answers))) →
+      AreApart (piece_numbers (flat document) ++ piece_numbers (block_pieces new (numbers_given answers) (nodes_given answers))) →
       (made : List DocNode) ×
-      (flat made ≡ front ++ (block_pieces new (drawn_in answers) (nodes_in answers) ++ back)) × (
+      (flat made ≡ front ++ (block_pieces new (numbers_given answers) (nodes_given answers) ++ back)) × (
       run_document (edits_among
       (steps (pair_tree equality true old new []) numbers (scopes_of children) nothing_kept (asked (lose_tree old true) children
       ++ answers)).steps) document ≡ Ok made)
