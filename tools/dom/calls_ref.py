@@ -252,8 +252,8 @@ def make(seed, size=12, mode="lawful"):
             a = arglist(len(src.tasks[tasks[i]].params))
             run(f"spawn {pick(sc)} {r.choice(['plain', 'iso', 'new'])} {i}" + (" " + a if a else ""))
         elif k < 83: run(f"throw {pick(sc)} e{r.randrange(9)}")
-        elif k < 84: run(f"insert {r.choice(sorted(errs) + [95])} e{r.randrange(9)}")
-        elif k < 85: run(f"clear {r.choice(sorted(errs) + [95])}")
+        elif k < 84: run(f"insert {r.choice(sorted(errs) + [99999])} e{r.randrange(9)}")
+        elif k < 85: run(f"clear {r.choice(sorted(errs) + [99999])}")
         elif k < 87 and actions:
             i = r.randrange(len(actions))
             a = arglist(len(src.actions[actions[i]].params))
