@@ -1,7 +1,8 @@
 #!/usr/bin/env python3
 """The reference's dom driven by calls given as data: calls_ref.py < case. And make(seed): a random case."""
-import sys, json, random
-sys.path.insert(0, '/work/shared/oracle')
+import os, sys, json, random
+ORACLE = os.environ.get('ORACLE') or sys.exit('ORACLE has to name the folder of the reference program')
+sys.path.insert(0, ORACLE)
 sys.setrecursionlimit(100000)
 from jsonread import read_json
 from form import check_form

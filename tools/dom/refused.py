@@ -5,7 +5,7 @@ import calls_ref as c
 ASKS = ('mark', 'markall', 'spawn', 'throw', 'clear', 'provide', 'freeze', 'pause', 'resume', 'wake')
 
 def source(name):
-    s = {r['name']: r for r in json.load(open('/work/shared/oracle/rows.json'))}[name]['source']
+    s = {r['name']: r for r in json.load(open(c.ORACLE + '/rows.json'))}[name]['source']
     s = json.loads(s) if isinstance(s, str) else dict(s)
     s.pop('inputs', None); s.pop('posts', None)
     return json.dumps(s, ensure_ascii=False, separators=(',', ':'))

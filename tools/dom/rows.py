@@ -1,6 +1,6 @@
 import json,sys,pickle
 import calls_ref as c
-rows={r['name']:r for r in json.load(open('/work/shared/oracle/rows.json'))}
+rows={r['name']:r for r in json.load(open(c.ORACLE + '/rows.json'))}
 def src(n):
     s=rows[n]['source']
     if isinstance(s,str): s=json.loads(s)
