@@ -11,7 +11,8 @@ use Rattle.json.specs.Text.{content, plain}
 use Rattle.json.proofs.Printed.Strings.{content-escape}
 use Rattle.rt_model.specs.Lists.{Text}
 use Rattle.rt_language.specs.Lines.{qualified}
-use Rattle.rt_lines.specs.Plain.{is_name_byte, IsName, IsNamespace}
+use Rattle.rt_expressions.specs.Names.{is_name_byte}
+use Rattle.rt_lines.specs.Plain.{IsName, IsNamespace}
 
 module _ (P : ℕ → Bool) where
   -- it ends, or goes on with a byte that isn't of this sort

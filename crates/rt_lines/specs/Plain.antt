@@ -1,17 +1,13 @@
 -- What is printed plainly: numbers have at most 64 bits, and names have the form that sources give them.
-use Rattle.std.specs.Prelude.{ℕ, ◌^◌, ◌<◌, ◌≡◌, Bool, true, ◌||◌, ◌==◌, Option, Some, None}
+use Rattle.std.specs.Prelude.{◌^◌, ◌<◌, ◌≡◌, true, Option, Some, None}
 use Rattle.std.specs.List.{AllByRecursion}
-use Rattle.std.specs.Char.{is_ascii_alphanumeric}
 use Rattle.rt_model.specs.Lists.{Text}
 use Rattle.rt_model.specs.Document.{DocAttribute, Content, DocElement, DocText, DocPlaceholder, Forest, Empty, Node, Edit, AppendChildren, ReplaceNodeWith, InsertNodesAfter, RemoveNode, SetNodeText, SetAttribute, CreateEventListener, RemoveEventListener}
 use Rattle.rt_model.specs.State.{Fault, OutOfTurns, TooDeep, IdsExhausted, HookChanged, NoSuchTask, BadNode}
 use Rattle.rt_model.specs.Replay.{Post, MarkScope, WakeTask, AllDirty, Message}
+use Rattle.rt_expressions.specs.Names.{is_name_byte}
 
--- an ASCII letter or digit, `-` or `_`
-abbrev pub is_name_byte : ℕ → Bool
-is_name_byte byte = is_ascii_alphanumeric byte || (byte == 45 || byte == 95)
-
--- such bytes alone
+-- ASCII letters and digits, `-` and `_` alone
 abbrev pub IsName : Text → Type 0
 IsName text = AllByRecursion (λ byte. is_name_byte byte ≡ true) text
 
