@@ -1,11 +1,12 @@
 //! The values of expressions. Operands are evaluated from left to right.
-ghost use Rattle.std.specs.Prelude.{◌≡◌, IfOk, option_map};
+ghost use Rattle.std.specs.Prelude.{◌≡◌, None, IfOk, option_map};
 ghost use Rattle.rt_calls.specs.Calls.{world_of, call_of};
 ghost use Rattle.rt_mirror.specs.Mirror.{error_of};
 ghost use Rattle.rt_language.specs.Expressions as meanings;
 ghost use Rattle.rt_language.specs.Syntax.{Cat};
 ghost use Rattle.rt_language.specs.Values.{NoValue, value_of};
 ghost use Rattle.rt_model.specs.Lists.{or_else};
+ghost use Rattle.rt_model.specs.Program.{done, consume_context, error};
 ghost use Rattle.rt_syntax.specs.Mirror.{literal_of, expression_of, arguments_of};
 ghost use Rattle.rt_bodies.specs.Comes.{Comes};
 ghost use Rattle.rt_script.specs.Seen.{caller_of, SeesRenders, ScriptCall};
@@ -71,25 +72,6 @@ pub(crate) fn evaluate<K>(
             let right = evaluate(alloc, cx, frame, right.get())?;
             Ok(less(&left, &right))
         }
-        given => tested(alloc, cx, frame, given),
-    }
-}
-
-/// The value of an expression with one operand, or with a test.
-#[cycle(evaluation)]
-#[tactic(auto, using(crate::proofs::Expressions::evaluating))]
-fn tested<K>(
-    alloc: Global,
-    cx: &mut Cx<'_, Script, K>,
-    frame: &Frame<'_>,
-    expression: &Expression,
-) -> Result<Value, OutOfMemory>
-    requires renders { SeesRenders (world_of cx.old.world) frame.now.by }
-    ensures came { IfOk result (λ value. Comes cx.old cx.new
-        (meanings.evaluate (caller_of frame.now.by) frame.now.held (expression_of expression.now)) value) }
-    ensures world { cx.new.world ≡ cx.old.world }
-{
-    match expression {
         Expression::Not(operand) => Ok(not(&evaluate(alloc, cx, frame, operand.get())?)),
         Expression::IsAbsent(operand) => Ok(is_absent(&evaluate(alloc, cx, frame, operand.get())?)),
         Expression::Parse(operand) => Ok(parse(&evaluate(alloc, cx, frame, operand.get())?)),
@@ -104,7 +86,12 @@ fn tested<K>(
                 Ok(evaluate(alloc, cx, frame, other.get())?)
             }
         }
-        given => looked_up(alloc, cx, frame, given),
+        Expression::LookUp(kind) => look_up(alloc, cx, *kind),
+        Expression::OwnScope => Ok(Value::counted(cx.current_scope_id().0)),
+        Expression::Generation => Ok(generation(&frame.by)),
+        Expression::NearestError => nearest_error(alloc, cx),
+        Expression::Payload => payload(alloc, &frame.by),
+        Expression::Me => Ok(task_or_none(cx.current_task())),
     }
 }
 
@@ -172,39 +159,30 @@ fn read<K>(
     }
 }
 
-/// What the call is given: contexts, its scope, its error, its event, its task. No other expression
-/// comes here; one would find no memory. So would a kind of context that isn't below 2^32: there is
-/// no memory for so many.
+/// What the nearest scope provides under a kind, none where none does. A kind of context that isn't
+/// below 2^32 finds no memory: there is none for so many.
 #[tactic(auto, using(crate::proofs::Expressions::evaluating))]
-fn looked_up<K>(
-    alloc: Global,
-    cx: &mut Cx<'_, Script, K>,
-    frame: &Frame<'_>,
-    expression: &Expression,
-) -> Result<Value, OutOfMemory>
-    requires renders { SeesRenders (world_of cx.old.world) frame.now.by }
+fn look_up<K>(alloc: Global, cx: &mut Cx<'_, Script, K>, kind: u64) -> Result<Value, OutOfMemory>
     ensures came { IfOk result (λ value. Comes cx.old cx.new
-        (meanings.evaluate (caller_of frame.now.by) frame.now.held (expression_of expression.now)) value) }
+        (consume_context None kind (λ found. done (or_else NoValue found))) value) }
     ensures world { cx.new.world ≡ cx.old.world }
 {
-    match expression {
-        Expression::LookUp(kind) => {
-            let Ok(kind) = u32::try_from(*kind) else {
-                return Err(OutOfMemory);
-            };
-            let found = remembered(cx.try_consume_context(alloc, kind))?;
-            Ok(or_none(found))
-        }
-        Expression::OwnScope => Ok(Value::counted(cx.current_scope_id().0)),
-        Expression::Generation => Ok(generation(&frame.by)),
-        Expression::NearestError => {
-            let error = remembered(cx.error(alloc))?;
-            Ok(error_text(error))
-        }
-        Expression::Payload => payload(alloc, &frame.by),
-        Expression::Me => Ok(task_or_none(cx.current_task())),
-        _ => Err(OutOfMemory),
-    }
+    let Ok(kind) = u32::try_from(kind) else {
+        return Err(OutOfMemory);
+    };
+    let found = remembered(cx.try_consume_context(alloc, kind))?;
+    Ok(or_none(found))
+}
+
+/// The text of the nearest error, none where there is none.
+#[tactic(auto, using(crate::proofs::Expressions::evaluating))]
+fn nearest_error<K>(alloc: Global, cx: &mut Cx<'_, Script, K>) -> Result<Value, OutOfMemory>
+    ensures came { IfOk result (λ value. Comes cx.old cx.new
+        (error (λ found. done (meanings.error_text found))) value) }
+    ensures world { cx.new.world ≡ cx.old.world }
+{
+    let error = remembered(cx.error(alloc))?;
+    Ok(error_text(error))
 }
 
 /// How often the body has answered a tree, none where it is no body that asks.
