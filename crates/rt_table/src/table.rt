@@ -3,7 +3,7 @@ ghost use Rattle.std.specs.Prelude.{◌≡◌, ℕ, [], ◌∷◌, ◌++◌, ◌
 ghost use Rattle.std.specs.Option.{option_copied};
 ghost use Rattle.std.specs.Fn.{FnOnceReturnsAtMut};
 ghost use Rattle.rt_model.specs.Lists.{at, put, without};
-ghost use Rattle.rt_table.specs.Found.{IsFirst, Ascends};
+ghost use Rattle.rt_table.specs.Found.{IsFirst, IsTaken, Ascends};
 
 use rt_values::OutOfMemory;
 use std::alloc::Global;
@@ -123,6 +123,17 @@ impl<T: Drop> Table<T> {
         let index = self.index_of(number)?;
         let (_number, value) = self.rows.remove(index);
         self.remove(number);
+        Some(value)
+    }
+
+    /// Takes out the first value under a number.
+    pub fn take_first(&mut self, number: u64) -> Option<T>
+        ensures within { IfSome result (λ value. IsTaken self.old self.new number value) }
+        ensures absent { IfNone result (at self.old number ≡ None) }
+        ensures left { IfNone result (self.new ≡ self.old) }
+    {
+        let index = self.index_of(number)?;
+        let (_number, value) = self.rows.remove(index);
         Some(value)
     }
 

@@ -94,12 +94,16 @@ impl<T: Drop> List<T> {
         Ok(())
     }
 
-    /// Moves the items of another list to the end.
+    /// Moves the items of another list to the end. A list without items takes the other one's room.
     pub fn append(&mut self, more: List<T>) -> Result<(), OutOfMemory>
         ensures ok { OnOk result (self.new ≡ self.old ++ more) }
         ensures err { OnErr result (self.new ≡ self.old) }
     {
         let List { mut items } = more;
+        if self.items.is_empty() {
+            self.items = items;
+            return Ok(());
+        }
         self.items.append(&mut items)?;
         Ok(())
     }

@@ -1,0 +1,88 @@
+-- What is told of a place, step by step.
+use Rattle.std.proofs.Common.{ℕ, suc, ◌+◌, ◌<◌, ◌≤◌, Bool, true, false, ◌&&◌, List, [], ◌∷◌, ◌++◌, ◌≡◌, ◌≢◌, nat_eq, length, get_or, drop, refl, sym, ap, ◌∙◌, arith, append_assoc, append-nil}
+use Rattle.std.proofs.lemmas.List.{drop_more}
+use Rattle.std.proofs.lemmas.Grind.{common_steps}
+use Rattle.rt_model.specs.Lists.{same_numbers}
+use Rattle.rt_model.specs.Tree as model
+use Rattle.rt_model.specs.Tree.{inside, item}
+use Rattle.rt_model.proofs.Maps.{pick_true, pick_false}
+use Rattle.rt_places.specs.Places.{place_of, step_of}
+use Rattle.rt_places.specs.declared.place.Step.{Step}
+use Rattle.rt_named.specs.Named.{path_after, path_from, slot_after, slot_at, steps_at, steps_from}
+
+pub drop-all : {A : Type 0} (xs : List A) (i : ℕ) → length xs ≤ i → drop i xs ≡ []
+drop-all xs i end = grind (arith, common_steps, end)
+
+one_step : (k : ℕ) (s : model.Step) (rest : model.Place) → steps_at k s ++ steps_from (slot_after k s) rest ≡ steps_from k (s ∷ rest)
+one_step k (inside t p) rest = refl
+one_step k (item i) rest = refl
+
+-- one more step is told
+pub steps_step : (place : List Step) (i k : ℕ) (step : Step) (told new : List (ℕ × ℕ)) (next : ℕ) → i < length place → step ≡ get_or place i step
+    → new ≡ told ++ steps_at k (step_of step) → next ≡ slot_after k (step_of step)
+    → new ++ steps_from next (place_of (drop (i + 1) place)) ≡ told ++ steps_from k (place_of (drop i place))
+steps_step place i k step told new next within is more slot =
+    (λ j. more j ++ steps_from (slot j) (place_of (drop (i + 1) place)))
+    ∙ append_assoc told (steps_at k (step_of step)) (steps_from (slot_after k (step_of step)) (place_of (drop (i + 1) place)))
+    ∙ ap (λ ss. told ++ ss)
+    (
+    one_step k (step_of step) (place_of (drop (i + 1) place))
+    ∙ ap (λ (s : Step). steps_from k (step_of s ∷ place_of (drop (i + 1) place))) is
+    ∙ ap (λ (ss : List Step). steps_from k (place_of ss)) (sym (drop_more place i step within))
+    )
+
+pub steps_end : (place : List Step) (i k : ℕ) (told all : List (ℕ × ℕ)) → length place ≤ i → told ++ steps_from k (place_of (drop i place)) ≡ all → told ≡ all
+steps_end place i k told all end is = sym (append-nil told) ∙ ap (λ (ss : List Step). told ++ steps_from k (place_of ss)) (sym (drop-all place i end)) ∙ is
+
+-- the path goes on
+pub path_step : (place : List Step) (i : ℕ) (step : Step) (q new : List ℕ) → i < length place → step ≡ get_or place i step → new ≡ path_after q (step_of step)
+    → path_from new (place_of (drop (i + 1) place)) ≡ path_from q (place_of (drop i place))
+path_step place i step q new within is more =
+    ap (λ (p : List ℕ). path_from p (place_of (drop (i + 1) place))) more
+    ∙ ap (λ (s : Step). path_from q (step_of s ∷ place_of (drop (i + 1) place))) is
+    ∙ ap (λ (ss : List Step). path_from q (place_of ss)) (sym (drop_more place i step within))
+
+pub path_end : (place : List Step) (i : ℕ) (q all : List ℕ) → length place ≤ i → path_from q (place_of (drop i place)) ≡ all → q ≡ all
+path_end place i q all end is = ap (λ (ss : List Step). path_from q (place_of ss)) (sym (drop-all place i end)) ∙ is
+
+-- a path that isn't at an index is sought after it
+pub slot_passed : (paths : List (List ℕ)) (path : List ℕ) (i : ℕ) (own : List ℕ) → i < length paths → own ≡ get_or paths i own → same_numbers own path ≡ false
+    → (i + 1) + slot_at (drop (i + 1) paths) path ≡ i + slot_at (drop i paths) path
+slot_passed paths path i own within is other =
+    let step : (i + 1) + slot_at (drop (i + 1) paths) path ≡ i + suc (slot_at (drop (i + 1) paths) path) = omega arith in
+    step
+    ∙ ap (λ (n : ℕ). i + n)
+    (
+    sym (pick_false 0 (suc (slot_at (drop (i + 1) paths) path)) other)
+    ∙ ap (λ (p : List ℕ). slot_at (p ∷ drop (i + 1) paths) path) is
+    ∙ ap (λ (ps : List (List ℕ)). slot_at ps path) (sym (drop_more paths i own within))
+    )
+
+pub slot_here : (paths : List (List ℕ)) (path : List ℕ) (i : ℕ) (own : List ℕ) → i < length paths → own ≡ get_or paths i own → same_numbers own path ≡ true
+    → i + slot_at (drop i paths) path ≡ i
+slot_here paths path i own within is same =
+    let none : i + 0 ≡ i = omega arith in
+    ap (λ (n : ℕ). i + n)
+    (
+    ap (λ (ps : List (List ℕ)). slot_at ps path) (drop_more paths i own within)
+    ∙ ap (λ (p : List ℕ). slot_at (p ∷ drop (i + 1) paths) path) (sym is)
+    ∙ pick_true 0 (suc (slot_at (drop (i + 1) paths) path)) same
+    )
+    ∙ none
+
+pub slot_end : (paths : List (List ℕ)) (path : List ℕ) (i : ℕ) → i ≡ length paths → i + slot_at (drop i paths) path ≡ length paths
+slot_end paths path i end =
+    let low : length paths ≤ i = omega (arith, end) in
+    let sum : i + 0 ≡ length paths = omega (arith, end) in
+    ap (λ (ps : List (List ℕ)). i + slot_at ps path) (drop-all paths i low) ∙ sum
+
+-- lists that aren't of one length
+pub unlike : (xs ys : List ℕ) → length xs ≢ length ys → false ≡ same_numbers xs ys
+unlike [] [] other = absurd (other refl)
+unlike [] (y ∷ ys) other = refl
+unlike (x ∷ xs) [] other = refl
+unlike (x ∷ xs) (y ∷ ys) other = by (nat_eq x y) (unlike xs ys (λ e. other (omega (arith, e))))
+  where
+    by : (b : Bool) → false ≡ same_numbers xs ys → false ≡ (b && same_numbers xs ys)
+    by true h = h
+    by false h = refl

@@ -1,0 +1,12 @@
+use Rattle.std.proofs.Common.{ap, ◌∙◌}
+use Rattle.rt_model.specs.Lists.{has}
+use Rattle.rt_owed.specs.Rooms.{Owing}
+use Rattle.rt_owed.specs.Changes.{posted_by}
+use Rattle.rt_owed.proofs.Kept.{told_wake}
+use Rattle.rt_owed.proofs.owed.Owed.post_wake.Goals as goal
+
+pub invariant_of-self : goal.invariant_of-self
+invariant_of-self c = rw (c.wake.ensures, c.post.ensures) (told_wake (posted_by c.self.inside.told) (c.self.inside.scopes).posted (c.self.inside.tasks).posted c.args.task c.self.invariant)
+
+pub post-requires : goal.post-requires
+post-requires c = ap (λ (o : Owing). has o.tasks c.args.task) c.self.view_is ∙ c.requires.entered

@@ -1,0 +1,40 @@
+-- What a list is by what came to it.
+use Rattle.std.specs.Prelude.{ℕ, List, [], ◌∷◌, ◌++◌, Option, Some, None}
+use Rattle.std.specs.declared.snapshot.Snapshot.{Snapshot}
+use Rattle.rt_model.specs.Lists.{drop_number}
+use Rattle.rt_model.specs.State.{Posted, Mark, Woken}
+use Rattle.rt_model.specs.Commands.{drop_posted}
+use Rattle.rt_owed.specs.Lists.{front}
+use Rattle.rt_owed.specs.declared.entered.Passage.{Passage}
+use Rattle.rt_owed.specs.declared.entered.Passage.TheVariants as passages
+use Rattle.rt_owed.specs.declared.told.Posting.{Posting}
+use Rattle.rt_owed.specs.declared.told.Posting.TheVariants as postings
+
+-- what came, the last first
+abbrev pub all_of : {A : Type 0} → Option (Snapshot (List A) × A) → List A
+all_of None = []
+all_of (Some last) = last.1 ∷ (last.0).value
+
+-- numbers after one of them came or went
+abbrev pub after_passage : List ℕ → Passage → List ℕ
+after_passage ns (passages.Came n) = ns ++ n ∷ []
+after_passage ns (passages.Went n) = drop_number ns n
+after_passage ns passages.Undone = front ns
+
+-- the numbers that came and did not go
+abbrev pub passed : List Passage → List ℕ
+passed [] = []
+passed (p ∷ ps) = after_passage (passed ps) p
+
+-- what is posted after one change of it
+abbrev pub after_posting : List Posted → Posting → List Posted
+after_posting ps (postings.Marked s) = ps ++ Mark s ∷ []
+after_posting ps (postings.Woken t) = ps ++ Woken t ∷ []
+after_posting ps (postings.Unmarked s) = drop_posted ps (Mark s)
+after_posting ps (postings.Unwoken t) = drop_posted ps (Woken t)
+after_posting ps postings.Emptied = []
+
+-- what is posted
+abbrev pub posted_by : List Posting → List Posted
+posted_by [] = []
+posted_by (p ∷ ps) = after_posting (posted_by ps) p

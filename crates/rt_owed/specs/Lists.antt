@@ -1,0 +1,45 @@
+-- Lists of numbers: each once, how many different ones, the front; and the scopes and tasks of what is posted.
+use Rattle.std.specs.Prelude.{ℕ, suc, false, List, [], ◌∷◌, ◌≡◌, if◌then◌else◌}
+use Rattle.rt_model.specs.Lists.{has, join}
+use Rattle.rt_model.specs.State.{Posted, Mark, Woken}
+
+-- a list that others join, one after another, each once
+abbrev pub joins : List ℕ → List ℕ → List ℕ
+joins seen [] = seen
+joins seen (n ∷ ns) = joins (join seen n) ns
+
+-- each once, in the order of first coming
+abbrev pub once_each : List ℕ → List ℕ
+once_each ns = joins [] ns
+
+-- no number stands twice
+abbrev pub EachOnce : List ℕ → Type 0
+EachOnce [] = Unit {0}
+EachOnce (n ∷ ns) = (has ns n ≡ false) × EachOnce ns
+
+-- how many different numbers
+abbrev pub different : List ℕ → ℕ
+different [] = 0
+different (n ∷ ns) = if has ns n then different ns else suc (different ns)
+
+-- all but the last
+abbrev pub front : List ℕ → List ℕ
+front [] = []
+front (n ∷ ns) = elim ns [ [] ↦ [] | m ∷ ms ↦ n ∷ front ns ]
+
+-- the scopes whose marks are posted
+abbrev pub marks_in : List Posted → List ℕ
+marks_in [] = []
+marks_in (Mark s ∷ ps) = s ∷ marks_in ps
+marks_in (Woken t ∷ ps) = marks_in ps
+
+-- the tasks whose wakes are posted
+abbrev pub wakes_in : List Posted → List ℕ
+wakes_in [] = []
+wakes_in (Mark s ∷ ps) = wakes_in ps
+wakes_in (Woken t ∷ ps) = t ∷ wakes_in ps
+
+-- the numbers of a table
+abbrev pub numbers_of : {A : Type 0} → List (ℕ × A) → List ℕ
+numbers_of [] = []
+numbers_of (e ∷ es) = e.0 ∷ numbers_of es

@@ -1,0 +1,11 @@
+//! What is owed: marks and wakes that are posted, scopes that were seen, tasks that are queued. Each
+//! live scope and task has its place from its making on, so that nothing here is refused later.
+#![tactic(auto)]
+
+mod entered;
+mod lists;
+mod owed;
+mod roll;
+mod told;
+
+pub use owed::Owed;
