@@ -71,6 +71,27 @@ def query(dom, out):
             out.append(f"task {t} {x.scope} {'-' if x.parent is None else x.parent}" + (" paused" if dom.paused(t) else " active"))
     out.append("skipped" + "".join(f" {s}" for s in dom.skipped()) + (" remaining" if dom.suspended_tasks_remaining() else " none"))
 
+def places(dom):
+    """Where each number stands, in hidden blocks too: the scope, whether in a fallback, the steps, the path."""
+    found = {}
+    def walk(s, side, block, steps):
+        for path, n in block.ids.items(): found[n] = (s, side, steps, path)
+        for k, slot in enumerate(block.slots):
+            path = block.vnode.template.node_paths[k]
+            if slot[0] in ("text", "hole"): found[slot[1]] = (s, side, steps, path)
+            elif slot[0] == "frag" and not slot[1]: found[slot[2]] = (s, side, steps, path)
+            elif slot[0] == "frag":
+                for i, item in enumerate(slot[1]): walk(s, side, item, steps + [(k, i)])
+    for s, sc in dom.scopes.items():
+        for side, block in (("own", sc.block), ("own", sc.children_block), ("fallback", sc.fallback_block)):
+            if block is not None: walk(s, side, block, [])
+    return found
+
+def place_line(n, found):
+    if n not in found: return f"at {n} nowhere"
+    s, side, steps, path = found[n]
+    return f"at {n} {s} {side}" + "".join(f" {k}:{i}" for k, i in steps) + " /" + "".join(f" {i}" for i in path)
+
 def messages(ws):
     out = []
     for w in ws:
@@ -136,6 +157,9 @@ def do(dom, src, ws, out):
         out.append("event" + (" on" if e.propagates else " stopped") + (" prevented " if e.prevented else " enabled ") + put_value(e.payload))
     elif k in ("provide", "with"): dom.provide_root_context(n, value(ws[2])); out.append("ok")
     elif k == "query": query(dom, out)
+    elif k == "place":
+        found = places(dom)
+        out.extend(place_line(int(w), found) for w in ws[1:])
     elif k == "close":
         dom.close(); out.append("closed"); raise Stop()
     else: out.append("what?")
@@ -205,7 +229,9 @@ def make(seed, size=12, mode="lawful"):
         except DomFault: pass
     out = []
     def run(line):
-        if line == "query" and (dom.failed or not dom.built): return
+        if line == "query":
+            if dom.failed or not dom.built: return
+            calls.append("place " + " ".join(map(str, range(1, 50))))
         calls.append(line)
         if line.split(" ")[0] == "close": return
         try: do(dom, src, line.split(" "), out)

@@ -26,6 +26,10 @@ C['r15_2']=(r152,"limits 10000 128 props","rebuild\npollnow 1\npollnow 1\nwake 1
 old=json.loads(src('6'))
 old['components']['Old']={"params":["s"],"do":[{"cell":"m","init":"-"},{"drop":"Set","args":[{"get":"m"},"A"]}],"view":["old"]}
 C['r15_4']=(json.dumps(old,ensure_ascii=False,separators=(',',':')),"limits 10000 128 props","rebuild\nsettle\nwrite 2 i0\nsettle\nquery\nclose\n")
+# where numbers stand: an inner element, a text of a second item, numbers that no node has, a hidden block's and a fallback's
+C['places_a']=(src('11'),"limits 10000 128 props","place 3\nrebuild\nplace 3 9\n")
+C['places_b']=(src('7'),"limits 10000 128 props","rebuild\nsettle\nwrite 1 i0\nsettle\nwrite 1 i2\nsettle\nplace 12 2\n")
+C['places_c']=(src('14'),"limits 10000 128 props","inplace\nplace 1 2 3 4 5 6\nsettle\nplace 1 2 3 4 5 6\nwake 1\nsettle\nplace 1 2 3 4 5 6\n")
 exp={}
 for k,v in C.items():
     t="\n".join(v); open(sys.argv[1]+'/cases/'+k,'w').write(t)

@@ -1,12 +1,13 @@
 //! All that is asked of a dom, in lines.
 
 use crate::telling::{put_edits, put_value};
+use crate::words::number;
 use rt_edits::{DocNode, Edit};
 use rt_parts::CapturedError;
 use rt_script::Script;
 use rt_script_views::Value;
 use rt_values::{ElementId, List, OutOfMemory, ScopeId, Task};
-use rt_vdom::{ErrorContext, SuspenseContext, TaskCalls, VirtualDom};
+use rt_vdom::{ErrorContext, Place, SuspenseContext, TaskCalls, VirtualDom};
 use std::alloc::{AllocError, Global};
 
 fn put_option(alloc: Global, out: &mut String, number: Option<u64>) -> Result<(), AllocError> {
@@ -195,4 +196,44 @@ pub(crate) fn put_query(
     } else {
         " none\n"
     })
+}
+
+/// Where the nodes of these numbers stand.
+pub(crate) fn put_places(
+    alloc: Global,
+    out: &mut String,
+    dom: &VirtualDom<Script>,
+    words: &[&str],
+) -> Result<(), AllocError> {
+    for index in 1..words.len() {
+        let asked = number(words, index);
+        out.push_str(format!(in alloc; "at {asked}")?.as_str())?;
+        put_place(alloc, out, dom.place_of(ElementId(asked)))?;
+    }
+    Ok(())
+}
+
+fn put_place(alloc: Global, out: &mut String, place: Option<&Place>) -> Result<(), AllocError> {
+    let Some(place) = place else {
+        return out.push_str(" nowhere\n");
+    };
+    out.push_str(format!(in alloc; " {}", place.scope.0)?.as_str())?;
+    out.push_str(if place.fallback { " fallback" } else { " own" })?;
+    put_steps(alloc, out, place)?;
+    out.push_str(" /")?;
+    put_path(alloc, out, place.path.as_slice())
+}
+
+fn put_steps(alloc: Global, out: &mut String, place: &Place) -> Result<(), AllocError> {
+    for step in place.steps.as_slice() {
+        out.push_str(format!(in alloc; " {}:{}", step.slot, step.position)?.as_str())?;
+    }
+    Ok(())
+}
+
+fn put_path(alloc: Global, out: &mut String, path: &[u8]) -> Result<(), AllocError> {
+    for index in path {
+        out.push_str(format!(in alloc; " {index}")?.as_str())?;
+    }
+    out.push_str("\n")
 }

@@ -1,6 +1,6 @@
 //! Calls given as words. Each group answers whether it has the call.
 
-use crate::asked::put_query;
+use crate::asked::{put_places, put_query};
 use crate::telling::{
     put_done, put_edits, put_fault, put_flag, put_poll, put_report, put_reported, put_resolved,
     put_task, put_value, put_vec,
@@ -128,6 +128,7 @@ fn polls(
         "pollnow" => put_poll(alloc, out, Task(number(words, 1)).poll_now(dom))?,
         "event" => hears(alloc, out, dom, words)?,
         "query" => put_query(alloc, out, dom)?,
+        "place" => put_places(alloc, out, dom, words)?,
         _ => return Ok(false),
     }
     Ok(true)

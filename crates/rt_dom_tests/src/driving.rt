@@ -84,10 +84,7 @@ fn drive_one(alloc: Global, text: &str) -> Result<String, OutOfMemory> {
         out.push_str("form\n")?;
         return Ok(out);
     };
-    let Some(script) = Script::new(alloc, described)? else {
-        out.push_str("form\n")?;
-        return Ok(out);
-    };
+    let script = Script::new(alloc, described)?;
     let how = words_of(alloc, lines.next().unwrap_or(""))?;
     let mut dom = match made(alloc, script, how.as_slice())? {
         Ok(dom) => dom,

@@ -114,7 +114,9 @@ fn draw<A: App>(
         scopes.old.state scopes.new.state work_of result }
 {
     let place = place.copy(scopes.alloc)?;
-    scopes.state.draw_number(scope, side, place, kind)?;
+    scopes
+        .state
+        .draw_number(scopes.alloc, scope, side, place, kind)?;
     Ok(List::new(scopes.alloc))
 }
 

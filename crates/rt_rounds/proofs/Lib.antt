@@ -1,4 +1,5 @@
 pub mod Dues
+mod TurnsUp
 pub mod Going
 pub mod Reporting
 pub mod Given

@@ -20,6 +20,11 @@ module _ {K : Types} where
   any_active tasks [] = false
   any_active tasks (t ∷ ts) = active_in tasks t || any_active tasks ts
 
+  -- one of these scopes is live
+  abbrev pub any_live : List (ℕ × Scope K) → List ℕ → Bool
+  any_live scopes [] = false
+  any_live scopes (s ∷ ss) = is_some (at scopes s) || any_live scopes ss
+
   -- a look would see this scope, or queue this task, which is active
   abbrev pub comes_of : List (ℕ × Scope K) → List (ℕ × TaskRow K) → Posted → Bool
   comes_of scopes tasks (Mark s) = is_some (at scopes s)

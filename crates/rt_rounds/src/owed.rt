@@ -1,12 +1,11 @@
 //! Whether something is owed, of a state that stays as it is.
-ghost use Rattle.std.specs.Prelude.{◌≡◌, is_some, map};
+ghost use Rattle.std.specs.Prelude.{◌≡◌, is_some};
 ghost use Rattle.rt_model.specs.Next.{drops, found, owes};
 ghost use Rattle.rt_state.specs.Mirror.{state_of};
-ghost use Rattle.rt_state.specs.Names.{posted_of};
-ghost use Rattle.rt_rounds.specs.Owed.{any_active, comes_later, comes_of, comes_up, is_owed, turns_up};
+ghost use Rattle.rt_rounds.specs.Owed.{any_active, any_live, comes_later, comes_up, is_owed, turns_up};
 
 use rt_parts::Parts;
-use rt_state::{Posted, State};
+use rt_state::State;
 
 /// Whether something is owed.
 pub(crate) fn owes<P: Parts>(state: &State<P>) -> bool
@@ -26,7 +25,7 @@ fn is_owed<P: Parts>(state: &State<P>) -> bool
 fn comes_later<P: Parts>(state: &State<P>) -> bool
     ensures { (g : _) → result ≡ comes_later (state_of g state.now) }
 {
-    turns_up(state, state.posted.as_slice()) || state.first_with_effects().is_some()
+    turns_up(state) || state.first_with_effects().is_some()
 }
 
 /// Whether a scope or a task comes up once paused tasks are dropped.
@@ -41,7 +40,7 @@ pub(crate) fn finds<P: Parts>(state: &State<P>) -> bool
 fn comes_up<P: Parts>(state: &State<P>) -> bool
     ensures { (g : _) → result ≡ comes_up (state_of g state.now) }
 {
-    !state.seen.is_empty() || any_active(state, state.queued.as_slice())
+    !state.owed.sees_none() || any_active(state, state.owed.queued())
 }
 
 /// Whether one of these tasks is active.
@@ -56,26 +55,22 @@ fn any_active<P: Parts>(state: &State<P>, tasks: &[u64]) -> bool
     false
 }
 
-/// Whether a look at these would see a scope, or queue a task that is active.
-fn turns_up<P: Parts>(state: &State<P>, posted: &[Posted]) -> bool
+/// Whether a look would see a scope, or queue a task that is active.
+fn turns_up<P: Parts>(state: &State<P>) -> bool
     ensures { (g : _) → result ≡ turns_up (state_of g state.now).scopes (state_of g state.now).tasks
-        (map posted_of posted.now) }
+        (state_of g state.now).posted }
 {
-    for entry in posted {
-        if comes_of(state, entry) {
+    any_live(state, state.owed.marks()) || any_active(state, state.owed.wakes())
+}
+
+/// Whether one of these scopes is live.
+fn any_live<P: Parts>(state: &State<P>, scopes: &[u64]) -> bool
+    ensures { (g : _) → result ≡ any_live (state_of g state.now).scopes scopes.now }
+{
+    for scope in scopes {
+        if state.is_live(*scope) {
             return true;
         }
     }
     false
-}
-
-/// Whether this is of a live scope, or of a task that is active.
-fn comes_of<P: Parts>(state: &State<P>, posted: &Posted) -> bool
-    ensures { (g : _) → result ≡ comes_of (state_of g state.now).scopes (state_of g state.now).tasks
-        (posted_of posted.now) }
-{
-    match *posted {
-        Posted::Mark(scope) => state.is_live(scope),
-        Posted::Woken(task) => state.is_active(task),
-    }
 }

@@ -6,7 +6,7 @@ ghost use Rattle.rt_state.specs.Mirror.{state_of};
 ghost use Rattle.rt_state.specs.Names.{task_kind_of, work_of};
 
 use rt_parts::Parts;
-use rt_state::{State, TaskKind, Work, drop_number, join};
+use rt_state::{State, TaskKind, Work, join};
 use rt_values::OutOfMemory;
 use std::alloc::Global;
 
@@ -19,7 +19,7 @@ pub(crate) fn rendering_rest<P: Parts>(
         state_of g state.new ≡ rendering.rendering_rest (state_of g state.old)) }
 {
     state.look(alloc)?;
-    let most = state.seen.len() as u128 + state.queued.len() as u128;
+    let most = state.owed.seen().len() as u128 + state.owed.queued().len() as u128;
     pass_all(state, most)
 }
 
@@ -44,7 +44,7 @@ pub(crate) fn polling_rest<P: Parts>(alloc: Global, state: &mut State<P>) -> Res
         state_of g state.new ≡ rendering.polling_rest (state_of g state.old)) }
 {
     state.look(alloc)?;
-    let most = state.queued.len();
+    let most = state.owed.queued().len();
     pass_tasks(state, most)
 }
 
@@ -101,7 +101,7 @@ fn passes_scope<P: Parts>(state: &mut State<P>, scope: u64) -> Result<bool, OutO
         return Ok(false);
     }
     join(&mut state.skipped, scope)?;
-    drop_number(&mut state.seen, scope);
+    state.owed.unsee(scope);
     Ok(true)
 }
 
@@ -114,7 +114,7 @@ fn passes_task<P: Parts>(state: &mut State<P>, task: u64) -> bool
     if may_poll(state, task) {
         return false;
     }
-    drop_number(&mut state.queued, task);
+    state.owed.unqueue(task);
     true
 }
 

@@ -27,7 +27,7 @@ pub(crate) fn ends<P: Parts>(state: &State<P>, until: Until) -> bool
     ensures { (g : _) → result ≡ ends_by (until_of until) (state_of g state.now) }
 {
     match until {
-        Until::Events => !state.seen.is_empty() || !owes(state),
+        Until::Events => !state.owed.sees_none() || !owes(state),
         Until::Renders => !finds(state),
         Until::Settles => !owes(state),
     }
@@ -44,7 +44,7 @@ pub(crate) fn leave<P: Parts>(
 {
     match until {
         Until::Events => {
-            if state.seen.is_empty() {
+            if state.owed.sees_none() {
                 rest(alloc, state)
             } else {
                 Ok(())

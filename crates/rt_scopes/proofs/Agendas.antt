@@ -1,6 +1,6 @@
 -- The agenda of a tree on a side, put together from what the code finds.
-use Rattle.std.proofs.Common.{ℕ, List, [], ◌++◌, ◌≡◌, refl, sym, ap, ◌∙◌, map}
-use Rattle.std.specs.Prelude.{Option, Some, None}
+use Rattle.std.proofs.Common.{ℕ, Bool, true, false, List, [], ◌∷◌, ◌++◌, ◌≡◌, refl, sym, ap, subst, ◌∙◌, map}
+use Rattle.std.specs.Prelude.{Option, Some, None, if◌then◌else◌}
 use Rattle.rt_nodes.specs.declared.vnode.VNode.{VNode}
 use Rattle.rt_model.specs.OneLog.{types}
 use Rattle.rt_model.specs.World.{Application}
@@ -9,9 +9,12 @@ use Rattle.rt_model.specs.Tree.{spots}
 use Rattle.rt_model.specs.Lists.{at}
 use Rattle.rt_model.specs.State as state
 use Rattle.rt_model.specs.State.{Outcome, Done, change, changed_scope, with_side}
-use Rattle.rt_model.specs.Run.{spots_of, serves, drops_of, kept_numbers, kept_children, start_agenda, patched}
+use Rattle.rt_model.specs.Run.{has_node, spots_of, serves, drops_of, kept_numbers, kept_children, start_agenda, patched}
 use Rattle.rt_mirror.specs.Sealed.{tree_of}
+use Rattle.rt_calls.specs.Kept.{scope_of}
+use Rattle.rt_calls.specs.declared.rest.Scope.{Scope}
 use Rattle.rt_places.specs.declared.spot.Spot.{Spot}
+use Rattle.rt_places.specs.declared.side.Numbered.{Numbered}
 use Rattle.rt_places.specs.declared.side.Side.{Side}
 use Rattle.rt_places.specs.declared.side.SideName.{SideName}
 use Rattle.rt_places.specs.Places.{side_name_of, side_of, output_of, number_of, child_of, spot_of}
@@ -22,6 +25,7 @@ use Rattle.rt_work.specs.Found.{output_spots}
 use Rattle.rt_work.specs.Agenda.{all_serves, all_drops, numbers_kept, children_kept}
 use Rattle.rt_work.proofs.Founds.{output_is}
 use Rattle.rt_work.proofs.Agendas.{kept_is, children_are, serves_are, drops_are, items-append}
+use Rattle.rt_named.specs.Standings.{IsPicked}
 use Rattle.rt_scopes.specs.Agendas.{PatchesBy}
 
 module _ {P C Q V H T E L : Type 0} where
@@ -29,6 +33,27 @@ module _ {P C Q V H T E L : Type 0} where
   pub spots_are : (tree : VNode P C Q V H T E L) → tree_spots [] tree ≡ spots [] (tree_of tree)
   unfolding tree_spots
   spots_are tree = refl
+
+  -- what is kept was there
+  pub kept_picked : (new : List (Spot P C Q V H T E L)) (was kept : List Numbered) → map number_of kept ≡ numbers_kept new was → IsPicked (map number_of kept) (map number_of was)
+  kept_picked new was kept is =
+      let all = some_kept (map number_of was) in
+      record { marks = all.marks; same = is ∙ kept_is new was ∙ all.same }
+    where
+      some_kept : (es : List (model.Place × model.Kind × ℕ)) → IsPicked (kept_numbers (map spot_of new) es) es
+      some_kept [] = record { marks = []; same = refl }
+      some_kept (e ∷ es) = let rest = some_kept es in by (has_node (map spot_of new) e.0 e.1) rest
+        where
+          by : (b : Bool) → IsPicked (kept_numbers (map spot_of new) es) es → IsPicked (if b then e ∷ kept_numbers (map spot_of new) es else kept_numbers (map spot_of new) es) (e ∷ es)
+          by true h = record { marks = true ∷ h.marks; same = ap (λ xs. e ∷ xs) h.same }
+          by false h = record { marks = false ∷ h.marks; same = h.same }
+
+  -- the side that was found is that of the scope in the table
+  pub fewer_on : (name : SideName) (found x : Scope P C Q V H T E L) (was : Side P C Q V H T E L) {few : List (model.Place × model.Kind × ℕ)} → Some found ≡ Some x
+      → side_of was ≡ state.side_of (scope_of found) (side_name_of name) → IsPicked few (map number_of was.numbers) → IsPicked few (state.side_of (scope_of x) (side_name_of name)).numbers
+  fewer_on name found x was {few} same is h =
+      let one : found ≡ x = ap (λ (o : Option (Scope P C Q V H T E L)). elim o as (λ _. Scope P C Q V H T E L) [ None ↦ found | Some y ↦ y ]) same in
+      subst (λ (y : Scope P C Q V H T E L). IsPicked few (state.side_of (scope_of y) (side_name_of name)).numbers) one (subst (λ (a : state.Side (types C Q V H T E L)). IsPicked few a.numbers) is h)
 
   module _ (app : Application (types C Q V H T E L)) where
     -- what is kept and served by the code is what the model keeps and serves

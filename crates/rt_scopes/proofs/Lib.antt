@@ -1,5 +1,5 @@
 pub mod Spots
-pub mod Put
+pub mod Nexts
 pub mod Agendas
 pub mod Counted
 pub mod Onward

@@ -6,12 +6,8 @@ use Rattle.rt_model.specs.State as state
 use Rattle.rt_model.specs.Lists.{at}
 use Rattle.rt_model.specs.Boundary.{children_among, side_scopes}
 use Rattle.rt_places.specs.declared.side.Child.{Child}
-use Rattle.rt_places.specs.declared.side.Side.{Side}
-use Rattle.rt_places.specs.declared.side.SideName.{SideName}
-use Rattle.rt_places.specs.declared.side.SideName.TheVariants as sides
 use Rattle.rt_places.specs.declared.spot.Spot.{Spot}
 use Rattle.rt_places.specs.Places.{child_of, spot_of}
-use Rattle.rt_calls.specs.declared.rest.Scope.{Scope}
 
 module _ {K : tree.Types} where
   -- the scopes on the fallback's side of a live boundary
@@ -27,9 +23,3 @@ module _ {P C Q V H T E L : Type 0} where
   abbrev pub children_at : state.State (types C Q V H T E L) → List Child → List (Spot P C Q V H T E L) → List ℕ
   children_at w children [] = []
   children_at w children (spot ∷ spots) = child_here w children spot ++ children_at w children spots
-
-  -- a scope with another side
-  abbrev pub side_put : SideName → Side P C Q V H T E L → Scope P C Q V H T E L → Scope P C Q V H T E L
-  side_put sides.Main side x = record x { rest = record (x.rest) { main_side = side } }
-  side_put sides.Children side x = record x { rest = record (x.rest) { children_side = side } }
-  side_put sides.Fallback side x = record x { rest = record (x.rest) { fallback_side = side } }

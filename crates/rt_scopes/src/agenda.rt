@@ -1,18 +1,17 @@
 //! A tree becomes the output of a side, and what that leads to.
-ghost use Rattle.std.specs.Prelude.{◌≡◌, ◌++◌, IfOk, OnOk};
+ghost use Rattle.std.specs.Prelude.{◌≡◌, ◌++◌, IfOk, map};
 ghost use Rattle.rt_model.specs.OneLog.{types};
 ghost use Rattle.rt_model.specs.World.{Application};
 ghost use Rattle.rt_model.specs.Laws.{Tests};
-ghost use Rattle.rt_model.specs.State.{Done, change, with_side};
+ghost use Rattle.rt_model.specs.State.{Done};
 ghost use Rattle.rt_model.specs.Run.{start_agenda as agenda_started};
 ghost use Rattle.rt_mirror.specs.Sealed.{tree_of};
-ghost use Rattle.rt_places.specs.Places.{side_name_of, side_of};
+ghost use Rattle.rt_places.specs.Places.{number_of, side_name_of};
+ghost use Rattle.rt_named.specs.Standings.{IsPicked};
 ghost use Rattle.rt_work.specs.Items.{work_of};
 ghost use Rattle.rt_state.specs.Mirror.{state_of};
 ghost use Rattle.rt_scopes.specs.Agendas.{Patches};
-ghost use Rattle.rt_scopes.specs.Sides.{side_put};
 
-use rt_calls::Scope;
 use rt_nodes::VNode;
 use rt_parts::Parts;
 use rt_places::{Side, SideName, spots};
@@ -40,41 +39,8 @@ pub fn start_agenda<P: Parts>(
         return Ok(List::new(alloc));
     };
     let (work, side) = patched(alloc, scope, name, tree, side_of(found, name))?;
-    change_side(state, scope, name, side)?;
+    state.put_side(scope, name, side);
     Ok(work)
-}
-
-/// Puts another side in the place of one of a live scope.
-fn change_side<P: Parts>(
-    state: &mut State<P>,
-    scope: u64,
-    name: SideName,
-    side: Side<P>,
-) -> Result<(), OutOfMemory>
-    ensures { OnOk result ((g : _) → state_of g state.new
-        ≡ change (state_of g state.old) scope
-        (λ x. with_side x (side_name_of name) (side_of side))) }
-{
-    state.change_scope(
-        scope,
-        |found: &mut Scope<P>| -> Result<(), OutOfMemory>
-            ensures { OnOk result (found.new ≡ side_put name side found.old) }
-        {
-            put(found, name, side);
-            Ok(())
-        },
-    )
-}
-
-/// Puts another side in the place of one of a scope.
-fn put<P: Parts>(scope: &mut Scope<P>, name: SideName, side: Side<P>)
-    ensures { scope.new ≡ side_put name side scope.old }
-{
-    match name {
-        SideName::Main => scope.rest.main_side = side,
-        SideName::Children => scope.rest.children_side = side,
-        SideName::Fallback => scope.rest.fallback_side = side,
-    }
 }
 
 /// The agenda of a tree on a side of a scope, and the side with that tree.
@@ -85,7 +51,9 @@ fn patched<P: Parts>(
     tree: VNode<P>,
     was: &Side<P>,
 ) -> Result<(List<Item<P>>, Side<P>), OutOfMemory>
-    ensures { IfOk result (λ pair. Patches scope name tree was.now pair.0 pair.1) }
+    ensures patches { IfOk result (λ pair. Patches scope name tree was.now pair.0 pair.1) }
+    ensures fewer { IfOk result (λ pair.
+        IsPicked (map number_of pair.1.numbers) (map number_of was.now.numbers)) }
 {
     let found = spots(alloc, &tree)?;
     let kept = spots_of(alloc, &was.output)?;

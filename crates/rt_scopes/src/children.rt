@@ -11,7 +11,7 @@ ghost use Rattle.rt_scopes.specs.Sides.{child_here, fallback_scopes_in};
 
 use rt_calls::Scope;
 use rt_parts::Parts;
-use rt_places::{Children, Numbers, Side, SideName, Spot, Step};
+use rt_places::{Children, Side, SideName, Spot, Step};
 use rt_state::{State, side_of};
 use rt_values::{List, OutOfMemory};
 use rt_work::{child_at, spots_of};
@@ -142,7 +142,7 @@ pub fn drop_fallback<P: Parts>(
         ≡ fallback_scopes_in (state_of g state.old) boundary) }
 {
     let scopes = fallback_scopes(alloc, state, boundary)?;
-    clear_fallback(alloc, state, boundary)?;
+    clear_fallback(alloc, state, boundary);
     Ok(scopes)
 }
 
@@ -162,29 +162,9 @@ fn fallback_scopes<P: Parts>(
 }
 
 /// Leaves a live boundary without a fallback's output.
-fn clear_fallback<P: Parts>(
-    alloc: Global,
-    state: &mut State<P>,
-    boundary: u64,
-) -> Result<(), OutOfMemory>
-    ensures { OnOk result ((g : _) → state_of g state.new
-        ≡ change (state_of g state.old) boundary (λ x. record x { fallback_side = empty_side })) }
+fn clear_fallback<P: Parts>(alloc: Global, state: &mut State<P>, boundary: u64)
+    ensures { (g : _) → state_of g state.new
+        ≡ change (state_of g state.old) boundary (λ x. record x { fallback_side = empty_side }) }
 {
-    state.change_scope(
-        boundary,
-        |found: &mut Scope<P>| -> Result<(), OutOfMemory>
-            ensures { OnOk result (found.new ≡ record found.old {
-              rest = record found.old.rest {
-                fallback_side = record { output = None; numbers = []; children = [] };
-              };
-            }) }
-        {
-            found.rest.fallback_side = Side {
-                output: None,
-                numbers: Numbers::new(alloc),
-                children: Children::new(alloc),
-            };
-            Ok(())
-        },
-    )
+    state.put_side(boundary, SideName::Fallback, Side::empty(alloc));
 }

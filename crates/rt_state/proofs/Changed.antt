@@ -82,7 +82,7 @@ module _ {P C Q V H T E L U X : Type 0} where
       → ((x : TaskRow P C Q V H T E L) → at d.tasks t ≡ Some x → (y : TaskRow P C Q V H T E L) × R x y × (new ≡ put d.tasks t y))
       → ((x y : TaskRow P C Q V H T E L) → R x y → OnOk r (y ≡ k x))
       → ((x : TaskRow P C Q V H T E L) → task_of (k x) ≡ h (task_of x))
-      → OnOk r ((g : Unkept (types C Q V H T E L)) → state_of g (record d { tasks = new }) ≡ change_task (state_of g d) t h)
+      → OnOk r ((g : Unkept (types C Q V H T E L)) → record (state_of g d) { tasks = each task_of new } ≡ change_task (state_of g d) t h)
   task_changed r R d new t k h absent changed step law =
       on_ok r (table_changed r R task_of k h d.tasks new t absent changed step law)
       (λ is g.
@@ -97,7 +97,7 @@ module _ {P C Q V H T E L U X : Type 0} where
       → ((x : Scope P C Q V H T E L) → at (d.rows).table s ≡ Some x → (y : Scope P C Q V H T E L) × R x y × (new ≡ put (d.rows).table s y))
       → ((x y : Scope P C Q V H T E L) → R x y → OnOk r (y ≡ k x))
       → ((x : Scope P C Q V H T E L) → scope_of (k x) ≡ h (scope_of x))
-      → OnOk r ((g : Unkept (types C Q V H T E L)) → state_of g (record d { rows = record { table = new } }) ≡ change (state_of g d) s h)
+      → OnOk r ((g : Unkept (types C Q V H T E L)) → record (state_of g d) { scopes = each scope_of new } ≡ change (state_of g d) s h)
   scope_changed r R d new s k h absent changed step law =
       on_ok r (table_changed r R scope_of k h (d.rows).table new s absent changed step law)
       (λ is g.

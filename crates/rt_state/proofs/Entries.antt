@@ -40,3 +40,7 @@ number-seen {A = A} seen table i e row view within = ap (λ (p : ℕ × A). p.0)
 -- what is read at an index of a view stands there in the table
 pub at-index : {A : Type 0} (seen table : List (ℕ × A)) (i : ℕ) (e row : ℕ × A) → seen ≡ table → i < length table → e ≡ get_or seen i e → e ≡ get_or table i row
 at-index seen table i e row view within is = is ∙ ap (λ xs. get_or xs i e) view ∙ get_or_default table i e row within
+
+-- a number that is read at an index of a view stands there in the list
+pub number_read : (view list : List ℕ) (i : ℕ) (d : ℕ) → view ≡ list → i < length list → get_or view i 0 ≡ get_or list i d
+number_read view list i d same within = ap (λ xs. get_or xs i 0) same ∙ get_or_default list i 0 d within

@@ -1,7 +1,6 @@
 -- Scopes become mounted one after another, and what shows doesn't hang on that.
-use Rattle.std.proofs.Common.{◌≡◌, ℕ, zero, suc, ◌+◌, ◌<◌, ◌≤◌, Bool, true, false, ◌&&◌, ◌||◌, List, [], ◌∷◌, ◌++◌, length, get_or, take, drop, map, refl, ap, sym, ◌∙◌, arith}
+use Rattle.std.proofs.Common.{◌≡◌, ℕ, zero, suc, ◌+◌, ◌<◌, ◌≤◌, Bool, true, false, ◌&&◌, ◌||◌, List, [], ◌∷◌, ◌++◌, length, get_or, take, drop, map, refl, ap, sym, ◌∙◌}
 use Rattle.std.specs.Prelude.{not, slice_set, is_some, Option, Some, None, option_map}
-use Rattle.std.proofs.lemmas.List.{get_or_default}
 use Rattle.rt_model.specs.Lists.{at}
 use Rattle.rt_model.specs.OneLog.{types}
 use Rattle.rt_model.specs.Tree.{Types}
@@ -11,7 +10,7 @@ use Rattle.rt_model.specs.Replay.{mounted, mounted_state}
 use Rattle.rt_calls.specs.Kept.{each, scope_of}
 use Rattle.rt_calls.specs.declared.rest.Scope.{Scope}
 use Rattle.rt_state.specs.Mirror.{Unkept, scopes_of, state_of}
-use Rattle.rt_state.specs.Mounts.{shown_in, mounts_at, comes_at, mounts_now}
+use Rattle.rt_state.specs.Mounts.{shown_in, comes_at, mounts_now}
 use Rattle.rt_state.specs.declared.state.State.{State}
 use Rattle.rt_state.proofs.Each.{at-each, live-each}
 use Rattle.rt_state.proofs.Entries.{length-set, set-same}
@@ -95,53 +94,41 @@ module _ {P C Q V H T E L : Type 0} where
   mounted_all w (e ∷ es) = ap (λ rest. (e.0, scope_of (mounts_now w.scopes e).1) ∷ rest) (mounted_all w es)
 
   -- one more step of the loop
-  module _ (start now new : State P C Q V H T E L) (i : ℕ) (d : ℕ × Scope P C Q V H T E L)
-      (same : now ≡ record start { rows = record { table = (now.rows).table } })
-      (shown : (s : ℕ) → shown_in (scopes_of (now.rows).table) s ≡ shown_in (scopes_of (start.rows).table) s)
-      (is : new ≡ record now { rows = record { table = slice_set (now.rows).table i (mounts_now (scopes_of (now.rows).table) (get_or (now.rows).table i d)) } }) where
-    pub mount_same : new ≡ record start { rows = record { table = (new.rows).table } }
-    mount_same =
-        is
-        ∙ ap (λ (u : State P C Q V H T E L). let v : State P C Q V H T E L = record u { rows = record { table = slice_set (now.rows).table i (mounts_now (scopes_of (now.rows).table) (get_or (now.rows).table i d)) } } in v) same
-        ∙ sym (ap (λ (u : State P C Q V H T E L). let v : State P C Q V H T E L = record start { rows = record { table = (u.rows).table } } in v) is)
+  module _ (start now new : List (ℕ × Scope P C Q V H T E L)) (i : ℕ) (d : ℕ × Scope P C Q V H T E L)
+      (shown : (s : ℕ) → shown_in (scopes_of now) s ≡ shown_in (scopes_of start) s)
+      (is : new ≡ slice_set now i (mounts_now (scopes_of now) (get_or now i d))) where
+    pub mount_count : length new ≡ length now
+    mount_count = ap (λ (es : List (ℕ × Scope P C Q V H T E L)). length es) is ∙ length-set now i (mounts_now (scopes_of now) (get_or now i d))
 
-    pub mount_count : length (new.rows).table ≡ length (now.rows).table
-    mount_count =
-        ap (λ (u : State P C Q V H T E L). length (u.rows).table) is ∙ length-set (now.rows).table i (mounts_now (scopes_of (now.rows).table) (get_or (now.rows).table i d))
+    pub mount_shows : (s : ℕ) → shown_in (scopes_of new) s ≡ shown_in (scopes_of start) s
+    mount_shows s = ap (λ (es : List (ℕ × Scope P C Q V H T E L)). shown_in (scopes_of es) s) is ∙ shown_set (scopes_of now) now i d s ∙ shown s
 
-    pub mount_shows : (s : ℕ) → shown_in (scopes_of (new.rows).table) s ≡ shown_in (scopes_of (start.rows).table) s
-    mount_shows s =
-        ap (λ (u : State P C Q V H T E L). shown_in (scopes_of (u.rows).table) s) is ∙ shown_set (scopes_of (now.rows).table) (now.rows).table i d s ∙ shown s
-
-    pub mount_done : i < length (now.rows).table
-        → take (i + 1) (new.rows).table ++ map (mounts_now (scopes_of (start.rows).table)) (drop (i + 1) (new.rows).table)
-        ≡ take i (now.rows).table ++ map (mounts_now (scopes_of (start.rows).table)) (drop i (now.rows).table)
+    pub mount_done : i < length now
+        → take (i + 1) new ++ map (mounts_now (scopes_of start)) (drop (i + 1) new) ≡ take i now ++ map (mounts_now (scopes_of start)) (drop i now)
     mount_done within =
-        ap (λ (u : State P C Q V H T E L). take (i + 1) (u.rows).table ++ map (mounts_now (scopes_of (start.rows).table)) (drop (i + 1) (u.rows).table)) is
-        ∙ done_step (mounts_now (scopes_of (start.rows).table)) (now.rows).table i d (mounts_now (scopes_of (now.rows).table) (get_or (now.rows).table i d)) within
-        (now_same (scopes_of (start.rows).table) (scopes_of (now.rows).table) shown (get_or (now.rows).table i d))
+        ap (λ (es : List (ℕ × Scope P C Q V H T E L)). take (i + 1) es ++ map (mounts_now (scopes_of start)) (drop (i + 1) es)) is
+        ∙ done_step (mounts_now (scopes_of start)) now i d (mounts_now (scopes_of now) (get_or now i d)) within (now_same (scopes_of start) (scopes_of now) shown (get_or now i d))
 
   -- all that shows is mounted
-  pub mount_all : (start now : State P C Q V H T E L) (i : ℕ) → now ≡ record start { rows = record { table = (now.rows).table } } → length (now.rows).table ≤ i
-      → take i (now.rows).table ++ map (mounts_now (scopes_of (start.rows).table)) (drop i (now.rows).table) ≡ map (mounts_now (scopes_of (start.rows).table)) (start.rows).table
-      → (g : Unkept (types C Q V H T E L)) → state_of g now ≡ mounted_state (state_of g start)
-  mount_all start now i same end done g =
+  pub mount_all : (g : Unkept (types C Q V H T E L)) (start : State P C Q V H T E L) (now : List (ℕ × Scope P C Q V H T E L)) (v : model.State (types C Q V H T E L)) (i : ℕ)
+      → v ≡ record (state_of g start) { scopes = scopes_of now } → length now ≤ i
+      → take i now ++ map (mounts_now (scopes_of (start.rows).table)) (drop i now) ≡ map (mounts_now (scopes_of (start.rows).table)) (start.rows).table
+      → v ≡ mounted_state (state_of g start)
+  mount_all g start now v i same end done =
       let w : model.State (types C Q V H T E L) = state_of g start in
-      ap (state_of g) same
-      ∙ ap (λ es. let v : model.State (types C Q V H T E L) = record w { scopes = scopes_of es } in v) (done_end (mounts_now (scopes_of (start.rows).table)) (now.rows).table _ i end done)
-      ∙ ap (λ es. let v : model.State (types C Q V H T E L) = record w { scopes = es } in v) (mounted_all w (start.rows).table)
+      same
+      ∙ ap (λ es. let u : model.State (types C Q V H T E L) = record w { scopes = scopes_of es } in u) (done_end (mounts_now (scopes_of (start.rows).table)) now _ i end done)
+      ∙ ap (λ es. let u : model.State (types C Q V H T E L) = record w { scopes = es } in u) (mounted_all w (start.rows).table)
 
-  pub mount_one : (now new : State P C Q V H T E L) (i : ℕ) → new ≡ record now { rows = record { table = (new.rows).table } }
-      → ((row : ℕ × Scope P C Q V H T E L) → (new.rows).table ≡ slice_set (now.rows).table i ((get_or (now.rows).table i row).0, record ((get_or (now.rows).table i row).1) { rest = record ((get_or (now.rows).table i row).1.rest) { mounted = true } }))
-      → ((row : ℕ × Scope P C Q V H T E L) → true ≡ comes_at (scopes_of (now.rows).table) (get_or (now.rows).table i row))
-      → (row : ℕ × Scope P C Q V H T E L) → new ≡ record now { rows = record { table = slice_set (now.rows).table i (mounts_now (scopes_of (now.rows).table) (get_or (now.rows).table i row)) } }
-  mount_one now new i others is test row =
-      let e : ℕ × Scope P C Q V H T E L = get_or (now.rows).table i row in
-      others
-      ∙ ap (λ (xs : List (ℕ × Scope P C Q V H T E L)). let v : State P C Q V H T E L = record now { rows = record { table = xs } } in v)
-      (is row
-      ∙ ap (λ t. slice_set (now.rows).table i ((get_or (now.rows).table i row).0, record ((get_or (now.rows).table i row).1) { rest = record ((get_or (now.rows).table i row).1.rest) { mounted = t } }))
-      (mount_new ((e.1).rest).mounted (shown_in (scopes_of (now.rows).table) e.0) (test row)))
+  pub mount_one : (now new : List (ℕ × Scope P C Q V H T E L)) (i : ℕ)
+      → ((row : ℕ × Scope P C Q V H T E L) → new ≡ slice_set now i ((get_or now i row).0, record ((get_or now i row).1) { rest = record ((get_or now i row).1.rest) { mounted = true } }))
+      → ((row : ℕ × Scope P C Q V H T E L) → true ≡ comes_at (scopes_of now) (get_or now i row))
+      → (row : ℕ × Scope P C Q V H T E L) → new ≡ slice_set now i (mounts_now (scopes_of now) (get_or now i row))
+  mount_one now new i is test row =
+      let e : ℕ × Scope P C Q V H T E L = get_or now i row in
+      is row
+      ∙ ap (λ t. slice_set now i ((get_or now i row).0, record ((get_or now i row).1) { rest = record ((get_or now i row).1.rest) { mounted = t } }))
+      (mount_new ((e.1).rest).mounted (shown_in (scopes_of now) e.0) (test row))
 
   stays_as : (scopes : List (ℕ × model.Scope (types C Q V H T E L))) (e : ℕ × Scope P C Q V H T E L) → comes_at scopes e ≡ false → mounts_now scopes e ≡ e
   stays_as scopes e none = ap (λ b. mark b) (mount_kept ((e.1).rest).mounted (shown_in scopes e.0) none)
@@ -149,8 +136,6 @@ module _ {P C Q V H T E L : Type 0} where
       mark : Bool → ℕ × Scope P C Q V H T E L
       mark b = (e.0, record (e.1) { rest = record (e.1.rest) { mounted = b } })
 
-  pub mount_none : (now : State P C Q V H T E L) (i : ℕ) → ((row : ℕ × Scope P C Q V H T E L) → comes_at (scopes_of (now.rows).table) (get_or (now.rows).table i row) ≡ false)
-      → (row : ℕ × Scope P C Q V H T E L) → now ≡ record now { rows = record { table = slice_set (now.rows).table i (mounts_now (scopes_of (now.rows).table) (get_or (now.rows).table i row)) } }
-  mount_none now i test row =
-      ap (λ (xs : List (ℕ × Scope P C Q V H T E L)). let v : State P C Q V H T E L = record now { rows = record { table = xs } } in v)
-      (sym (ap (λ e. slice_set (now.rows).table i e) (stays_as (scopes_of (now.rows).table) (get_or (now.rows).table i row) (test row)) ∙ set-same (now.rows).table i row))
+  pub mount_none : (now : List (ℕ × Scope P C Q V H T E L)) (i : ℕ) → ((row : ℕ × Scope P C Q V H T E L) → comes_at (scopes_of now) (get_or now i row) ≡ false)
+      → (row : ℕ × Scope P C Q V H T E L) → now ≡ slice_set now i (mounts_now (scopes_of now) (get_or now i row))
+  mount_none now i test row = sym (ap (λ e. slice_set now i e) (stays_as (scopes_of now) (get_or now i row) (test row)) ∙ set-same now i row)

@@ -39,7 +39,7 @@ module _ {P C Q V H T E L : Type 0} where
   -- a state that is taken out stands for its task still
   pub taken_out : (g : Unkept (types C Q V H T E L)) (d : State P C Q V H T E L) (t : ℕ) (row : TaskRow P C Q V H T E L) (a : T) (was : Snapshot T) (tasks : List (ℕ × TaskRow P C Q V H T E L))
       → Some row ≡ at d.tasks t → row.state ≡ Some a → was.value ≡ a → tasks ≡ put d.tasks t (record row { state = None; was = was })
-      → state_of g (record d { tasks = tasks }) ≡ state_of g d
+      → record (state_of g d) { tasks = each task_of tasks } ≡ state_of g d
   taken_out g d t row a was tasks there own stands put_is =
       let w : model.State (types C Q V H T E L) = state_of g d in
       let bare : TaskRow P C Q V H T E L = record row { state = None; was = was } in

@@ -1,7 +1,7 @@
 -- A task's end: whom it held is marked and let go.
 use Rattle.std.proofs.Common.{◌≡◌, ℕ, zero, suc, ◌+◌, ◌<◌, ◌≤◌, Bool, true, false, List, [], ◌∷◌, ◌++◌, length, get_or, take, drop, map, refl, ap, sym, ◌∙◌, arith, append_assoc, append-nil}
 use Rattle.std.specs.Prelude.{nat_eq, slice_set, is_some, if◌then◌else◌}
-use Rattle.std.proofs.lemmas.List.{drop_more, map-append}
+use Rattle.std.proofs.lemmas.List.{drop_more}
 use Rattle.std.proofs.lemmas.Grind.{common_steps}
 use Rattle.rt_model.specs.Lists.{at, without, drop_number}
 use Rattle.rt_model.specs.OneLog.{types}
@@ -11,10 +11,8 @@ use Rattle.rt_model.specs.State.{holds}
 use Rattle.rt_model.specs.Commands.{released, holding, drop_posted, end}
 use Rattle.rt_calls.specs.Kept.{each, scope_of}
 use Rattle.rt_calls.specs.declared.rest.Scope.{Scope}
-use Rattle.rt_state.specs.Names.{posted_of}
 use Rattle.rt_state.specs.Holders.{let_go}
 use Rattle.rt_state.specs.Mirror.{Unkept, task_of, scopes_of, state_of}
-use Rattle.rt_state.specs.declared.names.Posted.{Posted}
 use Rattle.rt_state.specs.declared.state.State.{State}
 use Rattle.rt_state.specs.declared.state.TaskRow.{TaskRow}
 use Rattle.rt_state.proofs.Drops.{kept_all}
@@ -40,15 +38,15 @@ module _ {P C Q V H T E L : Type 0} where
   released-is (e ∷ es) t = ap (λ rest. (e.0, scope_of (let_go t e).1) ∷ rest) (released-is es t)
 
   -- the mark of one more boundary
-  pub held_step : (es : List (ℕ × Scope P C Q V H T E L)) (i : ℕ) (e : ℕ × Scope P C Q V H T E L) (t : ℕ) (posted new : List Posted)
+  pub held_step : (es : List (ℕ × Scope P C Q V H T E L)) (i : ℕ) (e : ℕ × Scope P C Q V H T E L) (t : ℕ) (posted new : List model.Posted)
       → i < length es → e ≡ get_or es i e
-      → map posted_of new ≡ map posted_of posted ++ (if holds (scope_of e.1) t then model.Mark e.0 ∷ [] else [])
-      → map posted_of new ++ holding (scopes_of (drop (i + 1) es)) t ≡ map posted_of posted ++ holding (scopes_of (drop i es)) t
+      → new ≡ posted ++ (if holds (scope_of e.1) t then model.Mark e.0 ∷ [] else [])
+      → new ++ holding (scopes_of (drop (i + 1) es)) t ≡ posted ++ holding (scopes_of (drop i es)) t
   held_step es i e t posted new within is made =
       let rest = holding (scopes_of (drop (i + 1) es)) t in
       ap (λ ms. ms ++ rest) made
-      ∙ append_assoc (map posted_of posted) (if holds (scope_of e.1) t then model.Mark e.0 ∷ [] else []) rest
-      ∙ ap (λ ms. map posted_of posted ++ ms)
+      ∙ append_assoc posted (if holds (scope_of e.1) t then model.Mark e.0 ∷ [] else []) rest
+      ∙ ap (λ ms. posted ++ ms)
       (first (holds (scope_of e.1) t) (model.Mark e.0) rest
       ∙ ap (λ (d : ℕ × Scope P C Q V H T E L). if holds (scope_of d.1) t then model.Mark d.0 ∷ rest else rest) is
       ∙ ap (λ ys. holding (scopes_of ys) t) (sym (drop_more es i e within)))
@@ -66,14 +64,17 @@ module _ {P C Q V H T E L : Type 0} where
       let w : model.State (types C Q V H T E L) = state_of g d in
       ap (λ b. if b then record w { tasks = without w.tasks t; posted = drop_posted w.posted (model.Woken t) ++ holding w.scopes t; queued = drop_number w.queued t; scopes = released w.scopes t } else w) (sym gone)
 
-  -- a task ends
-  pub ended : (d : State P C Q V H T E L) (t : ℕ) (tasks : List (ℕ × TaskRow P C Q V H T E L)) (posted : List Posted) (queued : List ℕ) (g : Unkept (types C Q V H T E L))
+  -- a task ends: v is the state before the boundaries are let go
+  pub ended : (d : State P C Q V H T E L) (t : ℕ) (g : Unkept (types C Q V H T E L)) (tasks : List (ℕ × TaskRow P C Q V H T E L)) (posted : List model.Posted) (queued : List ℕ) (v u : model.State (types C Q V H T E L))
       → is_some (at (state_of g d).tasks t) ≡ true → tasks ≡ without d.tasks t
-      → map posted_of posted ≡ drop_posted (map posted_of d.posted) (model.Woken t) ++ holding (scopes_of (d.rows).table) t → queued ≡ drop_number d.queued t
-      → state_of g (record d { tasks = tasks; posted = posted; queued = queued; rows = record { table = map (let_go t) (d.rows).table } }) ≡ end (state_of g d) t
-  ended d t tasks posted queued g live less marks fewer =
+      → posted ≡ drop_posted (d.owed).posted (model.Woken t) ++ holding (scopes_of (d.rows).table) t → queued ≡ drop_number (d.owed).queued t
+      → v ≡ record (state_of g d) { tasks = each task_of tasks; posted = posted; queued = queued }
+      → u ≡ record v { scopes = scopes_of (map (let_go t) (d.rows).table) } → u ≡ end (state_of g d) t
+  ended d t g tasks posted queued v u live less marks fewer before let_all =
       let w : model.State (types C Q V H T E L) = state_of g d in
-      (λ i. record w {
+      let_all
+      ∙ ap (λ (x : model.State (types C Q V H T E L)). let y : model.State (types C Q V H T E L) = record x { scopes = scopes_of (map (let_go t) (d.rows).table) } in y) before
+      ∙ (λ i. record w {
         tasks = (ap (each task_of) less ∙ without-each task_of d.tasks t) i;
         posted = marks i;
         queued = fewer i;
@@ -82,33 +83,17 @@ module _ {P C Q V H T E L : Type 0} where
       ∙ ap (λ b. if b then record w { tasks = without w.tasks t; posted = drop_posted w.posted (model.Woken t) ++ holding w.scopes t; queued = drop_number w.queued t; scopes = released w.scopes t } else w) (sym live)
 
   -- one more scope is let go
-  module _ (start now new : State P C Q V H T E L) (t i : ℕ) (d : ℕ × Scope P C Q V H T E L)
-      (same : now ≡ record start { rows = record { table = (now.rows).table } })
-      (is : new ≡ record now { rows = record { table = slice_set (now.rows).table i (let_go t (get_or (now.rows).table i d)) } }) where
-    pub release_same : new ≡ record start { rows = record { table = (new.rows).table } }
-    release_same =
-        is
-        ∙ ap (λ (u : State P C Q V H T E L). let v : State P C Q V H T E L = record u { rows = record { table = slice_set (now.rows).table i (let_go t (get_or (now.rows).table i d)) } } in v) same
-        ∙ sym (ap (λ (u : State P C Q V H T E L). let v : State P C Q V H T E L = record start { rows = record { table = (u.rows).table } } in v) is)
+  pub release_done : (now new : List (ℕ × Scope P C Q V H T E L)) (t i : ℕ) (d : ℕ × Scope P C Q V H T E L) → new ≡ slice_set now i (let_go t (get_or now i d)) → i < length now
+      → take (i + 1) new ++ map (let_go t) (drop (i + 1) new) ≡ take i now ++ map (let_go t) (drop i now)
+  release_done now new t i d is within =
+      ap (λ (es : List (ℕ × Scope P C Q V H T E L)). take (i + 1) es ++ map (let_go t) (drop (i + 1) es)) is ∙ done_step (let_go t) now i d (let_go t (get_or now i d)) within refl
 
-    pub release_count : length (new.rows).table ≡ length (now.rows).table
-    release_count = ap (λ (u : State P C Q V H T E L). length (u.rows).table) is ∙ length-set (now.rows).table i (let_go t (get_or (now.rows).table i d))
-
-    pub release_done : i < length (now.rows).table
-        → take (i + 1) (new.rows).table ++ map (let_go t) (drop (i + 1) (new.rows).table) ≡ take i (now.rows).table ++ map (let_go t) (drop i (now.rows).table)
-    release_done within =
-        ap (λ (u : State P C Q V H T E L). take (i + 1) (u.rows).table ++ map (let_go t) (drop (i + 1) (u.rows).table)) is
-        ∙ done_step (let_go t) (now.rows).table i d (let_go t (get_or (now.rows).table i d)) within refl
+  pub release_count : (now new : List (ℕ × Scope P C Q V H T E L)) (t i : ℕ) (d : ℕ × Scope P C Q V H T E L) → new ≡ slice_set now i (let_go t (get_or now i d)) → length new ≡ length now
+  release_count now new t i d is = ap (λ (es : List (ℕ × Scope P C Q V H T E L)). length es) is ∙ length-set now i (let_go t (get_or now i d))
 
   -- all are let go
-  pub release_all : (start now : State P C Q V H T E L) (t i : ℕ) → now ≡ record start { rows = record { table = (now.rows).table } } → length (now.rows).table ≤ i
-      → take i (now.rows).table ++ map (let_go t) (drop i (now.rows).table) ≡ map (let_go t) (start.rows).table → now ≡ record start { rows = record { table = map (let_go t) (start.rows).table } }
-  release_all start now t i same end done =
-      same ∙ ap (λ (es : List (ℕ × Scope P C Q V H T E L)). let v : State P C Q V H T E L = record start { rows = record { table = es } } in v) (done_end (let_go t) (now.rows).table _ i end done)
-
-  pub release_one : (now new : State P C Q V H T E L) (es : List (ℕ × Scope P C Q V H T E L)) → new ≡ record now { rows = record { table = (new.rows).table } } → (new.rows).table ≡ es
-      → new ≡ record now { rows = record { table = es } }
-  release_one now new es others is = others ∙ ap (λ (xs : List (ℕ × Scope P C Q V H T E L)). let v : State P C Q V H T E L = record now { rows = record { table = xs } } in v) is
+  pub release_all : (start now : List (ℕ × Scope P C Q V H T E L)) (t i : ℕ) → length now ≤ i → take i now ++ map (let_go t) (drop i now) ≡ map (let_go t) start → now ≡ map (let_go t) start
+  release_all start now t i end done = done_end (let_go t) now _ i end done
 
   held_none : (t : ℕ) (e : ℕ × Scope P C Q V H T E L) → holds (scope_of e.1) t ≡ false → let_go t e ≡ e
   held_none t e none = ap (λ hs. back hs) (kept_all (λ h. nat_eq h.0 t) ((e.1).rest).holders none)
@@ -117,8 +102,15 @@ module _ {P C Q V H T E L : Type 0} where
       back hs = (e.0, record (e.1) { rest = record (e.1.rest) { holders = hs } })
 
   -- a scope that the task doesn't hold stays as it is
-  pub release_none : (now : State P C Q V H T E L) (t i : ℕ) → ((row : ℕ × Scope P C Q V H T E L) → holds (scope_of (get_or (now.rows).table i row).1) t ≡ false)
-      → (row : ℕ × Scope P C Q V H T E L) → now ≡ record now { rows = record { table = slice_set (now.rows).table i (let_go t (get_or (now.rows).table i row)) } }
-  release_none now t i test row =
-      ap (λ (xs : List (ℕ × Scope P C Q V H T E L)). let v : State P C Q V H T E L = record now { rows = record { table = xs } } in v)
-      (sym (ap (λ e. slice_set (now.rows).table i e) (held_none t (get_or (now.rows).table i row) (test row)) ∙ set-same (now.rows).table i row))
+  pub release_none : (now : List (ℕ × Scope P C Q V H T E L)) (t i : ℕ) → ((row : ℕ × Scope P C Q V H T E L) → holds (scope_of (get_or now i row).1) t ≡ false)
+      → (row : ℕ × Scope P C Q V H T E L) → now ≡ slice_set now i (let_go t (get_or now i row))
+  release_none now t i test row = sym (ap (λ e. slice_set now i e) (held_none t (get_or now i row) (test row)) ∙ set-same now i row)
+
+-- the state with other scopes, twice
+module _ {K : Types} where
+  pub scopes_twice : (w v u : model.State K) (es fs : List (ℕ × model.Scope K)) → v ≡ record w { scopes = es } → u ≡ record v { scopes = fs } → u ≡ record w { scopes = fs }
+  scopes_twice w v u es fs first second = second ∙ ap (λ (x : model.State K). let y : model.State K = record x { scopes = fs } in y) first
+
+  -- the state with other scopes
+  abbrev pub scoped : model.State K → List (ℕ × model.Scope K) → model.State K
+  scoped w es = record w { scopes = es }

@@ -5,7 +5,6 @@ use Rattle.std.specs.List.{filter}
 use Rattle.std.specs.Ordering.{is_eq, nat_cmp}
 use Rattle.std.proofs.lemmas.List.{drop_more, reverse-append}
 use Rattle.std.proofs.lemmas.Bool.Decides.{nat_tests}
-use Rattle.std.proofs.lemmas.Grind.{common_steps}
 use Rattle.rt_values.specs.declared.names.ScopeId.{ScopeId}
 use Rattle.rt_cells.specs.declared.numbered.Held.{Held}
 use Rattle.rt_cells.specs.Held.{is_of, numbers_of, without_scope as others_held}
@@ -17,13 +16,12 @@ use Rattle.rt_model.specs.World as world
 use Rattle.rt_model.specs.State as model
 use Rattle.rt_model.specs.Commands.{tell}
 use Rattle.rt_model.specs.Removal.{tell_all, cell_sources, context_sources, cells_in, kinds_of_scopes, kinds_of_contexts, without_scope, told_of_sources, gone, clean_ups}
-use Rattle.rt_calls.specs.Kept.{each, scope_of}
-use Rattle.rt_calls.specs.declared.rest.Scope.{Scope}
+use Rattle.rt_calls.specs.Kept.{each}
 use Rattle.rt_state.specs.CleanUps.{own_clean_up}
 use Rattle.rt_state.specs.Mirror.{Unkept, forgets, cell_of, context_of, scopes_of, state_of}
 use Rattle.rt_state.specs.declared.state.ContextRow.{ContextRow}
 use Rattle.rt_state.specs.declared.state.State.{State}
-use Rattle.rt_state.proofs.Each.{without-each, drop-all}
+use Rattle.rt_state.proofs.Each.{drop-all}
 
 module _ {K : tree.Types} where
   pub cells_step : (ns : List ℕ) (i d : ℕ) (w v : model.State K) → i < length ns → v ≡ tell w (world.Cell (get_or ns i d))
@@ -138,16 +136,15 @@ module _ {P C Q V H T E L : Type 0} where
   cells_found g d s ns is = is ∙ cells_own C Q V H T E L s (d.cells).cells
 
   -- all that goes with the record
-  pub scope_dropped : (g : Unkept (types C Q V H T E L)) (d : State P C Q V H T E L) (s : ℕ) (scopes : List (ℕ × Scope P C Q V H T E L)) (cells : tracked.State V) (contexts : List (ℕ × ContextRow)) (resolved skipped : List ℕ)
-      → scopes ≡ without (d.rows).table s
+  pub scope_dropped : (g : Unkept (types C Q V H T E L)) (d : State P C Q V H T E L) (s : ℕ) (cells : tracked.State V) (contexts : List (ℕ × ContextRow)) (resolved skipped : List ℕ)
       → cells ≡ tracked.cells_of_dropped (record { 0 = s }) d.cells
       → contexts ≡ kept_by (λ e. not (nat_eq (e.1).scope s)) d.contexts
       → resolved ≡ drop_number d.resolved s
       → skipped ≡ drop_number d.skipped s
-      → state_of (forgets g s) (record d { rows = record { table = scopes }; cells = cells; contexts = contexts; resolved = resolved; skipped = skipped }) ≡ without_scope (state_of g d) s
-  scope_dropped g d s scopes cells contexts resolved skipped rows_is cells_is contexts_is resolved_is skipped_is =
+      → record (state_of (forgets g s) d) { scopes = without (scopes_of (d.rows).table) s; cells = each cell_of cells.cells; contexts = each context_of contexts; resolved = resolved; skipped = skipped } ≡ without_scope (state_of g d) s
+  scope_dropped g d s cells contexts resolved skipped cells_is contexts_is resolved_is skipped_is =
       λ i. record (state_of (forgets g s) d) {
-        scopes = (ap scopes_of rows_is ∙ without-each scope_of (d.rows).table s) i;
+        scopes = without (scopes_of (d.rows).table) s;
         cells = (ap (λ (t : tracked.State V). each cell_of t.cells) cells_is ∙ cells_left C Q V H T E L s (d.cells).cells) i;
         contexts = (ap (each context_of) contexts_is ∙ contexts_left C Q V H T E L s d.contexts) i;
         resolved = resolved_is i;

@@ -1,7 +1,7 @@
 -- Tasks that are spawned, paused or made active; a task that a body waits for.
-use Rattle.std.proofs.Common.{◌≡◌, ℕ, Bool, true, false, ◌&&◌, List, [], ◌∷◌, ◌++◌, refl, ap, sym, ◌∙◌}
+use Rattle.std.proofs.Common.{◌≡◌, ℕ, Bool, true, false, ◌&&◌, List, [], ◌∷◌, ◌++◌, ap, sym, ◌∙◌}
 use Rattle.std.specs.declared.snapshot.Snapshot.{Snapshot}
-use Rattle.std.specs.Prelude.{not, Option, Some, None, is_some, if◌then◌else◌}
+use Rattle.std.specs.Prelude.{not, Option, Some, None, if◌then◌else◌}
 use Rattle.rt_model.specs.Lists.{at, put}
 use Rattle.rt_model.specs.OneLog.{types}
 use Rattle.rt_model.specs.Tree.{Types}
@@ -9,29 +9,30 @@ use Rattle.rt_model.specs.State as model
 use Rattle.rt_model.specs.State.{change, holds}
 use Rattle.rt_model.specs.Commands.{post, spawned, activated}
 use Rattle.rt_model.specs.Run.{joins}
-use Rattle.rt_calls.specs.Kept.{each}
 use Rattle.rt_state.specs.Names.{task_kind_of}
 use Rattle.rt_state.specs.Mirror.{Unkept, task_of, changed_task, change_task, state_of}
 use Rattle.rt_state.specs.declared.names.TaskKind.{TaskKind}
 use Rattle.rt_state.specs.declared.state.TaskRow.{TaskRow}
 use Rattle.rt_state.specs.declared.state.State.{State}
-use Rattle.rt_state.proofs.Each.{append-each}
 
 module _ {K : Types} where
   abbrev with_tasks : model.State K → List (ℕ × model.TaskRow K) → model.State K
   with_tasks w ts = record w { tasks = ts }
 
 module _ {P C Q V H T E L : Type 0} where
-  pub spawned_in : (d : State P C Q V H T E L) (polled : Option ℕ) (s t : ℕ) (a : T) (isomorphic : Bool) (was : Snapshot T) (kind : TaskKind) (new : List (ℕ × TaskRow P C Q V H T E L))
+  -- the row of a task that is spawned
+  abbrev pub row_of : Option ℕ → ℕ → T → Snapshot T → TaskKind → TaskRow P C Q V H T E L
+  row_of polled s a was kind = record { scope = s; parent = polled; state = Some a; was = was; active = true; kind = kind }
+
+  pub spawned_in : (d : State P C Q V H T E L) (polled : Option ℕ) (s t : ℕ) (a : T) (isomorphic : Bool) (was : Snapshot T) (kind : TaskKind)
       → ((g : Unkept (types C Q V H T E L)) → model.is_live (state_of g d) s ≡ true)
       → task_kind_of kind ≡ (if isomorphic then model.Isomorphic else model.ClientOnly)
-      → new ≡ d.tasks ++ (t, record { scope = s; parent = polled; state = Some a; was = was; active = true; kind = kind }) ∷ []
-      → (g : Unkept (types C Q V H T E L)) → post (state_of g (record d { tasks = new })) (model.Woken t) ≡ spawned (state_of g d) polled s t a isomorphic
-  spawned_in d polled s t a isomorphic was kind new live kinds is g =
+      → (g : Unkept (types C Q V H T E L)) (v : model.State (types C Q V H T E L))
+      → v ≡ with_tasks (state_of g d) ((state_of g d).tasks ++ (t, task_of (row_of polled s a was kind)) ∷ [])
+      → post v (model.Woken t) ≡ spawned (state_of g d) polled s t a isomorphic
+  spawned_in d polled s t a isomorphic was kind live kinds g v is =
       let w : model.State (types C Q V H T E L) = state_of g d in
-      let row : TaskRow P C Q V H T E L = record { scope = s; parent = polled; state = Some a; was = was; active = true; kind = kind } in
-      ap (λ ts. post (with_tasks w (each task_of ts)) (model.Woken t)) is
-      ∙ ap (λ ts. post (with_tasks w ts) (model.Woken t)) (append-each task_of d.tasks ((t, row) ∷ []))
+      ap (λ (u : model.State (types C Q V H T E L)). post u (model.Woken t)) is
       ∙ ap (λ k. post (with_tasks w (w.tasks ++ (t, record { scope = s; parent = polled; state = a; active = true; kind = k }) ∷ [])) (model.Woken t)) kinds
       ∙ ap (λ b. if b then post (with_tasks w (w.tasks ++ (t, record { scope = s; parent = polled; state = a; active = true; kind = if isomorphic then model.Isomorphic else model.ClientOnly }) ∷ [])) (model.Woken t) else w) (sym (live g))
 

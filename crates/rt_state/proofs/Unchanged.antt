@@ -1,17 +1,23 @@
 -- What a refusal leaves as it was, and changes that want no memory.
-use Rattle.std.proofs.Common.{◌≡◌, ℕ, Bool, true, false, List, [], ◌∷◌, ◌++◌, refl, ap, sym, ◌∙◌, nat_eq}
-use Rattle.std.specs.Prelude.{Option, Some, None, Result, Ok, Err, OnErr, MatchOption, if◌then◌else◌}
+use Rattle.std.proofs.Common.{◌≡◌, ℕ, Bool, true, false, List, [], ◌∷◌, refl, ap, sym, subst, ◌∙◌, nat_eq, ◌<◌, length, get_or, arith}
+use Rattle.std.specs.Coded.{Coded-set, coded_list, coded_ℕ}
+use Rattle.std.specs.Prelude.{Option, Some, None, Result, Ok, Err, IfSome, IfNone, IsOk, OnErr, if◌then◌else◌, slice_set}
 use Rattle.std.proofs.lemmas.Bool.{eqb-true}
-use Rattle.std.proofs.lemmas.List.{same_from_push}
+use Rattle.std.proofs.Math.Logic.{∥∥₁_prop}
 use Rattle.rt_model.specs.Lists.{at, put, or_else}
 use Rattle.rt_model.specs.OneLog.{types}
 use Rattle.rt_model.specs.State as model
+use Rattle.rt_model.specs.State.{change}
+use Rattle.rt_calls.specs.Kept.{each, scope_of}
 use Rattle.rt_calls.specs.declared.rest.Scope.{Scope}
+use Rattle.rt_owed.specs.Lists.{numbers_of}
+use Rattle.rt_owed.specs.Rooms.{Owing}
+use Rattle.rt_owed.proofs.Tables.{numbers_put, numbers_set}
+use Rattle.rt_named.specs.Standings.{IsPlaced}
 use Rattle.rt_state.specs.Mirror.{Unkept, task_of, change_task, state_of}
-use Rattle.rt_state.specs.declared.names.Posted.{Posted}
 use Rattle.rt_state.specs.declared.state.TaskRow.{TaskRow}
 use Rattle.rt_state.specs.declared.state.State.{State}
-use Rattle.rt_state.proofs.Changed.{task_changed}
+use Rattle.rt_state.proofs.Changed.{scope_changed, task_changed}
 
 -- a fact of every refusal, put through an inference
 pub on_err : {U X : Type 0} {A B : Type 0} (r : Result U X) → OnErr r A → (A → B) → OnErr r B
@@ -30,19 +36,9 @@ module _ {A : Type 0} where
           ap (λ (m : ℕ). (m, x) ∷ es) (sym (eqb-true e.0 n own)) ∙ ap (λ (a : A). (e.0, a) ∷ es) (sym (ap (λ (o : Option A). or_else x o) here))
       by false own here rest = ap (λ fs. e ∷ fs) (rest here)
 
-  never_none : {P : Type 0} (front : List A) (x : A) → front ++ x ∷ [] ≡ [] → P
-  never_none [] x is = absurd (cc is)
-  never_none (y ∷ ys) x is = absurd (cc is)
-
-  -- what was put at the end is taken off again
-  pub taken_off : (taken : Option A) (front all new : List A) (x : A) → all ≡ front ++ x ∷ []
-      → MatchOption taken ((all ≡ []) × (new ≡ [])) (λ last. all ≡ new ++ last ∷ []) → new ≡ front
-  taken_off None front all new x is none = never_none front x (sym is ∙ none.0)
-  taken_off (Some last) front all new x is more = (same_from_push new front last x (sym more ∙ is)).0
-
 module _ {A U X : Type 0} where
   -- a table whose change was refused by what leaves all as it was
-  table_stays : (r : Result U X) (R : A → A → Type 0) (old new : List (ℕ × A)) (n : ℕ) (found : Option A) → at old n ≡ found
+  pub table_stays : (r : Result U X) (R : A → A → Type 0) (old new : List (ℕ × A)) (n : ℕ) (found : Option A) → at old n ≡ found
       → (at old n ≡ None → new ≡ old)
       → ((x : A) → at old n ≡ Some x → (y : A) × R x y × (new ≡ put old n y))
       → ((x y : A) → R x y → OnErr r (y ≡ x))
@@ -53,33 +49,88 @@ module _ {A U X : Type 0} where
       let made = changed x stood in
       made.2 ∙ ap (λ (y : A). put old n y) (step x made.0 made.1) ∙ put-same old n x stood
 
+-- what is never refused
+pub never : {U X : Type 0} (A : Type 0) (r : Result U X) → IsOk r → OnErr r A
+never A (Ok u) ok = tt
+never A (Err e) ok = absurd (cc ok)
+
+-- an equation of lists of numbers has one proof
+one_proof : (xs ys : List ℕ) (p q : xs ≡ ys) → p ≡ q
+one_proof xs ys p q = Coded-set (coded_list coded_ℕ) xs ys p q
+
+module _ {P C Q V H T E L : Type 0} where
+  -- the state with other scopes, whose numbers are those that are entered
+  abbrev with_table : (d : State P C Q V H T E L) (es : List (ℕ × Scope P C Q V H T E L)) → numbers_of es ≡ (d.owed).scopes → numbers_of d.tasks ≡ (d.owed).tasks → ∥ IsPlaced (each scope_of es) d.places ∥₁ → State P C Q V H T E L
+  with_table d es h k p = record d { rows = record { table = es }; entered = h; known = k; placed = p }
+
+  -- scopes as they were are the state as it was
+  pub rows_same : (d : State P C Q V H T E L) (es : List (ℕ × Scope P C Q V H T E L)) (h : numbers_of es ≡ (d.owed).scopes) (k : numbers_of d.tasks ≡ (d.owed).tasks) (p : ∥ IsPlaced (each scope_of es) d.places ∥₁)
+      → es ≡ (d.rows).table → with_table d es h k p ≡ d
+  rows_same d es h k p is =
+      subst (λ (fs : List (ℕ × Scope P C Q V H T E L)). (m : numbers_of fs ≡ (d.owed).scopes) (n : ∥ IsPlaced (each scope_of fs) d.places ∥₁) → with_table d fs m k n ≡ d) (sym is)
+      (λ m n i. with_table d (d.rows).table (one_proof (numbers_of (d.rows).table) (d.owed).scopes m d.entered i) (one_proof (numbers_of d.tasks) (d.owed).tasks k d.known i) (∥∥₁_prop n d.placed i))
+      h p
+
+  -- the state with other tasks and owed things
+  abbrev with_tasks : (d : State P C Q V H T E L) (o : Owing) (ts : List (ℕ × TaskRow P C Q V H T E L)) → numbers_of (d.rows).table ≡ o.scopes → numbers_of ts ≡ o.tasks → ∥ IsPlaced (each scope_of (d.rows).table) d.places ∥₁ → State P C Q V H T E L
+  with_tasks d o ts h k p = record d { owed = o; tasks = ts; entered = h; known = k; placed = p }
+
+  pub tasks_same : (d : State P C Q V H T E L) (o : Owing) (ts : List (ℕ × TaskRow P C Q V H T E L)) (h : numbers_of (d.rows).table ≡ o.scopes) (k : numbers_of ts ≡ o.tasks) (p : ∥ IsPlaced (each scope_of (d.rows).table) d.places ∥₁)
+      → o ≡ d.owed → ts ≡ d.tasks → with_tasks d o ts h k p ≡ d
+  tasks_same d o ts h k p owed tasks =
+      subst (λ (a : Owing). (h : numbers_of (d.rows).table ≡ a.scopes) (k : numbers_of ts ≡ a.tasks) → with_tasks d a ts h k p ≡ d) (sym owed)
+      (
+      λ h k.
+      subst (λ (us : List (ℕ × TaskRow P C Q V H T E L)). (k : numbers_of us ≡ (d.owed).tasks) → with_tasks d d.owed us h k p ≡ d) (sym tasks)
+      (λ k i. with_tasks d d.owed d.tasks (one_proof (numbers_of (d.rows).table) (d.owed).scopes h d.entered i) (one_proof (numbers_of d.tasks) (d.owed).tasks k d.known i) (∥∥₁_prop p d.placed i))
+      k
+      )
+      h k
+
 module _ {P C Q V H T E L U X : Type 0} where
+  -- tasks that were refused
+  pub tasks_stay : (r : Result U X) (d : State P C Q V H T E L) (o : Owing) (ts : List (ℕ × TaskRow P C Q V H T E L)) (h : numbers_of (d.rows).table ≡ o.scopes) (k : numbers_of ts ≡ o.tasks)
+      (p : ∥ IsPlaced (each scope_of (d.rows).table) d.places ∥₁) → o ≡ d.owed → ts ≡ d.tasks → OnErr r (with_tasks d o ts h k p ≡ d)
+  tasks_stay (Ok u) d o ts h k p owed tasks = tt
+  tasks_stay (Err e) d o ts h k p owed tasks = tasks_same d o ts h k p owed tasks
+
   -- scopes whose change was refused
-  pub scope_stays : (r : Result U X) (R : Scope P C Q V H T E L → Scope P C Q V H T E L → Type 0) (d : State P C Q V H T E L) (new : List (ℕ × Scope P C Q V H T E L)) (s : ℕ)
+  pub scope_stays : (r : Result U X) (R : Scope P C Q V H T E L → Scope P C Q V H T E L → Type 0) (d : State P C Q V H T E L) (new : List (ℕ × Scope P C Q V H T E L)) (h : numbers_of new ≡ (d.owed).scopes) (k : numbers_of d.tasks ≡ (d.owed).tasks)
+      (p : ∥ IsPlaced (each scope_of new) d.places ∥₁) (s : ℕ)
       → (at (d.rows).table s ≡ None → new ≡ (d.rows).table)
       → ((x : Scope P C Q V H T E L) → at (d.rows).table s ≡ Some x → (y : Scope P C Q V H T E L) × R x y × (new ≡ put (d.rows).table s y))
       → ((x y : Scope P C Q V H T E L) → R x y → OnErr r (y ≡ x))
-      → OnErr r (record d { rows = record { table = new } } ≡ d)
-  scope_stays r R d new s absent changed step =
-      on_err r (table_stays r R (d.rows).table new s (at (d.rows).table s) refl absent changed step)
-      (λ is. ap (λ (es : List (ℕ × Scope P C Q V H T E L)). let v : State P C Q V H T E L = record d { rows = record { table = es } } in v) is)
+      → OnErr r (with_table d new h k p ≡ d)
+  scope_stays r R d new h k p s absent changed step =
+      on_err r (table_stays r R (d.rows).table new s (at (d.rows).table s) refl absent changed step) (λ is. rows_same d new h k p is)
 
-  -- what is posted, where a push was refused
-  pub posted_stays : (r : Result U X) (d : State P C Q V H T E L) (new : List Posted) → OnErr r (new ≡ d.posted) → OnErr r (record d { posted = new } ≡ d)
-  posted_stays r d new stays = on_err r stays (λ is. ap (λ (ps : List Posted). let v : State P C Q V H T E L = record d { posted = ps } in v) is)
+module _ {A : Type 0} where
+  -- a change of one row leaves the numbers of a table
+  pub numbers_changed : (R : A → A → Type 0) (old new : List (ℕ × A)) (n : ℕ)
+      → (at old n ≡ None → new ≡ old)
+      → ((x : A) → at old n ≡ Some x → (y : A) × R x y × (new ≡ put old n y))
+      → numbers_of new ≡ numbers_of old
+  numbers_changed R old new n absent changed = by (at old n) refl
+    where
+      by : (o : Option A) → at old n ≡ o → numbers_of new ≡ numbers_of old
+      by None e = ap (λ (es : List (ℕ × A)). numbers_of es) (absent e)
+      by (Some x) e = let made = changed x e in ap (λ (es : List (ℕ × A)). numbers_of es) made.2 ∙ numbers_put old n made.0 x e
 
-  -- what is seen, where it was refused to see more
-  pub seen_stays : (r : Result U X) (d : State P C Q V H T E L) (new : List ℕ) → OnErr r (new ≡ d.seen) → OnErr r (record d { seen = new } ≡ d)
-  seen_stays r d new stays = on_err r stays (λ is. ap (λ (ns : List ℕ). let v : State P C Q V H T E L = record d { seen = ns } in v) is)
+  -- a row that is put in the place of one, where there is one
+  pub numbers_replaced : (found : Option A) (old new : List (ℕ × A)) (n : ℕ) (a : A) → found ≡ at old n → IfSome found (λ _. new ≡ put old n a) → IfNone found (new ≡ old) → numbers_of new ≡ numbers_of old
+  numbers_replaced None old new n a is made same = ap (λ (es : List (ℕ × A)). numbers_of es) same
+  numbers_replaced (Some x) old new n a is made same = ap (λ (es : List (ℕ × A)). numbers_of es) made ∙ numbers_put old n a x (sym is)
+
+  -- a change of a row at an index leaves the numbers
+  pub numbers_entry : (R : A → A → Type 0) (old new : List (ℕ × A)) (i : ℕ) → i < length old
+      → ((row : ℕ × A) → (a : A) × R (get_or old i row).1 a × (new ≡ slice_set old i ((get_or old i row).0, a)))
+      → numbers_of new ≡ numbers_of old
+  numbers_entry R [] new i within made = absurd (omega (arith, within))
+  numbers_entry R (e ∷ es) new i within made =
+      let one = made e in
+      ap (λ (fs : List (ℕ × A)). numbers_of fs) one.2 ∙ numbers_set (e ∷ es) i e one.0 within
 
 module _ {P C Q V H T E L : Type 0} where
-  -- what is posted and the tasks, where both are as they were
-  pub both_stay : (d : State P C Q V H T E L) (ps : List Posted) (ts : List (ℕ × TaskRow P C Q V H T E L)) → ps ≡ d.posted → ts ≡ d.tasks
-      → record d { posted = ps; tasks = ts } ≡ d
-  both_stay d ps ts same tasks =
-      ap (λ (qs : List Posted). let v : State P C Q V H T E L = record d { posted = qs; tasks = ts } in v) same
-      ∙ ap (λ (us : List (ℕ × TaskRow P C Q V H T E L)). let v : State P C Q V H T E L = record d { tasks = us } in v) tasks
-
   -- a change of a task that is never refused
   pub task_surely : (R : TaskRow P C Q V H T E L → TaskRow P C Q V H T E L → Type 0) (d : State P C Q V H T E L) (new : List (ℕ × TaskRow P C Q V H T E L)) (t : ℕ)
       (k : TaskRow P C Q V H T E L → TaskRow P C Q V H T E L) (h : model.TaskRow (types C Q V H T E L) → model.TaskRow (types C Q V H T E L))
@@ -87,7 +138,19 @@ module _ {P C Q V H T E L : Type 0} where
       → ((x : TaskRow P C Q V H T E L) → at d.tasks t ≡ Some x → (y : TaskRow P C Q V H T E L) × R x y × (new ≡ put d.tasks t y))
       → ((x y : TaskRow P C Q V H T E L) → R x y → y ≡ k x)
       → ((x : TaskRow P C Q V H T E L) → task_of (k x) ≡ h (task_of x))
-      → (g : Unkept (types C Q V H T E L)) → state_of g (record d { tasks = new }) ≡ change_task (state_of g d) t h
+      → (g : Unkept (types C Q V H T E L)) → record (state_of g d) { tasks = each task_of new } ≡ change_task (state_of g d) t h
   task_surely R d new t k h absent changed step law =
       let done : Result ℕ ℕ = Ok 0 in
       task_changed done R d new t k h absent changed step law
+
+  -- a change of a scope that is never refused
+  pub scope_surely : (R : Scope P C Q V H T E L → Scope P C Q V H T E L → Type 0) (d : State P C Q V H T E L) (new : List (ℕ × Scope P C Q V H T E L)) (s : ℕ)
+      (k : Scope P C Q V H T E L → Scope P C Q V H T E L) (h : model.Scope (types C Q V H T E L) → model.Scope (types C Q V H T E L))
+      → (at (d.rows).table s ≡ None → new ≡ (d.rows).table)
+      → ((x : Scope P C Q V H T E L) → at (d.rows).table s ≡ Some x → (y : Scope P C Q V H T E L) × R x y × (new ≡ put (d.rows).table s y))
+      → ((x y : Scope P C Q V H T E L) → R x y → y ≡ k x)
+      → ((x : Scope P C Q V H T E L) → scope_of (k x) ≡ h (scope_of x))
+      → (g : Unkept (types C Q V H T E L)) → record (state_of g d) { scopes = each scope_of new } ≡ change (state_of g d) s h
+  scope_surely R d new s k h absent changed step law =
+      let done : Result ℕ ℕ = Ok 0 in
+      scope_changed done R d new s k h absent changed step law

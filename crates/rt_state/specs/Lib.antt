@@ -14,3 +14,4 @@ pub mod Mounts
 pub mod Kinds
 pub mod CleanUps
 pub mod Outputs
+pub mod Drawn

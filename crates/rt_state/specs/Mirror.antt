@@ -1,5 +1,5 @@
 -- The state of code as that of the model.
-use Rattle.std.specs.Prelude.{◌≡◌, ℕ, ◌+◌, List, [], ◌∷◌, map, Option, Some, None}
+use Rattle.std.specs.Prelude.{◌≡◌, ℕ, ◌+◌, List, [], map, Option, Some, None}
 use Rattle.rt_cells.specs.declared.numbered.Held.{Held}
 use Rattle.rt_model.specs.OneLog.{types}
 use Rattle.rt_model.specs.Tree as tree
@@ -8,7 +8,7 @@ use Rattle.rt_model.specs.State as state
 use Rattle.rt_calls.specs.Calls.{source_of, target_of, firsts_of}
 use Rattle.rt_calls.specs.Kept.{each, scope_of}
 use Rattle.rt_calls.specs.declared.rest.Scope.{Scope}
-use Rattle.rt_state.specs.Names.{posted_of, task_kind_of}
+use Rattle.rt_state.specs.Names.{task_kind_of}
 use Rattle.rt_state.specs.declared.state.ContextRow.{ContextRow}
 use Rattle.rt_state.specs.declared.state.TaskRow.{TaskRow}
 use Rattle.rt_state.specs.declared.state.State.{State}
@@ -73,9 +73,9 @@ module _ {P C Q V H T E L : Type 0} where
         cells = each cell_of (d.cells).cells;
         contexts = each context_of d.contexts;
         tasks = each task_of d.tasks;
-        posted = map posted_of d.posted;
-        seen = d.seen;
-        queued = d.queued;
+        posted = (d.owed).posted;
+        seen = (d.owed).seen;
+        queued = (d.owed).queued;
         resolved = d.resolved;
         skipped = d.skipped;
         next_scope = d.next_scope;

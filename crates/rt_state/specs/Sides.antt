@@ -31,6 +31,12 @@ module _ {P C Q V H T E L : Type 0} where
   with_child x Children c = record x { rest = record (x.rest) { children_side = and_child (x.rest).children_side c } }
   with_child x Fallback c = record x { rest = record (x.rest) { fallback_side = and_child (x.rest).fallback_side c } }
 
+  -- a scope with another side
+  abbrev pub side_put : SideName → Side P C Q V H T E L → Scope P C Q V H T E L → Scope P C Q V H T E L
+  side_put Main side x = record x { rest = record (x.rest) { main_side = side } }
+  side_put Children side x = record x { rest = record (x.rest) { children_side = side } }
+  side_put Fallback side x = record x { rest = record (x.rest) { fallback_side = side } }
+
 module _ {K : Types} where
   -- a scope of the model with one more number on a side
   abbrev pub more_number : model.SideName → Place × Kind × ℕ → model.Scope K → model.Scope K

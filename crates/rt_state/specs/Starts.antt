@@ -10,9 +10,9 @@ module _ {P C Q V H T E L : Type 0} where
     pub cells : (d.cells).cells ≡ []
     pub contexts : d.contexts ≡ []
     pub tasks : d.tasks ≡ []
-    pub posted : d.posted ≡ []
-    pub seen : d.seen ≡ []
-    pub queued : d.queued ≡ []
+    pub posted : (d.owed).posted ≡ []
+    pub seen : (d.owed).seen ≡ []
+    pub queued : (d.owed).queued ≡ []
     pub resolved : d.resolved ≡ []
     pub skipped : d.skipped ≡ []
     pub next : d.next ≡ firsts

@@ -1,10 +1,11 @@
 //! Errors, and what waits for a suspense boundary.
-ghost use Rattle.std.specs.Prelude.{◌≡◌, ◌++◌, ◌∷◌, [], OnOk, Some, None, option_map, true};
+ghost use Rattle.std.specs.Prelude.{◌≡◌, ◌++◌, ◌∷◌, [], OnOk, OnErr, Some, None, option_map, true};
 ghost use Rattle.rt_model.specs.State.{change};
 ghost use Rattle.rt_model.specs.Commands.{throw_error, clear_error, registered, frozen_at};
 ghost use Rattle.rt_model.specs.State.{suspense_context};
 ghost use Rattle.rt_mirror.specs.Mirror.{error_of};
 ghost use Rattle.rt_calls.specs.Calls.{hook_of};
+ghost use Rattle.rt_state.specs.Drawn.{drawn_for};
 ghost use Rattle.rt_state.specs.Mirror.{state_of};
 
 use crate::state::State;
@@ -17,8 +18,9 @@ impl<P: Parts> State<P> {
     /// An error comes to the nearest error boundary from a scope upwards. It fills the boundary's slot
     /// where that is empty, and the slot's readers are marked.
     pub fn throw_error(&mut self, scope: u64, error: CapturedError) -> Result<(), OutOfMemory>
-        ensures { OnOk result ((g : _) →
+        ensures thrown { OnOk result ((g : _) →
             state_of g self.new ≡ throw_error (state_of g self.old) scope (error_of error)) }
+        ensures err { OnErr result (self.new ≡ self.old) }
     {
         let Some(boundary) = self.error_context(scope) else {
             return Ok(());
@@ -36,8 +38,9 @@ impl<P: Parts> State<P> {
     /// Empties the slot of the nearest error boundary from a scope upwards, and marks its readers, also
     /// where it was empty.
     pub fn clear_error(&mut self, scope: u64) -> Result<(), OutOfMemory>
-        ensures { OnOk result ((g : _) →
+        ensures cleared { OnOk result ((g : _) →
             state_of g self.new ≡ clear_error (state_of g self.old) scope) }
+        ensures err { OnErr result (self.new ≡ self.old) }
     {
         let Some(boundary) = self.error_context(scope) else {
             return Ok(());
@@ -48,16 +51,19 @@ impl<P: Parts> State<P> {
 
     /// Fills or empties the slot of a live scope.
     fn put_error(&mut self, scope: u64, error: Option<CapturedError>) -> Result<(), OutOfMemory>
-        ensures { OnOk result ((g : _) →
+        ensures put { OnOk result ((g : _) →
             state_of g self.new ≡ change (state_of g self.old) scope
             (λ x. record x { error = option_map error_of error })) }
+        ensures err { OnErr result (self.new ≡ self.old) }
     {
-        self.change_scope(
+        self.change_asked(
             scope,
             |found: &mut Scope<P>| -> Result<(), OutOfMemory>
-                ensures { OnOk result (found.new ≡ record found.old {
+                ensures changed { OnOk result (found.new ≡ record found.old {
                   row = record found.old.row { error = error };
                 }) }
+                ensures stay { drawn_for found.new ≡ drawn_for found.old }
+                ensures err { OnErr result (found.new ≡ found.old) }
             {
                 found.row.error = error;
                 Ok(())
@@ -74,9 +80,10 @@ impl<P: Parts> State<P> {
         self.change_scope(
             scope,
             |found: &mut Scope<P>| -> Result<(), OutOfMemory>
-                ensures { OnOk result (found.new ≡ record found.old {
+                ensures changed { OnOk result (found.new ≡ record found.old {
                   row = record found.old.row { hooks = found.old.row.hooks ++ hook ∷ [] };
                 }) }
+                ensures stay { drawn_for found.new ≡ drawn_for found.old }
             { found.row.hooks.push(hook) },
         )
     }
@@ -90,18 +97,20 @@ impl<P: Parts> State<P> {
         self.change_scope(
             scope,
             |found: &mut Scope<P>| -> Result<(), OutOfMemory>
-                ensures { OnOk result (found.new ≡ record found.old {
+                ensures changed { OnOk result (found.new ≡ record found.old {
                   rest = record found.old.rest { effects = found.old.rest.effects ++ effect ∷ [] };
                 }) }
+                ensures stay { drawn_for found.new ≡ drawn_for found.old }
             { found.rest.effects.push(effect) },
         )
     }
 
     /// A callback waits for the next turn to its children of the scope's suspense boundary.
     pub fn register(&mut self, scope: u64, effect: P::Effect) -> Result<(), OutOfMemory>
-        ensures { OnOk result ((g : _) →
+        ensures registered { OnOk result ((g : _) →
             state_of g self.new ≡ registered (state_of g self.old) scope effect
             (suspense_context (state_of g self.old) scope)) }
+        ensures err { OnErr result (self.new ≡ self.old) }
     {
         match self.suspense_context(scope) {
             Some(boundary) => self.add_callback(boundary, scope, effect),
@@ -116,27 +125,31 @@ impl<P: Parts> State<P> {
         scope: u64,
         effect: P::Effect,
     ) -> Result<(), OutOfMemory>
-        ensures { OnOk result ((g : _) →
+        ensures added { OnOk result ((g : _) →
             state_of g self.new ≡ change (state_of g self.old) boundary
             (λ x. record x { callbacks = x.callbacks ++ (scope, effect) ∷ [] })) }
+        ensures err { OnErr result (self.new ≡ self.old) }
     {
-        self.change_scope(
+        self.change_asked(
             boundary,
             |found: &mut Scope<P>| -> Result<(), OutOfMemory>
-                ensures { OnOk result (found.new ≡ record found.old {
+                ensures changed { OnOk result (found.new ≡ record found.old {
                   rest = record found.old.rest {
                     callbacks = found.old.rest.callbacks ++ (scope, effect) ∷ [];
                   };
                 }) }
+                ensures stay { drawn_for found.new ≡ drawn_for found.old }
+                ensures err { OnErr result (found.new ≡ found.old) }
             { found.rest.callbacks.push((scope, effect)) },
         )
     }
 
     /// Freezes the scope's suspense boundary, so that a suspended render passes over what is below it.
     pub fn freeze(&mut self, scope: u64) -> Result<(), OutOfMemory>
-        ensures { OnOk result ((g : _) →
+        ensures frozen { OnOk result ((g : _) →
             state_of g self.new ≡ frozen_at (state_of g self.old)
             (suspense_context (state_of g self.old) scope)) }
+        ensures err { OnErr result (self.new ≡ self.old) }
     {
         match self.suspense_context(scope) {
             Some(boundary) => self.freeze_boundary(boundary),
@@ -146,16 +159,19 @@ impl<P: Parts> State<P> {
 
     /// Freezes a boundary.
     fn freeze_boundary(&mut self, boundary: u64) -> Result<(), OutOfMemory>
-        ensures { OnOk result ((g : _) →
+        ensures frozen { OnOk result ((g : _) →
             state_of g self.new ≡ change (state_of g self.old) boundary
             (λ x. record x { frozen = true })) }
+        ensures err { OnErr result (self.new ≡ self.old) }
     {
-        self.change_scope(
+        self.change_asked(
             boundary,
             |found: &mut Scope<P>| -> Result<(), OutOfMemory>
-                ensures { OnOk result (found.new ≡ record found.old {
+                ensures changed { OnOk result (found.new ≡ record found.old {
                   rest = record found.old.rest { frozen = true };
                 }) }
+                ensures stay { drawn_for found.new ≡ drawn_for found.old }
+                ensures err { OnErr result (found.new ≡ found.old) }
             {
                 found.rest.frozen = true;
                 Ok(())

@@ -7,10 +7,11 @@ ghost use Rattle.rt_state.specs.Mirror.{change_task};
 ghost use Rattle.rt_model.specs.Run.{raised, suspends_on, joins, unmarked};
 ghost use Rattle.rt_state.specs.Names.{fault_of};
 ghost use Rattle.rt_state.specs.Climbs.{place_above};
+ghost use Rattle.rt_state.specs.Drawn.{drawn_for};
 ghost use Rattle.rt_state.specs.Mirror.{state_of};
 
 use crate::names::{Fault, Posted, Stop, TaskKind};
-use crate::numbers::{drop_number, drop_posted};
+use crate::numbers::drop_number;
 use crate::scopes::holds;
 use crate::state::{State, TaskRow};
 use rt_calls::{Counter, Scope};
@@ -46,9 +47,10 @@ impl<P: Parts> State<P> {
         self.change_scope(
             scope,
             |found: &mut Scope<P>| -> Result<(), OutOfMemory>
-                ensures { OnOk result (found.new ≡ record found.old {
+                ensures changed { OnOk result (found.new ≡ record found.old {
                   row = record found.old.row { renders = renders };
                 }) }
+                ensures stay { drawn_for found.new ≡ drawn_for found.old }
             {
                 found.row.renders = renders;
                 Ok(())
@@ -134,11 +136,12 @@ impl<P: Parts> State<P> {
         self.change_scope(
             boundary,
             |found: &mut Scope<P>| -> Result<(), OutOfMemory>
-                ensures { OnOk result (found.new ≡ record found.old {
+                ensures changed { OnOk result (found.new ≡ record found.old {
                   rest = record found.old.rest {
                     holders = found.old.rest.holders ++ (task, origin) ∷ [];
                   };
                 }) }
+                ensures stay { drawn_for found.new ≡ drawn_for found.old }
             { found.rest.holders.push((task, origin)) },
         )
     }
@@ -147,8 +150,8 @@ impl<P: Parts> State<P> {
     pub fn unmark(&mut self, scope: u64)
         ensures { (g : _) → state_of g self.new ≡ unmarked (state_of g self.old) scope }
     {
-        drop_posted(&mut self.posted, Posted::Mark(scope));
-        drop_number(&mut self.seen, scope);
+        self.owed.drop_marks(scope);
+        self.owed.unsee(scope);
         drop_number(&mut self.skipped, scope);
     }
 }

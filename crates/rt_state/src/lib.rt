@@ -14,6 +14,7 @@ mod mounting;
 mod names;
 mod numbers;
 mod order;
+mod places;
 mod posting;
 mod provided;
 mod removal;

@@ -1,54 +1,78 @@
 //! Looks: what was posted becomes seen or queued; paused tasks that come up are dropped.
-ghost use Rattle.std.specs.Prelude.{◌≡◌, IfOk, OnOk, option_map};
+ghost use Rattle.std.specs.Prelude.{◌≡◌, ◌<◌, ℕ, length, get_or, IfOk, IsOk, OnOk, option_map};
+ghost use Rattle.rt_model.specs.State.{Mark as MarkOf, Woken as WokenOf};
 ghost use Rattle.rt_model.specs.Next.{look, paused, found, drops, at_rest, next_at_rest};
-ghost use Rattle.rt_state.specs.Names.{posted_of, work_of};
-ghost use Rattle.rt_state.specs.Looks.{looked_at};
+ghost use Rattle.rt_owed.specs.Lists.{marks_in, once_each, wakes_in};
+ghost use Rattle.rt_state.specs.Names.{work_of};
+ghost use Rattle.rt_state.specs.Looks.{looked_at, queued_of, seen_of};
 ghost use Rattle.rt_state.specs.Mirror.{state_of};
 
-use crate::names::{Posted, Work};
-use crate::numbers::{drop_number, join};
+use crate::names::Work;
 use crate::state::State;
 use rt_parts::Parts;
-use rt_values::{List, OutOfMemory};
+use rt_values::OutOfMemory;
 use std::alloc::Global;
-use std::mem;
 
 impl<P: Parts> State<P> {
     /// All that is posted becomes seen or queued, once each. Marks and wakes of what is gone are passed
-    /// over.
-    pub fn look(&mut self, alloc: Global) -> Result<(), OutOfMemory>
-        ensures { OnOk result ((g : _) →
+    /// over. It takes no memory.
+    pub fn look(&mut self, _alloc: Global) -> Result<(), OutOfMemory>
+        ensures ok { IsOk result }
+        ensures looked { OnOk result ((g : _) →
             state_of g self.new ≡ look (state_of g self.old)) }
     {
-        let empty = List::new(alloc);
-        let posted = mem::replace(&mut self.posted, empty);
-        for entry in posted.as_slice() {
-            self.look_at(entry)?;
-        }
+        self.look_at_marks();
+        self.look_at_wakes();
+        self.owed.empty();
         Ok(())
     }
 
-    /// One posted thing becomes seen or queued.
-    fn look_at(&mut self, posted: &Posted) -> Result<(), OutOfMemory>
-        ensures { OnOk result ((g : _) →
-            state_of g self.new ≡ looked_at (state_of g self.old) (posted_of posted.now)) }
+    /// The scopes whose marks are posted are seen, where they are live.
+    fn look_at_marks(&mut self)
+        ensures seen { (g : _) → state_of g self.new ≡ record (state_of g self.old) {
+          seen = seen_of (state_of g self.old) (once_each (marks_in self.old.owed.posted)) self.old.owed.seen;
+        } }
     {
-        match *posted {
-            Posted::Mark(scope) => {
-                if self.is_live(scope) {
-                    join(&mut self.seen, scope)
-                } else {
-                    Ok(())
-                }
-            }
-            Posted::Woken(task) => {
-                if self.has_task(task) {
-                    join(&mut self.queued, task)
-                } else {
-                    Ok(())
-                }
-            }
+        for index in 0..self.owed.marks().len() {
+            self.look_at_mark(index);
         }
+    }
+
+    /// The scope whose mark is at an index of the posted ones is seen, where it is live.
+    fn look_at_mark(&mut self, index: usize)
+        requires within { index < length (once_each (marks_in self.old.owed.posted)) }
+        ensures seen { (g : _) (d : ℕ) → state_of g self.new ≡ looked_at (state_of g self.old)
+            (MarkOf (get_or (once_each (marks_in self.old.owed.posted)) index d)) }
+    {
+        let scope = self.owed.marks()[index];
+        if !self.is_live(scope) {
+            return;
+        }
+        self.owed.see(scope);
+    }
+
+    /// The tasks whose wakes are posted are queued, where they haven't ended.
+    fn look_at_wakes(&mut self)
+        ensures queued { (g : _) → state_of g self.new ≡ record (state_of g self.old) {
+          queued = queued_of (state_of g self.old) (once_each (wakes_in self.old.owed.posted)) self.old.owed.queued;
+        } }
+    {
+        for index in 0..self.owed.wakes().len() {
+            self.look_at_wake(index);
+        }
+    }
+
+    /// The task whose wake is at an index of the posted ones is queued, where it hasn't ended.
+    fn look_at_wake(&mut self, index: usize)
+        requires within { index < length (once_each (wakes_in self.old.owed.posted)) }
+        ensures queued { (g : _) (d : ℕ) → state_of g self.new ≡ looked_at (state_of g self.old)
+            (WokenOf (get_or (once_each (wakes_in self.old.owed.posted)) index d)) }
+    {
+        let task = self.owed.wakes()[index];
+        if !self.has_task(task) {
+            return;
+        }
+        self.owed.queue(task);
     }
 
     /// The task that comes up, where that is a paused one.
@@ -75,12 +99,12 @@ impl<P: Parts> State<P> {
             state_of g self.new ≡ drops (state_of g self.old).queued (state_of g self.old) }
         ensures next { (g : _) → option_map work_of result ≡ found (state_of g self.new) }
     {
-        for _step in 0..self.queued.len() {
+        for _step in 0..self.owed.queued().len() {
             let up = self.found();
             let Some(task) = self.paused(up) else {
                 return up;
             };
-            drop_number(&mut self.queued, task);
+            self.owed.unqueue(task);
         }
         self.found()
     }
@@ -88,6 +112,7 @@ impl<P: Parts> State<P> {
     /// Drops paused tasks that come up, and looks where nothing is left. The answer is what comes
     /// up then.
     pub fn at_rest(&mut self, alloc: Global) -> Result<Option<Work>, OutOfMemory>
+        ensures ok { IsOk result }
         ensures rest { OnOk result ((g : _) →
             state_of g self.new ≡ at_rest (state_of g self.old)) }
         ensures next { IfOk result (λ work. (g : _) →
@@ -104,6 +129,7 @@ impl<P: Parts> State<P> {
 
     /// The same, and where nothing comes up the effects of the least mounted scope that has some.
     pub fn next_work(&mut self, alloc: Global) -> Result<Option<Work>, OutOfMemory>
+        ensures ok { IsOk result }
         ensures rest { OnOk result ((g : _) →
             state_of g self.new ≡ at_rest (state_of g self.old)) }
         ensures next { IfOk result (λ work. (g : _) →

@@ -1,62 +1,49 @@
 //! Marks that are seen at once.
-ghost use Rattle.std.specs.Prelude.{◌≡◌, IfOk, OnOk, OnErr, if◌then◌else◌};
-ghost use Rattle.rt_model.specs.Lists.{join};
-ghost use Rattle.rt_model.specs.State.{is_live};
+ghost use Rattle.std.specs.Prelude.{◌≡◌, IsOk, OnOk, OnErr};
 ghost use Rattle.rt_model.specs.Sentences.{marked_now, all_marked_now};
+ghost use Rattle.rt_owed.specs.Lists.{joins, numbers_of};
 ghost use Rattle.rt_state.specs.Mirror.{scopes_of, state_of};
 
-use crate::numbers::join;
 use crate::state::State;
+use rt_calls::Scope;
+use rt_owed::Owed;
 use rt_parts::Parts;
-use rt_values::{List, OutOfMemory, Part};
+use rt_values::OutOfMemory;
 use std::alloc::Global;
 
 impl<P: Parts> State<P> {
-    /// Marks a live scope, which is seen at once.
+    /// Marks a live scope, which is seen at once. It takes no memory.
     pub fn mark_now(&mut self, scope: u64) -> Result<(), OutOfMemory>
+        ensures ok { IsOk result }
         ensures marked { OnOk result ((g : _) →
             state_of g self.new ≡ marked_now (state_of g self.old) scope) }
         ensures err { OnErr result (self.new ≡ self.old) }
     {
-        if self.is_live(scope) {
-            join(&mut self.seen, scope)
-        } else {
-            Ok(())
+        if !self.is_live(scope) {
+            return Ok(());
         }
+        self.owed.see(scope);
+        Ok(())
     }
 
-    /// Marks every live scope, which are seen at once.
-    pub fn mark_all_now(&mut self, alloc: Global) -> Result<(), OutOfMemory>
+    /// Marks every live scope, which are seen at once. It takes no memory.
+    pub fn mark_all_now(&mut self, _alloc: Global) -> Result<(), OutOfMemory>
+        ensures ok { IsOk result }
         ensures marked { OnOk result ((g : _) → state_of g self.new
             ≡ all_marked_now (scopes_of self.old.rows.table) (state_of g self.old)) }
         ensures err { OnErr result (self.new ≡ self.old) }
     {
-        let seen = self.all_seen(alloc)?;
-        self.seen = seen;
+        see_all(self.rows.table.as_slice(), &mut self.owed);
         Ok(())
     }
+}
 
-    /// What is seen where every live scope is marked.
-    fn all_seen(&self, alloc: Global) -> Result<List<u64>, OutOfMemory>
-        ensures { IfOk result (λ seen. (g : _) → record (state_of g self.now) { seen = seen }
-            ≡ all_marked_now (scopes_of self.now.rows.table) (state_of g self.now)) }
-    {
-        let mut seen = self.seen.copy(alloc)?;
-        for entry in self.rows.table.as_slice() {
-            self.see(entry.0, &mut seen)?;
-        }
-        Ok(seen)
-    }
-
-    /// Puts a scope among those that are seen, where it is live.
-    fn see(&self, scope: u64, seen: &mut List<u64>) -> Result<(), OutOfMemory>
-        ensures { OnOk result ((g : _) → seen.new
-            ≡ (if is_live (state_of g self.now) scope then join seen.old scope else seen.old)) }
-    {
-        if self.is_live(scope) {
-            join(seen, scope)
-        } else {
-            Ok(())
-        }
+/// All these scopes are seen. They are the entered ones.
+fn see_all<P: Parts>(scopes: &[(u64, Scope<P>)], owed: &mut Owed)
+    requires entered { numbers_of scopes.now ≡ owed.old.scopes }
+    ensures seen { owed.new ≡ record owed.old { seen = joins owed.old.seen (numbers_of scopes.now) } }
+{
+    for entry in scopes {
+        owed.see(entry.0);
     }
 }

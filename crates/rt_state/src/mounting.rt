@@ -2,6 +2,7 @@
 ghost use Rattle.std.specs.Prelude.{◌≡◌, ◌<◌, ℕ, true, length, get_or, slice_set, OnOk};
 ghost use Rattle.rt_model.specs.Replay.{mounted_state};
 ghost use Rattle.rt_state.specs.Mounts.{comes_at, mounts_now};
+ghost use Rattle.rt_state.specs.Drawn.{drawn_for};
 ghost use Rattle.rt_state.specs.Mirror.{scopes_of, state_of};
 
 use crate::state::State;
@@ -25,13 +26,12 @@ impl<P: Parts> State<P> {
     /// Mounts the scope at an index, where it shows.
     fn mount_at(&mut self, index: usize) -> Result<(), OutOfMemory>
         requires within { index < length self.old.rows.table }
-        ensures { OnOk result ((d : ℕ × Scope P P.Component P.Props P.Value P.Handler P.TaskState P.Effect P.Payload)
-            → self.new ≡ record self.old {
-              rows = record {
-                table = slice_set self.old.rows.table index
-                    (mounts_now (scopes_of self.old.rows.table) (get_or self.old.rows.table index d));
-              };
-            }) }
+        ensures mounted { OnOk result ((d : ℕ × Scope P P.Component P.Props P.Value P.Handler P.TaskState P.Effect P.Payload)
+            → self.new.rows.table ≡ slice_set self.old.rows.table index
+            (mounts_now (scopes_of self.old.rows.table) (get_or self.old.rows.table index d))) }
+        ensures others { (g : _) → state_of g self.new ≡ record (state_of g self.old) {
+          scopes = scopes_of self.new.rows.table;
+        } }
     {
         if !self.comes_to_show(index) {
             return Ok(());
@@ -39,9 +39,10 @@ impl<P: Parts> State<P> {
         self.change_entry(
             index,
             |found: &mut Scope<P>| -> Result<(), OutOfMemory>
-                ensures { OnOk result (found.new ≡ record found.old {
+                ensures changed { OnOk result (found.new ≡ record found.old {
                   rest = record found.old.rest { mounted = true };
                 }) }
+                ensures stay { drawn_for found.new ≡ drawn_for found.old }
             {
                 found.rest.mounted = true;
                 Ok(())

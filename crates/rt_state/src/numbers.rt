@@ -1,12 +1,8 @@
-//! Lists of numbers, of marks and wakes.
-ghost use Rattle.std.specs.Prelude.{◌≡◌, ◌<◌, ◌≤◌, ◌++◌, ℕ, length, get_or, take, drop, nat_le, map, OnOk, OnErr, IfSome, IfNone, true, false};
-ghost use Rattle.std.specs.List.{list_any};
+//! Lists of numbers.
+ghost use Rattle.std.specs.Prelude.{◌≡◌, ◌<◌, ◌≤◌, ◌++◌, ℕ, length, get_or, take, drop, nat_le, OnOk, OnErr, IfSome, IfNone, true, false};
 ghost use Rattle.rt_model.specs.Lists.{has, drop_number, join, insert_number};
-ghost use Rattle.rt_model.specs.Commands.{same_posted, drop_posted};
-ghost use Rattle.rt_state.specs.Names.{posted_of};
 ghost use Rattle.rt_state.specs.Kinds.{stands_at};
 
-use crate::names::Posted;
 use rt_values::{List, OutOfMemory};
 
 /// Where a number stands first.
@@ -91,40 +87,4 @@ fn place_of(numbers: &[u32], number: u32) -> usize
         }
     }
     numbers.len()
-}
-
-/// Whether two posted things are the same.
-fn is_same_posted(left: Posted, right: Posted) -> bool
-    ensures { result ≡ same_posted (posted_of left) (posted_of right) }
-{
-    match (left, right) {
-        (Posted::Mark(scope), Posted::Mark(other)) => scope == other,
-        (Posted::Woken(task), Posted::Woken(other)) => task == other,
-        _ => false,
-    }
-}
-
-/// Where a posted thing stands first.
-fn posted_in(list: &[Posted], posted: Posted) -> Option<usize>
-    ensures within { IfSome result (λ index. index < length list.now) }
-    ensures own { IfSome result (λ index. (d : Posted) →
-        same_posted (posted_of (get_or list.now index d)) (posted_of posted) ≡ true) }
-    ensures none { IfNone result
-        (list_any (λ x. same_posted x (posted_of posted)) (map posted_of list.now) ≡ false) }
-{
-    for index in 0..list.len() {
-        if is_same_posted(list[index], posted) {
-            return Some(index);
-        }
-    }
-    None
-}
-
-/// Takes a posted thing out wherever it stands.
-pub fn drop_posted(list: &mut List<Posted>, posted: Posted)
-    ensures { map posted_of list.new ≡ drop_posted (map posted_of list.old) (posted_of posted) }
-{
-    while let Some(index) = posted_in(list.as_slice(), posted) {
-        list.remove(index);
-    }
 }

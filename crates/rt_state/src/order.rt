@@ -87,7 +87,7 @@ impl<P: Parts> State<P> {
     pub fn first_task(&self) -> Option<u64>
         ensures { (g : _) → result ≡ first_task (state_of g self.now) }
     {
-        let queued = self.queued.as_slice();
+        let queued = self.owed.queued();
         if queued.is_empty() {
             return None;
         }
@@ -102,7 +102,7 @@ impl<P: Parts> State<P> {
     pub fn first_seen(&self) -> Option<u64>
         ensures { (g : _) → result ≡ first_seen (state_of g self.now) }
     {
-        let seen = self.seen.as_slice();
+        let seen = self.owed.seen();
         if seen.is_empty() {
             return None;
         }

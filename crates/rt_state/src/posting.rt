@@ -1,6 +1,8 @@
 //! Marks and wakes.
-ghost use Rattle.std.specs.Prelude.{◌≡◌, ℕ, ◌<◌, ◌++◌, ◌∷◌, [], length, get_or, map, OnOk, OnErr, if◌then◌else◌};
-ghost use Rattle.rt_model.specs.State.{Mark as MarkOf};
+ghost use Rattle.std.specs.Prelude.{◌≡◌, ℕ, ◌<◌, ◌++◌, ◌∷◌, [], length, get_or, map, OnOk, OnErr, IsOk, true, if◌then◌else◌};
+ghost use Rattle.rt_model.specs.Lists.{has};
+ghost use Rattle.rt_model.specs.State.{Mark as MarkOf, Woken as WokenOf};
+ghost use Rattle.rt_owed.specs.Lists.{numbers_of};
 ghost use Rattle.rt_model.specs.Commands.{post, post_target, names_source, readers, tell};
 ghost use Rattle.rt_model.specs.Removal.{tell_all};
 ghost use Rattle.rt_model.specs.Replay.{post_all};
@@ -13,12 +15,14 @@ use crate::sources::names_source;
 use crate::state::{ContextRow, State};
 use rt_calls::Scope;
 use rt_cells::{Source, Target};
+use rt_owed::Owed;
 use rt_parts::Parts;
-use rt_values::{List, OutOfMemory};
+use rt_values::OutOfMemory;
 
 impl<P: Parts> State<P> {
     /// Puts a live scope or task at the end of the posted list.
     pub fn post(&mut self, posted: Posted) -> Result<(), OutOfMemory>
+        ensures ok { IsOk result }
         ensures posted { OnOk result ((g : _) →
             state_of g self.new ≡ post (state_of g self.old) (posted_of posted)) }
         ensures rows { self.new.rows ≡ self.old.rows }
@@ -27,24 +31,43 @@ impl<P: Parts> State<P> {
     {
         match posted {
             Posted::Mark(scope) => {
-                if self.is_live(scope) {
-                    self.posted.push(Posted::Mark(scope))
-                } else {
-                    Ok(())
-                }
+                self.post_mark(scope);
+                Ok(())
             }
             Posted::Woken(task) => {
-                if self.has_task(task) {
-                    self.posted.push(Posted::Woken(task))
-                } else {
-                    Ok(())
-                }
+                self.post_wake(task);
+                Ok(())
             }
         }
     }
 
+    /// Posts a mark of a scope, where it is live.
+    fn post_mark(&mut self, scope: u64)
+        ensures posted { (g : _) → state_of g self.new ≡ post (state_of g self.old) (MarkOf scope) }
+        ensures rows { self.new.rows ≡ self.old.rows }
+        ensures contexts { self.new.contexts ≡ self.old.contexts }
+    {
+        if !self.is_live(scope) {
+            return;
+        }
+        self.owed.post_mark(scope);
+    }
+
+    /// Posts a wake of a task, where it hasn't ended.
+    fn post_wake(&mut self, task: u64)
+        ensures posted { (g : _) → state_of g self.new ≡ post (state_of g self.old) (WokenOf task) }
+        ensures rows { self.new.rows ≡ self.old.rows }
+        ensures contexts { self.new.contexts ≡ self.old.contexts }
+    {
+        if !self.has_task(task) {
+            return;
+        }
+        self.owed.post_wake(task);
+    }
+
     /// Marks or wakes what a reactive context targets.
     pub fn post_target(&mut self, target: Target) -> Result<(), OutOfMemory>
+        ensures ok { IsOk result }
         ensures posted { OnOk result ((g : _) →
             state_of g self.new ≡ post_target (state_of g self.old) (target_of target)) }
         ensures rows { self.new.rows ≡ self.old.rows }
@@ -60,10 +83,11 @@ impl<P: Parts> State<P> {
     /// Marks each scope that read a source, and then posts the target of each reactive context whose
     /// sources name it.
     pub fn tell(&mut self, source: Source) -> Result<(), OutOfMemory>
-        ensures { OnOk result ((g : _) →
+        ensures ok { IsOk result }
+        ensures told { OnOk result ((g : _) →
             state_of g self.new ≡ tell (state_of g self.old) (source_of source)) }
     {
-        add_readers(self.rows.table.as_slice(), source, &mut self.posted)?;
+        add_readers(self.rows.table.as_slice(), source, &mut self.owed);
         let count = self.contexts.as_slice().len();
         for index in 0..count {
             self.tell_context(index, source)?;
@@ -74,6 +98,7 @@ impl<P: Parts> State<P> {
     /// Posts the target of a reactive context, where the source was read in it.
     fn tell_context(&mut self, index: usize, source: Source) -> Result<(), OutOfMemory>
         requires within { index < length self.old.contexts }
+        ensures ok { IsOk result }
         ensures told { OnOk result ((g : _) (row : ℕ × ContextRow) → state_of g self.new ≡
             (if names_source (map source_of (get_or self.old.contexts index row).1.sources) (source_of source)
             then post_target (state_of g self.old) (target_of (get_or self.old.contexts index row).1.target)
@@ -133,34 +158,28 @@ impl<P: Parts> State<P> {
     }
 }
 
-/// Puts the marks of the scopes that read a source after those that are posted.
-pub(crate) fn add_readers<P: Parts>(
-    scopes: &[(u64, Scope<P>)],
-    source: Source,
-    posted: &mut List<Posted>,
-) -> Result<(), OutOfMemory>
-    ensures { OnOk result (map posted_of posted.new
-        ≡ map posted_of posted.old ++ readers (source_of source) (scopes_of scopes.now)) }
+/// Posts the marks of the scopes that read a source. They are entered.
+fn add_readers<P: Parts>(scopes: &[(u64, Scope<P>)], source: Source, owed: &mut Owed)
+    requires entered { numbers_of scopes.now ≡ owed.old.scopes }
+    ensures posted { owed.new ≡ record owed.old {
+      posted = owed.old.posted ++ readers (source_of source) (scopes_of scopes.now);
+    } }
 {
     for entry in scopes {
-        add_reader(entry.0, entry.1.rest.reads.as_slice(), source, posted)?;
+        add_reader(entry.0, entry.1.rest.reads.as_slice(), source, owed);
     }
-    Ok(())
 }
 
-/// Puts the mark of a scope after those that are posted, where it read the source.
-fn add_reader(
-    scope: u64,
-    reads: &[Source],
-    source: Source,
-    posted: &mut List<Posted>,
-) -> Result<(), OutOfMemory>
-    ensures { OnOk result (map posted_of posted.new ≡ map posted_of posted.old
-        ++ (if names_source (map source_of reads.now) (source_of source) then MarkOf scope ∷ [] else [])) }
+/// Posts the mark of an entered scope, where it read the source.
+fn add_reader(scope: u64, reads: &[Source], source: Source, owed: &mut Owed)
+    requires entered { has owed.old.scopes scope ≡ true }
+    ensures posted { owed.new ≡ record owed.old {
+      posted = owed.old.posted
+          ++ (if names_source (map source_of reads.now) (source_of source) then MarkOf scope ∷ [] else []);
+    } }
 {
-    if names_source(reads, source) {
-        posted.push(Posted::Mark(scope))
-    } else {
-        Ok(())
+    if !names_source(reads, source) {
+        return;
     }
+    owed.post_mark(scope);
 }

@@ -9,6 +9,7 @@ ghost use Rattle.rt_model.specs.OneLog.{types};
 ghost use Rattle.rt_model.specs.World.{Application};
 ghost use Rattle.rt_model.specs.Laws.{Tests};
 ghost use Rattle.rt_state.specs.Provided.{put_provided, provides_now};
+ghost use Rattle.rt_state.specs.Drawn.{drawn_for};
 ghost use Rattle.rt_state.specs.Mirror.{state_of};
 
 use crate::state::State;
@@ -72,9 +73,10 @@ impl<P: Parts> State<P> {
         kind: u32,
         value: P::Value,
     ) -> Result<(), OutOfMemory>
-        ensures { (app : Application (types P.Component P.Props P.Value P.Handler P.TaskState P.Effect P.Payload))
+        ensures provided { (app : Application (types P.Component P.Props P.Value P.Handler P.TaskState P.Effect P.Payload))
             → Tests P.Value app.same_value → OnOk result ((g : _) → state_of g self.new
             ≡ provide_context app (state_of g self.old) scope kind value) }
+        ensures err { OnErr result (self.new ≡ self.old) }
     {
         let Some(same) = self.provides(scope, kind, &value) else {
             return Ok(());
@@ -104,18 +106,21 @@ impl<P: Parts> State<P> {
 
     /// Puts a value among what a live scope provides.
     fn put_context(&mut self, scope: u64, kind: u32, value: P::Value) -> Result<(), OutOfMemory>
-        ensures { OnOk result ((g : _) → state_of g self.new
+        ensures put { OnOk result ((g : _) → state_of g self.new
             ≡ change (state_of g self.old) scope
             (λ x. record x { contexts = put x.contexts kind value })) }
+        ensures err { OnErr result (self.new ≡ self.old) }
     {
-        self.change_scope(
+        self.change_asked(
             scope,
             |found: &mut Scope<P>| -> Result<(), OutOfMemory>
-                ensures { OnOk result (found.new ≡ record found.old {
+                ensures changed { OnOk result (found.new ≡ record found.old {
                   row = record found.old.row {
                     contexts = put_provided found.old.row.contexts kind value;
                   };
                 }) }
+                ensures stay { drawn_for found.new ≡ drawn_for found.old }
+                ensures err { OnErr result (found.new ≡ found.old) }
             { put_provided(&mut found.row.contexts, kind, value) },
         )
     }

@@ -2,7 +2,7 @@
 ghost use Rattle.std.specs.Prelude.{◌≡◌, ◌<◌, ◌++◌, ◌∷◌, [], ℕ, nat_eq, not, length, get_or, map, OnOk, IfOk, IfSome, IfNone, true, false, if◌then◌else◌};
 ghost use Rattle.std.specs.List.{list_any};
 ghost use Rattle.rt_model.specs.World.{clean_up_kind};
-ghost use Rattle.rt_model.specs.Lists.{kept_by};
+ghost use Rattle.rt_model.specs.Lists.{kept_by, without};
 ghost use Rattle.rt_model.specs.Removal.{stopped, gone, without_scope, told_of_sources, tell_all, cell_sources, context_sources, kinds_in, kinds_of_scopes, kinds_of_contexts, clean_ups as clean_ups_of};
 ghost use Rattle.rt_calls.specs.Calls.{source_of, hook_of};
 ghost use Rattle.rt_state.specs.CleanUps.{own_clean_up};
@@ -10,6 +10,7 @@ ghost use Rattle.rt_state.specs.Kinds.{kinds_in_contexts};
 ghost use Rattle.rt_state.specs.Mirror.{forgets, scopes_of, state_of};
 
 use crate::numbers::{drop_number, insert_number};
+use crate::places::remove_rows;
 use crate::state::{ContextRow, State};
 use rt_calls::{CLEAN_UP, Hook, Scope};
 use rt_cells::Source;
@@ -174,11 +175,24 @@ impl<P: Parts> State<P> {
         ensures { (g : _) →
             state_of (forgets g scope) self.new ≡ without_scope (state_of g self.old) scope }
     {
-        self.rows.table.remove(scope);
         self.cells.drop_cells(ScopeId(scope));
         drop_owned(&mut self.contexts, scope);
         drop_number(&mut self.resolved, scope);
         drop_number(&mut self.skipped, scope);
+        self.remove_scope(scope);
+    }
+
+    /// The record alone goes. What is owed of the scope stays, to be passed over.
+    fn remove_scope(&mut self, scope: u64)
+        ensures removed { (g : _) → state_of g self.new ≡ record (state_of g self.old) {
+          scopes = without (state_of g self.old).scopes scope;
+        } }
+    {
+        if !self.is_live(scope) {
+            return;
+        }
+        self.owed.leave_scope(scope);
+        remove_rows(&mut self.rows.table, &mut self.places, scope);
     }
 
     /// Marks those who read these cells, cell by cell.

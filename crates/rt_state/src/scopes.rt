@@ -1,7 +1,7 @@
 //! What a scope's record says.
 ghost use Rattle.std.specs.Prelude.{◌≡◌, ℕ, [], map, Option, Some, None, option_map, if◌then◌else◌};
 ghost use Rattle.rt_model.specs.State as model;
-ghost use Rattle.rt_model.specs.State.{new_scope, with_side, is_held, holds, parent_of, height_of, hooks_of, renders_of, is_boundary, MainSide};
+ghost use Rattle.rt_model.specs.State.{new_scope, is_held, holds, parent_of, height_of, hooks_of, renders_of, is_boundary, MainSide};
 ghost use Rattle.rt_model.specs.Run.{has_output};
 ghost use Rattle.rt_model.specs.Tree as tree;
 ghost use Rattle.rt_calls.specs.Calls.{number_of, hook_of};
@@ -9,6 +9,7 @@ ghost use Rattle.rt_mirror.specs.Sealed.{component_of};
 ghost use Rattle.rt_places.specs.Places.{side_name_of, side_of};
 ghost use Rattle.rt_calls.specs.Kept.{scope_of};
 ghost use Rattle.rt_state.specs.Mirror.{scopes_of, state_of};
+ghost use Rattle.rt_state.specs.Sides.{side_put};
 
 use crate::state::State;
 use rt_calls::{Hook, Rest, Scope, ScopeRow};
@@ -114,8 +115,7 @@ pub fn side_of<P: Parts>(scope: &Scope<P>, side: SideName) -> &Side<P>
 
 /// Puts another side in the place of one of a scope.
 pub fn put_side<P: Parts>(scope: &mut Scope<P>, name: SideName, side: Side<P>)
-    ensures { scope_of scope.new
-        ≡ with_side (scope_of scope.old) (side_name_of name) (side_of side) }
+    ensures put { scope.new ≡ side_put name side scope.old }
 {
     match name {
         SideName::Main => scope.rest.main_side = side,

@@ -1,6 +1,6 @@
 //! What changes on the sides of scopes: numbers, children, the side that shows.
-ghost use Rattle.std.specs.Prelude.{◌≡◌, ℕ, true, ◌++◌, ◌∷◌, [], OnOk, IfOk, IfErr, Ok, Err, Some, None, map};
-ghost use Rattle.rt_model.specs.Lists.{at, drop_number as drop_from, without};
+ghost use Rattle.std.specs.Prelude.{◌≡◌, ℕ, true, ◌++◌, ◌∷◌, [], OnOk, IfOk, IfErr, OnErr, Ok, Err, Some, None, map};
+ghost use Rattle.rt_model.specs.Lists.{at, drop_number as drop_from, put, without};
 ghost use Rattle.rt_model.specs.World.{Scopes, at_end};
 ghost use Rattle.rt_model.specs.State as model;
 ghost use Rattle.rt_model.specs.State.{change, effects_of};
@@ -13,6 +13,7 @@ ghost use Rattle.rt_calls.specs.Calls.{source_of, newest_first};
 ghost use Rattle.rt_mirror.specs.Sealed.{component_of};
 ghost use Rattle.rt_places.specs.Places.{kind_of, number_of, place_of, side_name_of};
 ghost use Rattle.rt_state.specs.Made.{IsMade};
+ghost use Rattle.rt_state.specs.Drawn.{drawn_for};
 ghost use Rattle.rt_state.specs.Mirror.{state_of, forgets};
 
 use crate::held::next_number;
@@ -23,9 +24,11 @@ use crate::sources::newest_first;
 use crate::state::State;
 use rt_calls::{Counter, Scope};
 use rt_cells::Source;
+use rt_named::name_place;
 use rt_nodes::VComponent;
 use rt_parts::Parts;
 use rt_places::{Child, Kind, Numbered, Place, Side, SideName};
+use rt_table::Table;
 use rt_values::{List, OutOfMemory, Part};
 use std::alloc::Global;
 
@@ -33,6 +36,7 @@ impl<P: Parts> State<P> {
     /// A number of the document for a place of a scope's side.
     pub fn draw_number(
         &mut self,
+        alloc: Global,
         scope: u64,
         side: SideName,
         place: Place,
@@ -53,6 +57,7 @@ impl<P: Parts> State<P> {
         };
         self.next.elements = next;
         self.add_number(
+            alloc,
             scope,
             side,
             Numbered {
@@ -64,23 +69,35 @@ impl<P: Parts> State<P> {
         Ok(())
     }
 
-    /// Puts a number after those of a scope's side.
+    /// Puts a number after those of a scope's side, and where it stands among the places. A number that
+    /// stands already, which none does, is want of memory.
     fn add_number(
         &mut self,
+        alloc: Global,
         scope: u64,
         side: SideName,
-        number: Numbered,
+        numbered: Numbered,
     ) -> Result<(), OutOfMemory>
         ensures { OnOk result ((g : _) → state_of g self.new
             ≡ change (state_of g self.old) scope
-            (λ x. more_number (side_name_of side) (number_of number) x)) }
+            (λ x. more_number (side_name_of side) (number_of numbered) x)) }
     {
-        self.change_scope(
-            scope,
-            |found: &mut Scope<P>| -> Result<(), OutOfMemory>
-                ensures { OnOk result (found.new ≡ with_number found.old side number) }
-            { push_number(found, side, number) },
-        )
+        if !self.is_live(scope) {
+            return Ok(());
+        }
+        let number = numbered.number;
+        if self.places.get(number).is_some() {
+            return Err(OutOfMemory);
+        }
+        let place = name_place(alloc, scope, side, numbered.place.as_slice())?;
+        self.places.push(number, place)?;
+        match put_number(&mut self.rows.table, scope, side, numbered) {
+            Ok(()) => Ok(()),
+            Err(OutOfMemory) => {
+                self.places.remove(number);
+                Err(OutOfMemory)
+            }
+        }
     }
 
     /// Makes a scope under a parent, which knows it at its place, and answers its number. It isn't run.
@@ -117,7 +134,7 @@ impl<P: Parts> State<P> {
         };
         self.add_child_at(parent, side, place, number)?;
         let scope = new_scope(alloc, component, Some(parent), height, side);
-        self.rows.table.push(number, scope)?;
+        self.push_scope(number, scope)?;
         self.next_scope = next;
         Ok(Some(number))
     }
@@ -137,8 +154,9 @@ impl<P: Parts> State<P> {
         self.change_scope(
             scope,
             |found: &mut Scope<P>| -> Result<(), OutOfMemory>
-                ensures { OnOk result (found.new
+                ensures changed { OnOk result (found.new
                     ≡ with_child found.old side (record { place = place; scope = child })) }
+                ensures stay { drawn_for found.new ≡ drawn_for found.old }
             {
                 push_child(
                     found,
@@ -161,9 +179,10 @@ impl<P: Parts> State<P> {
         self.change_scope(
             scope,
             |found: &mut Scope<P>| -> Result<(), OutOfMemory>
-                ensures { OnOk result (found.new ≡ record found.old {
+                ensures changed { OnOk result (found.new ≡ record found.old {
                   rest = record found.old.rest { component = component };
                 }) }
+                ensures stay { drawn_for found.new ≡ drawn_for found.old }
             {
                 found.rest.component = component;
                 Ok(())
@@ -191,9 +210,10 @@ impl<P: Parts> State<P> {
         self.change_scope(
             boundary,
             |found: &mut Scope<P>| -> Result<(), OutOfMemory>
-                ensures { OnOk result (found.new ≡ record found.old {
+                ensures changed { OnOk result (found.new ≡ record found.old {
                   rest = record found.old.rest { shows = Some side };
                 }) }
+                ensures stay { drawn_for found.new ≡ drawn_for found.old }
             {
                 found.rest.shows = Some(side);
                 Ok(())
@@ -212,9 +232,10 @@ impl<P: Parts> State<P> {
         self.change_scope(
             boundary,
             |found: &mut Scope<P>| -> Result<(), OutOfMemory>
-                ensures { OnOk result (found.new ≡ record found.old {
+                ensures changed { OnOk result (found.new ≡ record found.old {
                   rest = record found.old.rest { shows = Some SideName.Children; reads = [] };
                 }) }
+                ensures stay { drawn_for found.new ≡ drawn_for found.old }
             {
                 found.rest.shows = Some(SideName::Children);
                 found.rest.reads = List::new(alloc);
@@ -266,9 +287,10 @@ impl<P: Parts> State<P> {
         self.change_scope(
             boundary,
             |found: &mut Scope<P>| -> Result<(), OutOfMemory>
-                ensures { OnOk result (found.new ≡ record found.old {
+                ensures changed { OnOk result (found.new ≡ record found.old {
                   rest = record found.old.rest { callbacks = [] };
                 }) }
+                ensures stay { drawn_for found.new ≡ drawn_for found.old }
             {
                 found.rest.callbacks = List::new(alloc);
                 Ok(())
@@ -311,9 +333,10 @@ impl<P: Parts> State<P> {
         self.change_scope(
             scope,
             |found: &mut Scope<P>| -> Result<(), OutOfMemory>
-                ensures { OnOk result (found.new ≡ record found.old {
+                ensures changed { OnOk result (found.new ≡ record found.old {
                   rest = record found.old.rest { effects = [] };
                 }) }
+                ensures stay { drawn_for found.new ≡ drawn_for found.old }
             {
                 found.rest.effects = List::new(alloc);
                 Ok(())
@@ -340,9 +363,10 @@ impl<P: Parts> State<P> {
         self.change_scope(
             scope,
             |found: &mut Scope<P>| -> Result<(), OutOfMemory>
-                ensures { OnOk result (found.new ≡ record found.old {
+                ensures changed { OnOk result (found.new ≡ record found.old {
                   rest = record found.old.rest { reads = reads };
                 }) }
+                ensures stay { drawn_for found.new ≡ drawn_for found.old }
             {
                 found.rest.reads = reads;
                 Ok(())
@@ -351,13 +375,34 @@ impl<P: Parts> State<P> {
     }
 }
 
+/// Puts a number after those of a scope's side, where the scope is in the table.
+fn put_number<P: Parts>(
+    rows: &mut Table<Scope<P>>,
+    scope: u64,
+    side: SideName,
+    number: Numbered,
+) -> Result<(), OutOfMemory>
+    ensures put { OnOk result ((x : Scope P P.Component P.Props P.Value P.Handler P.TaskState P.Effect P.Payload)
+        → at rows.old scope ≡ Some x → rows.new ≡ put rows.old scope (with_number x side number)) }
+    ensures err { OnErr result (rows.new ≡ rows.old) }
+{
+    rows.change(
+        scope,
+        |found: &mut Scope<P>| -> Result<(), OutOfMemory>
+            ensures pushed { OnOk result (found.new ≡ with_number found.old side number) }
+            ensures err { OnErr result (found.new ≡ found.old) }
+        { push_number(found, side, number) },
+    )
+}
+
 /// Puts a number after those of a side.
 fn push_number<P: Parts>(
     scope: &mut Scope<P>,
     side: SideName,
     number: Numbered,
 ) -> Result<(), OutOfMemory>
-    ensures { OnOk result (scope.new ≡ with_number scope.old side number) }
+    ensures pushed { OnOk result (scope.new ≡ with_number scope.old side number) }
+    ensures err { OnErr result (scope.new ≡ scope.old) }
 {
     match side {
         SideName::Main => scope.rest.main_side.numbers.push(number),
@@ -372,7 +417,8 @@ fn push_child<P: Parts>(
     side: SideName,
     child: Child,
 ) -> Result<(), OutOfMemory>
-    ensures { OnOk result (scope.new ≡ with_child scope.old side child) }
+    ensures pushed { OnOk result (scope.new ≡ with_child scope.old side child) }
+    ensures stay { drawn_for scope.new ≡ drawn_for scope.old }
 {
     match side {
         SideName::Main => scope.rest.main_side.children.push(child),

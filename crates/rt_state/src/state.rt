@@ -1,25 +1,27 @@
 //! The state of a runtime.
-ghost use Rattle.std.specs.Prelude.{◌≡◌, ◌<◌, ℕ, length, get_or, slice_set, OnOk, IfOk, is_some, option_map};
+ghost use Rattle.std.specs.Prelude.{◌≡◌, ◌<◌, ◌++◌, ◌∷◌, [], ℕ, length, get_or, slice_set, OnOk, IfOk, is_some, option_map};
+ghost use Rattle.rt_owed.specs.Lists.{numbers_of};
 ghost use Rattle.std.specs.Option.{option_copied};
 ghost use Rattle.std.specs.Fn.{FnOnceReturnsAtMut};
 ghost use Rattle.rt_model.specs.Lists.{at};
 ghost use Rattle.rt_model.specs.State as model;
 ghost use Rattle.rt_model.specs.State.{is_live, change, world_of};
-ghost use Rattle.rt_calls.specs.Kept.{scope_of};
+ghost use Rattle.rt_calls.specs.Kept.{each, scope_of};
+ghost use Rattle.rt_named.specs.Standings.{IsPlaced};
 ghost use Rattle.rt_model.specs.Replay.{first_state};
 ghost use Rattle.rt_calls.specs.Calls as calls;
 ghost use Rattle.rt_calls.specs.Calls.{firsts_of};
-ghost use Rattle.rt_state.specs.Starts.{IsEmpty};
 ghost use Rattle.rt_calls.specs.Enter as entry;
-ghost use Rattle.rt_state.specs.Mirror.{ScopeChange, at_first, state_of};
 
-use crate::names::{Posted, TaskKind};
+use crate::names::TaskKind;
 use crate::scopes::new_scope;
 use rt_calls::{Firsts, Rows, Scope, World};
 use rt_cells::{Cells, Source, Target};
 use rt_nodes::{RootProps, VComponent};
+use rt_owed::Owed;
 use rt_parts::Parts;
 use rt_places::SideName;
+use rt_plan::Place;
 use rt_table::Table;
 use rt_values::{List, OutOfMemory, Task};
 use std::alloc::Global;
@@ -57,12 +59,9 @@ pub struct State<P: Parts> {
     pub cells: Cells<P::Value>,
     pub contexts: Table<ContextRow>,
     pub tasks: Table<TaskRow<P>>,
-    /// Marks and wakes in order, not yet looked at.
-    pub posted: List<Posted>,
-    /// The marked scopes, as the last look left them.
-    pub seen: List<u64>,
-    /// The woken tasks in order, as the last look left them.
-    pub queued: List<u64>,
+    /// Marks and wakes that aren't looked at yet, the marked scopes and the woken tasks as the last
+    /// look left them. Each live scope and task has its place there from its making on.
+    pub owed: Owed,
     /// The boundaries that turned to their children.
     pub resolved: List<u64>,
     /// The scopes that a suspended render passed over.
@@ -70,9 +69,21 @@ pub struct State<P: Parts> {
     pub next_scope: u64,
     /// The numbers that calls draw next, and the next node of the document.
     pub next: Firsts,
+    /// Where each number of the document stands that a live scope has, by number.
+    pub places: Table<Place>,
+    /// The live scopes are those that are entered.
+    pub ghost entered: { numbers_of rows.table ≡ owed.scopes },
+    /// The tasks that haven't ended are those that are entered.
+    pub ghost known: { numbers_of tasks ≡ owed.tasks },
+    /// The places are those of all that is drawn for the sides of live scopes.
+    pub ghost placed: { ∥ IsPlaced (each scope_of rows.table) places ∥₁ },
 }
 
 impl<P: Parts> State<P> {
+    ghost use Rattle.rt_state.specs.Starts.{IsEmpty};
+    ghost use Rattle.rt_state.specs.Mirror.{ScopeChange, at_first, scopes_of, state_of};
+    ghost use Rattle.rt_state.specs.Drawn.{bare, drawn_for};
+
     /// Nothing is kept. The counters begin at these numbers.
     pub fn empty(alloc: Global, firsts: Firsts) -> State<P>
         ensures { IsEmpty firsts result }
@@ -82,13 +93,12 @@ impl<P: Parts> State<P> {
             cells: Cells::new(alloc, firsts.cells, firsts.contexts),
             contexts: Table::new(alloc),
             tasks: Table::new(alloc),
-            posted: List::new(alloc),
-            seen: List::new(alloc),
-            queued: List::new(alloc),
+            owed: Owed::new(alloc),
             resolved: List::new(alloc),
             skipped: List::new(alloc),
             next_scope: 0,
             next: firsts,
+            places: Table::new(alloc),
         }
     }
 
@@ -107,9 +117,27 @@ impl<P: Parts> State<P> {
             props,
         });
         let scope = new_scope(alloc, component, None, 0, SideName::Main);
-        self.rows.table.push(0, scope)?;
+        self.push_scope(0, scope)?;
         self.next_scope = 1;
         Ok(())
+    }
+
+    /// Puts a scope after the others, with its place for what will be owed of it.
+    pub(crate) fn push_scope(&mut self, number: u64, scope: Scope<P>) -> Result<(), OutOfMemory>
+        requires bare { drawn_for scope ≡ bare }
+        ensures pushed { OnOk result ((g : _) → state_of g self.new ≡ record (state_of g self.old) {
+          scopes = (state_of g self.old).scopes ++ (number, scope_of scope) ∷ [];
+        }) }
+        ensures rows { OnOk result (self.new.rows.table ≡ self.old.rows.table ++ (number, scope) ∷ []) }
+    {
+        self.owed.enter_scope(number)?;
+        match self.rows.table.push(number, scope) {
+            Ok(()) => Ok(()),
+            Err(OutOfMemory) => {
+                self.owed.take_back_scope();
+                Err(OutOfMemory)
+            }
+        }
     }
 
     /// What a call can look at now, in whatever scope.
@@ -156,7 +184,9 @@ impl<P: Parts> State<P> {
         scope: u64,
         apply: F,
     ) -> Result<(), OutOfMemory>
-        requires { F.IsAlwaysCallable apply }
+        requires callable { F.IsAlwaysCallable apply }
+        requires stay { (x y : Scope P P.Component P.Props P.Value P.Handler P.TaskState P.Effect P.Payload) (done : _)
+            → FnOnceReturnsAtMut F.FnOnce apply x done y → drawn_for y ≡ drawn_for x }
         ensures { (k : ScopeChange P P.Component P.Props P.Value P.Handler P.TaskState P.Effect P.Payload)
             → ((x y : Scope P P.Component P.Props P.Value P.Handler P.TaskState P.Effect P.Payload)
             → FnOnceReturnsAtMut F.FnOnce apply x result y → OnOk result (y ≡ k.code x))
@@ -173,6 +203,8 @@ impl<P: Parts> State<P> {
     ) -> Result<(), OutOfMemory>
         requires callable { F.IsAlwaysCallable apply }
         requires within { index < length self.old.rows.table }
+        requires stay { (x y : Scope P P.Component P.Props P.Value P.Handler P.TaskState P.Effect P.Payload) (done : _)
+            → FnOnceReturnsAtMut F.FnOnce apply x done y → drawn_for y ≡ drawn_for x }
         ensures changed { (k : Scope P P.Component P.Props P.Value P.Handler P.TaskState P.Effect P.Payload
             → Scope P P.Component P.Props P.Value P.Handler P.TaskState P.Effect P.Payload)
             → ((x y : Scope P P.Component P.Props P.Value P.Handler P.TaskState P.Effect P.Payload)
@@ -180,7 +212,9 @@ impl<P: Parts> State<P> {
             → OnOk result ((row : ℕ × Scope P P.Component P.Props P.Value P.Handler P.TaskState P.Effect P.Payload)
             → self.new.rows.table ≡ slice_set self.old.rows.table index
             ((get_or self.old.rows.table index row).0, k (get_or self.old.rows.table index row).1)) }
-        ensures others { self.new ≡ record self.old { rows = record { table = self.new.rows.table } } }
+        ensures others { (g : _) → state_of g self.new ≡ record (state_of g self.old) {
+          scopes = scopes_of self.new.rows.table;
+        } }
     {
         self.rows.table.change_at(index, apply)
     }

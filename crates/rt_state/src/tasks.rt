@@ -1,21 +1,23 @@
 //! Tasks: spawned, paused, ended.
-ghost use Rattle.std.specs.Prelude.{◌≡◌, ◌<◌, ◌&&◌, not, ◌++◌, ◌∷◌, [], ℕ, nat_eq, length, get_or, slice_set, OnOk, IfOk, IfSome, IfNone, Some, None, option_map, map, true, false, if◌then◌else◌};
+ghost use Rattle.std.specs.Prelude.{◌≡◌, ◌<◌, ◌&&◌, not, ◌++◌, ◌∷◌, [], ℕ, nat_eq, length, get_or, slice_set, IsOk, OnOk, OnErr, IfOk, IfSome, IfNone, Some, None, option_map, map, true, false, if◌then◌else◌};
 ghost use Rattle.std.specs.List.{list_any};
 ghost use Rattle.std.specs.Fn.{FnOnceReturnsAtMut};
-ghost use Rattle.rt_model.specs.Lists.{at};
+ghost use Rattle.rt_model.specs.Lists.{at, has};
+ghost use Rattle.rt_owed.specs.Lists.{numbers_of};
 ghost use Rattle.rt_model.specs.State as model;
 ghost use Rattle.rt_model.specs.Commands.{spawned, activated, end, unqueued, holding};
 ghost use Rattle.rt_calls.specs.Kept.{scope_of};
 ghost use Rattle.rt_state.specs.Holders.{others, let_go};
 ghost use Rattle.rt_model.specs.Removal.{end_all, tasks_in};
-ghost use Rattle.rt_state.specs.Names.{posted_of, task_kind_of};
-ghost use Rattle.rt_state.specs.Mirror.{TaskChange, change_task, scopes_of, state_held, state_of};
+ghost use Rattle.rt_state.specs.Names.{task_kind_of};
+ghost use Rattle.rt_state.specs.Drawn.{drawn_for};
+ghost use Rattle.rt_state.specs.Mirror.{TaskChange, change_task, scopes_of, state_held, state_of, task_of};
 
 use crate::names::{Posted, TaskKind};
-use crate::numbers::{drop_number, drop_posted};
 use crate::scopes::holds;
 use crate::state::{State, TaskRow};
 use rt_calls::Scope;
+use rt_owed::Owed;
 use rt_parts::Parts;
 use rt_values::{List, OutOfMemory};
 use std::alloc::Global;
@@ -31,15 +33,16 @@ impl<P: Parts> State<P> {
         state: P::TaskState,
         isomorphic: bool,
     ) -> Result<(), OutOfMemory>
-        ensures { OnOk result ((g : _) → state_of g self.new
+        ensures spawned { OnOk result ((g : _) → state_of g self.new
             ≡ spawned (state_of g self.old) polled scope task state isomorphic) }
+        ensures err { OnErr result (self.new ≡ self.old) }
     {
         if !self.is_live(scope) {
             return Ok(());
         }
         let kind = first_kind(isomorphic);
         let was = Snapshot::of(&state);
-        self.tasks.push(
+        self.push_task(
             task,
             TaskRow {
                 scope,
@@ -53,17 +56,36 @@ impl<P: Parts> State<P> {
         self.post(Posted::Woken(task))
     }
 
+    /// Puts a task after the others, with its place for what will be owed of it.
+    fn push_task(&mut self, task: u64, row: TaskRow<P>) -> Result<(), OutOfMemory>
+        ensures pushed { OnOk result ((g : _) → state_of g self.new ≡ record (state_of g self.old) {
+          tasks = (state_of g self.old).tasks ++ (task, task_of row) ∷ [];
+        }) }
+        ensures err { OnErr result (self.new ≡ self.old) }
+    {
+        self.owed.enter_task(task)?;
+        match self.tasks.push(task, row) {
+            Ok(()) => Ok(()),
+            Err(OutOfMemory) => {
+                self.owed.take_back_task();
+                Err(OutOfMemory)
+            }
+        }
+    }
+
     /// Pauses a task or makes it active. A change from paused to active wakes it.
     pub fn set_active(&mut self, task: u64, active: bool) -> Result<(), OutOfMemory>
-        ensures { OnOk result ((g : _) →
+        ensures ok { IsOk result }
+        ensures activated { OnOk result ((g : _) →
             state_of g self.new ≡ activated (state_of g self.old) task active
             (at (state_of g self.old).tasks task)) }
+        ensures err { OnErr result (self.new ≡ self.old) }
     {
         let Some(row) = self.tasks.get(task) else {
             return Ok(());
         };
         let wakes = is_woken(active, row.active);
-        self.put_active(task, active)?;
+        self.make_active(task, active);
         if wakes {
             self.post(Posted::Woken(task))
         } else {
@@ -71,20 +93,35 @@ impl<P: Parts> State<P> {
         }
     }
 
-    /// Pauses a live task or makes it active.
-    fn put_active(&mut self, task: u64, active: bool) -> Result<(), OutOfMemory>
-        ensures { OnOk result ((g : _) → state_of g self.new
-            ≡ change_task (state_of g self.old) task (λ x. record x { active = active })) }
+    /// Pauses a live task or makes it active where it stands, which wants no memory.
+    fn make_active(&mut self, task: u64, active: bool)
+        ensures { (g : _) → state_of g self.new
+            ≡ change_task (state_of g self.old) task (λ x. record x { active = active }) }
     {
-        self.change_task(
+        self.change_surely(
             task,
             |row: &mut TaskRow<P>| -> Result<(), OutOfMemory>
-                ensures { OnOk result (row.new ≡ record row.old { active = active }) }
+                ensures { row.new ≡ record row.old { active = active } }
             {
                 row.active = active;
                 Ok(())
             },
-        )
+        );
+    }
+
+    /// Changes what is kept of a task, where it is live, by what always changes it.
+    fn change_surely<F: FnOnce(&mut TaskRow<P>) -> Result<(), OutOfMemory>>(
+        &mut self,
+        task: u64,
+        apply: F,
+    )
+        requires { F.IsAlwaysCallable apply }
+        ensures { (k : TaskChange P P.Component P.Props P.Value P.Handler P.TaskState P.Effect P.Payload)
+            → ((x y : TaskRow P P.Component P.Props P.Value P.Handler P.TaskState P.Effect P.Payload)
+            (done : _) → FnOnceReturnsAtMut F.FnOnce apply x done y → y ≡ k.code x)
+            → (g : _) → state_of g self.new ≡ change_task (state_of g self.old) task k.model }
+    {
+        let _done = self.tasks.change(task, apply);
     }
 
     /// Changes what is kept of a task, where it is live.
@@ -110,10 +147,11 @@ impl<P: Parts> State<P> {
         if !self.has_task(task) {
             return Ok(());
         }
+        self.owed.drop_wakes(task);
+        self.owed.unqueue(task);
+        add_holding(self.rows.table.as_slice(), task, &mut self.owed);
+        self.owed.leave_task(task);
         self.tasks.remove(task);
-        drop_posted(&mut self.posted, Posted::Woken(task));
-        drop_number(&mut self.queued, task);
-        add_holding(self.rows.table.as_slice(), task, &mut self.posted)?;
         self.release(task)
     }
 
@@ -121,14 +159,14 @@ impl<P: Parts> State<P> {
     pub fn unqueue(&mut self, task: u64)
         ensures { (g : _) → state_of g self.new ≡ unqueued (state_of g self.old) task }
     {
-        drop_posted(&mut self.posted, Posted::Woken(task));
-        drop_number(&mut self.queued, task);
+        self.owed.drop_wakes(task);
+        self.owed.unqueue(task);
     }
 
     /// Takes a task out of all boundaries' holders.
     fn release(&mut self, task: u64) -> Result<(), OutOfMemory>
-        ensures { OnOk result (self.new ≡ record self.old {
-          rows = record { table = map (let_go task) self.old.rows.table };
+        ensures released { OnOk result ((g : _) → state_of g self.new ≡ record (state_of g self.old) {
+          scopes = scopes_of (map (let_go task) self.old.rows.table);
         }) }
     {
         let count = self.rows.table.as_slice().len();
@@ -141,12 +179,12 @@ impl<P: Parts> State<P> {
     /// Takes a task out of the holders of the scope at an index.
     fn release_at(&mut self, index: usize, task: u64) -> Result<(), OutOfMemory>
         requires within { index < length self.old.rows.table }
-        ensures { OnOk result ((d : ℕ × Scope P P.Component P.Props P.Value P.Handler P.TaskState P.Effect P.Payload)
-            → self.new ≡ record self.old {
-              rows = record {
-                table = slice_set self.old.rows.table index (let_go task (get_or self.old.rows.table index d));
-              };
-            }) }
+        ensures released { OnOk result ((d : ℕ × Scope P P.Component P.Props P.Value P.Handler P.TaskState P.Effect P.Payload)
+            → self.new.rows.table
+            ≡ slice_set self.old.rows.table index (let_go task (get_or self.old.rows.table index d))) }
+        ensures others { (g : _) → state_of g self.new ≡ record (state_of g self.old) {
+          scopes = scopes_of self.new.rows.table;
+        } }
     {
         if !self.is_held_at(index, task) {
             return Ok(());
@@ -154,11 +192,12 @@ impl<P: Parts> State<P> {
         self.change_entry(
             index,
             |found: &mut Scope<P>| -> Result<(), OutOfMemory>
-                ensures { OnOk result (found.new ≡ record found.old {
+                ensures changed { OnOk result (found.new ≡ record found.old {
                   rest = record found.old.rest {
                     holders = others found.old.rest.holders task;
                   };
                 }) }
+                ensures stay { drawn_for found.new ≡ drawn_for found.old }
             {
                 drop_holder(&mut found.rest.holders, task);
                 Ok(())
@@ -249,35 +288,30 @@ impl<P: Parts> State<P> {
     }
 }
 
-/// Puts the marks of the boundaries that a task holds after those that are posted.
-fn add_holding<P: Parts>(
-    scopes: &[(u64, Scope<P>)],
-    task: u64,
-    posted: &mut List<Posted>,
-) -> Result<(), OutOfMemory>
-    ensures { OnOk result (map posted_of posted.new
-        ≡ map posted_of posted.old ++ holding (scopes_of scopes.now) task) }
+/// Posts the marks of the boundaries that a task holds. They are entered.
+fn add_holding<P: Parts>(scopes: &[(u64, Scope<P>)], task: u64, owed: &mut Owed)
+    requires entered { numbers_of scopes.now ≡ owed.old.scopes }
+    ensures posted { owed.new ≡ record owed.old {
+      posted = owed.old.posted ++ holding (scopes_of scopes.now) task;
+    } }
 {
     for entry in scopes {
-        add_held(entry, task, posted)?;
+        add_held(entry, task, owed);
     }
-    Ok(())
 }
 
-/// Puts the mark of a boundary after those that are posted, where the task holds it.
-fn add_held<P: Parts>(
-    entry: &(u64, Scope<P>),
-    task: u64,
-    posted: &mut List<Posted>,
-) -> Result<(), OutOfMemory>
-    ensures { OnOk result (map posted_of posted.new ≡ map posted_of posted.old
-        ++ (if model.holds (scope_of entry.now.1) task then model.Mark entry.now.0 ∷ [] else [])) }
+/// Posts the mark of an entered boundary, where the task holds it.
+fn add_held<P: Parts>(entry: &(u64, Scope<P>), task: u64, owed: &mut Owed)
+    requires entered { has owed.old.scopes entry.now.0 ≡ true }
+    ensures posted { owed.new ≡ record owed.old {
+      posted = owed.old.posted
+          ++ (if model.holds (scope_of entry.now.1) task then model.Mark entry.now.0 ∷ [] else []);
+    } }
 {
-    if holds(&entry.1, task) {
-        posted.push(Posted::Mark(entry.0))
-    } else {
-        Ok(())
+    if !holds(&entry.1, task) {
+        return;
     }
+    owed.post_mark(entry.0);
 }
 
 /// Where a task stands first among holders.
@@ -322,7 +356,7 @@ fn add_owned(
 }
 
 /// Who may poll a new task in a suspended render.
-pub(crate) fn first_kind(isomorphic: bool) -> TaskKind
+fn first_kind(isomorphic: bool) -> TaskKind
     ensures { task_kind_of result
         ≡ (if isomorphic then model.Isomorphic else model.ClientOnly) }
 {
@@ -334,7 +368,7 @@ pub(crate) fn first_kind(isomorphic: bool) -> TaskKind
 }
 
 /// Whether a change from paused to active wakes a task.
-pub(crate) fn is_woken(active: bool, was_active: bool) -> bool
+fn is_woken(active: bool, was_active: bool) -> bool
     ensures { result ≡ (active && not was_active) }
 {
     active && !was_active

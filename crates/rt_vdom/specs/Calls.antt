@@ -35,6 +35,10 @@ use Rattle.rt_vdom.specs.declared.refusal.DomFault.TheVariants as refusals
 abbrev pub WantsMemory : DomFault → Type 0
 WantsMemory fault = fault ≡ refusals.Run faults.OutOfMemory
 
+-- nothing else can be: memory wasn't wanting
+abbrev pub WantsNothing : DomFault → Type 0
+WantsNothing fault = ⊥
+
 -- memory was wanting, or a number of this counter, which stands at its end
 abbrev pub WantsNumber : Counter → ℕ → DomFault → Type 0
 WantsNumber what next fault =
@@ -44,6 +48,11 @@ WantsNumber what next fault =
 abbrev pub Ran : DomFault → Type 0
 Ran (refusals.Run fault) = Unit {0}
 Ran other = ⊥
+
+-- what a run answers, as a call of a dom answers it
+abbrev pub as_run : {A : Type 0} → Result A Fault → Result A DomFault
+as_run (Ok answer) = Ok answer
+as_run (Err fault) = Err (refusals.Run fault)
 
 -- the fault of the definitions that it is, if it is one
 abbrev pub ran_fault : DomFault → Option model.Fault

@@ -4,7 +4,7 @@ ghost use Rattle.rt_calls.specs.Calls.{target_of};
 ghost use Rattle.rt_model.specs.Lists.{at};
 ghost use Rattle.rt_model.specs.Commands.{write_cell};
 ghost use Rattle.rt_model.specs.Sentences.{marked_now, all_marked_now};
-ghost use Rattle.rt_vdom.specs.Calls.{Does, FailsOn, Keeps, LeavesAll, WantsBuilt, WantsMemory, context_posted};
+ghost use Rattle.rt_vdom.specs.Calls.{Does, FailsOn, Keeps, LeavesAll, WantsBuilt, WantsMemory, WantsNothing, context_posted};
 ghost use Rattle.rt_vdom.specs.Doms.{StateIn};
 
 use crate::dom::{Stage, VirtualDom};
@@ -15,10 +15,10 @@ use rt_reports::Fault;
 use rt_values::{OutOfMemory, ScopeId};
 
 impl<A: App> VirtualDom<A> {
-    /// Marks a scope, which is seen at once. One that isn't live changes nothing.
+    /// Marks a scope, which is seen at once. One that isn't live changes nothing. It takes no memory.
     pub fn mark_dirty(&mut self, id: ScopeId) -> Result<(), DomFault>
         ensures marked { Does (λ app. A.meaning app) (λ w. marked_now w id.0) self.old self.new result }
-        ensures refused { WantsBuilt WantsMemory self.old self.new result }
+        ensures refused { WantsBuilt WantsNothing self.old self.new result }
         ensures owned { Keeps self.old self.new }
         ensures kept { LeavesAll self.old self.new result }
     {
@@ -33,11 +33,11 @@ impl<A: App> VirtualDom<A> {
         }
     }
 
-    /// Marks every live scope, which are seen at once.
+    /// Marks every live scope, which are seen at once. It takes no memory.
     pub fn mark_all_dirty(&mut self) -> Result<(), DomFault>
         ensures marked { Does (λ app. A.meaning app) (λ w. all_marked_now w.scopes w)
             self.old self.new result }
-        ensures refused { WantsBuilt WantsMemory self.old self.new result }
+        ensures refused { WantsBuilt WantsNothing self.old self.new result }
         ensures owned { Keeps self.old self.new }
         ensures kept { LeavesAll self.old self.new result }
     {
@@ -59,7 +59,7 @@ impl<A: App> VirtualDom<A> {
             self.old self.new result }
         ensures live { IfOk result (λ live. (g : _) →
             live ≡ is_some (at (StateIn g self.old).contexts c.0)) }
-        ensures refused { WantsBuilt WantsMemory self.old self.new result }
+        ensures refused { WantsBuilt WantsNothing self.old self.new result }
         ensures owned { Keeps self.old self.new }
         ensures kept { LeavesAll self.old self.new result }
     {
@@ -76,7 +76,7 @@ impl<A: App> VirtualDom<A> {
             self.old self.new result }
         ensures live { IfOk result (λ live. (g : _) →
             live ≡ is_some (at (StateIn g self.old).contexts context)) }
-        ensures refused { IfErr result (λ fault. WantsMemory fault) }
+        ensures refused { IfErr result (λ fault. WantsNothing fault) }
         ensures owned { Keeps self.old self.new }
         ensures kept { LeavesAll self.old self.new result }
     {

@@ -20,6 +20,7 @@ pub use poll::Poll;
 pub use refusal::DomFault;
 pub use rt_boundary::{ErrorContext, SuspenseContext};
 pub use rt_inbox::Drained;
+pub use rt_plan::{Place, Step};
 pub use rt_reports::{Counter, Entry, Fault, Input, Limits, Msg, Post, Report, SessionFault};
 pub use rt_scopes::{ScopeState, Scopes};
 pub use rt_session::{Posted, PostedFault, app, session, session_posted};

@@ -7,6 +7,7 @@ ghost use Rattle.rt_model.specs.State as model;
 ghost use Rattle.rt_model.specs.View as views;
 ghost use Rattle.rt_mirror.specs.Mirror.{forest_of};
 ghost use Rattle.rt_calls.specs.Calls.{number_of};
+ghost use Rattle.rt_named.specs.Named.{named_in, named_of};
 ghost use Rattle.rt_state.specs.Outputs.{scope_seen};
 ghost use Rattle.rt_vdom.specs.Doms.{HasRoot, IsCurrent, StateIn};
 
@@ -14,10 +15,11 @@ use crate::dom::VirtualDom;
 use rt_boundary::SuspenseContext;
 use rt_calls::App;
 use rt_edits::DocNode;
+use rt_plan::Place;
 use rt_queries::{is_descendant, provided_above, provided_here};
 use rt_scopes::{ScopeState, Scopes, get_scope};
 use rt_shown::{Look, nodes_of};
-use rt_values::{List, OutOfMemory, ScopeId, Task};
+use rt_values::{ElementId, List, OutOfMemory, ScopeId, Task};
 
 impl<A: App> VirtualDom<A> {
     /// A live scope. None where it isn't live.
@@ -64,6 +66,15 @@ impl<A: App> VirtualDom<A> {
             result ≡ queries.is_descendant (StateIn g self.now) us.0 other.0 }
     {
         is_descendant(&self.machine.scopes.state, us.0, other.0)
+    }
+
+    /// Where the node of a number stands. None exactly where no live scope, hidden ones included, has a
+    /// node with that number.
+    pub fn place_of(&self, id: ElementId) -> Option<&Place>
+        ensures place { (g : _) → option_map named_in (option_copied result)
+            ≡ option_map named_of (queries.node_place (StateIn g self.now) id.0) }
+    {
+        self.machine.scopes.state.place_of(id.0)
     }
 
     /// The number of scopes above a live scope. None where it isn't live.

@@ -5,7 +5,7 @@ ghost use Rattle.rt_model.specs.Replay.{ones};
 ghost use Rattle.rt_reports.specs.Counted.{CountsLog};
 ghost use Rattle.rt_reports.specs.declared.fault.Fault.TheVariants as faults;
 ghost use Rattle.rt_machine.specs.Ends.{Causes};
-ghost use Rattle.rt_vdom.specs.Calls.{CausesAt, Closes, FailsAll, Keeps, Ran, WantsFresh};
+ghost use Rattle.rt_vdom.specs.Calls.{CausesAt, Closes, FailsAll, Keeps, Ran, WantsFresh, as_run};
 ghost use Rattle.rt_vdom.specs.Doms.{IsStarted};
 ghost use Rattle.rt_vdom.specs.Runs.{Builds, BuildsToList, Prebuilt};
 
@@ -81,11 +81,9 @@ impl<A: App> VirtualDom<A> {
         ensures cause { IfErr result (λ fault. Causes limits 0 0 fault) }
     {
         let mut dom = VirtualDom::new(alloc, app, limits)?;
-        match dom.rebuild_in_place() {
-            Ok(_report) => Ok(dom),
-            Err(DomFault::Run(fault)) => Err(fault),
-            Err(_other) => Err(Fault::OutOfMemory),
-        }
+        let mut to = NoOpMutations;
+        let _report = dom.build(&mut to)?;
+        Ok(dom)
     }
 
     /// Runs the root and all below it, and writes what shows. Nothing is polled.
@@ -103,20 +101,22 @@ impl<A: App> VirtualDom<A> {
         match self.stage {
             Stage::Failed => Err(DomFault::Failed),
             Stage::Built => Err(DomFault::AlreadyBuilt),
-            Stage::Fresh => self.build(to),
+            Stage::Fresh => match self.build(to) {
+                Ok(report) => Ok(report),
+                Err(fault) => Err(DomFault::Run(fault)),
+            },
         }
     }
 
     /// The build of a fresh dom.
-    fn build<M: WriteMutations>(&mut self, to: &mut M) -> Result<Report, DomFault>
+    fn build<M: WriteMutations>(&mut self, to: &mut M) -> Result<Report, Fault>
         ensures builds { Builds (λ app. A.meaning app) (M.taken to.old) (M.taken to.new)
-            self.old self.new result }
+            self.old self.new (as_run result) }
         ensures counts { IfOk result (λ report. CountsLog report) }
-        ensures refused { IfErr result (λ fault. Ran fault) }
         ensures owned { Keeps self.old self.new }
-        ensures fails { FailsAll self.new result }
+        ensures fails { IfErr result (λ _. self.new.stage ≡ Stage.Failed) }
         ensures caused { IfErr result (λ fault.
-            CausesAt self.old.limits (M.faults to.old) (M.faults to.new) fault) }
+            Causes self.old.limits (M.faults to.old) (M.faults to.new) fault) }
         ensures counted { M.faults to.old ≤ M.faults to.new }
     {
         match build_report(
@@ -132,7 +132,7 @@ impl<A: App> VirtualDom<A> {
             }
             Err(ended) => {
                 self.stage = Stage::Failed;
-                Err(DomFault::Run(ended.fault()))
+                Err(ended.fault())
             }
         }
     }

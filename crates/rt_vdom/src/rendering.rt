@@ -106,7 +106,7 @@ impl<A: App> VirtualDom<A> {
     fn waits(&self, emptied: bool) -> Poll<()>
         ensures waits { (g : _) → result ≡ answers (sees_none (StateIn g self.now).seen && emptied) }
     {
-        pending_where(self.machine.scopes.state.seen.is_empty() & emptied)
+        pending_where(self.machine.scopes.state.owed.sees_none() & emptied)
     }
 
     /// Does what messages ask for, in order.

@@ -106,7 +106,7 @@ impl<A: App> VirtualDom<A> {
             && suspended_remains (StateIn g self.now).tasks && emptied) }
     {
         let state = &self.machine.scopes.state;
-        pending_where(state.seen.is_empty() & suspended_remains(state) & emptied)
+        pending_where(state.owed.sees_none() & suspended_remains(state) & emptied)
     }
 
     /// The scopes that suspended renders passed over, in order, each once. A scope is listed until it

@@ -5,7 +5,7 @@ ghost use Rattle.rt_model.specs.Commands.{activated, end, post};
 ghost use Rattle.rt_model.specs.Next.{is_active};
 ghost use Rattle.rt_model.specs.State.{Woken};
 ghost use Rattle.rt_vdom.specs.Calls.{Does, FailsOn, Keeps, LeavesAll, PollsNow, Ran};
-ghost use Rattle.rt_vdom.specs.Calls.{WantsBuilt, WantsMemory, WantsNumber, spawned_by, task_spawned, told_by};
+ghost use Rattle.rt_vdom.specs.Calls.{WantsBuilt, WantsMemory, WantsNothing, WantsNumber, spawned_by, task_spawned, told_by};
 ghost use Rattle.rt_vdom.specs.Doms.{NextIn, StateIn};
 ghost use Rattle.rt_calls.specs.declared.faults.Counter.TheVariants as counters;
 
@@ -37,7 +37,7 @@ pub trait TaskCalls {
         ensures activated { Does (λ app. A.meaning app)
             (λ w. activated w (number self.now) false (at w.tasks (number self.now)))
             dom.old dom.new result }
-        ensures refused { WantsBuilt WantsMemory dom.old dom.new result }
+        ensures refused { WantsBuilt WantsNothing dom.old dom.new result }
         ensures owned { Keeps dom.old dom.new }
         ensures kept { LeavesAll dom.old dom.new result };
 
@@ -46,7 +46,7 @@ pub trait TaskCalls {
         ensures activated { Does (λ app. A.meaning app)
             (λ w. activated w (number self.now) true (at w.tasks (number self.now)))
             dom.old dom.new result }
-        ensures refused { WantsBuilt WantsMemory dom.old dom.new result }
+        ensures refused { WantsBuilt WantsNothing dom.old dom.new result }
         ensures owned { Keeps dom.old dom.new }
         ensures kept { LeavesAll dom.old dom.new result };
 
@@ -55,7 +55,7 @@ pub trait TaskCalls {
         ensures activated { Does (λ app. A.meaning app)
             (λ w. activated w (number self.now) active (at w.tasks (number self.now)))
             dom.old dom.new result }
-        ensures refused { WantsBuilt WantsMemory dom.old dom.new result }
+        ensures refused { WantsBuilt WantsNothing dom.old dom.new result }
         ensures owned { Keeps dom.old dom.new }
         ensures kept { LeavesAll dom.old dom.new result };
 
@@ -63,7 +63,7 @@ pub trait TaskCalls {
     fn wake<A: App>(&self, dom: &mut VirtualDom<A>) -> Result<(), DomFault>
         ensures woken { Does (λ app. A.meaning app) (λ w. post w (Woken (number self.now)))
             dom.old dom.new result }
-        ensures refused { WantsBuilt WantsMemory dom.old dom.new result }
+        ensures refused { WantsBuilt WantsNothing dom.old dom.new result }
         ensures owned { Keeps dom.old dom.new }
         ensures kept { LeavesAll dom.old dom.new result };
 
@@ -251,7 +251,7 @@ impl<A: App> VirtualDom<A> {
     fn activate_task(&mut self, task: Task, active: bool) -> Result<(), DomFault>
         ensures activated { Does (λ app. A.meaning app)
             (λ w. activated w task.0 active (at w.tasks task.0)) self.old self.new result }
-        ensures refused { WantsBuilt WantsMemory self.old self.new result }
+        ensures refused { WantsBuilt WantsNothing self.old self.new result }
         ensures owned { Keeps self.old self.new }
         ensures kept { LeavesAll self.old self.new result }
     {
@@ -270,7 +270,7 @@ impl<A: App> VirtualDom<A> {
     fn wake_task(&mut self, task: Task) -> Result<(), DomFault>
         ensures woken { Does (λ app. A.meaning app) (λ w. post w (Woken task.0))
             self.old self.new result }
-        ensures refused { WantsBuilt WantsMemory self.old self.new result }
+        ensures refused { WantsBuilt WantsNothing self.old self.new result }
         ensures owned { Keeps self.old self.new }
         ensures kept { LeavesAll self.old self.new result }
     {

@@ -10,7 +10,7 @@ returns-then-any_waits g c = λ kept m. loud_looks (hearing_at m (state_of kept 
 
 pub returns : goal.returns
 returns g c =
-    on_ok c.look.result c.look.ensures
+    on_ok c.look.result c.look.ensures.looked
     (
     λ h kept m.
     quiet_looks (hearing_at m (state_of kept c.args.state.now) c.args.hearing.now) (sym (c.any_waits.ensures kept) ∙ c.if-any_waits.false)

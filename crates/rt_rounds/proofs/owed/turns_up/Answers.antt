@@ -1,31 +1,21 @@
-use Rattle.std.proofs.Common.{◌||◌, ◌∙◌, ap, sym, drop, ◌+◌, map}
-use Rattle.std.proofs.lemmas.List.{at_drop_more}
-use Rattle.std.proofs.Math.ListN.{drop_of_length-le}
+use Rattle.std.proofs.Common.{◌||◌, ◌∙◌, ap, refl, sym, true}
+use Rattle.rt_owed.specs.Lists.{once_each, wakes_in}
 use Rattle.rt_state.specs.Mirror.{state_of}
-use Rattle.rt_state.specs.Names.{posted_of}
-use Rattle.rt_state.specs.declared.names.Posted.TheVariants as entries
-use Rattle.rt_rounds.specs.Owed.{turns_up}
+use Rattle.rt_rounds.specs.Owed.{any_active}
+use Rattle.rt_rounds.proofs.TurnsUp.{turned_up}
 use Rattle.rt_rounds.proofs.owed.turns_up.Goals as goal
 
-pub returns-then-comes_of : goal.returns-then-comes_of
-returns-then-comes_of g c =
+pub returns-then-any_live : goal.returns-then-any_live
+returns-then-any_live g c =
     λ kept.
     let w = state_of kept c.args.state.now in
-    sym (ap (λ b. b || turns_up w.scopes w.tasks (map posted_of (drop (c.loop-entry.entry-index + 1) c.args.posted.now))) (sym (c.comes_of.ensures kept) ∙ c.if-comes_of.true))
-    ∙ sym (at_drop_more (λ xs. turns_up w.scopes w.tasks (map posted_of xs)) c.args.posted.now c.loop-entry.entry-index (entries.Mark 0) c.loop-entry-test.true)
-    ∙ c.loop-entry.invariant kept
+    c.if-any_live.true
+    ∙ turned_up w c.marks.result.now (once_each (wakes_in w.posted)) true c.marks.ensures.marks refl
+    (sym (ap (λ b. b || any_active w.tasks (once_each (wakes_in w.posted))) (sym (c.any_live.ensures kept) ∙ c.if-any_live.true)))
 
-pub loop-entry-preserved : goal.loop-entry-preserved
-loop-entry-preserved g c =
+pub returns-else-any_live : goal.returns-else-any_live
+returns-else-any_live g c =
     λ kept.
     let w = state_of kept c.args.state.now in
-    sym (ap (λ b. b || turns_up w.scopes w.tasks (map posted_of (drop (c.loop-entry.entry-index + 1) c.args.posted.now))) (sym (c.comes_of.ensures kept) ∙ c.if-comes_of.false))
-    ∙ sym (at_drop_more (λ xs. turns_up w.scopes w.tasks (map posted_of xs)) c.args.posted.now c.loop-entry.entry-index (entries.Mark 0) c.loop-entry-test.true)
-    ∙ c.loop-entry.invariant kept
-
-pub returns : goal.returns
-returns g c =
-    λ kept.
-    let w = state_of kept c.args.state.now in
-    ap (λ xs. turns_up w.scopes w.tasks (map posted_of xs)) (sym (drop_of_length-le c.args.posted.now c.loop-entry-test.false))
-    ∙ c.loop-entry.invariant kept
+    turned_up w c.marks.result.now c.wakes.result.now _ c.marks.ensures.marks c.wakes.ensures.wakes
+    (c.any_active.ensures kept ∙ sym (ap (λ b. b || any_active w.tasks c.wakes.result.now) (sym (c.any_live.ensures kept) ∙ c.if-any_live.false)))

@@ -17,4 +17,4 @@ returns g c =
     let w = state_of kept c.args.state.now in
     let v = record w { seen = drop_number w.seen c.args.scope; skipped = join w.skipped c.args.scope } in
     ap (λ b. if b then w else go v) (sym (c.may_rerun.ensures kept) ∙ c.if-may_rerun.false)
-    ∙ ap go (sym (λ i. record w { seen = c.drop_number.ensures i; skipped = c.in_ok-join.ensures.joined i }))
+    ∙ ap go (sym (λ i. record w { posted = (c.unsee.ensures.seen i).posted; seen = (c.unsee.ensures.seen i).seen; queued = (c.unsee.ensures.seen i).queued; skipped = c.in_ok-join.ensures.joined i }))

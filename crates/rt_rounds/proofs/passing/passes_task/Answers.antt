@@ -17,4 +17,4 @@ returns g c =
     let w = state_of kept c.args.state.now in
     let v = record w { queued = drop_number w.queued c.args.task } in
     ap (λ b. if b then w else go v) (sym (c.may_poll.ensures kept) ∙ c.if-may_poll.false)
-    ∙ ap go (sym (λ i. record w { queued = c.drop_number.ensures i }))
+    ∙ ap go (sym (λ i. record w { posted = (c.unqueue.ensures.queued i).posted; seen = (c.unqueue.ensures.queued i).seen; queued = (c.unqueue.ensures.queued i).queued }))

@@ -12,8 +12,8 @@ returns g c =
           (
           λ passed kept.
           passed kept
-          ∙ ap (λ n. tasks_passed n (state_of kept c.look.new.self)) c.len-most.ensures.items
-          ∙ ap (λ x. tasks_passed (length x.queued) x) (c.in_ok-look.ensures kept)
+          ∙ ap (λ n. tasks_passed n (state_of kept c.look.new.self)) (ap (λ ns. length ns) c.queued-most.ensures.queued)
+          ∙ ap (λ x. tasks_passed (length x.queued) x) (c.in_ok-look.ensures.looked kept)
           );
     }
   where

@@ -12,8 +12,8 @@ returns g c =
           (
           λ passed kept.
           passed kept
-          ∙ ap (λ n. passes n (state_of kept c.look.new.self)) (λ i. c.len.ensures.items i + c.len-2.ensures.items i)
-          ∙ ap (λ x. passes (length x.seen + length x.queued) x) (c.in_ok-look.ensures kept)
+          ∙ ap (λ n. passes n (state_of kept c.look.new.self)) (λ i. length (c.seen.ensures.seen i) + length (c.queued.ensures.queued i))
+          ∙ ap (λ x. passes (length x.seen + length x.queued) x) (c.in_ok-look.ensures.looked kept)
           );
     }
   where

@@ -37,7 +37,7 @@ returns-in_err-edits-clause-runs g c =
     let idle = rests.idle in
     let stands =
     begins app lawful limits props whole w begun idle.work idle.hearing idle.first idle.course refl refl rests.kept
-    (c.in_ok-look.ensures rests.kept ∙ ap (λ x. look x) rests.is) led in
+    (c.in_ok-look.ensures.looked rests.kept ∙ ap (λ x. look x) rests.is) led in
     went_up_to app lawful limits props whole w (until_of c.args.until) (g.M.WriteMutations.taken c.args.sink.now) (g.M.WriteMutations.taken c.run.new.sink)
     c.in_err-edits.field-0.0 begun c.run.new.machine (ap (λ es. map entry_of es) idle.course) idle.hearing
     (c.in_err-edits.ensures.runs (going_from props w) stands)
@@ -66,7 +66,7 @@ returns-clause-runs g c =
     let idle = rests.idle in
     let stands =
     begins app lawful limits props whole w begun idle.work idle.hearing idle.first idle.course refl refl rests.kept
-    (c.in_ok-look.ensures rests.kept ∙ ap (λ x. look x) rests.is) led in
+    (c.in_ok-look.ensures.looked rests.kept ∙ ap (λ x. look x) rests.is) led in
     went_to app lawful limits props whole w (until_of c.args.until) (g.M.WriteMutations.taken c.args.sink.now) (g.M.WriteMutations.taken c.run.new.sink)
     c.in_ok-edits.edits begun went left (ap (λ es. map entry_of es) idle.course) idle.hearing refl
     (c.in_ok-edits.ensures.runs (going_from props w) stands)
@@ -93,7 +93,7 @@ returns-in_err-edits-clause-breaks g c =
     let idle = rests.idle in
     let stands =
     begins app lawful limits props whole w begun idle.work idle.hearing idle.first idle.course refl refl rests.kept
-    (c.in_ok-look.ensures rests.kept ∙ ap (λ x. look x) rests.is) led in
+    (c.in_ok-look.ensures.looked rests.kept ∙ ap (λ x. look x) rests.is) led in
     broke_from app limits (going_from props w) (g.M.WriteMutations.taken c.args.sink.now) (g.M.WriteMutations.taken c.run.new.sink) c.in_err-edits.field-0.0
     (c.in_err-edits.ensures.breaks (going_from props w) none stands)
     )
@@ -112,7 +112,7 @@ returns-in_err-leave-clause-breaks g c =
     let idle = rests.idle in
     let stands =
     begins app lawful limits props whole w begun idle.work idle.hearing idle.first idle.course refl refl rests.kept
-    (c.in_ok-look.ensures rests.kept ∙ ap (λ x. look x) rests.is) led in
+    (c.in_ok-look.ensures.looked rests.kept ∙ ap (λ x. look x) rests.is) led in
     broke_from app limits (going_from props w) (g.M.WriteMutations.taken c.args.sink.now) (g.M.WriteMutations.taken c.run.new.sink) wanting
     (breaks_by app lawful limits (going_from props w) (until_of c.args.until) (g.M.WriteMutations.taken c.args.sink.now) (g.M.WriteMutations.taken c.run.new.sink) c.in_ok-edits.edits begun c.run.new.machine
     (c.in_ok-edits.ensures.runs (going_from props w) stands))

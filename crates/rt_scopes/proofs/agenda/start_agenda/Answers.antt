@@ -8,7 +8,7 @@ use Rattle.rt_work.specs.Items.{work_of}
 use Rattle.rt_calls.specs.Kept.{scope_of}
 use Rattle.rt_state.specs.Mirror.{state_of}
 use Rattle.rt_state.proofs.Each.{found-each}
-use Rattle.rt_scopes.proofs.Agendas.{begins, not_started}
+use Rattle.rt_scopes.proofs.Agendas.{begins, fewer_on, not_started}
 use Rattle.rt_scopes.proofs.agenda.start_agenda.Goals as goal
 
 pub returns-in_default : goal.returns-in_default
@@ -18,6 +18,10 @@ returns-in_default g c = λ app tests kept.
 
 pub returns : goal.returns
 returns g c = λ app tests kept.
-    begins app (state_of kept c.args.state.now) (state_of kept c.change_side.new.state) c.args.scope c.args.name c.args.tree c.side_of.result.now (scope_of c.in-Some.found.now) _ _
+    begins app (state_of kept c.args.state.now) (state_of kept c.put_side.new.self) c.args.scope c.args.name c.args.tree c.side_of.result.now (scope_of c.in-Some.found.now) _ _
     (found-each scope_of (c.args.state.now.rows).table c.args.scope (Some c.in-Some.found.now) c.in-Some.ensures)
-    c.side_of.ensures (c.in_ok-work.ensures app tests) (c.in_ok-change_side.ensures kept)
+    c.side_of.ensures (c.in_ok-work.ensures.patches app tests) (c.put_side.ensures.put kept)
+
+pub put_side-requires : goal.put_side-requires
+put_side-requires g c =
+    record { fewer = λ x live. fewer_on c.args.name c.in-Some.found.now x c.side_of.result.now (c.in-Some.ensures ∙ live) c.side_of.ensures c.in_ok-work.ensures.fewer }

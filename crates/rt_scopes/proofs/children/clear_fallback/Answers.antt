@@ -1,15 +1,12 @@
--- The change of the code is that of the model.
-use Rattle.std.proofs.Common.{rules, refl, []}
-use Rattle.std.specs.Prelude.{None}
-use Rattle.rt_model.specs.State.{empty_side}
+-- A side on which nothing was rendered.
+use Rattle.std.proofs.Common.{ap, [], ◌∙◌}
+use Rattle.rt_model.specs.State as state
+use Rattle.rt_model.specs.State.{change}
+use Rattle.rt_state.specs.Mirror.{state_of}
 use Rattle.rt_scopes.proofs.children.clear_fallback.Goals as goal
 
+pub put_side-requires : goal.put_side-requires
+put_side-requires g c = record { fewer = λ x live. record { marks = []; same = ap (λ a. a.numbers) c.empty.ensures } }
+
 pub returns : goal.returns
-returns g c =
-    c.change_scope.ensures
-    (record {
-      code = λ x. record x { rest = record (x.rest) { fallback_side = record { output = None; numbers = []; children = [] } } };
-      model = λ x. record x { fallback_side = empty_side };
-      same = λ x. refl;
-    })
-    (λ x y ret. search rules)
+returns g c = λ kept. c.put_side.ensures.put kept ∙ ap (λ a. change (state_of kept c.args.state.now) c.args.boundary (λ x. record x { fallback_side = a })) c.empty.ensures

@@ -31,7 +31,7 @@ returns g c =
           let whole =
           effects_in_turn (g.A.App.meaning c.args.app.now) (state_of kept c.args.self.now.state) (state_of kept c.take_effects.new.self) c.args.scope.0 c.as_slice.result.now
           (c.in_ok-effects.ensures.taken kept) (c.as_slice.ensures.items ∙ c.in_ok-effects.ensures.effects kept) in
-          (done.0, whole ∙ done_on _ (λ u. Done (look u) []) _ done.1 ∙ ap (λ u. Done u []) (sym (c.in_ok-look.ensures done.0)), done.2);
+          (done.0, whole ∙ done_on _ (λ u. Done (look u) []) _ done.1 ∙ ap (λ u. Done u []) (sym (c.in_ok-look.ensures.looked done.0)), done.2);
     }
 
 pub returns-in_err-effects : goal.returns-in_err-effects

@@ -1,5 +1,5 @@
 -- A poll, and then the look.
-use Rattle.std.proofs.Common.{rules, ◌∙◌}
+use Rattle.std.proofs.Common.{rules}
 use Rattle.std.proofs.lemmas.Result.{err_from_is_err_and}
 use Rattle.rt_state.specs.Mirror.{state_of}
 use Rattle.rt_model.specs.Run.{called_once}
@@ -18,7 +18,7 @@ returns g c =
           let came = c.in_ok-_ready.ensures.polled kept x stands in (
             came.0,
             look_follows app (called_once w) (state_of came.0 c.poll_apart_in.new.self.state) (state_of came.0 c.look.new.self) c.args.task x (app.poll c.args.state (world_of w c.args.scope (Some c.args.task) false))
-                came.1 (c.in_ok-look.ensures came.0),
+                came.1 (c.in_ok-look.ensures.looked came.0),
             came.2,
           );
     }

@@ -13,7 +13,7 @@ returns g c =
       thrown =
           λ count kept. (
             kept,
-            ap (λ w. Done w []) (sym (c.in_ok-throw_error.ensures kept ∙ ap (λ e. throw_error (state_of kept c.args.self.now.state) c.args.scope (error_of e)) c.in_ok-error.ensures)),
+            ap (λ w. Done w []) (sym (c.in_ok-throw_error.ensures.thrown kept ∙ ap (λ e. throw_error (state_of kept c.args.self.now.state) c.args.scope (error_of e)) c.in_ok-error.ensures)),
             λ was. was,
           );
     }

@@ -10,3 +10,6 @@ returns g c =
       same = λ x. refl;
     })
     (λ x y ret. search rules)
+
+pub change_scope-requires-clause-stay : goal.change_scope-requires-clause-stay
+change_scope-requires-clause-stay g c = λ x y done ret. search rules

@@ -1,4 +1,4 @@
-use Rattle.std.proofs.Common.{◌≡◌, ◌∙◌, ap, sym}
+use Rattle.std.proofs.Common.{◌∙◌, ap, sym}
 use Rattle.std.specs.Prelude.{option_map}
 use Rattle.rt_state.specs.Mirror.{state_of}
 use Rattle.rt_state.specs.Names.{work_of}
@@ -16,4 +16,4 @@ pub returns-in_ok-look-in-None-clause-rest : goal.returns-in_ok-look-in-None-cla
 returns-in_ok-look-in-None-clause-rest g c = λ kept.
     rests_looked (state_of kept c.args.self.now) (state_of kept c.drop_paused.new.self) (state_of kept c.drop_paused-in-None.new.self) (c.drop_paused.ensures.dropped kept)
     (ap (option_map work_of) (sym c.in-None.is) ∙ c.drop_paused.ensures.next kept)
-    (looks_again (state_of kept c.drop_paused.new.self) (state_of kept c.look.new.self) (state_of kept c.drop_paused-in-None.new.self) (c.in_ok-look-in-None.ensures kept) (c.drop_paused-in-None.ensures.dropped kept))
+    (looks_again (state_of kept c.drop_paused.new.self) (state_of kept c.look.new.self) (state_of kept c.drop_paused-in-None.new.self) (c.in_ok-look-in-None.ensures.looked kept) (c.drop_paused-in-None.ensures.dropped kept))

@@ -1,5 +1,7 @@
+use Rattle.std.proofs.Common.{◌∙◌}
 use Rattle.std.specs.Fn.{FnOnceReturnsAtMut}
 use Rattle.rt_state.proofs.Changed.{task_changed}
+use Rattle.rt_state.proofs.Unchanged.{numbers_changed}
 use Rattle.rt_state.proofs.state.State.change_task.Goals as goal
 
 pub returns : goal.returns
@@ -17,3 +19,8 @@ returns g c =
     c.change.ensures.changed
     step
     k.same
+
+pub invariant_of-self-clause-known : goal.invariant_of-self-clause-known
+invariant_of-self-clause-known g c =
+    numbers_changed (λ x y. FnOnceReturnsAtMut g.F.FnOnce c.args.apply x c.change.result y) c.args.self.now.tasks c.change.new.self c.args.task c.change.ensures.absent c.change.ensures.changed
+    ∙ c.args.self.now.known

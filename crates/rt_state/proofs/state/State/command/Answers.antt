@@ -1,4 +1,4 @@
-use Rattle.std.proofs.Common.{◌≡◌, ◌∙◌, ap}
+use Rattle.std.proofs.Common.{◌∙◌, ap}
 use Rattle.rt_model.specs.Commands.{provide_context}
 use Rattle.rt_state.specs.Mirror.{state_of}
 use Rattle.rt_state.proofs.Changed.{on_ok}
@@ -18,7 +18,7 @@ returns-in-ReadInto g c = λ app decides. rw c.in-ReadInto.is (on_ok c.read_into
 
 pub returns-in-Provide : goal.returns-in-Provide
 returns-in-Provide g c = λ app decides. rw c.in-Provide.is
-    (on_ok c.provide_context.result (c.provide_context.ensures app decides) (λ is kept. is kept ∙ ap (λ s. provide_context app (state_of kept c.args.self.now) s c.in-Provide.kind c.in-Provide.value) c.owner-in-Provide.ensures))
+    (on_ok c.provide_context.result (c.provide_context.ensures.provided app decides) (λ is kept. is kept ∙ ap (λ s. provide_context app (state_of kept c.args.self.now) s c.in-Provide.kind c.in-Provide.value) c.owner-in-Provide.ensures))
 
 pub returns-in-KeepHook : goal.returns-in-KeepHook
 returns-in-KeepHook g c = λ app decides. rw c.in-KeepHook.is c.keep_hook.ensures

@@ -5,7 +5,7 @@ use Rattle.rt_state.proofs.state.State.drop_cell.Goals as goal
 
 pub returns-in-Some : goal.returns-in-Some
 returns-in-Some g c =
-    on_ok c.tell.result c.tell.ensures (λ told kept. told kept ∙ cell_dropped c.args.self.now c.args.cell c.in-Some._value c.drop_cell.new.self (sym c.in-Some.is ∙ c.drop_cell.ensures.value) c.drop_cell.ensures.gone kept)
+    on_ok c.tell.result c.tell.ensures.told (λ told kept. told kept ∙ cell_dropped c.args.self.now c.args.cell c.in-Some._value c.drop_cell.new.self (sym c.in-Some.is ∙ c.drop_cell.ensures.value) c.drop_cell.ensures.gone kept)
 
 pub returns-in-None : goal.returns-in-None
 returns-in-None g c = no_cell_dropped c.args.self.now c.args.cell c.drop_cell.new.self (sym c.in-None.is ∙ c.drop_cell.ensures.value) c.drop_cell.ensures.gone

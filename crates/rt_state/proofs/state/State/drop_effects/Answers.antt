@@ -1,9 +1,5 @@
-use Rattle.std.proofs.Common.{rules, [], refl, true, map}
-use Rattle.std.specs.Prelude.{Some}
+use Rattle.std.proofs.Common.{rules, [], refl}
 use Rattle.rt_model.specs.State as model
-use Rattle.rt_calls.specs.Calls.{source_of}
-use Rattle.rt_mirror.specs.Sealed.{component_of}
-use Rattle.rt_places.specs.Places.{side_name_of}
 use Rattle.rt_state.proofs.state.State.drop_effects.Goals as goal
 
 pub returns : goal.returns
@@ -15,3 +11,6 @@ returns g c =
       same = λ x. refl;
     })
     (λ x y ret. search rules)
+
+pub change_scope-requires-clause-stay : goal.change_scope-requires-clause-stay
+change_scope-requires-clause-stay g c = λ x y done ret. search rules

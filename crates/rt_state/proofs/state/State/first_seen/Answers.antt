@@ -1,4 +1,4 @@
-use Rattle.std.proofs.Common.{◌≡◌, ◌∙◌, sym, ap, drop, length, ◌<◌}
+use Rattle.std.proofs.Common.{◌∙◌, sym, ap, drop, length, ◌<◌}
 use Rattle.std.specs.Prelude.{Some}
 use Rattle.rt_model.specs.Next.{is_before, least, least_from}
 use Rattle.rt_state.specs.Mirror.{scopes_of}
@@ -11,7 +11,7 @@ use Rattle.rt_state.proofs.state.State.first_seen.Goals as goal
 pub loop-index-init : goal.loop-index-init
 loop-index-init g c = record {
   rank = rank_own (scopes_of (c.args.self.now.rows).table) c.rank_of-first.result _ c.rank_of-first.ensures;
-  least = ap (λ (q : Rank). least_from (λ s t. is_before (scopes_of (c.args.self.now.rows).table) s t) q.scope (drop 1 c.as_slice-seen.result.now)) c.rank_of-first.ensures;
+  least = ap (λ (q : Rank). least_from (λ s t. is_before (scopes_of (c.args.self.now.rows).table) s t) q.scope (drop 1 c.seen-seen.result.now)) c.rank_of-first.ensures;
 }
 
 pub loop-index-preserved : goal.loop-index-preserved
@@ -21,7 +21,7 @@ loop-index-preserved g c =
     record {
       rank = rank_taken scopes (comes_before c.rank_of.result c.loop-index.first) c.rank_of.result c.loop-index.first c.lesser-first.result c.lesser-first.ensures (rank_own scopes c.rank_of.result _ c.rank_of.ensures) own;
       least =
-          least_step (λ s t. is_before scopes s t) c.as_slice-seen.result.now c.loop-index.index 0 (c.loop-index.first).scope (c.lesser-first.result).scope c.loop-index-test.true
+          least_step (λ s t. is_before scopes s t) c.seen-seen.result.now c.loop-index.index 0 (c.loop-index.first).scope (c.lesser-first.result).scope c.loop-index-test.true
           (rank_lesser scopes c.loop-index.first c.rank_of.result c.lesser-first.result _ own c.rank_of.ensures c.lesser-first.ensures)
           ∙ c.loop-index.invariant.least;
     }
@@ -29,7 +29,7 @@ loop-index-preserved g c =
 pub returns : goal.returns
 returns g c =
     λ kept.
-    let some : 0 < length c.as_slice-seen.result.now = some-there (length c.as_slice-seen.result.now) (sym c.is_empty.ensures ∙ c.if-is_empty.false) in
-    ap (λ n. Some n) (least_end (λ s t. is_before (scopes_of (c.args.self.now.rows).table) s t) c.as_slice-seen.result.now c.loop-index.index (c.loop-index.first).scope _ c.loop-index-test.false c.loop-index.invariant.least)
-    ∙ sym (least_of (λ s t. is_before (scopes_of (c.args.self.now.rows).table) s t) c.as_slice-seen.result.now some)
-    ∙ ap (λ ys. least (λ s t. is_before (scopes_of (c.args.self.now.rows).table) s t) ys) c.as_slice-seen.ensures.items
+    let some : 0 < length c.seen-seen.result.now = some-there (length c.seen-seen.result.now) (sym c.is_empty.ensures ∙ c.if-is_empty.false) in
+    ap (λ n. Some n) (least_end (λ s t. is_before (scopes_of (c.args.self.now.rows).table) s t) c.seen-seen.result.now c.loop-index.index (c.loop-index.first).scope _ c.loop-index-test.false c.loop-index.invariant.least)
+    ∙ sym (least_of (λ s t. is_before (scopes_of (c.args.self.now.rows).table) s t) c.seen-seen.result.now some)
+    ∙ ap (λ ys. least (λ s t. is_before (scopes_of (c.args.self.now.rows).table) s t) ys) c.seen-seen.ensures.seen

@@ -1,7 +1,5 @@
-use Rattle.std.proofs.Common.{rules, ◌++◌, ◌∷◌, [], refl, true}
-use Rattle.std.specs.Prelude.{option_map}
+use Rattle.std.proofs.Common.{rules, ◌++◌, ◌∷◌, []}
 use Rattle.std.proofs.lemmas.List.{map-append}
-use Rattle.rt_mirror.specs.Mirror.{error_of}
 use Rattle.rt_calls.specs.Calls.{hook_of}
 use Rattle.rt_state.proofs.state.State.keep_hook.Goals as goal
 
@@ -14,3 +12,6 @@ returns g c =
       same = λ x. simp map-append;
     })
     (λ x y ret. search rules)
+
+pub change_scope-requires-clause-stay : goal.change_scope-requires-clause-stay
+change_scope-requires-clause-stay g c = λ x y done ret. search rules

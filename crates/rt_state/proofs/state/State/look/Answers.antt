@@ -1,20 +1,18 @@
-use Rattle.std.proofs.Common.{◌≡◌, ◌∙◌, [], ap, map}
-use Rattle.rt_model.specs.Next.{look_on}
-use Rattle.rt_state.specs.Names.{posted_of}
+use Rattle.std.proofs.Common.{◌∙◌, ap, sym}
+use Rattle.rt_owed.specs.Rooms.{Owing}
 use Rattle.rt_state.specs.Mirror.{state_of}
-use Rattle.rt_state.proofs.Looked.{with_posted, look_step, look_end}
+use Rattle.rt_state.proofs.LooksOnce.{looked_by, looked_marks}
+use Rattle.rt_state.proofs.Posts.{with_all}
 use Rattle.rt_state.proofs.state.State.look.Goals as goal
 
-pub loop-entry-init : goal.loop-entry-init
-loop-entry-init g c = λ kept.
-    ap (λ ps. look_on (map posted_of c.as_slice-entry-items.result.now) (with_posted (state_of kept c.args.self.now) (map posted_of ps))) (c.replace-posted.ensures.after ∙ c.new-empty.ensures.empty)
-    ∙ ap (λ xs. look_on (map posted_of xs) (with_posted (state_of kept c.args.self.now) [])) (c.as_slice-entry-items.ensures.items ∙ c.replace-posted.ensures.value)
+pub returns-clause-looked : goal.returns-clause-looked
+returns-clause-looked g c = λ kept.
+    ap (λ o. with_all (state_of kept c.look_at_wakes.new.self) o) c.empty.ensures.posted
+    ∙ looked_marks (state_of kept c.args.self.now) (state_of kept c.look_at_marks.new.self) (state_of kept c.look_at_wakes.new.self) (c.look_at_marks.ensures.seen kept) (c.look_at_wakes.ensures.queued kept)
+    ∙ looked_by (state_of kept c.args.self.now)
 
-pub loop-entry-preserved : goal.loop-entry-preserved
-loop-entry-preserved g c = λ kept.
-    look_step c.as_slice-entry-items.result.now c.loop-entry.entry-index _ (state_of kept c.loop-entry.self) (state_of kept c.look_at.new.self) c.loop-entry-test.true
-    (c.in_ok-look_at.ensures kept)
-    ∙ c.loop-entry.invariant kept
+pub invariant_of-self-clause-entered : goal.invariant_of-self-clause-entered
+invariant_of-self-clause-entered g c = c.look_at_wakes.new.self.entered ∙ sym (ap (λ (o : Owing). o.scopes) c.empty.ensures.posted)
 
-pub returns : goal.returns
-returns g c = λ kept. look_end c.as_slice-entry-items.result.now c.loop-entry.entry-index _ _ c.loop-entry-test.false (c.loop-entry.invariant kept)
+pub invariant_of-self-clause-known : goal.invariant_of-self-clause-known
+invariant_of-self-clause-known g c = c.look_at_wakes.new.self.known ∙ sym (ap (λ (o : Owing). o.tasks) c.empty.ensures.posted)

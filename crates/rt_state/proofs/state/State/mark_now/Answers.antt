@@ -1,16 +1,24 @@
-use Rattle.std.proofs.Common.{◌≡◌, ◌∙◌, sym}
+use Rattle.std.proofs.Common.{◌∙◌, sym, ap, refl}
+use Rattle.rt_owed.specs.Rooms.{Owing}
 use Rattle.rt_state.specs.Mirror.{state_of}
-use Rattle.rt_state.proofs.Changed.{on_ok}
+use Rattle.rt_state.proofs.Entered.{scope_entered}
+use Rattle.rt_state.proofs.Posts.{with_all}
 use Rattle.rt_state.proofs.Seen.{mark_seen, mark_passed}
-use Rattle.rt_state.proofs.Unchanged.{seen_stays}
 use Rattle.rt_state.proofs.state.State.mark_now.Goals as goal
 
-pub returns-then-is_live-clause-marked : goal.returns-then-is_live-clause-marked
-returns-then-is_live-clause-marked g c =
-    on_ok c.join.result c.join.ensures.joined (λ is kept. mark_seen (state_of kept c.args.self.now) c.args.scope c.join.new.numbers (sym (c.is_live.ensures kept) ∙ c.if-is_live.true) is)
+pub returns-then-not-is_live-clause-marked : goal.returns-then-not-is_live-clause-marked
+returns-then-not-is_live-clause-marked g c = λ kept. mark_passed (state_of kept c.args.self.now) c.args.scope (sym (c.is_live.ensures kept) ∙ c.if-not-is_live.true)
 
-pub returns-then-is_live-clause-err : goal.returns-then-is_live-clause-err
-returns-then-is_live-clause-err g c = seen_stays c.join.result c.args.self.now c.join.new.numbers c.join.ensures.err
+pub see-requires : goal.see-requires
+see-requires g c = record { entered = scope_entered c.args.self.now c.args.scope (λ kept. sym (c.is_live.ensures kept) ∙ c.if-not-is_live.false) }
 
-pub returns-else-is_live-clause-marked : goal.returns-else-is_live-clause-marked
-returns-else-is_live-clause-marked g c = λ kept. mark_passed (state_of kept c.args.self.now) c.args.scope (sym (c.is_live.ensures kept) ∙ c.if-is_live.false)
+pub returns-clause-marked : goal.returns-clause-marked
+returns-clause-marked g c = λ kept.
+    ap (λ o. with_all (state_of kept c.args.self.now) o) c.see.ensures.seen
+    ∙ mark_seen (state_of kept c.args.self.now) c.args.scope _ (sym (c.is_live.ensures kept) ∙ c.if-not-is_live.false) refl
+
+pub invariant_of-self-clause-entered : goal.invariant_of-self-clause-entered
+invariant_of-self-clause-entered g c = c.args.self.now.entered ∙ sym (ap (λ (o : Owing). o.scopes) c.see.ensures.seen)
+
+pub invariant_of-self-clause-known : goal.invariant_of-self-clause-known
+invariant_of-self-clause-known g c = c.args.self.now.known ∙ sym (ap (λ (o : Owing). o.tasks) c.see.ensures.seen)

@@ -5,12 +5,18 @@ use Rattle.rt_state.specs.Provided.{put_provided}
 use Rattle.rt_state.proofs.Provides.{put-mirrored}
 use Rattle.rt_state.proofs.state.State.put_context.Goals as goal
 
-pub returns : goal.returns
-returns g c =
-    c.change_scope.ensures
+pub returns-clause-put : goal.returns-clause-put
+returns-clause-put g c =
+    c.change_asked.ensures.changed
     (record {
       code = λ x. record x { row = record (x.row) { contexts = put_provided (x.row).contexts c.args.kind c.args.value } };
       model = λ x. record x { contexts = put x.contexts c.args.kind c.args.value };
       same = λ x i. record (scope_of x) { contexts = put-mirrored (x.row).contexts c.args.kind c.args.value i };
     })
     (λ x y ret. search rules)
+
+pub returns-clause-err : goal.returns-clause-err
+returns-clause-err g c = c.change_asked.ensures.err (λ x y ret. search rules)
+
+pub change_asked-requires-clause-stay : goal.change_asked-requires-clause-stay
+change_asked-requires-clause-stay g c = λ x y done ret. search rules

@@ -1,8 +1,4 @@
-use Rattle.std.proofs.Common.{rules, ◌++◌, ◌∷◌, [], refl, true}
-use Rattle.std.specs.Prelude.{option_map}
-use Rattle.std.proofs.lemmas.List.{map-append}
-use Rattle.rt_mirror.specs.Mirror.{error_of}
-use Rattle.rt_calls.specs.Calls.{hook_of}
+use Rattle.std.proofs.Common.{rules, ◌++◌, ◌∷◌, [], refl}
 use Rattle.rt_state.proofs.state.State.queue_effect.Goals as goal
 
 pub returns : goal.returns
@@ -14,3 +10,6 @@ returns g c =
       same = λ x. refl;
     })
     (λ x y ret. search rules)
+
+pub change_scope-requires-clause-stay : goal.change_scope-requires-clause-stay
+change_scope-requires-clause-stay g c = λ x y done ret. search rules

@@ -1,4 +1,4 @@
-use Rattle.std.proofs.Common.{◌≡◌, ◌+◌, ◌∙◌, ap, sym, rules, refl, true, false}
+use Rattle.std.proofs.Common.{◌≡◌, ◌+◌, ◌∙◌, ap, sym, rules, refl}
 use Rattle.rt_model.specs.World.{at_end}
 use Rattle.rt_calls.specs.declared.faults.Counter.TheVariants.{Renders}
 use Rattle.rt_state.specs.Mirror.{state_of}
@@ -21,3 +21,6 @@ returns-clause-done g c =
     (λ x y ret. search rules)) in
     raised_done (state_of kept c.args.self.now) (state_of kept c.change_scope.new.self) c.args.scope c.in-Some.renders (ap at_end (sym (c.renders_of.ensures kept)) ∙ c.in-Some.ensures.next.0)
     (c.in-Some.ensures.next.1 ∙ ap (λ n. n + 1) (c.renders_of.ensures kept)) (made kept)
+
+pub change_scope-requires-clause-stay : goal.change_scope-requires-clause-stay
+change_scope-requires-clause-stay g c = λ x y done ret. search rules

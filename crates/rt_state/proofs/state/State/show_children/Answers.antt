@@ -17,3 +17,6 @@ returns g c =
     })
     (λ x y ret. search rules))
     (λ changed kept. changed (forgets kept c.args.boundary))
+
+pub change_scope-requires-clause-stay : goal.change_scope-requires-clause-stay
+change_scope-requires-clause-stay g c = λ x y done ret. search rules

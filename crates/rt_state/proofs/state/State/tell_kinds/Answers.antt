@@ -1,4 +1,4 @@
-use Rattle.std.proofs.Common.{◌≡◌, ◌∙◌}
+use Rattle.std.proofs.Common.{◌∙◌}
 use Rattle.rt_state.specs.Mirror.{state_of}
 use Rattle.rt_state.proofs.Removed.{kinds_told, kinds_end}
 use Rattle.rt_state.proofs.state.State.tell_kinds.Goals as goal
@@ -6,7 +6,7 @@ use Rattle.rt_state.proofs.state.State.tell_kinds.Goals as goal
 pub loop-kind-preserved : goal.loop-kind-preserved
 loop-kind-preserved g c = λ kept.
     kinds_told c.args.scope c.args.kinds.now c.loop-kind.kind-index 0 (state_of kept c.loop-kind.self) (state_of kept c.tell.new.self) c.loop-kind-test.true
-    (c.in_ok-tell.ensures kept)
+    (c.in_ok-tell.ensures.told kept)
     ∙ c.loop-kind.invariant kept
 
 pub returns : goal.returns

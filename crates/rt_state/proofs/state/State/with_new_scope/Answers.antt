@@ -1,8 +1,10 @@
-use Rattle.std.proofs.Common.{◌≡◌, ◌∙◌, refl, sym, ap}
+use Rattle.std.proofs.Common.{◌≡◌, refl, sym, ap}
 use Rattle.std.specs.Prelude.{Some, None}
 use Rattle.rt_mirror.specs.Sealed.{component_of}
 use Rattle.rt_places.specs.Places.{place_of, side_name_of}
 use Rattle.rt_calls.specs.Kept.{scope_of}
+use Rattle.rt_named.specs.Standings.{drawn_in}
+use Rattle.rt_state.specs.Mirror.{state_of}
 use Rattle.rt_state.proofs.Each.{found-each}
 use Rattle.rt_state.proofs.Starts.{newly_made}
 use Rattle.rt_state.proofs.state.State.with_new_scope.Goals as goal
@@ -22,6 +24,9 @@ returns-clause-made g c =
       number = sym same;
       made =
           newly_made kept c.args.self.now c.add_child_at.new.self c.args.parent (side_name_of c.args.side) (place_of c.args.place) (component_of c.args.component) (scope_of c.in-Some.found.now)
-          c.push.new.self c.new_scope-scope.result c.in-Some-next_number.height c.in-Some-next_number-2.next
-          live (c.in_ok-add_child_at.ensures kept) c.in_ok-push.ensures.ok c.new_scope-scope.ensures c.in-Some-next_number.ensures.next.1 c.in-Some-next_number-2.ensures.next.1;
+          (state_of kept c.push_scope.new.self) c.new_scope-scope.result c.in-Some-next_number.height c.in-Some-next_number-2.next
+          live (c.in_ok-add_child_at.ensures kept) (c.in_ok-push_scope.ensures.pushed kept) c.new_scope-scope.ensures c.in-Some-next_number.ensures.next.1 c.in-Some-next_number-2.ensures.next.1;
     }
+
+pub push_scope-requires : goal.push_scope-requires
+push_scope-requires g c = record { bare = ap (λ x. drawn_in x) c.new_scope-scope.ensures }

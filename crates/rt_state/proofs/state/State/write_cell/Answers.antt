@@ -5,7 +5,7 @@ use Rattle.rt_state.proofs.state.State.write_cell.Goals as goal
 
 pub returns-then-write : goal.returns-then-write
 returns-then-write g c =
-    on_ok c.tell.result c.tell.ensures (λ told kept. told kept ∙ cell_written c.args.self.now c.args.cell c.args.value c.write.new.self (sym c.write.ensures.live ∙ c.if-write.true) c.write.ensures.written kept)
+    on_ok c.tell.result c.tell.ensures.told (λ told kept. told kept ∙ cell_written c.args.self.now c.args.cell c.args.value c.write.new.self (sym c.write.ensures.live ∙ c.if-write.true) c.write.ensures.written kept)
 
 pub returns-else-write : goal.returns-else-write
 returns-else-write g c = no_cell_written c.args.self.now c.args.cell c.args.value c.write.new.self (sym c.write.ensures.live ∙ c.if-write.false) c.write.ensures.written

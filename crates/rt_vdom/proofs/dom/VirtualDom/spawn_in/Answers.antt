@@ -5,6 +5,7 @@ use Rattle.rt_model.specs.Run.{with_next}
 use Rattle.rt_model.specs.Commands.{spawned}
 use Rattle.rt_model.specs.State.{is_live}
 use Rattle.rt_model.specs.Asides.{Asked}
+use Rattle.rt_scopes.proofs.Nexts.{next_back}
 use Rattle.rt_vdom.specs.Calls.{spawned_by}
 use Rattle.rt_vdom.specs.Doms.{Stands, StateIn}
 use Rattle.rt_vdom.proofs.Standing.{stands_on, spawned_is, spawned_not, task_is, task_not}
@@ -46,3 +47,10 @@ returns-in-Ok-clause-number g c = λ kept.
 pub returns-then-not-is_live-clause-number : goal.returns-then-not-is_live-clause-number
 returns-then-not-is_live-clause-number g c = λ kept.
     sym (task_not (StateIn kept c.args.self.now) c.args.scope (sym (c.is_live.ensures kept) ∙ c.if-not-is_live.true))
+
+-- a refusal leaves all: the number is there again
+pub returns-in-Err-clause-kept : goal.returns-in-Err-clause-kept
+returns-in-Err-clause-kept g c =
+    let d = c.args.self.now in
+    ap (λ x. record d { machine = record (d.machine) { scopes = record ((d.machine).scopes) { state = x } } })
+    (next_back ((d.machine).scopes).state c.spawn_asked.new.self _ (λ n. record n { tasks = ((((d.machine).scopes).state).next).tasks }) _ _ _ _ _ _ c.in-Err.ensures.err refl)

@@ -4,6 +4,7 @@ use Rattle.rt_model.specs.World.{Throw}
 use Rattle.rt_model.specs.Run.{with_next}
 use Rattle.rt_model.specs.Commands.{throw_error}
 use Rattle.rt_model.specs.Asides.{Asked}
+use Rattle.rt_scopes.proofs.Nexts.{next_back}
 use Rattle.rt_vdom.specs.Calls.{thrown_by}
 use Rattle.rt_vdom.specs.Doms.{StateIn}
 use Rattle.rt_vdom.proofs.Standing.{stands_on}
@@ -30,3 +31,10 @@ returns-in-Ok-clause-thrown g c = λ props whole w s.
     c.in-Some.ensures.next
     )
     s
+
+-- a refusal leaves all: the number is there again
+pub returns-in-Err-clause-kept : goal.returns-in-Err-clause-kept
+returns-in-Err-clause-kept g c =
+    let d = c.args.self.now in
+    ap (λ x. record d { machine = record (d.machine) { scopes = record ((d.machine).scopes) { state = x } } })
+    (next_back ((d.machine).scopes).state c.throw_asked.new.self _ (λ n. record n { errors = ((((d.machine).scopes).state).next).errors }) _ _ _ _ _ _ c.in-Err.ensures.err refl)

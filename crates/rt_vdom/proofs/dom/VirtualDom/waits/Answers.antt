@@ -11,5 +11,5 @@ returns g c =
           λ kept.
           c.pending_where.ensures
           ∙ ap (λ b. answers (b && c.args.emptied))
-          (none_seen c.is_empty.result (((c.args.self.now.machine).scopes).state).seen c.is_empty.ensures.empty);
+          (none_seen c.sees_none.result ((((c.args.self.now.machine).scopes).state).owed).seen c.sees_none.ensures.empty);
     }

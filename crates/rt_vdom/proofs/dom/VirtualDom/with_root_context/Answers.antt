@@ -1,5 +1,6 @@
 -- What the root wrapper provides.
 use Rattle.std.proofs.Common.{true, ◌∷◌, [], refl, arith}
+use Rattle.std.proofs.lemmas.Result.{err_from_is_err_and}
 use Rattle.rt_model.specs.World.{Provide}
 use Rattle.rt_model.specs.Commands.{provide_context}
 use Rattle.rt_model.specs.Asides.{Asked}
@@ -25,3 +26,8 @@ returns-clause-provided g c =
           (c.leads.ensures props whole) tt lawful
           (record { cells = refl; contexts = refl; tasks = refl; elements = refl; errors = omega arith }) refl provided s;
     }
+
+pub returns-in_err-provide_asked-clause-cause : goal.returns-in_err-provide_asked-clause-cause
+returns-in_err-provide_asked-clause-cause g c =
+    let p = err_from_is_err_and c.from_residual.result c.from_residual.ensures.1 in
+    rw (p.1, p.2) refl

@@ -1,0 +1,17 @@
+-- A scope with another side, as the model has it.
+use Rattle.std.proofs.Common.{◌≡◌, refl}
+use Rattle.rt_model.specs.State.{with_side}
+use Rattle.rt_calls.specs.Kept.{scope_of}
+use Rattle.rt_calls.specs.declared.rest.Scope.{Scope}
+use Rattle.rt_places.specs.declared.side.Side.{Side}
+use Rattle.rt_places.specs.declared.side.SideName.{SideName}
+use Rattle.rt_places.specs.declared.side.SideName.TheVariants as sides
+use Rattle.rt_places.specs.Places.{side_name_of, side_of}
+use Rattle.rt_state.specs.Sides.{side_put}
+
+module _ {P C Q V H T E L : Type 0} where
+  pub put_is : (name : SideName) (side : Side P C Q V H T E L) (x : Scope P C Q V H T E L)
+      → scope_of (side_put name side x) ≡ with_side (scope_of x) (side_name_of name) (side_of side)
+  put_is sides.Main side x = refl
+  put_is sides.Children side x = refl
+  put_is sides.Fallback side x = refl
