@@ -14,13 +14,15 @@ use Rattle.rt_language.specs.Values.{Value, NoValue, NumberValue, TextValue, Cel
 use Rattle.rt_language.specs.Expressions.{SourceTypes, Caller, held_by, evaluate, evaluate_all}
 use Rattle.rt_language.specs.Statements as statements
 use Rattle.rt_language.specs.Statements.{Running, goes_on, binding, WentOn, hook_with, cell_hook, task_hook, bound_task, is_forever, is_isomorphic, standing, time_kind, doing, if_stands, kept_names, written, forgotten, acted, acted_on, marked, thrown, failed_with, suspends_on, then_run, perform, run_statements}
-use Rattle.rt_syntax.specs.Mirror.{expression_of, arguments_of, time_of, spawned_of, act_of, statement_of, statements_of}
+use Rattle.rt_syntax.specs.Mirror.{expression_of, arguments_of, time_of, spawned_of, simple_of, statement_of, statements_of}
 use Rattle.rt_syntax.specs.declared.expression.Expression.{Expression}
 use Rattle.rt_syntax.specs.declared.statement.HookTime.{HookTime}
 use Rattle.rt_syntax.specs.declared.statement.SpawnKind.{SpawnKind}
-use Rattle.rt_syntax.specs.declared.statement.TaskAct.{TaskAct}
+use Rattle.rt_syntax.specs.declared.statement.Simple.{Simple}
 use Rattle.rt_syntax.specs.declared.statement.Statement.{Statement, the_lemmas}
 use Rattle.rt_syntax.specs.declared.statement.Statement.TheVariants as forms
+use Rattle.rt_syntax.specs.Outside.{stands_outside, stand_outside}
+use Rattle.rt_syntax.proofs.Stands.{outside-at, o-When, o-UseCell, o-UseHook, o-CallAt, o-FailWith, o-SuspendOn}
 use Rattle.rt_script.specs.declared.caller.Caller as code
 use Rattle.rt_script.specs.declared.caller.Caller.TheVariants as callers
 use Rattle.rt_script.specs.declared.caller.Frame as frames
@@ -34,8 +36,8 @@ use Rattle.rt_script.proofs.Expressions.{chosen_by}
 use Rattle.rt_programs.proofs.Steps.{on, at_done, at_scope, at_write, at_drop_cell, at_spawn, at_wake, at_remove_future, at_set_active, at_queue_effect, at_resolved, at_freeze, at_provide, at_needs_update, at_captured, at_throw, at_clear_errors}
 
 -- which statement of the language each form is
-pub s-Let : (e : Expression) → statement_of (forms.Let e) ≡ language.Let (expression_of e)
-s-Let e = search (rules, the_lemmas)
+pub s-Does : (d : Simple) → statement_of (forms.Does d) ≡ simple_of d
+s-Does d = search (rules, the_lemmas)
 
 pub s-UseCell : (e : Expression) → statement_of (forms.UseCell e) ≡ language.UseCell (expression_of e)
 s-UseCell e = search (rules, the_lemmas)
@@ -49,53 +51,17 @@ s-SpawnTask task arguments kind = search (rules, the_lemmas)
 pub s-CallAt : (time : HookTime) (action : ℕ) (arguments : List Expression) → statement_of (forms.CallAt time action arguments) ≡ language.CallAt (time_of time) action (arguments_of arguments)
 s-CallAt time action arguments = search (rules, the_lemmas)
 
-pub s-EffectOf : (action : ℕ) (arguments : List Expression) → statement_of (forms.EffectOf action arguments) ≡ language.EffectOf action (arguments_of arguments)
-s-EffectOf action arguments = search (rules, the_lemmas)
-
-pub s-OnResolved : (action : ℕ) (arguments : List Expression) → statement_of (forms.OnResolved action arguments) ≡ language.OnResolved action (arguments_of arguments)
-s-OnResolved action arguments = search (rules, the_lemmas)
-
-pub s-FreezeBoundary : statement_of forms.FreezeBoundary ≡ language.FreezeBoundary
-s-FreezeBoundary = search (rules, the_lemmas)
-
 pub s-When : (test : Expression) (inner : List Statement) → statement_of (forms.When test inner) ≡ language.When (expression_of test) (statements_of inner)
 s-When test inner = search (rules, the_lemmas)
 
-pub s-ProvideAs : (kind : ℕ) (value : Expression) → statement_of (forms.ProvideAs kind value) ≡ language.ProvideAs kind (expression_of value)
-s-ProvideAs kind value = search (rules, the_lemmas)
-
-pub s-WriteTo : (variable : ℕ) (value : Expression) → statement_of (forms.WriteTo variable value) ≡ language.WriteTo variable (expression_of value)
-s-WriteTo variable value = search (rules, the_lemmas)
-
-pub s-Forget : (variable : ℕ) → statement_of (forms.Forget variable) ≡ language.Forget variable
-s-Forget variable = search (rules, the_lemmas)
-
-pub s-ActOn : (act : TaskAct) (variable : ℕ) → statement_of (forms.ActOn act variable) ≡ language.ActOn (act_of act) variable
-s-ActOn act variable = search (rules, the_lemmas)
-
-pub s-MarkScopeOf : (e : Expression) → statement_of (forms.MarkScopeOf e) ≡ language.MarkScopeOf (expression_of e)
-s-MarkScopeOf e = search (rules, the_lemmas)
-
 pub s-ThrowText : (e : Expression) → statement_of (forms.ThrowText e) ≡ language.ThrowText (expression_of e)
 s-ThrowText e = search (rules, the_lemmas)
-
-pub s-ClearError : statement_of forms.ClearError ≡ language.ClearError
-s-ClearError = search (rules, the_lemmas)
 
 pub s-FailWith : (e : Expression) → statement_of (forms.FailWith e) ≡ language.FailWith (expression_of e)
 s-FailWith e = search (rules, the_lemmas)
 
 pub s-SuspendOn : (variable : ℕ) → statement_of (forms.SuspendOn variable) ≡ language.SuspendOn variable
 s-SuspendOn variable = search (rules, the_lemmas)
-
-pub s-Stop : statement_of forms.Stop ≡ language.Stop
-s-Stop = search (rules, the_lemmas)
-
-pub s-Prevent : statement_of forms.Prevent ≡ language.Prevent
-s-Prevent = search (rules, the_lemmas)
-
-pub s-Stay : statement_of forms.Stay ≡ language.Stay
-s-Stay = search (rules, the_lemmas)
 
 -- what each statement does
 module _ (by : Caller) (f : statements.Frame) where
@@ -303,22 +269,9 @@ pub ruleset performing = (
   at_captured,
   at_throw,
   at_clear_errors,
-  s-Let,
   s-SpawnTask,
-  s-EffectOf,
-  s-OnResolved,
-  s-FreezeBoundary,
   s-When,
-  s-ProvideAs,
-  s-WriteTo,
-  s-Forget,
-  s-ActOn,
-  s-MarkScopeOf,
   s-ThrowText,
-  s-ClearError,
-  s-Stop,
-  s-Prevent,
-  s-Stay,
   p-Let,
   p-EffectOf,
   p-OnResolved,
@@ -347,7 +300,17 @@ pub ruleset performing = (
   follows-bound,
 )
 
-pub ruleset dispatching = (s-Let, s-UseCell, s-UseHook, s-SpawnTask, s-CallAt, s-EffectOf, s-OnResolved, s-FreezeBoundary, s-When, s-ProvideAs, s-WriteTo, s-Forget, s-ActOn, s-MarkScopeOf, s-ThrowText, s-ClearError, s-FailWith, s-SuspendOn, s-Stop, s-Prevent, s-Stay, outside-sees, body-sees, follows-same)
+-- each statement of an action may stand there
+pub one-outside : (s : Statement) (ss : List Statement) (i : ℕ) → s ≡ get_or ss i s → i < length ss → stand_outside ss ≡ true → stands_outside s ≡ true
+one-outside s ss i is low h = outside-at ss i s low is h
+
+-- and so may those under a test in it
+pub inner-outside : (s : Statement) (test : Expression) (inner : List Statement) → s ≡ forms.When test inner → stands_outside s ≡ true → stand_outside inner ≡ true
+inner-outside s test inner is h = sym (o-When test inner) ∙ sym (ap stands_outside is) ∙ h
+
+pub ruleset dispatching = (s-Does, s-SpawnTask, s-When, s-ThrowText, s-UseCell, s-UseHook, s-CallAt, s-FailWith, s-SuspendOn, o-When, o-UseCell, o-UseHook, o-CallAt, o-FailWith, o-SuspendOn, outside-sees, body-sees, follows-same)
+
+pub ruleset allowing = (one-outside, inner-outside, dispatching)
 
 pub ruleset whens = (on, at_done, p-When, outside-sees, body-sees, follows-same)
 

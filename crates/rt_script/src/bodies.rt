@@ -72,6 +72,10 @@ fn perform(
     ensures follows { OnOk result (Follows frame.old frame.new) }
 {
     match statement {
+        Statement::Does(simple) => {
+            ask(alloc, cx, frame, simple)?;
+            Ok(Outcome::WentOn)
+        }
         Statement::When { test, statements } => {
             Ok(run_when(alloc, cx, frame, statements.as_slice(), test)?)
         }
@@ -90,10 +94,6 @@ fn perform(
         Statement::FailWith(text) => Ok(fail(alloc, cx, frame, text)?),
         Statement::SuspendOn(variable) => Ok(suspend(cx, frame, *variable)),
         Statement::ThrowText(text) => Ok(throw(alloc, cx, frame, text)?),
-        other => {
-            ask(alloc, cx, frame, other)?;
-            Ok(Outcome::WentOn)
-        }
     }
 }
 

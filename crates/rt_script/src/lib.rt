@@ -10,7 +10,6 @@ mod inputs;
 mod rounds;
 mod running;
 mod script;
-mod stands;
 
 pub use inputs::{inputs_of, posts_of};
 pub use script::Script;

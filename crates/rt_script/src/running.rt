@@ -1,5 +1,5 @@
 //! What statements do that any call may run.
-ghost use Rattle.std.specs.Prelude.{◌≡◌, ◌↔◌, Err, IsTrue, IfOk, IfErr, OnOk, MatchOption, pos};
+ghost use Rattle.std.specs.Prelude.{◌≡◌, ◌↔◌, Err, IsTrue, true, IfOk, IfErr, OnOk, MatchOption, pos};
 ghost use Rattle.rt_model.specs.Program.{drew_task};
 ghost use Rattle.rt_model.specs.World.{at_end};
 ghost use Rattle.rt_calls.specs.Calls.{world_of, call_of};
@@ -10,7 +10,8 @@ ghost use Rattle.rt_language.specs.Statements as meanings;
 ghost use Rattle.rt_language.specs.Statements.{WentOn, is_forever, is_isomorphic, acted_on, goes_on};
 ghost use Rattle.rt_language.specs.Syntax as language;
 ghost use Rattle.rt_language.specs.Values.{NumberValue};
-ghost use Rattle.rt_syntax.specs.Mirror.{expression_of, arguments_of, statement_of, statements_of, spawned_of, act_of};
+ghost use Rattle.rt_syntax.specs.Mirror.{expression_of, arguments_of, simple_of, statement_of, statements_of, spawned_of, act_of};
+ghost use Rattle.rt_syntax.specs.Outside.{stands_outside, stand_outside};
 ghost use Rattle.rt_script.specs.Held.{IsNoScope};
 ghost use Rattle.rt_bodies.specs.Comes.{Comes};
 ghost use Rattle.rt_script.specs.Seen.{caller_of, SeesRenders, IsOutside, frame_of, outcome_of, Knows, Follows};
@@ -21,13 +22,14 @@ use crate::script::Script;
 use rt_bodies::{remembered, unless_refused};
 use rt_calls::{Cx, CxFault};
 use rt_script_views::{Content, Doing, Standing, Value, text_of};
-use rt_syntax::{Expression, SpawnKind, Statement, TaskAct};
-use rt_values::{OutOfMemory, ScopeId, Task};
+use rt_syntax::{Expression, Simple, SpawnKind, Statement, TaskAct};
+use rt_values::{List, OutOfMemory, ScopeId, Task};
 use std::alloc::Global;
 
-/// Runs the statements of an action or a step, one after another.
+/// Runs the statements of an action or a step, one after another. What stands in bodies alone isn't
+/// among them.
 #[cycle(running)]
-#[tactic(auto, using(crate::proofs::Statements::dispatching))]
+#[tactic(auto, using(crate::proofs::Statements::allowing))]
 pub(crate) fn run_statements<K>(
     alloc: Global,
     cx: &mut Cx<'_, Script, K>,
@@ -35,6 +37,7 @@ pub(crate) fn run_statements<K>(
     statements: &[Statement],
 ) -> Result<Outcome, OutOfMemory>
     requires outside { IsOutside frame.old.by }
+    requires stand { stand_outside statements.now ≡ true }
     ensures came { IfOk result (λ o. Knows o cx.new (Comes cx.old cx.new
         (meanings.run_statements (caller_of frame.old.by) (frame_of frame.old) (statements_of statements.now))
         (outcome_of o (frame_of frame.new)))) }
@@ -42,7 +45,7 @@ pub(crate) fn run_statements<K>(
     ensures follows { OnOk result (Follows frame.old frame.new) }
 {
     for statement in statements {
-        match perform(alloc, cx, frame, statement)? {
+        match perform(alloc, cx, frame, allowed(statement))? {
             Outcome::WentOn => {}
             outcome => return Ok(outcome),
         }
@@ -52,7 +55,7 @@ pub(crate) fn run_statements<K>(
 
 /// Does one statement of an action or a step.
 #[cycle(running)]
-#[tactic(auto, using(crate::proofs::Statements::dispatching))]
+#[tactic(auto, using(crate::proofs::Statements::allowing))]
 fn perform<K>(
     alloc: Global,
     cx: &mut Cx<'_, Script, K>,
@@ -60,6 +63,7 @@ fn perform<K>(
     statement: &Statement,
 ) -> Result<Outcome, OutOfMemory>
     requires outside { IsOutside frame.old.by }
+    requires stands { stands_outside statement.now ≡ true }
     ensures came { IfOk result (λ o. Knows o cx.new (Comes cx.old cx.new
         (meanings.perform (caller_of frame.old.by) (frame_of frame.old) (statement_of statement.now))
         (outcome_of o (frame_of frame.new)))) }
@@ -67,8 +71,12 @@ fn perform<K>(
     ensures follows { OnOk result (Follows frame.old frame.new) }
 {
     match statement {
+        Statement::Does(simple) => {
+            ask(alloc, cx, frame, simple)?;
+            Ok(Outcome::WentOn)
+        }
         Statement::When { test, statements } => {
-            Ok(run_when(alloc, cx, frame, statements.as_slice(), test)?)
+            Ok(run_when(alloc, cx, frame, under(statements), test)?)
         }
         Statement::SpawnTask {
             task,
@@ -76,10 +84,11 @@ fn perform<K>(
             kind,
         } => Ok(spawn_task(alloc, cx, frame, *task, arguments.as_slice(), *kind)?),
         Statement::ThrowText(text) => Ok(throw(alloc, cx, frame, text)?),
-        other => {
-            ask(alloc, cx, frame, other)?;
-            Ok(Outcome::WentOn)
-        }
+        Statement::UseCell(_)
+        | Statement::UseHook(_)
+        | Statement::CallAt { .. }
+        | Statement::FailWith(_)
+        | Statement::SuspendOn(_) => unreachable!(),
     }
 }
 
@@ -94,6 +103,7 @@ fn run_when<K>(
     test: &Expression,
 ) -> Result<Outcome, OutOfMemory>
     requires outside { IsOutside frame.old.by }
+    requires stand { stand_outside statements.now ≡ true }
     ensures came { IfOk result (λ o. Knows o cx.new (Comes cx.old cx.new
         (meanings.perform (caller_of frame.old.by) (frame_of frame.old)
         (language.When (expression_of test.now) (statements_of statements.now)))
@@ -108,6 +118,24 @@ fn run_when<K>(
     let outcome = run_statements(alloc, cx, frame, statements)?;
     frame.keep(alloc, bound);
     Ok(outcome)
+}
+
+/// A statement that may stand outside of bodies.
+fn allowed(statement: &Statement) -> &Statement
+    requires stands { stands_outside statement.now ≡ true }
+    ensures same { result.now ≡ statement.now }
+    ensures stands { stands_outside result.now ≡ true }
+{
+    statement
+}
+
+/// What is under a test in such a statement: it may stand there, too.
+fn under(statements: &List<Statement>) -> &[Statement]
+    requires stand { stand_outside statements.now ≡ true }
+    ensures statements { result.now ≡ statements.now }
+    ensures stand { stand_outside result.now ≡ true }
+{
+    statements.as_slice()
 }
 
 /// Spawns a task with the values of its arguments, and binds it.
@@ -184,110 +212,151 @@ pub(crate) fn throw<K>(
     }
 }
 
-/// Does a statement after which the next one always follows. No other comes here; one would find no
-/// memory. So would a kind of context that isn't below 2^32: there is no memory for so many.
+/// Does a statement after which the next one always follows.
 #[tactic(auto, using(crate::proofs::Statements::performing))]
 pub(crate) fn ask<K>(
     alloc: Global,
     cx: &mut Cx<'_, Script, K>,
     frame: &mut Frame<'_>,
-    statement: &Statement,
+    statement: &Simple,
 ) -> Result<(), OutOfMemory>
     requires renders { SeesRenders (world_of cx.old.world) frame.old.by }
     ensures came { OnOk result (Comes cx.old cx.new
-        (meanings.perform (caller_of frame.old.by) (frame_of frame.old) (statement_of statement.now))
+        (meanings.perform (caller_of frame.old.by) (frame_of frame.old) (simple_of statement.now))
         (WentOn (frame_of frame.new))) }
     ensures world { cx.new.world ≡ cx.old.world }
     ensures follows { OnOk result (Follows frame.old frame.new) }
 {
     match statement {
-        Statement::Let(expression) => {
+        Simple::Let(expression) => {
             let value = evaluate(alloc, cx, frame, expression)?;
             frame.bind(value)?;
         }
-        Statement::EffectOf { action, arguments } => {
+        Simple::EffectOf { action, arguments } => {
             let arguments = evaluate_all(alloc, cx, frame, arguments.as_slice())?;
             remembered(cx.queue_effect(Doing::new(*action, arguments)))?;
         }
-        Statement::OnResolved { action, arguments } => {
+        Simple::OnResolved { action, arguments } => {
             let arguments = evaluate_all(alloc, cx, frame, arguments.as_slice())?;
             remembered(cx.after_suspense_resolved(Doing::new(*action, arguments)))?;
         }
-        Statement::FreezeBoundary => remembered(cx.freeze())?,
-        Statement::ClearError => remembered(cx.clear_errors())?,
-        Statement::Stop => frame.stopped = true,
-        Statement::Prevent => frame.prevented = true,
-        Statement::Stay => frame.stays = true,
-        other => tell(alloc, cx, frame, other)?,
+        Simple::FreezeBoundary => remembered(cx.freeze())?,
+        Simple::ProvideAs { kind, value } => provide(alloc, cx, frame, *kind, value)?,
+        Simple::WriteTo { variable, value } => write_held(alloc, cx, frame, *variable, value)?,
+        Simple::Forget(variable) => forget_held(cx, frame, *variable)?,
+        Simple::ActOn { act, variable } => act_held(cx, frame, *act, *variable)?,
+        Simple::MarkScopeOf(scope) => mark(alloc, cx, frame, scope)?,
+        Simple::ClearError => remembered(cx.clear_errors())?,
+        Simple::Stop => frame.stopped = true,
+        Simple::Prevent => frame.prevented = true,
+        Simple::Stay => frame.stays = true,
     }
     Ok(())
 }
 
-/// Does a statement that gives a value to a context, a cell or a mark, or acts on what a variable
-/// holds.
+/// Provides a value of a kind of context. A kind that isn't below 2^32 would find no memory: there is
+/// no memory for so many.
 #[tactic(auto, using(crate::proofs::Statements::performing))]
-fn tell<K>(
+fn provide<K>(
     alloc: Global,
     cx: &mut Cx<'_, Script, K>,
     frame: &Frame<'_>,
-    statement: &Statement,
+    kind: u64,
+    value: &Expression,
 ) -> Result<(), OutOfMemory>
     requires renders { SeesRenders (world_of cx.old.world) frame.now.by }
     ensures came { OnOk result (Comes cx.old cx.new
-        (meanings.perform (caller_of frame.now.by) (frame_of frame.now) (statement_of statement.now))
+        (meanings.perform (caller_of frame.now.by) (frame_of frame.now)
+        (language.ProvideAs kind (expression_of value.now)))
         (WentOn (frame_of frame.now))) }
     ensures world { cx.new.world ≡ cx.old.world }
 {
-    match statement {
-        Statement::ProvideAs { kind, value } => {
-            let value = evaluate(alloc, cx, frame, value)?;
-            let Ok(kind) = u32::try_from(*kind) else {
-                return Err(OutOfMemory);
-            };
-            remembered(cx.provide_context(kind, value))?;
-        }
-        Statement::WriteTo { variable, value } => {
-            let value = evaluate(alloc, cx, frame, value)?;
-            if let Some(cell) = held_cell(frame.held.as_slice(), *variable) {
-                remembered(cx.write(cell, value))?;
-            }
-        }
-        Statement::MarkScopeOf(scope) => {
-            let value = evaluate(alloc, cx, frame, scope)?;
-            if let Some(scope) = scope_in(&value) {
-                remembered(cx.needs_update_any(scope))?;
-            }
-        }
-        other => tell_held(cx, frame, other)?,
+    let value = evaluate(alloc, cx, frame, value)?;
+    let Ok(kind) = u32::try_from(kind) else {
+        return Err(OutOfMemory);
+    };
+    remembered(cx.provide_context(kind, value))?;
+    Ok(())
+}
+
+/// Writes a value to the cell that a variable holds, where it holds one.
+#[tactic(auto, using(crate::proofs::Statements::performing))]
+fn write_held<K>(
+    alloc: Global,
+    cx: &mut Cx<'_, Script, K>,
+    frame: &Frame<'_>,
+    variable: u64,
+    value: &Expression,
+) -> Result<(), OutOfMemory>
+    requires renders { SeesRenders (world_of cx.old.world) frame.now.by }
+    ensures came { OnOk result (Comes cx.old cx.new
+        (meanings.perform (caller_of frame.now.by) (frame_of frame.now)
+        (language.WriteTo variable (expression_of value.now)))
+        (WentOn (frame_of frame.now))) }
+    ensures world { cx.new.world ≡ cx.old.world }
+{
+    let value = evaluate(alloc, cx, frame, value)?;
+    if let Some(cell) = held_cell(frame.held.as_slice(), variable) {
+        remembered(cx.write(cell, value))?;
     }
     Ok(())
 }
 
-/// Does a statement that acts on the cell or the task that a variable holds. No other statement comes
-/// here; one would find no memory.
+/// Marks the scope with the number of a value, where that is one.
 #[tactic(auto, using(crate::proofs::Statements::performing))]
-fn tell_held<K>(
+fn mark<K>(
+    alloc: Global,
     cx: &mut Cx<'_, Script, K>,
     frame: &Frame<'_>,
-    statement: &Statement,
+    scope: &Expression,
 ) -> Result<(), OutOfMemory>
+    requires renders { SeesRenders (world_of cx.old.world) frame.now.by }
     ensures came { OnOk result (Comes cx.old cx.new
-        (meanings.perform (caller_of frame.now.by) (frame_of frame.now) (statement_of statement.now))
+        (meanings.perform (caller_of frame.now.by) (frame_of frame.now)
+        (language.MarkScopeOf (expression_of scope.now)))
         (WentOn (frame_of frame.now))) }
     ensures world { cx.new.world ≡ cx.old.world }
 {
-    match statement {
-        Statement::Forget(variable) => {
-            if let Some(cell) = held_cell(frame.held.as_slice(), *variable) {
-                remembered(cx.drop_cell(cell))?;
-            }
-        }
-        Statement::ActOn { act, variable } => {
-            if let Some(task) = held_task(frame.held.as_slice(), *variable) {
-                act_on(cx, *act, task)?;
-            }
-        }
-        _ => return Err(OutOfMemory),
+    let value = evaluate(alloc, cx, frame, scope)?;
+    if let Some(scope) = scope_in(&value) {
+        remembered(cx.needs_update_any(scope))?;
+    }
+    Ok(())
+}
+
+/// Drops the cell that a variable holds, where it holds one.
+#[tactic(auto, using(crate::proofs::Statements::performing))]
+fn forget_held<K>(
+    cx: &mut Cx<'_, Script, K>,
+    frame: &Frame<'_>,
+    variable: u64,
+) -> Result<(), OutOfMemory>
+    ensures came { OnOk result (Comes cx.old cx.new
+        (meanings.perform (caller_of frame.now.by) (frame_of frame.now) (language.Forget variable))
+        (WentOn (frame_of frame.now))) }
+    ensures world { cx.new.world ≡ cx.old.world }
+{
+    if let Some(cell) = held_cell(frame.held.as_slice(), variable) {
+        remembered(cx.drop_cell(cell))?;
+    }
+    Ok(())
+}
+
+/// Acts on the task that a variable holds, where it holds one.
+#[tactic(auto, using(crate::proofs::Statements::performing))]
+fn act_held<K>(
+    cx: &mut Cx<'_, Script, K>,
+    frame: &Frame<'_>,
+    act: TaskAct,
+    variable: u64,
+) -> Result<(), OutOfMemory>
+    ensures came { OnOk result (Comes cx.old cx.new
+        (meanings.perform (caller_of frame.now.by) (frame_of frame.now) (language.ActOn (act_of act) variable))
+        (WentOn (frame_of frame.now))) }
+    ensures world { cx.new.world ≡ cx.old.world }
+{
+    if let Some(task) = held_task(frame.held.as_slice(), variable) {
+        act_on(cx, act, task)?;
     }
     Ok(())
 }

@@ -1,5 +1,5 @@
 //! The application that a source describes.
-ghost use Rattle.std.specs.Prelude.{◌≡◌, ◌≢◌, [], map, Some, IfOk, IfSome, OnOk, true, false};
+ghost use Rattle.std.specs.Prelude.{◌≡◌, ◌≢◌, [], map, Some, IfOk, OnOk, true, false};
 ghost use Rattle.rt_model.specs.Lists.{nth, or_else};
 ghost use Rattle.rt_model.specs.Program.{done};
 ghost use Rattle.rt_model.specs.World.{nothing};
@@ -9,6 +9,7 @@ ghost use Rattle.rt_language.specs.Meaning.{action_run, next_step, pending_at, p
 ghost use Rattle.rt_language.specs.Sequence.{go_on};
 ghost use Rattle.rt_language.specs.Syntax.{NoStatements};
 ghost use Rattle.rt_syntax.specs.Mirror.{statements_of, source_of};
+ghost use Rattle.rt_syntax.specs.Outside.{stand_outside};
 ghost use Rattle.rt_script.specs.Applications.{programs_of_script, meaning_of_script, props_of_script, body_of, asked_by, heard};
 ghost use Rattle.rt_bodies.specs.Comes.{Comes, ComesIfRemembered};
 ghost use Rattle.rt_script.specs.Laws.{scripts_are_lawful, MeansSource};
@@ -22,12 +23,11 @@ use crate::caller::{Caller, Frame, Outcome};
 use crate::evaluation::said;
 use crate::filling::tree_of;
 use crate::running::run_statements;
-use crate::stands::stands;
 use rt_calls::{App, BodyCx, BodyTurn, Cx, TaskStep, Turn};
 use rt_nodes::{Element, VNode};
 use rt_parts::{Event, Parts};
 use rt_script_views::{ComponentPlan, Doing, Props, Standing, Value, component_plans};
-use rt_syntax::{Literal, Source, Statement};
+use rt_syntax::{Literal, OutsideStatements, Source, Statement};
 use rt_values::{List, OutOfMemory, Part};
 use std::alloc::Global;
 
@@ -38,9 +38,9 @@ pub struct Script {
     components: List<ComponentPlan>,
     root: u64,
     props: List<Literal>,
-    actions: List<List<Statement>>,
+    actions: List<OutsideStatements>,
     /// Each by its steps.
-    tasks: List<List<List<Statement>>>,
+    tasks: List<List<OutsideStatements>>,
 }
 
 /// What a listener asks of its event.
@@ -68,14 +68,9 @@ impl Parts for Script {
 
 impl Script {
     /// The application of a source, whose inputs and posts are not part of it: take these first.
-    /// None where a statement stands where it may not.
-    pub fn new(alloc: Global, source: Source) -> Result<Option<Script>, OutOfMemory>
-        ensures means { IfOk result (λ made. IfSome made (λ script.
-            MeansSource script (source_of source))) }
+    pub fn new(alloc: Global, source: Source) -> Result<Script, OutOfMemory>
+        ensures means { IfOk result (λ script. MeansSource script (source_of source)) }
     {
-        if !stands(&source) {
-            return Ok(None);
-        }
         let Source {
             components,
             root,
@@ -86,13 +81,13 @@ impl Script {
             posts: _,
         } = source;
         let components = component_plans(alloc, components)?;
-        Ok(Some(Script {
+        Ok(Script {
             components,
             root,
             props,
             actions,
             tasks,
-        }))
+        })
     }
 
     /// The props of the root that the source names.
@@ -130,6 +125,7 @@ impl Script {
     fn statements(&self, place: u64) -> &[Statement]
         ensures statements { statements_of result.now
             ≡ or_else NoStatements (nth (map statements_of self.now.actions) place) }
+        ensures stand { stand_outside result.now ≡ true }
     {
         match self.actions.get(place as usize) {
             Some(statements) => statements.as_slice(),
@@ -178,7 +174,7 @@ impl Script {
 
     /// The steps of a task, none where there is no such task.
     #[tactic(auto, using(crate::proofs::Places::placed))]
-    fn steps(&self, place: u64) -> &[List<Statement>]
+    fn steps(&self, place: u64) -> &[OutsideStatements]
         ensures steps { map statements_of result.now
             ≡ or_else [] (nth (map (map statements_of) self.now.tasks) place) }
     {
@@ -257,6 +253,7 @@ fn run_step(
     statements: &[Statement],
     steps: usize,
 ) -> Result<TaskStep<Standing>, OutOfMemory>
+    requires stand { stand_outside statements.now ≡ true }
     ensures came { IfOk result (λ step. ComesIfRemembered cx.old cx.new
         (poll_step state steps (Some (statements_of statements.now))) (step_of step)) }
     ensures world { cx.new.world ≡ cx.old.world }

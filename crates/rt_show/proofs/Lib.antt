@@ -10,3 +10,4 @@ pub mod Messages
 pub mod Drained
 pub mod Postings
 pub mod Judged
+pub mod Agreed

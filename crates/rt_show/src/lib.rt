@@ -15,7 +15,9 @@ mod top;
 mod words;
 mod writing;
 
-pub use agreements::{most_bytes_agree, run_texts_agree, usual_limits_agree};
+pub use agreements::{
+    failures_agree, listeners_agree, most_bytes_agree, run_texts_agree, usual_limits_agree,
+};
 pub use posted::{asks_for_posters, show_posted, show_posted_and_say};
 pub use top::{show, show_and_say};
 pub use words::USUAL;

@@ -96,9 +96,7 @@ pub(crate) fn prepare(alloc: Global, described: Described) -> Result<Prepared, O
         prepared.script prepared.props (map input_of prepared.inputs)) }
 {
     let inputs = inputs_of(alloc, described.inputs.as_slice())?;
-    let Some(script) = Script::new(alloc, described)? else {
-        return Err(OutOfMemory);
-    };
+    let script = Script::new(alloc, described)?;
     let props = script.props(alloc)?;
     Ok(Prepared {
         script,

@@ -21,28 +21,8 @@ use Rattle.rt_sources.specs.Whole.{root_in, just, props_in, inputs_in, posts_in,
 use Rattle.rt_sources.specs.Sources.{text_of, application_of}
 use Rattle.rt_sources.specs.Describes.{IsSource, Describes}
 use Rattle.rt_sources.specs.declared.reading.TheConstants.{SOURCE_LIMIT}
+use Rattle.rt_sources.proofs.Origins.{none_is, same, mapped, first, held}
 use Rattle.rt_sources.proofs.Texts.{text_of-read}
-
-none_is : {A C : Type 0} (x : A) → None ≡ Some x → C
-none_is x h = cc
-
-same : {A : Type 0} (x y : A) → Some x ≡ Some y → x ≡ y
-same x y h = cc
-
--- what was mapped
-mapped : {A B : Type 0} (f : A → B) (o : Option A) (y : B) → option_map f o ≡ Some y → (x : A) × ((o ≡ Some x) × (f x ≡ y))
-mapped f None y h = none_is y h
-mapped f (Some x) y h = (x, (refl, same (f x) y h))
-
--- what came first
-first : {A B : Type 0} (f : A → Option B) (o : Option A) (y : B) → option_and_then f o ≡ Some y → (x : A) × ((o ≡ Some x) × (f x ≡ Some y))
-first f None y h = none_is y h
-first f (Some x) y h = (x, (refl, h))
-
--- what held
-held : {A : Type 0} (b : Bool) (o : Option A) (y : A) → (if b then o else None) ≡ Some y → (b ≡ true) × (o ≡ Some y)
-held true o y h = (refl, h)
-held false o y h = none_is y h
 
 -- a source of the language by its parts
 abbrev meant : List language.ComponentSource → ℕ → List language.Literal → List language.Statements → List (List language.Statements) →

@@ -1,4 +1,6 @@
+pub mod Origins
 pub mod Levels
 pub mod Joined
 pub mod Texts
 pub mod Described
+pub mod Outside

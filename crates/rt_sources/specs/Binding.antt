@@ -9,6 +9,7 @@ use Rattle.rt_expressions.specs.Calls.{expression_at, call_at}
 use Rattle.rt_syntax.specs.declared.expression.Expression.{Expression}
 use Rattle.rt_syntax.specs.declared.statement.SpawnKind.{SpawnKind}
 use Rattle.rt_syntax.specs.declared.statement.SpawnKind.TheVariants.{Client, Isomorphic, Forever}
+use Rattle.rt_syntax.specs.declared.statement.Simple.TheVariants as simple
 use Rattle.rt_syntax.specs.declared.statement.Statement.{Statement}
 use Rattle.rt_syntax.specs.declared.statement.Statement.TheVariants as s
 use Rattle.rt_sources.specs.declared.forms.Binder.{Binder}
@@ -22,7 +23,7 @@ bound_by names variables name_key key d =
 
 -- what binds a name to what an expression gives, behind that name
 abbrev pub binding : Names → List (List ℕ) → Binder → Data → Option (List ℕ × Statement)
-binding names variables Let d = option_map (λ b. (b.0, s.Let b.1)) (bound_by names variables (codes "let") (codes "be") d)
+binding names variables Let d = option_map (λ b. (b.0, s.Does (simple.Let b.1))) (bound_by names variables (codes "let") (codes "be") d)
 binding names variables Cell d = option_map (λ b. (b.0, s.UseCell b.1)) (bound_by names variables (codes "cell") (codes "init") d)
 binding names variables Hook d = option_map (λ b. (b.0, s.UseHook b.1)) (bound_by names variables (codes "hook") (codes "init") d)
 

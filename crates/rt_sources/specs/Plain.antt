@@ -9,6 +9,7 @@ use Rattle.rt_syntax.specs.declared.expression.Expression.{Expression}
 use Rattle.rt_syntax.specs.declared.statement.HookTime.TheVariants as times
 use Rattle.rt_syntax.specs.declared.statement.TaskAct.{TaskAct}
 use Rattle.rt_syntax.specs.declared.statement.TaskAct.TheVariants.{WakeUp, Cancel, Pause, Resume}
+use Rattle.rt_syntax.specs.declared.statement.Simple.TheVariants as simple
 use Rattle.rt_syntax.specs.declared.statement.Statement.{Statement}
 use Rattle.rt_syntax.specs.declared.statement.Statement.TheVariants as s
 use Rattle.rt_sources.specs.declared.forms.Calling.{Calling}
@@ -23,8 +24,8 @@ abbrev pub call_of : Calling → (ℕ × List Expression) → Statement
 call_of AtRemoval call = s.CallAt times.AtRemoval call.0 call.1
 call_of BeforeRender call = s.CallAt times.BeforeRender call.0 call.1
 call_of AfterRender call = s.CallAt times.AfterRender call.0 call.1
-call_of AsEffect call = s.EffectOf call.0 call.1
-call_of OnceResolved call = s.OnResolved call.0 call.1
+call_of AsEffect call = s.Does (simple.EffectOf call.0 call.1)
+call_of OnceResolved call = s.Does (simple.OnResolved call.0 call.1)
 
 -- an object of a key, which names an action, and `args`
 abbrev pub calling_of : Names → List (List ℕ) → List ℕ → Calling → Data → Option Statement
@@ -33,11 +34,11 @@ calling_of names variables key calling d =
 
 -- what a word says
 abbrev pub word_said : Word → Statement
-word_said Freeze = s.FreezeBoundary
-word_said Clear = s.ClearError
-word_said Stop = s.Stop
-word_said Prevent = s.Prevent
-word_said Stay = s.Stay
+word_said Freeze = s.Does simple.FreezeBoundary
+word_said Clear = s.Does simple.ClearError
+word_said Stop = s.Does simple.Stop
+word_said Prevent = s.Does simple.Prevent
+word_said Stay = s.Does simple.Stay
 
 -- an object of one key with 0
 abbrev pub word_at : List ℕ → Word → Data → Option Statement
@@ -55,14 +56,14 @@ named variables key d = if is_object_of (key ∷ []) d then variable_at variable
 abbrev pub provided : Names → List (List ℕ) → Data → Option Statement
 provided names variables d =
     if is_object_of (codes "provide" ∷ codes "be" ∷ []) d
-    then option_and_then (λ kind. option_map (λ e. s.ProvideAs kind e) (expression_at names variables (codes "be") d))
+    then option_and_then (λ kind. option_map (λ e. s.Does (simple.ProvideAs kind e)) (expression_at names variables (codes "be") d))
     (variable_at names.kinds (codes "provide") d) else None
 
 -- an object of `write`, a variable, and `be`
 abbrev pub written : Names → List (List ℕ) → Data → Option Statement
 written names variables d =
     if is_object_of (codes "write" ∷ codes "be" ∷ []) d
-    then option_and_then (λ variable. option_map (λ e. s.WriteTo variable e) (expression_at names variables (codes "be") d))
+    then option_and_then (λ variable. option_map (λ e. s.Does (simple.WriteTo variable e)) (expression_at names variables (codes "be") d))
     (variable_at variables (codes "write") d) else None
 
 -- what a word does to a task
@@ -77,17 +78,17 @@ act_of word =
 abbrev pub acted : List (List ℕ) → Data → Option Statement
 acted variables d =
     if is_object_of (codes "act" ∷ codes "task" ∷ []) d
-    then option_and_then (λ act. option_map (λ variable. s.ActOn act variable) (variable_at variables (codes "task") d))
+    then option_and_then (λ act. option_map (λ variable. s.Does (simple.ActOn act variable)) (variable_at variables (codes "task") d))
     (option_and_then act_of (text_at (codes "act") d)) else None
 
 -- the statement of a form that is plain
 abbrev pub plain_of : Names → List (List ℕ) → List ℕ → Plain → Data → Option Statement
 plain_of names variables key (Calls calling) d = calling_of names variables key calling d
 plain_of names variables key (Says word) d = word_at key word d
-plain_of names variables key Mark d = option_map s.MarkScopeOf (given names variables key d)
+plain_of names variables key Mark d = option_map (λ e. s.Does (simple.MarkScopeOf e)) (given names variables key d)
 plain_of names variables key Throw d = option_map s.ThrowText (given names variables key d)
 plain_of names variables key Fail d = option_map s.FailWith (given names variables key d)
-plain_of names variables key Forget d = option_map s.Forget (named variables key d)
+plain_of names variables key Forget d = option_map (λ variable. s.Does (simple.Forget variable)) (named variables key d)
 plain_of names variables key Suspend d = option_map s.SuspendOn (named variables key d)
 plain_of names variables key Provide d = provided names variables d
 plain_of names variables key Write d = written names variables d

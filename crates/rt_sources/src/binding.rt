@@ -6,7 +6,7 @@ ghost use Rattle.rt_sources.specs.Readings.{binding_in, spawned_in};
 
 use crate::forms::Binder;
 use rt_expressions::{Names, call_at, expression_at, is_object_of, text_at};
-use rt_syntax::{Expression, SpawnKind, Statement};
+use rt_syntax::{Expression, Simple, SpawnKind, Statement};
 use rt_values::{OutOfMemory, Text};
 use serde_json::Value;
 use std::alloc::Global;
@@ -50,7 +50,7 @@ pub fn binding(
     match binder {
         Binder::Let => {
             let bound = bound_by(alloc, names, variables, "let", "be", value)?;
-            Ok(bound.map(|(name, given)| (name, Statement::Let(given))))
+            Ok(bound.map(|(name, given)| (name, Statement::Does(Simple::Let(given)))))
         }
         Binder::Cell => {
             let bound = bound_by(alloc, names, variables, "cell", "init", value)?;

@@ -8,7 +8,7 @@ use crate::forms::Place;
 use crate::signatures::params_in;
 use crate::statements::read_block;
 use rt_expressions::{Names, is_object_of, list_at, list_or_empty, read_view};
-use rt_syntax::{ComponentSource, Statement};
+use rt_syntax::{ComponentSource, OutsideStatements};
 use rt_values::{List, OutOfMemory, Text, copy_slice};
 use serde_json::{Map, Value};
 use std::alloc::Global;
@@ -50,7 +50,7 @@ fn action(
     alloc: Global,
     names: &Names,
     value: &Value,
-) -> Result<Option<List<Statement>>, OutOfMemory>
+) -> Result<Option<OutsideStatements>, OutOfMemory>
     ensures action { IfOk result (λ read. read ≡ action_in names.now (view value.now)) }
 {
     if !is_object_of(value, &["params", "do"]) {
@@ -63,7 +63,9 @@ fn action(
         return Ok(None);
     };
     match read_block(alloc, names, Place::Action, params, values)? {
-        Some((_bound, statements)) => Ok(Some(List::from_vec(statements))),
+        Some((_bound, statements)) => Ok(Some(OutsideStatements {
+            statements: List::from_vec(statements),
+        })),
         None => Ok(None),
     }
 }
@@ -74,7 +76,7 @@ fn step(
     names: &Names,
     params: &[Text],
     value: &Value,
-) -> Result<Option<List<Statement>>, OutOfMemory>
+) -> Result<Option<OutsideStatements>, OutOfMemory>
     ensures step { IfOk result (λ read. read ≡ step_in names.now params.now (view value.now)) }
 {
     let Some(values) = value.as_array() else {
@@ -82,7 +84,9 @@ fn step(
     };
     let params = copy_slice(alloc, params)?;
     match read_block(alloc, names, Place::Step, params, values)? {
-        Some((_bound, statements)) => Ok(Some(List::from_vec(statements))),
+        Some((_bound, statements)) => Ok(Some(OutsideStatements {
+            statements: List::from_vec(statements),
+        })),
         None => Ok(None),
     }
 }
@@ -92,7 +96,7 @@ fn steps(
     names: &Names,
     params: &[Text],
     values: &[Value],
-) -> Result<Option<Vec<List<Statement>>>, OutOfMemory>
+) -> Result<Option<Vec<OutsideStatements>>, OutOfMemory>
     ensures steps { IfOk result (λ read. option_map (λ kept. kept.items) read
         ≡ read_each (step_in names.now params.now) (items_view values.now)) }
 {
@@ -111,7 +115,7 @@ fn task(
     alloc: Global,
     names: &Names,
     value: &Value,
-) -> Result<Option<List<List<Statement>>>, OutOfMemory>
+) -> Result<Option<List<OutsideStatements>>, OutOfMemory>
     ensures task { IfOk result (λ read. read ≡ task_in names.now (view value.now)) }
 {
     if !is_object_of(value, &["params", "steps"]) {
@@ -151,7 +155,7 @@ fn actions(
     alloc: Global,
     names: &Names,
     members: &Map<String, Value>,
-) -> Result<Option<Vec<List<Statement>>>, OutOfMemory>
+) -> Result<Option<Vec<OutsideStatements>>, OutOfMemory>
     ensures actions { IfOk result (λ read. option_map (λ kept. kept.items) read
         ≡ read_members (λ _. action_in names.now) (members_view members.now.entries)) }
 {
@@ -169,7 +173,7 @@ fn tasks(
     alloc: Global,
     names: &Names,
     members: &Map<String, Value>,
-) -> Result<Option<Vec<List<List<Statement>>>>, OutOfMemory>
+) -> Result<Option<Vec<List<OutsideStatements>>>, OutOfMemory>
     ensures tasks { IfOk result (λ read. option_map (λ kept. kept.items) read
         ≡ read_members (λ _. task_in names.now) (members_view members.now.entries)) }
 {
@@ -208,7 +212,7 @@ pub fn actions_at(
     alloc: Global,
     names: &Names,
     value: &Value,
-) -> Result<Option<Vec<List<Statement>>>, OutOfMemory>
+) -> Result<Option<Vec<OutsideStatements>>, OutOfMemory>
     ensures actions { IfOk result (λ read. option_map (λ kept. kept.items) read
         ≡ actions_at names.now (view value.now)) }
 {
@@ -227,7 +231,7 @@ pub fn tasks_at(
     alloc: Global,
     names: &Names,
     value: &Value,
-) -> Result<Option<Vec<List<List<Statement>>>>, OutOfMemory>
+) -> Result<Option<Vec<List<OutsideStatements>>>, OutOfMemory>
     ensures tasks { IfOk result (λ read. option_map (λ kept. kept.items) read
         ≡ tasks_at names.now (view value.now)) }
 {

@@ -8,7 +8,7 @@ use crate::forms::{Calling, Plain, Word};
 use rt_expressions::{
     Names, call_at, expression_at, is_object_of, is_zero_at, text_at, variable_at,
 };
-use rt_syntax::{Expression, HookTime, Statement, TaskAct};
+use rt_syntax::{Expression, HookTime, Simple, Statement, TaskAct};
 use rt_values::{List, OutOfMemory, Text};
 use serde_json::Value;
 use std::alloc::Global;
@@ -32,8 +32,8 @@ fn call_of(calling: Calling, action: u64, arguments: List<Expression>) -> Statem
             action,
             arguments,
         },
-        Calling::AsEffect => Statement::EffectOf { action, arguments },
-        Calling::OnceResolved => Statement::OnResolved { action, arguments },
+        Calling::AsEffect => Statement::Does(Simple::EffectOf { action, arguments }),
+        Calling::OnceResolved => Statement::Does(Simple::OnResolved { action, arguments }),
     }
 }
 
@@ -62,11 +62,11 @@ fn word_said(word: Word) -> Statement
     ensures said { result ≡ word_said word }
 {
     match word {
-        Word::Freeze => Statement::FreezeBoundary,
-        Word::Clear => Statement::ClearError,
-        Word::Stop => Statement::Stop,
-        Word::Prevent => Statement::Prevent,
-        Word::Stay => Statement::Stay,
+        Word::Freeze => Statement::Does(Simple::FreezeBoundary),
+        Word::Clear => Statement::Does(Simple::ClearError),
+        Word::Stop => Statement::Does(Simple::Stop),
+        Word::Prevent => Statement::Does(Simple::Prevent),
+        Word::Stay => Statement::Does(Simple::Stay),
     }
 }
 
@@ -125,7 +125,7 @@ fn provided(
     let Some(given) = expression_at(alloc, names, variables, value, "be")? else {
         return Ok(None);
     };
-    Ok(Some(Statement::ProvideAs { kind, value: given }))
+    Ok(Some(Statement::Does(Simple::ProvideAs { kind, value: given })))
 }
 
 fn written(
@@ -146,10 +146,10 @@ fn written(
     let Some(given) = expression_at(alloc, names, variables, value, "be")? else {
         return Ok(None);
     };
-    Ok(Some(Statement::WriteTo {
+    Ok(Some(Statement::Does(Simple::WriteTo {
         variable,
         value: given,
-    }))
+    })))
 }
 
 #[tactic(auto, unfolding(crate::specs::Plain::act_of))]
@@ -178,7 +178,7 @@ fn acted(variables: &[Text], value: &Value) -> Option<Statement>
     let word = text_at(value, "act")?;
     let act = act_of(word)?;
     let variable = variable_at(variables, value, "task")?;
-    Some(Statement::ActOn { act, variable })
+    Some(Statement::Does(Simple::ActOn { act, variable }))
 }
 
 /// The statement of a form that is plain.
@@ -197,10 +197,16 @@ pub fn plain_of(
     match plain {
         Plain::Calls(calling) => calling_of(alloc, names, variables, key, calling, value),
         Plain::Says(word) => Ok(word_at(key, word, value)),
-        Plain::Mark => Ok(given(alloc, names, variables, key, value)?.map(Statement::MarkScopeOf)),
+        Plain::Mark => {
+            let scope = given(alloc, names, variables, key, value)?;
+            Ok(scope.map(|scope| Statement::Does(Simple::MarkScopeOf(scope))))
+        }
         Plain::Throw => Ok(given(alloc, names, variables, key, value)?.map(Statement::ThrowText)),
         Plain::Fail => Ok(given(alloc, names, variables, key, value)?.map(Statement::FailWith)),
-        Plain::Forget => Ok(named(variables, key, value).map(Statement::Forget)),
+        Plain::Forget => {
+            let cell = named(variables, key, value);
+            Ok(cell.map(|cell| Statement::Does(Simple::Forget(cell))))
+        }
         Plain::Suspend => Ok(named(variables, key, value).map(Statement::SuspendOn)),
         Plain::Provide => provided(alloc, names, variables, value),
         Plain::Write => written(alloc, names, variables, value),

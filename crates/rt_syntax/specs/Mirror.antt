@@ -12,6 +12,8 @@ use Rattle.rt_syntax.specs.declared.statement.SpawnKind.{SpawnKind}
 use Rattle.rt_syntax.specs.declared.statement.SpawnKind.TheVariants as kinds
 use Rattle.rt_syntax.specs.declared.statement.TaskAct.{TaskAct}
 use Rattle.rt_syntax.specs.declared.statement.TaskAct.TheVariants as acts
+use Rattle.rt_syntax.specs.declared.statement.Simple.{Simple}
+use Rattle.rt_syntax.specs.declared.statement.Simple.TheVariants as simple
 use Rattle.rt_syntax.specs.declared.statement.Statement.{Statement}
 use Rattle.rt_syntax.specs.declared.statement.Statement.TheOpen.{Statement-F}
 use Rattle.rt_syntax.specs.declared.statement.Statement.TheFolds.{fold-Statement}
@@ -91,29 +93,33 @@ abbrev pub one_by_one : List language.Statement → language.Statements
 one_by_one [] = language.NoStatements
 one_by_one (s ∷ ss) = language.MoreStatements s (one_by_one ss)
 
+-- a statement after which the next one always follows
+abbrev pub simple_of : Simple → language.Statement
+simple_of (simple.Let e) = language.Let (expression_of e)
+simple_of (simple.EffectOf action arguments) = language.EffectOf action (arguments_of arguments)
+simple_of (simple.OnResolved action arguments) = language.OnResolved action (arguments_of arguments)
+simple_of simple.FreezeBoundary = language.FreezeBoundary
+simple_of (simple.ProvideAs kind value) = language.ProvideAs kind (expression_of value)
+simple_of (simple.WriteTo variable value) = language.WriteTo variable (expression_of value)
+simple_of (simple.Forget variable) = language.Forget variable
+simple_of (simple.ActOn act variable) = language.ActOn (act_of act) variable
+simple_of (simple.MarkScopeOf scope) = language.MarkScopeOf (expression_of scope)
+simple_of simple.ClearError = language.ClearError
+simple_of simple.Stop = language.Stop
+simple_of simple.Prevent = language.Prevent
+simple_of simple.Stay = language.Stay
+
 -- one level of a statement
 abbrev pub statement_step : Statement-F language.Statement → language.Statement
-statement_step (Statement-F.Let e) = language.Let (expression_of e)
+statement_step (Statement-F.Does s) = simple_of s
+statement_step (Statement-F.SpawnTask task arguments kind) = language.SpawnTask task (arguments_of arguments) (spawned_of kind)
+statement_step (Statement-F.When test statements) = language.When (expression_of test) (one_by_one statements)
+statement_step (Statement-F.ThrowText text) = language.ThrowText (expression_of text)
 statement_step (Statement-F.UseCell e) = language.UseCell (expression_of e)
 statement_step (Statement-F.UseHook e) = language.UseHook (expression_of e)
-statement_step (Statement-F.SpawnTask task arguments kind) = language.SpawnTask task (arguments_of arguments) (spawned_of kind)
 statement_step (Statement-F.CallAt time action arguments) = language.CallAt (time_of time) action (arguments_of arguments)
-statement_step (Statement-F.EffectOf action arguments) = language.EffectOf action (arguments_of arguments)
-statement_step (Statement-F.OnResolved action arguments) = language.OnResolved action (arguments_of arguments)
-statement_step Statement-F.FreezeBoundary = language.FreezeBoundary
-statement_step (Statement-F.When test statements) = language.When (expression_of test) (one_by_one statements)
-statement_step (Statement-F.ProvideAs kind value) = language.ProvideAs kind (expression_of value)
-statement_step (Statement-F.WriteTo variable value) = language.WriteTo variable (expression_of value)
-statement_step (Statement-F.Forget variable) = language.Forget variable
-statement_step (Statement-F.ActOn act variable) = language.ActOn (act_of act) variable
-statement_step (Statement-F.MarkScopeOf scope) = language.MarkScopeOf (expression_of scope)
-statement_step (Statement-F.ThrowText text) = language.ThrowText (expression_of text)
-statement_step Statement-F.ClearError = language.ClearError
 statement_step (Statement-F.FailWith text) = language.FailWith (expression_of text)
 statement_step (Statement-F.SuspendOn variable) = language.SuspendOn variable
-statement_step Statement-F.Stop = language.Stop
-statement_step Statement-F.Prevent = language.Prevent
-statement_step Statement-F.Stay = language.Stay
 
 -- a statement
 abbrev pub statement_of : Statement → language.Statement

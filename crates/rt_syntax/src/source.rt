@@ -1,6 +1,7 @@
 //! The whole of a source.
 
 use crate::expression::Literal;
+use crate::outside::OutsideStatements;
 use crate::statement::Statement;
 use crate::view::ViewNode;
 use rt_values::{List, Text};
@@ -46,9 +47,9 @@ pub struct Source {
     pub root: u64,
     /// Of the root.
     pub props: List<Literal>,
-    pub actions: List<List<Statement>>,
+    pub actions: List<OutsideStatements>,
     /// Each by its steps.
-    pub tasks: List<List<List<Statement>>>,
+    pub tasks: List<List<OutsideStatements>>,
     pub inputs: List<InputSource>,
     /// By poster.
     pub posts: List<List<PostSource>>,

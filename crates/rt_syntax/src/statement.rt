@@ -28,23 +28,11 @@ pub enum TaskAct {
     Resume,
 }
 
-/// What a body, an action or a step does. Actions, tasks and kinds of contexts are places.
+/// A statement after which the next one always follows.
 #[derive(Debug, Drop)]
-pub enum Statement {
-    /// Binds the next variable, as do `UseCell`, `UseHook` and `SpawnTask`.
+pub enum Simple {
+    /// Binds the next variable.
     Let(Expression),
-    UseCell(Expression),
-    UseHook(Expression),
-    SpawnTask {
-        task: u64,
-        arguments: List<Expression>,
-        kind: SpawnKind,
-    },
-    CallAt {
-        time: HookTime,
-        action: u64,
-        arguments: List<Expression>,
-    },
     EffectOf {
         action: u64,
         arguments: List<Expression>,
@@ -54,10 +42,6 @@ pub enum Statement {
         arguments: List<Expression>,
     },
     FreezeBoundary,
-    When {
-        test: Expression,
-        statements: List<Statement>,
-    },
     ProvideAs {
         kind: u64,
         value: Expression,
@@ -72,11 +56,35 @@ pub enum Statement {
         variable: u64,
     },
     MarkScopeOf(Expression),
-    ThrowText(Expression),
     ClearError,
-    FailWith(Expression),
-    SuspendOn(u64),
     Stop,
     Prevent,
     Stay,
+}
+
+/// What a body, an action or a step does. Actions, tasks and kinds of contexts are places.
+#[derive(Debug, Drop)]
+pub enum Statement {
+    Does(Simple),
+    /// Binds the next variable, as do `UseCell` and `UseHook`.
+    SpawnTask {
+        task: u64,
+        arguments: List<Expression>,
+        kind: SpawnKind,
+    },
+    When {
+        test: Expression,
+        statements: List<Statement>,
+    },
+    ThrowText(Expression),
+    /// What follows stands in bodies alone.
+    UseCell(Expression),
+    UseHook(Expression),
+    CallAt {
+        time: HookTime,
+        action: u64,
+        arguments: List<Expression>,
+    },
+    FailWith(Expression),
+    SuspendOn(u64),
 }

@@ -1,5 +1,5 @@
 -- One more statement, and none.
-use Rattle.std.proofs.Common.{true, ℕ, List, take, sym, subst, rules, ◌≡◌, ◌∙◌, arith, ap}
+use Rattle.std.proofs.Common.{true, ℕ, List, get_or, take, sym, subst, rules, ◌≡◌, ◌∙◌, arith, ap}
 use Rattle.rt_calls.specs.Calls.{world_of, call_of}
 use Rattle.rt_model.specs.World.{World}
 use Rattle.rt_language.specs.Expressions.{SourceTypes, Caller}
@@ -7,6 +7,7 @@ use Rattle.rt_language.specs.Statements as statements
 use Rattle.rt_language.specs.Statements.{Running, WentOn, perform, run_statements}
 use Rattle.rt_syntax.specs.Mirror.{expression_of, statement_of, statements_of}
 use Rattle.rt_language.specs.Values.{Value, is_true}
+use Rattle.rt_syntax.specs.declared.statement.Statement.{Statement}
 use Rattle.rt_script.specs.declared.caller.Frame.{Frame}
 use Rattle.rt_programs.specs.Came.{came, reached}
 use Rattle.rt_script.specs.Seen.{caller_of, frame_of, outcome_of, ScriptWorld}
@@ -17,22 +18,28 @@ use Rattle.rt_script.proofs.running.+running.Goals as goal
 pub run_statements-loop-statement-preserved : goal.run_statements-loop-statement-preserved
 run_statements-loop-statement-preserved g t c =
     let inv = c.loop-statement.invariant in
+    let s = c.allowed.result.now in
+    let is : s ≡ get_or c.args.statements.now c.loop-statement.statement-index s =
+    subst (λ (x : Statement). x ≡ get_or c.args.statements.now c.loop-statement.statement-index x) (sym c.allowed.ensures.same) c.statement-item.is in
     let f : statements.Frame = frame_of c.perform.new.frame in
-    let p : Caller → Running = λ b. perform b (frame_of c.loop-statement.frame) (statement_of c.statement-item.result) in
+    let p : Caller → Running = λ b. perform b (frame_of c.loop-statement.frame) (statement_of s) in
     let h : came (world_of c.args.cx.now.world) (p (caller_of c.args.frame.now.by)) (call_of c.loop-statement.cx) ≡ reached (WentOn f) (call_of c.perform.new.cx) =
     went c.loop-statement.cx c.perform.new.cx _ c.loop-statement.frame.by c.args.frame.now.by p c.in_ok-outcome.outcome f inv.1 inv.2.by c.in-WentOn.is c.in_ok-outcome.ensures.came in
-    (inv.0 ∙ one_statement _ _ _ c.args.statements.now _ _ (WentOn f) _ _ (omega arith) c.statement-item.is h, c.in_ok-outcome.ensures.world ∙ inv.1, follows-on _ _ _ inv.2 c.in_ok-outcome.ensures.follows)
+    (inv.0 ∙ one_statement _ _ _ c.args.statements.now _ _ (WentOn f) _ _ (omega arith) is h, c.in_ok-outcome.ensures.world ∙ inv.1, follows-on _ _ _ inv.2 c.in_ok-outcome.ensures.follows)
 
 pub run_statements-returns-in_default : goal.run_statements-returns-in_default
 run_statements-returns-in_default g t c =
     let inv = c.loop-statement.invariant in
+    let s = c.allowed.result.now in
+    let is : s ≡ get_or c.args.statements.now c.loop-statement.statement-index s =
+    subst (λ (x : Statement). x ≡ get_or c.args.statements.now c.loop-statement.statement-index x) (sym c.allowed.ensures.same) c.statement-item.is in
     let w : World SourceTypes = world_of c.args.cx.now.world in
     let f : statements.Frame = frame_of c.perform.new.frame in
     let o = c.in_ok-outcome.outcome in
-    let p : Caller → Running = λ b. perform b (frame_of c.loop-statement.frame) (statement_of c.statement-item.result) in
+    let p : Caller → Running = λ b. perform b (frame_of c.loop-statement.frame) (statement_of s) in
     record {
       came = knows o _ (λ h. inv.0
-          ∙ one_statement w _ _ c.args.statements.now c.loop-statement.statement-index c.statement-item.result (outcome_of o f) _ _ (omega arith) c.statement-item.is
+          ∙ one_statement w _ _ c.args.statements.now c.loop-statement.statement-index s (outcome_of o f) _ _ (omega arith) is
           (moved c.loop-statement.cx c.perform.new.cx _ c.loop-statement.frame.by c.args.frame.now.by p (outcome_of o f) inv.1 inv.2.by h)
           ∙ ap (λ (q : Running). came w q (call_of c.perform.new.cx)) (stops o f _ c.in_default.not-WentOn)
           ∙ at_done w (outcome_of o f) (call_of c.perform.new.cx)) c.in_ok-outcome.ensures.came;
