@@ -25,14 +25,10 @@ pub enum Component {
     Shown,
 }
 
+#[rattlefmt::skip]
 impl Part for Component {
-    fn same(&self, other: &Component) -> bool {
-        *self == *other
-    }
-
-    fn copy(&self, _alloc: Global) -> Result<Component, OutOfMemory> {
-        Ok(*self)
-    }
+    fn same(&self, other: &Component) -> bool { *self == *other }
+    fn copy(&self, _alloc: Global) -> Result<Component, OutOfMemory> { Ok(*self) }
 }
 
 impl Parts for Counter {

@@ -33,14 +33,10 @@ pub enum Component {
     Page,
 }
 
+#[rattlefmt::skip]
 impl Part for Component {
-    fn same(&self, other: &Component) -> bool {
-        *self == *other
-    }
-
-    fn copy(&self, _alloc: Global) -> Result<Component, OutOfMemory> {
-        Ok(*self)
-    }
+    fn same(&self, other: &Component) -> bool { *self == *other }
+    fn copy(&self, _alloc: Global) -> Result<Component, OutOfMemory> { Ok(*self) }
 }
 
 /// The name of a route.
