@@ -25,8 +25,7 @@ const LIMITS: Limits = Limits {
 fn hello(rt: &impl Abort, alloc: Global) -> (Script, Props) {
     let read = read_source(alloc, HELLO.as_bytes()).expect(rt, "memory for a source");
     let source = read.expect(rt, "a source in the form");
-    let made = Script::new(alloc, source).expect(rt, "memory for a script");
-    let script = made.expect(rt, "a script");
+    let script = Script::new(alloc, source).expect(rt, "memory for a script");
     let props = script.props(alloc).expect(rt, "memory for props");
     (script, props)
 }
