@@ -95,27 +95,27 @@ module _ {P C Q V H T E L : Type 0} (app : Application (types C Q V H T E L)) (l
       }
 
   -- what a turn comes to, by the machine's answer
-  pub turns_to : (edits : List doc.Edit) (before after : Option (List Edit)) (d : Machine P C Q V H T E L) (turned : Result (Option ℕ) Ended) (turn : Turn)
-      → TurnsAs app limits r edits before after d turned
+  pub turns_to : (edits : List doc.Edit) (before after : Option (List Edit)) (old d : Machine P C Q V H T E L) (turned : Result (Option ℕ) Ended) (turn : Turn)
+      → TurnsAs app limits r edits before after old d turned
       → ComesTo turned turn
       → TurnsTo app limits r turn d
-  turns_to edits before after d (Ok (Some count)) turn h is =
+  turns_to edits before after old d (Ok (Some count)) turn h is =
       subst (λ (t : Turn). TurnsTo app limits r t d) (sym is) (record { edits = edits ++ map edit_of h.wrote; stands = h.stands })
-  turns_to edits before after d (Ok None) turn h is =
+  turns_to edits before after old d (Ok None) turn h is =
       subst (λ (t : Turn). TurnsTo app limits r t d) (sym is) (record { edits = edits; settled = h.1 })
-  turns_to edits before after d (Err ends.Sink) turn h is = absurd is
-  turns_to edits before after d (Err (ends.OutOfTurns units)) turn h is = absurd is
-  turns_to edits before after d (Err (ends.TooDeep height)) turn h is = absurd is
-  turns_to edits before after d (Err (ends.Run stops.OutOfMemory)) turn h is = absurd is
-  turns_to edits before after d (Err (ends.Run (stops.Fault what))) turn h is =
+  turns_to edits before after old d (Err ends.Sink) turn h is = absurd is
+  turns_to edits before after old d (Err (ends.OutOfTurns units)) turn h is = absurd is
+  turns_to edits before after old d (Err (ends.TooDeep height)) turn h is = absurd is
+  turns_to edits before after old d (Err (ends.Run stops.OutOfMemory)) turn h is = absurd is
+  turns_to edits before after old d (Err (ends.Run (stops.Fault what))) turn h is =
       subst (λ (t : Turn). TurnsTo app limits r t d) (sym is) (fell edits before after what d h.0)
 
-  pub turns_on : {X : Type 0} (edits : List doc.Edit) (before after : Option (List Edit)) (d : Machine P C Q V H T E L) (turned : Result (Option ℕ) Ended) (answer : Result Turn X)
-      → TurnsAs app limits r edits before after d turned
+  pub turns_on : {X : Type 0} (edits : List doc.Edit) (before after : Option (List Edit)) (old d : Machine P C Q V H T E L) (turned : Result (Option ℕ) Ended) (answer : Result Turn X)
+      → TurnsAs app limits r edits before after old d turned
       → IfOk answer (ComesTo turned)
       → IfOk answer (λ turn. TurnsTo app limits r turn d)
-  turns_on edits before after d turned (Ok turn) h is = turns_to edits before after d turned turn h is
-  turns_on edits before after d turned (Err x) h is = tt
+  turns_on edits before after old d turned (Ok turn) h is = turns_to edits before after old d turned turn h is
+  turns_on edits before after old d turned (Err x) h is = tt
 
   -- nothing is left to do, so nothing is owed
   pub rest_settled : (d : Machine P C Q V H T E L) → (h : Rests app limits r d) → is_settled (h.settled).last ≡ true

@@ -1,7 +1,7 @@
 //! The runtime beside a list, turn by turn.
 ghost use Rattle.std.specs.Prelude.{◌≡◌, map, take, IfOk};
 ghost use Rattle.rt_reports.specs.Seen.{entry_of, limits_of};
-ghost use Rattle.rt_machine.specs.Stands.{StandsAt};
+ghost use Rattle.rt_machine.specs.Stands.{StandsAt, without_count};
 ghost use Rattle.rt_audit.specs.Fronts.{IsFront};
 ghost use Rattle.rt_audit.specs.Finding.{boundless, ComesTo, IsBehind, Says, TurnsTo, Keeps, at_rest};
 ghost use Rattle.rt_audit.specs.Judging.{FindsIn, JudgesOf};
@@ -63,8 +63,9 @@ fn turn_once<A: App>(
     calls: &mut Calls,
 ) -> Result<Turn, OutOfMemory>
     ensures turns { (r : _) (edits : _) →
-        StandsAt (A.meaning app.now) (limits_of boundless) r edits machine.old →
-        IfOk result (λ turn. TurnsTo (A.meaning app.now) (limits_of boundless) r turn machine.new) }
+        StandsAt (A.meaning app.now) (limits_of boundless) (without_count r) edits machine.old →
+        IfOk result (λ turn. TurnsTo (A.meaning app.now) (limits_of boundless) (without_count r)
+        turn machine.new) }
 {
     let mut sink = NoOpMutations;
     let turned = machine.turn(app, calls, BOUNDLESS, &mut sink);
@@ -131,8 +132,10 @@ fn follow_once<A: App>(
     seen: usize,
 ) -> Result<Found, OutOfMemory>
     ensures finds { (r : _) →
-        Keeps (A.meaning app.now) (limits_of boundless) r (map entry_of list.now) seen machine.old →
-        IfOk result (FindsIn (A.meaning app.now) (limits_of boundless) r (map entry_of list.now) machine.new) }
+        Keeps (A.meaning app.now) (limits_of boundless) (without_count r) (map entry_of list.now) seen
+        machine.old →
+        IfOk result (FindsIn (A.meaning app.now) (limits_of boundless) (without_count r)
+        (map entry_of list.now) machine.new) }
 {
     let turn = turn_once(machine, app, calls)?;
     found_after(turn, machine.course.entries.as_slice(), list, seen)
@@ -147,8 +150,10 @@ pub(crate) fn follow<A: App>(
     list: &[Entry],
 ) -> Result<Option<u64>, OutOfMemory>
     ensures judges { (r : _) →
-        Keeps (A.meaning app.now) (limits_of boundless) r (map entry_of list.now) 0 machine.old →
-        IfOk result (JudgesOf (A.meaning app.now) (limits_of boundless) r (map entry_of list.now) machine.new) }
+        Keeps (A.meaning app.now) (limits_of boundless) (without_count r) (map entry_of list.now) 0
+        machine.old →
+        IfOk result (JudgesOf (A.meaning app.now) (limits_of boundless) (without_count r)
+        (map entry_of list.now) machine.new) }
 {
     let mut seen = 0;
     for _turn in 0..u64::MAX {

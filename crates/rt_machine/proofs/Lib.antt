@@ -5,6 +5,7 @@ mod Framed
 mod Stacks
 mod Kept
 mod Arms
+pub mod Counting
 pub mod Keeps
 mod Wrote
 mod Orderly

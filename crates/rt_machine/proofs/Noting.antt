@@ -36,6 +36,13 @@ never_spent (faults.HookChanged scope index kept asked) units h = absurd (cc h)
 never_spent (faults.NoSuchTask scope task) units h = absurd (cc h)
 never_spent (faults.BadNode scope) units h = absurd (cc h)
 
+-- a turn that never spends units
+pub never_spends : (A : Type 0) {X : Type 0} (result : Result X Ended)
+    → IfErr result (λ ended. (units : ℕ) → fault_in ended ≡ Some (model.OutOfTurns units) → ⊥)
+    → IfErr result (λ ended. (units : ℕ) → fault_in ended ≡ Some (model.OutOfTurns units) → A)
+never_spends A (Ok answer) never = tt
+never_spends A (Err ended) never = λ units why. absurd (never units why)
+
 pub stop_never_spent : {A : Type 0} (stop : Stop) (units : ℕ) → fault_in (ends.Run stop) ≡ Some (model.OutOfTurns units) → A
 stop_never_spent stops.OutOfMemory units h = absurd (cc h)
 stop_never_spent (stops.Fault what) units h = never_spent what units h

@@ -28,6 +28,7 @@ use Rattle.rt_fresh.specs.Turn.{unit_of, entry_for, begun_at}
 use Rattle.rt_fresh.specs.Underway.{Rests, Works, Refused}
 use Rattle.rt_fresh.proofs.Beginnings.{rests_begin, rests_cut, rests_spent, opens_taken, opens_build, build_cut}
 use Rattle.rt_work.specs.Items.{work_of}
+use Rattle.rt_machine.specs.Counting.{CountsAlong, calls_after}
 use Rattle.rt_machine.specs.Machines.{machine_of, open_work, noted, first_in, fault_in, IsFresh, Did, WasCut, BeginsAs, RemembersFor, Remembers}
 use Rattle.rt_machine.specs.Stands.{Going, StandsFor, StandsAt, StandsQuiet, Follows, Over, Reported}
 use Rattle.rt_machine.specs.declared.course.Course.{Course}
@@ -72,7 +73,7 @@ module _ {P C Q V H T E L : Type 0} (app : Application (types C Q V H T E L)) (l
   unit_at h v x items o n = record (machine_of h r.left r.taken x) { state = v; work = items; unit = is_some o; units = n }
 
   -- a unit begins
-  pub stands_begun : (work : next.Work) (edits : List doc.Edit) (old mid new : Machine P C Q V H T E L)
+  pub stands_begun : (count : Option ℕ) (work : next.Work) (edits : List doc.Edit) (old mid new : Machine P C Q V H T E L)
       → StandsQuiet app limits r edits old
       → old.work ≡ []
       → Resting old mid (Some work)
@@ -81,8 +82,9 @@ module _ {P C Q V H T E L : Type 0} (app : Application (types C Q V H T E L)) (l
       → new.units ≡ mid.units + 1
       → Remembers new (scopes_of ((mid.scopes).state.rows).table)
       → Frame mid new
-      → StandsAt app limits r edits new
-  stands_begun work edits old mid new s idle at begins first units remembers frame =
+      → ((g : Unkept (types C Q V H T E L)) → CountsAlong r.count g.calls → CountsAlong count (calls_after (unit_of app (state_of g (mid.scopes).state) work)))
+      → StandsAt app limits (record r { count = count }) edits new
+  stands_begun count work edits old mid new s idle at begins first units remembers frame counts =
       let g = s.0 in
       let m = machine_of g r.left r.taken old in
       let d = begins g in
@@ -111,7 +113,8 @@ module _ {P C Q V H T E L : Type 0} (app : Application (types C Q V H T E L)) (l
       subst (λ (l : List replay.Entry). Works app limits r.props r.inputs r.from (r.opened ++ l) edits m.state e (machine_of h r.left r.taken new)) (sym log)
       (subst (λ (x : replay.Machine (types C Q V H T E L)). Works app limits r.props r.inputs r.from (r.opened ++ (noted old ++ e ∷ [])) edits m.state e x) (sym same)
       (subst (λ (l : List replay.Entry). Works app limits r.props r.inputs r.from l edits m.state e (begun_at m v did.work)) (append_assoc r.opened (noted old) (e ∷ [])) on)) in
-      subst (λ (o : Option replay.Entry). StandsFor app limits r o edits new) (sym first) (h, m.state, here, kept)
+      let goes : CountsAlong count h.calls = subst (λ (o : Outcome (types C Q V H T E L)). CountsAlong count (calls_after o)) did.done (counts g s.3) in
+      subst (λ (o : Option replay.Entry). StandsFor app limits (record r { count = count }) o edits new) (sym first) (h, m.state, here, kept, goes)
 
   -- no unit begins: its own call was cut, or the units are spent
   pub none_begun : (work : next.Work) (edits : List doc.Edit) (old mid new : Machine P C Q V H T E L) (ended : Ended) (fault : model.Fault)
@@ -148,11 +151,11 @@ module _ {P C Q V H T E L : Type 0} (app : Application (types C Q V H T E L)) (l
 module _ {K : Types} (app : Application K) (limits : causes.Limits) (props : K.Props) (inputs : List (replay.Input K)) where
   -- the build's report, on its way
   abbrev pub building : Going K
-  building = record { props = props; inputs = inputs; from = start app props inputs; opened = replay.Build ∷ []; left = inputs; taken = 0 }
+  building = record { props = props; inputs = inputs; from = start app props inputs; opened = replay.Build ∷ []; left = inputs; taken = 0; count = None }
 
   -- the report of an input, on its way
   abbrev pub taking : List (replay.Input K) → ℕ → replay.Machine K → Going K
-  taking left number last = record { props = props; inputs = inputs; from = last; opened = replay.Taken number ∷ []; left = left; taken = number }
+  taking left number last = record { props = props; inputs = inputs; from = last; opened = replay.Taken number ∷ []; left = left; taken = number; count = None }
 
 module _ {P C Q V H T E L : Type 0} (app : Application (types C Q V H T E L)) (limits : causes.Limits) (props : Q) (inputs : List (replay.Input (types C Q V H T E L))) where
   fresh_log : (old new : Machine P C Q V H T E L) → IsFresh old → noted new ≡ noted old ++ [] → noted new ≡ []
@@ -188,7 +191,7 @@ module _ {P C Q V H T E L : Type 0} (app : Application (types C Q V H T E L)) (l
       let here : Works app limits props inputs m (replay.Build ∷ noted new) [] m.state replay.Build (machine_of h inputs 0 new) =
       subst (λ (l : List replay.Entry). Works app limits props inputs m (replay.Build ∷ l) [] m.state replay.Build (machine_of h inputs 0 new)) (sym log)
       (subst (λ (x : replay.Machine (types C Q V H T E L)). Works app limits props inputs m (replay.Build ∷ []) [] m.state replay.Build x) (sym same) on) in
-      subst (λ (o : Option replay.Entry). StandsFor app limits (building app limits props inputs) o [] new) (sym first) (h, m.state, here, tt)
+      subst (λ (o : Option replay.Entry). StandsFor app limits (building app limits props inputs) o [] new) (sym first) (h, m.state, here, tt, tt)
 
   -- its own call was cut
   pub built_refused : (old new : Machine P C Q V H T E L) (fault : model.Fault)
@@ -230,7 +233,7 @@ module _ {P C Q V H T E L : Type 0} (app : Application (types C Q V H T E L)) (l
       subst (λ (n : ℕ). Rests app limits props inputs last (replay.Taken number ∷ noted new) [] (machine_of g left n new)) (sym counted)
       (subst (λ (l : List replay.Entry). Rests app limits props inputs last (replay.Taken number ∷ l) [] u) (sym log)
       (subst (λ (e : replay.Entry). Rests app limits props inputs last (e ∷ []) [] u) opening on)) in
-      subst (λ (o : Option replay.Entry). StandsFor app limits (taking app limits props inputs left number last) o [] new) (sym over) (g, here)
+      subst (λ (o : Option replay.Entry). StandsFor app limits (taking app limits props inputs left number last) o [] new) (sym over) (g, here, tt)
 
 module _ {P C Q V H T E L : Type 0} (app : Application (types C Q V H T E L)) (limits : causes.Limits) (r : Going (types C Q V H T E L)) where
   -- a report is finished

@@ -1,7 +1,7 @@
 -- Turns: at open work, at the end of a unit, and where nothing is at work.
 use Rattle.std.proofs.Common.{ℕ, ◌+◌, false, List, [], ◌∷◌, ◌++◌, ◌≡◌, refl, sym, ap, ◌∙◌, subst, length, map, Ok, Err, append_assoc}
 use Rattle.std.proofs.lemmas.List.{append-nil, map-append, length-append}
-use Rattle.std.specs.Prelude.{Option, Some, None}
+use Rattle.std.specs.Prelude.{Option, Some, None, Result}
 use Rattle.rt_edits.specs.declared.edit.Edit.{Edit}
 use Rattle.rt_mirror.specs.Mirror.{edit_of}
 use Rattle.rt_model.specs.Document as doc
@@ -18,13 +18,14 @@ use Rattle.rt_state.specs.declared.names.Stop.TheVariants as stops
 use Rattle.rt_fresh.specs.Underway.{Rests, Works, Refused}
 use Rattle.rt_work.specs.Items.{item_of}
 use Rattle.rt_work.specs.declared.item.Item.{Item}
+use Rattle.rt_machine.specs.Counting.{CountsAlong}
 use Rattle.rt_machine.specs.Machines.{machine_of, open_work, noted, first_in, fault_in, HearsAs, RemembersFor}
-use Rattle.rt_machine.specs.Stands.{Going, StandsFor, StandsAt, StandsQuiet, StandsBefore, TurnsAs, QuietAs, GoesOn, Over, Broke, EndsEarly}
+use Rattle.rt_machine.specs.Stands.{Going, StandsFor, StandsAt, StandsQuiet, StandsBefore, TurnsAs, QuietAs, GoesOn, Over, BrokeIn, BrokeAt, EndsEarly}
 use Rattle.rt_machine.specs.Turns.{taken_by}
 use Rattle.rt_machine.specs.declared.ended.Ended.{Ended}
 use Rattle.rt_machine.specs.declared.ended.Ended.TheVariants as ends
 use Rattle.rt_machine.specs.declared.machine.Machine.{Machine}
-use Rattle.rt_machine.proofs.Breaking.{joined, broke_at, broke_after}
+use Rattle.rt_machine.proofs.Breaking.{joined, in_at, broke_of, broke_after}
 use Rattle.rt_machine.proofs.Running.{told_more}
 use Rattle.rt_machine.proofs.Stacks.{pop_is}
 use Rattle.rt_machine.proofs.Turning.{grown_none, heard_refused}
@@ -48,7 +49,8 @@ module _ {P C Q V H T E L : Type 0} (app : Application (types C Q V H T E L)) (l
       let rests =
       subst (λ (l : List replay.Entry). Rests app limits r.props r.inputs r.from (r.opened ++ l) edits (machine_of h r.left r.taken new)) (sym t.1)
       (subst (λ (x : replay.Machine (types C Q V H T E L)). Rests app limits r.props r.inputs r.from (r.opened ++ noted old) edits x) t.3 s.1) in
-      (h, rests, ap (λ (x : replay.Machine (types C Q V H T E L)). replay.waiting x) (sym t.3) ∙ t.0)
+      let goes : CountsAlong r.count h.calls = subst (λ (x : replay.Machine (types C Q V H T E L)). CountsAlong r.count (x.state).calls) t.3 s.2 in
+      (h, rests, ap (λ (x : replay.Machine (types C Q V H T E L)). replay.waiting x) (sym t.3) ∙ t.0, goes)
 
   -- its call was cut
   pub quiet_cut : (edits : List doc.Edit) (old new : Machine P C Q V H T E L) (stop : Stop) (fault : model.Fault)
@@ -105,16 +107,17 @@ module _ {P C Q V H T E L : Type 0} (app : Application (types C Q V H T E L)) (l
           subst (λ (l : List replay.Entry). Works app limits r.props r.inputs r.from (r.opened ++ l) edits t.1 first (record (machine_of t.0 r.left r.taken new) { work = item_of item ∷ open_work new })) (ap (λ (d : Machine P C Q V H T E L). noted d) (sym frame))
               (subst (λ (x : replay.Machine (types C Q V H T E L)). Works app limits r.props r.inputs r.from (r.opened ++ noted old) edits t.1 first x) (at t.0) t.2),
           remembers first t.1.scopes t.3,
+          t.4,
         ),
       )
 
   -- a turn where nothing is at work writes nothing
-  pub quiet_turns : (edits : List doc.Edit) (now : Option (List Edit)) (new : Machine P C Q V H T E L) (turn : Option ℕ)
+  pub quiet_turns : (edits : List doc.Edit) (now : Option (List Edit)) (old new : Machine P C Q V H T E L) (turn : Option ℕ)
       → taken_by turn ≡ 0
       → QuietAs app limits r edits new (Ok turn)
-      → TurnsAs app limits r edits now now new (Ok turn)
-  quiet_turns edits now new None none h = (refl, h)
-  quiet_turns edits now new (Some count) none h =
+      → TurnsAs app limits r edits now now old new (Ok turn)
+  quiet_turns edits now old new None none h = (refl, h)
+  quiet_turns edits now old new (Some count) none h =
       record {
         wrote = [];
         told = grown_none now;
@@ -122,11 +125,11 @@ module _ {P C Q V H T E L : Type 0} (app : Application (types C Q V H T E L)) (l
         stands = subst (λ es. StandsAt app limits r es new) (sym (append-nil edits)) h;
       }
 
-  pub quiet_came : (edits : List doc.Edit) (now : Option (List Edit)) (new : Machine P C Q V H T E L) (ended : Ended)
+  pub quiet_came : (edits : List doc.Edit) (now : Option (List Edit)) (old new : Machine P C Q V H T E L) (ended : Ended)
       → QuietAs app limits r edits new (Err ended)
-      → (fault_in ended ≡ None → Broke app limits r edits now now ended)
-      → TurnsAs app limits r edits now now new (Err ended)
-  quiet_came edits now new ended h broke = (
+      → (fault_in ended ≡ None → BrokeAt app limits r edits now now ended old)
+      → TurnsAs app limits r edits now now old new (Err ended)
+  quiet_came edits now old new ended h broke = (
     λ fault why.
         record {
           wrote = [];
@@ -134,6 +137,18 @@ module _ {P C Q V H T E L : Type 0} (app : Application (types C Q V H T E L)) (l
           refused = subst (λ es. Refused app limits r.props r.inputs r.from (r.opened ++ noted new) es fault) (sym (append-nil edits)) (h fault why);
         },
     broke,
+  )
+
+  -- such a turn is a turn, whatever of the open work was taken off before it
+  pub turns_from : (edits : List doc.Edit) (before after : Option (List Edit)) (old mid new : Machine P C Q V H T E L) (result : Result (Option ℕ) Ended)
+      → noted mid ≡ noted old
+      → TurnsAs app limits r edits before after mid new result
+      → TurnsAs app limits r edits before after old new result
+  turns_from edits before after old mid new (Ok None) same t = t
+  turns_from edits before after old mid new (Ok (Some count)) same t = t
+  turns_from edits before after old mid new (Err ended) same t = (
+    t.0,
+    λ none. subst (λ (l : List replay.Entry). BrokeIn app limits r (r.opened ++ l) edits before after ended) same (t.1 none),
   )
 
   -- no turn yet
@@ -147,32 +162,32 @@ module _ {P C Q V H T E L : Type 0} (app : Application (types C Q V H T E L)) (l
       }
 
   -- one more turn
-  pub goes_more : (edits : List doc.Edit) (before now after : Option (List Edit)) (count more all : ℕ) (d e : Machine P C Q V H T E L)
+  pub goes_more : (along : Option ℕ) (edits : List doc.Edit) (before now after : Option (List Edit)) (count more all : ℕ) (d e : Machine P C Q V H T E L)
       → (on : GoesOn app limits r edits before now count d)
       → all ≡ count + more
-      → TurnsAs app limits r (edits ++ map edit_of on.wrote) now after e (Ok (Some more))
-      → GoesOn app limits r edits before after all e
-  goes_more edits before now after count more all d e on sum t =
+      → TurnsAs app limits (record r { count = along }) (edits ++ map edit_of on.wrote) now after d e (Ok (Some more))
+      → GoesOn app limits (record r { count = along }) edits before after all e
+  goes_more along edits before now after count more all d e on sum t =
       record {
         wrote = on.wrote ++ t.wrote;
         told = told_more before now after on.wrote t.wrote on.told t.told;
         counted = lengths on.wrote t.wrote count more all on.counted t.counted sum;
-        stands = subst (λ es. StandsAt app limits r es e) (joined edits on.wrote t.wrote) t.stands;
+        stands = subst (λ es. StandsAt app limits (record r { count = along }) es e) (joined edits on.wrote t.wrote) t.stands;
       }
 
   -- the last turn
-  pub goes_over : (edits : List doc.Edit) (before now after : Option (List Edit)) (count : ℕ) (d e : Machine P C Q V H T E L)
+  pub goes_over : (along : Option ℕ) (edits : List doc.Edit) (before now after : Option (List Edit)) (count : ℕ) (d e : Machine P C Q V H T E L)
       → (on : GoesOn app limits r edits before now count d)
-      → TurnsAs app limits r (edits ++ map edit_of on.wrote) now after e (Ok None)
-      → Over app limits r edits before after count e
-  goes_over edits before now after count d e on t = record { wrote = on.wrote; told = t.0 ∙ on.told; counted = on.counted; settled = t.1 }
+      → TurnsAs app limits (record r { count = along }) (edits ++ map edit_of on.wrote) now after d e (Ok None)
+      → Over app limits (record r { count = along }) edits before after count e
+  goes_over along edits before now after count d e on t = record { wrote = on.wrote; told = t.0 ∙ on.told; counted = on.counted; settled = t.1 }
 
   -- a fault after some turns
-  pub goes_came : (edits : List doc.Edit) (before now after : Option (List Edit)) (count : ℕ) (d e : Machine P C Q V H T E L) (ended : Ended)
+  pub goes_came : (along : Option ℕ) (edits : List doc.Edit) (before now after : Option (List Edit)) (count : ℕ) (d e : Machine P C Q V H T E L) (ended : Ended)
       → (on : GoesOn app limits r edits before now count d)
-      → TurnsAs app limits r (edits ++ map edit_of on.wrote) now after e (Err ended)
-      → EndsEarly app limits r edits before after ended e
-  goes_came edits before now after count d e ended on t = (
+      → TurnsAs app limits (record r { count = along }) (edits ++ map edit_of on.wrote) now after d e (Err ended)
+      → EndsEarly app limits (record r { count = along }) edits before after ended e
+  goes_came along edits before now after count d e ended on t = (
     λ fault why.
         let came = t.0 fault why in
         record {
@@ -180,7 +195,9 @@ module _ {P C Q V H T E L : Type 0} (app : Application (types C Q V H T E L)) (l
           told = told_more before now after on.wrote came.wrote on.told came.told;
           refused = subst (λ es. Refused app limits r.props r.inputs r.from (r.opened ++ noted e) es fault) (joined edits on.wrote came.wrote) came.refused;
         },
-    λ none. broke_after app limits r edits before now after count d ended on (t.1 none),
+    λ none.
+        broke_after app limits r along edits before now after count d ended on
+        (broke_of app limits (record r { count = along }) (r.opened ++ noted d) (edits ++ map edit_of on.wrote) now after ended (t.1 none)),
   )
 
   -- memory was wanting after some turns
@@ -189,5 +206,8 @@ module _ {P C Q V H T E L : Type 0} (app : Application (types C Q V H T E L)) (l
       → EndsEarly app limits r edits before now (ends.Run stops.OutOfMemory) e
   goes_wanting edits before now count d e on = (
     λ fault why. none_some why,
-    λ none. broke_after app limits r edits before now now count d (ends.Run stops.OutOfMemory) on (broke_at app limits r (edits ++ map edit_of on.wrote) now d (ends.Run stops.OutOfMemory) on.stands ([], refl)),
+    λ none.
+        let here = in_at app limits r (edits ++ map edit_of on.wrote) now d (ends.Run stops.OutOfMemory) on.stands ([], refl) in
+        broke_after app limits r r.count edits before now now count d (ends.Run stops.OutOfMemory) on
+        (broke_of app limits r (r.opened ++ noted d) (edits ++ map edit_of on.wrote) now now (ends.Run stops.OutOfMemory) here),
   )

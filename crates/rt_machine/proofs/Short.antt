@@ -21,7 +21,7 @@ use Rattle.rt_fresh.specs.Sessions.{Sofar}
 use Rattle.rt_fresh.specs.Turn.{entries_at}
 use Rattle.rt_fresh.specs.Underway.{Rests, Works, Refused}
 use Rattle.rt_fresh.proofs.Underway.{works_close}
-use Rattle.rt_machine.specs.Short.{Short, RanShort}
+use Rattle.rt_machine.specs.Short.{Short, ShortIn, RanShort}
 
 -- a list of entries of which none begins a unit, and another one
 none_more : (log more : List Entry) → count_entries opens log ≡ 0 → count_entries opens more ≡ 0 → count_entries opens (log ++ more) ≡ 0
@@ -86,100 +86,130 @@ module _ {K : Types} (app : Application K) (limits : Limits) where
       let first = first_none t.machine.dead (first_of (depth_refused limits (next_height t.machine)) (turns_refused limits t.machine)) none in
       plain t first.0 (first_none (depth_refused limits (next_height t.machine)) (turns_refused limits t.machine) first.1).0
 
-  idle_none : (t : Telling K) → AtRest t.machine → edits_at_refusal app limits t ≡ t.edits
+  pub idle_none : (t : Telling K) → AtRest t.machine → edits_at_refusal app limits t ≡ t.edits
   idle_none t rest = plain t rest.alive (ap (λ (items : List (Item K)). depth_refused limits (height_at t.machine.state items)) rest.idle)
 
-  -- nothing of a unit was taken
-  pub short_here : (Part : List Edit → List Edit → Type 0) (from : Machine K) (log : List Entry) (t : Telling K)
-      → ToldSo app limits from log t → edits_at_refusal app limits t ≡ t.edits → Part [] [] → Short app limits Part from t.edits
-  short_here Part from log t so plain none =
+  -- nothing of a unit was taken, in the midst of a log
+  abbrev pub in_here : (Part : List Edit → List Edit → Type 0) (from : Machine K) (log rest entries : List Entry) (t : Telling K)
+      → ToldSo app limits from log t → edits_at_refusal app limits t ≡ t.edits → Part [] [] → log ++ rest ≡ entries
+      → ShortIn app limits Part from entries t.edits
+  in_here Part from log rest entries t so plain none front =
       record {
-        log = log;
-        done = t;
-        so = so;
-        unit = [];
-        one = tt;
-        last = t;
-        cut = subst (λ (l : List Entry). ToldSo app limits from l t) (sym (append-nil log)) so;
-        whole = [];
-        all = plain ∙ sym (append-nil t.edits);
-        taken = [];
-        part = none;
-        edits_are = append-nil t.edits;
+        short =
+            record {
+              log = log;
+              done = t;
+              so = so;
+              unit = [];
+              one = tt;
+              last = t;
+              cut = subst (λ (l : List Entry). ToldSo app limits from l t) (sym (append-nil log)) so;
+              whole = [];
+              all = plain ∙ sym (append-nil t.edits);
+              taken = [];
+              part = none;
+              edits_are = append-nil t.edits;
+            };
+        later = [];
+        none = refl;
+        rest = rest;
+        front = ap (λ (l : List Entry). l ++ rest) (append-nil log) ∙ front ∙ sym (append-nil entries);
       }
 
   -- no entry came
+  abbrev pub in_none : (Part : List Edit → List Edit → Type 0) (from : Machine K) → AtRest from → Part [] [] → ShortIn app limits Part from [] []
+  in_none Part from rest none =
+      in_here Part from [] [] [] (telling from) ((reports_go_on app).0 limits from) (idle_none (telling from) rest) none refl
+
   pub short_none : (Part : List Edit → List Edit → Type 0) (from : Machine K) → AtRest from → Part [] [] → Short app limits Part from []
-  short_none Part from rest none = short_here Part from [] (telling from) ((reports_go_on app).0 limits from) (idle_none (telling from) rest) none
+  short_none Part from rest none = (in_none Part from rest none).short
 
 module _ {K : Types} (app : Application K) (limits : Limits) (props : K.Props) (inputs : List (Input K)) (Part : List Edit → List Edit → Type 0) where
   -- nothing was at work
+  pub in_rests : (from m : Machine K) (log : List Entry) (edits : List Edit)
+      → Rests app limits props inputs from log edits m → Part [] [] → ShortIn app limits Part from log edits
+  in_rests from m log edits s none =
+      let t : Telling K = record { machine = m; before = s.before; first = s.first; edits = edits } in
+      in_here app limits Part from log [] log t s.so (idle_none app limits t s.rest) none (append-nil log)
+
   pub short_rests : (from m : Machine K) (log : List Entry) (edits : List Edit)
       → Rests app limits props inputs from log edits m → Part [] [] → Short app limits Part from edits
-  short_rests from m log edits s none =
-      let t : Telling K = record { machine = m; before = s.before; first = s.first; edits = edits } in
-      short_here app limits Part from log t s.so (idle_none app limits t s.rest) none
+  short_rests from m log edits s none = (in_rests from m log edits s none).short
 
   -- a unit was at work, and nothing of it was taken
-  pub short_works : (from m : Machine K) (log : List Entry) (edits : List Edit) (w : State K) (first : Entry)
-      → Works app limits props inputs from log edits w first m → Part [] [] → Short app limits Part from edits
-  short_works from m log edits w first s none =
-      subst (λ (es : List Edit). Short app limits Part from es) s.edits_are
-      (short_here app limits Part from s.earlier s.told s.so (none_refused app limits s.told s.logged.within) none)
+  pub in_works : (from m : Machine K) (log : List Entry) (edits : List Edit) (w : State K) (first : Entry)
+      → Works app limits props inputs from log edits w first m → Part [] [] → ShortIn app limits Part from log edits
+  in_works from m log edits w first s none =
+      subst (λ (es : List Edit). ShortIn app limits Part from log es) s.edits_are
+      (in_here app limits Part from s.earlier (first ∷ s.more) log s.told s.so (none_refused app limits s.told s.logged.within) none (sym s.log_is))
 
   works_more : (from m : Machine K) (log : List Entry) (edits : List Edit) (w : State K) (first : Entry)
       → (s : Works app limits props inputs from log edits w first m) → count_entries opens s.more ≡ 0
   works_more from m log edits w first s = ap (λ (l : List Entry). count_entries opens l) s.goes.logged ∙ inside_none s.goes.moves s.goes.inside
 
   -- a unit ended, and a part of its edits was taken
-  pub short_closing : (from m : Machine K) (log : List Entry) (edits taken : List Edit) (w : State K) (first : Entry)
+  pub in_closing : (from m : Machine K) (log : List Entry) (edits taken : List Edit) (w : State K) (first : Entry)
       → Works app limits props inputs from log edits w first m
       → m.work ≡ []
       → Part taken (caused app w (mounted_state m.state) first)
-      → Short app limits Part from (edits ++ taken)
-  short_closing from m log edits taken w first s idle part =
+      → ShortIn app limits Part from log (edits ++ taken)
+  in_closing from m log edits taken w first s idle part =
       let whole : List Edit = caused app w (mounted_state m.state) first in
       let rests = works_close app limits props inputs from m log edits w first s idle in
       let last : Telling K = record { machine = record m { unit = false; state = mounted_state m.state }; before = rests.before; first = rests.first; edits = edits ++ whole } in
       record {
-        log = s.earlier;
-        done = s.told;
-        so = s.so;
-        unit = first ∷ s.more;
-        one = (s.opening, works_more from m log edits w first s);
-        last = last;
-        cut = subst (λ (l : List Entry). ToldSo app limits from l last) s.log_is rests.so;
-        whole = whole;
-        all = idle_none app limits last rests.rest ∙ ap (λ (es : List Edit). es ++ whole) (sym s.edits_are);
-        taken = taken;
-        part = part;
-        edits_are = ap (λ (es : List Edit). es ++ taken) s.edits_are;
+        short =
+            record {
+              log = s.earlier;
+              done = s.told;
+              so = s.so;
+              unit = first ∷ s.more;
+              one = (s.opening, works_more from m log edits w first s);
+              last = last;
+              cut = subst (λ (l : List Entry). ToldSo app limits from l last) s.log_is rests.so;
+              whole = whole;
+              all = idle_none app limits last rests.rest ∙ ap (λ (es : List Edit). es ++ whole) (sym s.edits_are);
+              taken = taken;
+              part = part;
+              edits_are = ap (λ (es : List Edit). es ++ taken) s.edits_are;
+            };
+        later = [];
+        none = refl;
+        rest = [];
+        front = ap (λ (l : List Entry). l ++ []) (sym s.log_is);
       }
 
   -- a refusal ended a unit, and a part of its edits up to there was taken
-  pub short_stopped : (from m : Machine K) (log es l : List Entry) (edits whole taken : List Edit) (w : State K) (first : Entry) (fault : Fault)
+  pub in_stopped : (from m : Machine K) (log es l : List Entry) (edits whole taken : List Edit) (w : State K) (first : Entry) (fault : Fault)
       → Works app limits props inputs from log edits w first m
       → l ≡ log ++ es
       → count_entries opens es ≡ 0
       → Refused app limits props inputs from l (edits ++ whole) fault
       → Part taken whole
-      → Short app limits Part from (edits ++ taken)
-  short_stopped from m log es l edits whole taken w first fault s is none r part =
+      → ShortIn app limits Part from log (edits ++ taken)
+  in_stopped from m log es l edits whole taken w first fault s is none r part =
+      let split : log ++ es ≡ s.earlier ++ (first ∷ (s.more ++ es)) =
+      ap (λ (x : List Entry). x ++ es) s.log_is ∙ append_assoc s.earlier (first ∷ s.more) es in
       record {
-        log = s.earlier;
-        done = s.told;
-        so = s.so;
-        unit = first ∷ (s.more ++ es);
-        one = (s.opening, none_more s.more es (works_more from m log edits w first s) none);
-        last = r.last;
-        cut =
-            subst (λ (x : List Entry). ToldSo app limits from x r.last)
-            (is ∙ ap (λ (x : List Entry). x ++ es) s.log_is ∙ append_assoc s.earlier (first ∷ s.more) es) r.so;
-        whole = whole;
-        all = r.edits_are ∙ ap (λ (x : List Edit). x ++ whole) (sym s.edits_are);
-        taken = taken;
-        part = part;
-        edits_are = ap (λ (x : List Edit). x ++ taken) s.edits_are;
+        short =
+            record {
+              log = s.earlier;
+              done = s.told;
+              so = s.so;
+              unit = first ∷ (s.more ++ es);
+              one = (s.opening, none_more s.more es (works_more from m log edits w first s) none);
+              last = r.last;
+              cut = subst (λ (x : List Entry). ToldSo app limits from x r.last) (is ∙ split) r.so;
+              whole = whole;
+              all = r.edits_are ∙ ap (λ (x : List Edit). x ++ whole) (sym s.edits_are);
+              taken = taken;
+              part = part;
+              edits_are = ap (λ (x : List Edit). x ++ taken) s.edits_are;
+            };
+        later = es;
+        none = none;
+        rest = [];
+        front = append-nil (s.earlier ++ (first ∷ (s.more ++ es))) ∙ sym split;
       }
 
 module _ {K : Types} (app : Application K) (limits : Limits) (props : K.Props) (inputs : List (Input K)) where

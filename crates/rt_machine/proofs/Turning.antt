@@ -13,6 +13,7 @@ use Rattle.rt_model.specs.Laws.{IsLawful}
 use Rattle.rt_model.specs.State as model
 use Rattle.rt_model.specs.State.{Outcome, Done, Cut}
 use Rattle.rt_model.specs.Next.{at_rest, next_at_rest}
+use Rattle.rt_model.specs.Heard.{Listener}
 use Rattle.rt_model.specs.Replay as replay
 use Rattle.rt_model.specs.Caused.{caused, caused_until}
 use Rattle.rt_model.specs.Causes as causes
@@ -28,6 +29,7 @@ use Rattle.rt_fresh.proofs.Items.{works_turn, works_cut, works_deep}
 use Rattle.rt_fresh.proofs.Underway.{works_close}
 use Rattle.rt_fresh.proofs.Beginnings.{rests_heard, heard_cut}
 use Rattle.rt_work.specs.Items.{work_of}
+use Rattle.rt_machine.specs.Counting.{CountsAlong, calls_after}
 use Rattle.rt_machine.specs.Machines.{machine_of, open_work, noted, first_in, fault_in, Did, WasCut, ServesAs, HeardOne, HeardPart, RemembersFor, StillRemembers, KeepsOn}
 use Rattle.rt_machine.specs.Stands.{Going, StandsFor, StandsAt, StandsBefore, StandsQuiet, Settled, CameTo, GoesOn}
 use Rattle.rt_machine.specs.Writings.{Closes, WroteUntil}
@@ -71,16 +73,23 @@ module _ {P C Q V H T E L : Type 0} where
   still_remembered g old new first was before after still h =
       subst (λ (o : Option replay.Entry). RemembersFor o new was) after (still g was (subst (λ (o : Option replay.Entry). RemembersFor o old was) (sym before) h))
 
+module _ {P C Q V H T E L : Type 0} (app : Application (types C Q V H T E L)) (limits : causes.Limits) (r : Going (types C Q V H T E L)) where
+  -- a fault came, whatever the count is by now
+  pub came_along : (count : Option ℕ) (edits : List doc.Edit) (before after : Option (List Edit)) (fault : model.Fault) (d : Machine P C Q V H T E L)
+      → CameTo app limits r edits before after fault d → CameTo app limits (record r { count = count }) edits before after fault d
+  came_along count edits before after fault d came = record { wrote = came.wrote; told = came.told; refused = came.refused }
+
 module _ {P C Q V H T E L : Type 0} (app : Application (types C Q V H T E L)) (lawful : IsLawful (types C Q V H T E L) app) (limits : causes.Limits) (r : Going (types C Q V H T E L)) where
   -- an item is served
-  pub stands_served : (item : model.Item (types C Q V H T E L)) (first : replay.Entry) (edits : List doc.Edit) (old new : Machine P C Q V H T E L)
+  pub stands_served : (count : Option ℕ) (item : model.Item (types C Q V H T E L)) (first : replay.Entry) (edits : List doc.Edit) (old new : Machine P C Q V H T E L)
       → StandsBefore app limits r item first edits old
       → first_in old ≡ Some first
       → Within old new
       → ((g : Unkept (types C Q V H T E L)) → (deep_at limits (state_of g (old.scopes).state) item ≡ None) × Did app (turn_of app (state_of g (old.scopes).state) item) (entries_at app (state_of g (old.scopes).state) item) old new)
       → StillRemembers old new
-      → StandsAt app limits r edits new
-  stands_served item first edits old new s is frame serves still =
+      → ((g : Unkept (types C Q V H T E L)) → CountsAlong r.count g.calls → CountsAlong count (calls_after (turn_of app (state_of g (old.scopes).state) item)))
+      → StandsAt app limits (record r { count = count }) edits new
+  stands_served count item first edits old new s is frame serves still counts =
       let g = s.0 in
       let w = s.1 in
       let d = serves g in
@@ -98,7 +107,8 @@ module _ {P C Q V H T E L : Type 0} (app : Application (types C Q V H T E L)) (l
       let there : Works app limits r.props r.inputs r.from (r.opened ++ noted new) edits w first (machine_of h r.left r.taken new) =
       subst (λ (l : List replay.Entry). Works app limits r.props r.inputs r.from (r.opened ++ l) edits w first (machine_of h r.left r.taken new)) (sym did.logged) here in
       let kept = still_remembered g old new first w.scopes is now still s.3 in
-      subst (λ (o : Option replay.Entry). StandsFor app limits r o edits new) (sym now) (h, w, there, kept)
+      let goes : CountsAlong count h.calls = subst (λ (o : Outcome (types C Q V H T E L)). CountsAlong count (calls_after o)) did.done (counts g s.4) in
+      subst (λ (o : Option replay.Entry). StandsFor app limits (record r { count = count }) o edits new) (sym now) (h, w, there, kept, goes)
 
   -- a make is too deep, and what was written up to it is taken
   deep_came : (item : model.Item (types C Q V H T E L)) (first : replay.Entry) (edits : List doc.Edit) (old new : Machine P C Q V H T E L) (before after : Option (List Edit)) (fault : model.Fault)
@@ -203,7 +213,7 @@ module _ {P C Q V H T E L : Type 0} (app : Application (types C Q V H T E L)) (l
         wrote = closes.wrote;
         told = closes.told;
         counted = closes.counted;
-        stands = subst (λ (o : Option replay.Entry). StandsFor app limits r o wrote new) (sym now) (g, rests);
+        stands = subst (λ (o : Option replay.Entry). StandsFor app limits r o wrote new) (sym now) (g, rests, s.4);
       }
 
   -- nothing is left to do
@@ -230,16 +240,21 @@ module _ {P C Q V H T E L : Type 0} (app : Application (types C Q V H T E L)) (l
         same =
             ap (λ (d : Machine P C Q V H T E L). machine_of g r.left r.taken d) frame
             ∙ ap (λ (x : model.State (types C Q V H T E L)). record m { state = x }) (rested g);
+        along = s.3;
       }
 
   -- a listener was called
-  pub stands_heard : (edits : List doc.Edit) (old new : Machine P C Q V H T E L)
+  pub stands_heard : (count : Option ℕ) (edits : List doc.Edit) (old new : Machine P C Q V H T E L)
       → StandsFor app limits r None edits old
       → new.first ≡ None
       → ((g : Unkept (types C Q V H T E L)) → (h : Unkept (types C Q V H T E L)) × HeardOne app (machine_of g r.left r.taken old) (noted old) (noted new) (machine_of h r.left r.taken new))
       → new.work ≡ []
-      → StandsAt app limits r edits new
-  stands_heard edits old new s over hears idle =
+      → ((g : Unkept (types C Q V H T E L)) (first : Listener (types C Q V H T E L)) (others : List (Listener (types C Q V H T E L)))
+      → replay.waiting (machine_of g r.left r.taken old) ≡ first ∷ others
+      → CountsAlong r.count g.calls
+      → CountsAlong count (((replay.heard_event app (machine_of g r.left r.taken old) first others (machine_of g r.left r.taken old).event).state).calls))
+      → StandsAt app limits (record r { count = count }) edits new
+  stands_heard count edits old new s over hears idle counts =
       let g = s.0 in
       let h = (hears g).0 in
       let one = (hears g).1 in
@@ -248,10 +263,11 @@ module _ {P C Q V H T E L : Type 0} (app : Application (types C Q V H T E L)) (l
       let now : first_in new ≡ None = ap (λ o. option_map entry_of o) over in
       let rest : AtRest u = record { alive = refl; idle = ap (λ xs. work_of (reverse xs)) idle; unit = ap (λ (o : Option replay.Entry). is_some o) now } in
       let on = rests_heard app limits r.props r.inputs r.from m u (r.opened ++ noted old) edits one.first one.others s.1 one.waits one.heard_is rest refl in
-      subst (λ (o : Option replay.Entry). StandsFor app limits r o edits new) (sym now) (
+      subst (λ (o : Option replay.Entry). StandsFor app limits (record r { count = count }) o edits new) (sym now) (
         h,
         subst (λ (l : List replay.Entry). Rests app limits r.props r.inputs r.from (r.opened ++ l) edits u) (sym one.logged)
             (subst (λ (l : List replay.Entry). Rests app limits r.props r.inputs r.from l edits u) (append_assoc r.opened (noted old) (replay.Heard one.first.origin ∷ [])) on),
+        subst (λ (x : replay.Machine (types C Q V H T E L)). CountsAlong count (x.state).calls) one.heard_is (counts g one.first one.others one.waits s.2),
       )
 
   -- its call was cut

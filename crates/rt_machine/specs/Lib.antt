@@ -5,6 +5,7 @@ pub mod Notes
 pub mod Changes
 pub mod Hearings
 pub mod Machines
+pub mod Counting
 pub mod Writings
 pub mod Sessions
 pub mod Stands

@@ -54,6 +54,17 @@ pub record Short
   pub part : Part taken whole
   pub edits_are : done.edits ++ taken ≡ edits
 
+-- the same in the midst of a log: it tells of a front of these entries, but for later ones that begin no unit
+pub record ShortIn
+    {K : Types} (app : Application K) (limits : Limits) (Part : List Edit → List Edit → Type 0) (from : Machine K) (entries : List Entry)
+    (edits : List Edit)
+    : Type 0 where
+  pub short : Short app limits Part from edits
+  pub later : List Entry
+  pub none : count_entries opens later ≡ 0
+  pub rest : List Entry
+  pub front : (short.log ++ short.unit) ++ rest ≡ entries ++ later
+
 -- what code proves of a session that broke off
 pub record RanShort
     {K : Types} (app : Application K)

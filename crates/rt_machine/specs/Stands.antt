@@ -17,15 +17,17 @@ use Rattle.rt_reports.specs.Seen.{entry_of, report_of}
 use Rattle.rt_reports.specs.declared.report.Report.{Report}
 use Rattle.rt_state.specs.Mirror.{Unkept}
 use Rattle.rt_fresh.specs.Underway.{Rests, Works, Refused}
+use Rattle.rt_machine.specs.Counting.{CountsAlong, now_at}
 use Rattle.rt_machine.specs.Machines.{machine_of, noted, first_in, open_work, fault_in, RemembersFor}
 use Rattle.rt_machine.specs.Sessions.{Finished, FinishedAt, BrokeOff}
-use Rattle.rt_machine.specs.Short.{Short, PartBy}
+use Rattle.rt_machine.specs.Short.{Short, ShortIn, PartBy}
 use Rattle.rt_machine.specs.declared.ended.Ended.{Ended}
 use Rattle.rt_machine.specs.declared.machine.Machine.{Machine}
 
 module _ (K : tree.Types) where
   -- a report on its way: the session's props and inputs, the machine at which the report began, the entry that
-  -- opened it, none of a program's own call, the inputs that are left and the number of those taken
+  -- opened it, none of a program's own call, the inputs that are left, the number of those taken, and code's count of the application's
+  -- calls, where it goes along
   pub record Going : Type 0 where
     pub props : K.Props
     pub inputs : List (replay.Input K)
@@ -33,6 +35,16 @@ module _ (K : tree.Types) where
     pub opened : List replay.Entry
     pub left : List (replay.Input K)
     pub taken : ℕ
+    pub count : Option ℕ
+
+module _ {K : tree.Types} where
+  -- the same with the count as it is by now
+  abbrev pub counting : Going K → ℕ → Going K
+  counting r count = record r { count = now_at count r.count }
+
+  -- the same without a count
+  abbrev pub without_count : Going K → Going K
+  without_count r = record r { count = None }
 
 module _ {K : tree.Types} (app : Application K) (limits : causes.Limits) (r : Going K) where
   -- it broke off, with the edits so far and those that the sink took since
@@ -40,6 +52,13 @@ module _ {K : tree.Types} (app : Application K) (limits : causes.Limits) (r : Go
     pub wrote : List Edit
     pub told : after ≡ grown before wrote
     pub short : Short app limits (PartBy ended) r.from (edits ++ map edit_of wrote)
+
+  -- it broke off, and had begun no unit but those of these entries
+  pub record BrokeIn (entries : List replay.Entry) (edits : List doc.Edit) (before after : Option (List Edit)) (ended : Ended) :
+      Type 0 where
+    pub wrote : List Edit
+    pub told : after ≡ grown before wrote
+    pub short : ShortIn app limits (PartBy ended) r.from entries (edits ++ map edit_of wrote)
 
 module _ {P C Q V H T E L : Type 0} (app : Application (types C Q V H T E L)) (limits : causes.Limits) where
   -- between two reports: nothing is at work or owed, and the state is as the test for that left it
@@ -60,11 +79,13 @@ module _ {P C Q V H T E L : Type 0} (app : Application (types C Q V H T E L)) (l
     StandsFor None edits d =
         (g : Unkept (types C Q V H T E L))
         × Rests app limits r.props r.inputs r.from (r.opened ++ noted d) edits (machine_of g r.left r.taken d)
+        × CountsAlong r.count g.calls
     StandsFor (Some first) edits d =
         (g : Unkept (types C Q V H T E L))
         × (w : model.State (types C Q V H T E L))
         × Works app limits r.props r.inputs r.from (r.opened ++ noted d) edits w first (machine_of g r.left r.taken d)
         × RemembersFor (Some first) d w.scopes
+        × CountsAlong r.count g.calls
 
     -- where no listener waits, either
     abbrev pub StandsQuiet : List doc.Edit → Machine P C Q V H T E L → Type 0
@@ -72,6 +93,7 @@ module _ {P C Q V H T E L : Type 0} (app : Application (types C Q V H T E L)) (l
         (g : Unkept (types C Q V H T E L))
         × Rests app limits r.props r.inputs r.from (r.opened ++ noted d) edits (machine_of g r.left r.taken d)
         × (replay.waiting (machine_of g r.left r.taken d) ≡ [])
+        × CountsAlong r.count g.calls
 
     -- with these edits so far
     abbrev pub StandsAt : List doc.Edit → Machine P C Q V H T E L → Type 0
@@ -87,6 +109,7 @@ module _ {P C Q V H T E L : Type 0} (app : Application (types C Q V H T E L)) (l
       pub idle : d.work ≡ []
       pub over : d.first ≡ None
       pub same : machine_of kept r.left r.taken d ≡ record last { state = at_rest last.state }
+      pub along : CountsAlong r.count kept.calls
 
     -- a fault came: the report so far, with what the sink took of it
     pub record CameTo (edits : List doc.Edit) (before after : Option (List Edit)) (fault : model.Fault) (d : Machine P C Q V H T E L) :
@@ -126,12 +149,20 @@ module _ {P C Q V H T E L : Type 0} (app : Application (types C Q V H T E L)) (l
         × Works app limits r.props r.inputs r.from (r.opened ++ noted d) edits w first
         (record (machine_of g r.left r.taken d) { work = item ∷ open_work d })
         × RemembersFor (Some first) d w.scopes
+        × CountsAlong r.count g.calls
+
+    -- it broke off, and had begun no unit but those that were noted here
+    abbrev pub BrokeAt : List doc.Edit → Option (List Edit) → Option (List Edit) → Ended → Machine P C Q V H T E L → Type 0
+    BrokeAt edits before after ended d = BrokeIn app limits r (r.opened ++ noted d) edits before after ended
 
     -- a turn, by what is answered
-    abbrev pub TurnsAs : List doc.Edit → Option (List Edit) → Option (List Edit) → Machine P C Q V H T E L → Result (Option ℕ) Ended → Type 0
-    TurnsAs edits before after d (Ok None) = (after ≡ before) × Settled edits d
-    TurnsAs edits before after d (Ok (Some count)) = GoesOn edits before after count d
-    TurnsAs edits before after d (Err ended) = EndsEarly edits before after ended d
+    abbrev pub TurnsAs :
+        List doc.Edit → Option (List Edit) → Option (List Edit) → Machine P C Q V H T E L → Machine P C Q V H T E L
+        → Result (Option ℕ) Ended → Type 0
+    TurnsAs edits before after old new (Ok None) = (after ≡ before) × Settled edits new
+    TurnsAs edits before after old new (Ok (Some count)) = GoesOn edits before after count new
+    TurnsAs edits before after old new (Err ended) =
+        Comes edits before after ended new × (fault_in ended ≡ None → BrokeAt edits before after ended old)
 
     -- a turn where nothing is at work, which writes nothing
     abbrev pub QuietAs : List doc.Edit → Machine P C Q V H T E L → Result (Option ℕ) Ended → Type 0

@@ -1,5 +1,5 @@
 //! The items of open work, each served in its turn.
-ghost use Rattle.std.specs.Prelude.{◌≡◌, ◌<◌, ◌+◌, ◌∷◌, [], Some, true, if◌then◌else◌, option_map, IfOk, IfSome};
+ghost use Rattle.std.specs.Prelude.{◌≡◌, ◌<◌, ◌+◌, ◌∷◌, [], Some, true, if◌then◌else◌, option_map, IfOk, IfSome, OnOk};
 ghost use Rattle.rt_model.specs.Causes as causes;
 ghost use Rattle.rt_model.specs.State as model;
 ghost use Rattle.rt_model.specs.Replay as replay;
@@ -12,6 +12,7 @@ ghost use Rattle.rt_scopes.specs.Outcomes.{StateComes};
 ghost use Rattle.rt_state.specs.Mirror.{state_of};
 ghost use Rattle.rt_fresh.specs.Turn.{again, turn_of, entries_at};
 ghost use Rattle.rt_work.specs.Items.{item_of, work_of};
+ghost use Rattle.rt_machine.specs.Counting.{CountsChange};
 ghost use Rattle.rt_machine.specs.Notes.{NotedBy};
 
 use crate::course::Course;
@@ -74,6 +75,9 @@ pub(crate) fn turn_at<A: App>(
     ensures noted { (g : _) → NotedBy course.old.entries course.new.entries
         (entries_at (A.meaning app.now) (state_of g scopes.old.state) (item_of item.now))
         result }
+    ensures counted { OnOk result (CountsChange
+        (λ w. turn_of (A.meaning app.now) w (item_of item.now))
+        scopes.old.state calls.old calls.new) }
 {
     match item {
         Item::Draw {
@@ -138,6 +142,9 @@ fn feed<A: App>(
         (replay.entry_of (A.meaning app.now) (state_of g scopes.old.state)
         (model.Feed scope (side_name_of side) (place_of place.now) (component_of component.now)))
         result }
+    ensures counted { OnOk result (CountsChange (λ w. replay.outcome_of (A.meaning app.now) w
+        (model.Feed scope (side_name_of side) (place_of place.now) (component_of component.now)))
+        scopes.old.state calls.old calls.new) }
 {
     match fed_child(&scopes.state, scope, side, place.as_slice()) {
         Some(child) => hand(scopes, app, calls, course, child, component),
@@ -160,6 +167,9 @@ fn hand<A: App>(
     ensures noted { (g : _) → NotedBy course.old.entries course.new.entries
         ((if replay.keeps (A.meaning app.now) (state_of g scopes.old.state) child
         (component_of component.now) then replay.Kept child else replay.Fed child) ∷ []) result }
+    ensures counted { OnOk result (CountsChange (λ w.
+        replay.handed (A.meaning app.now) w child (component_of component.now))
+        scopes.old.state calls.old calls.new) }
 {
     let kept = keeps(app, &scopes.state, child, component);
     let component = component.copy(scopes.alloc)?;
@@ -197,6 +207,9 @@ fn put_and_run<A: App>(
     ensures done { StateComes (λ w. run (A.meaning app.now)
         (replay.with_props (A.meaning app.now) w child (component_of component)) child)
         scopes.old.state scopes.new.state work_of result }
+    ensures counted { OnOk result (CountsChange (λ w. run (A.meaning app.now)
+        (replay.with_props (A.meaning app.now) w child (component_of component)) child)
+        scopes.old.state calls.old calls.new) }
 {
     scopes.state.put_component(child, component)?;
     scopes.run(app, calls, ScopeId(child))
@@ -218,6 +231,9 @@ fn make<A: App>(
         scopes.old.state scopes.new.state work_of result }
     ensures noted { (g : _) → NotedBy course.old.entries course.new.entries
         (replay.Made (state_of g scopes.old.state).next_scope ∷ []) result }
+    ensures counted { OnOk result (CountsChange (λ w. replay.made (A.meaning app.now) w scope
+        (side_name_of side) (place_of place.now) (component_of component.now))
+        scopes.old.state calls.old calls.new) }
 {
     course.note(Entry::Made(ScopeId(scopes.state.next_scope)))?;
     let alloc = scopes.alloc;
@@ -243,6 +259,9 @@ fn make_below<A: App>(
         StateComes (λ w. replay.made (A.meaning app.now) w scope
         (side_name_of side) (place_of place) (component_of component))
         scopes.old.state scopes.new.state work_of result }
+    ensures counted { OnOk result (CountsChange (λ w. replay.made (A.meaning app.now) w scope
+        (side_name_of side) (place_of place) (component_of component))
+        scopes.old.state calls.old calls.new) }
 {
     let alloc = scopes.alloc;
     match scopes
@@ -270,6 +289,9 @@ fn take<A: App>(
         scopes.old.state scopes.new.state work_of result }
     ensures noted { (g : _) → NotedBy course.old.entries course.new.entries
         (replay.Removed (removal.next_removed (state_of g scopes.old.state) child) ∷ []) result }
+    ensures counted { OnOk result (CountsChange (λ w. turn_of (A.meaning app.now) w
+        (model.Drop child scope (side_name_of side)))
+        scopes.old.state calls.old calls.new) }
 {
     let alloc = scopes.alloc;
     let leaf = next_removed(alloc, &scopes.state, child)?;

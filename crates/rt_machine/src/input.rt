@@ -1,13 +1,14 @@
 //! Inputs, and the listeners that an event calls.
-ghost use Rattle.std.specs.Prelude.{◌≡◌, ◌∷◌, ◌++◌, [], false, map, None, IfOk, OnOk, MatchOption};
+ghost use Rattle.std.specs.Prelude.{◌≡◌, ◌∷◌, ◌++◌, [], false, map, None, Some, IfOk, OnOk, MatchOption};
 ghost use Rattle.rt_model.specs.Heard.{heard};
 ghost use Rattle.rt_model.specs.Replay.{post_message, post_messages, taken_in, then_looked, further};
 ghost use Rattle.rt_calls.specs.Answers.{event_of};
 ghost use Rattle.rt_reports.specs.Seen.{input_of, message_of, post_of};
 ghost use Rattle.rt_state.specs.Mirror.{state_of};
 ghost use Rattle.rt_shown.specs.Hearing.{listener_in, listeners_of};
+ghost use Rattle.rt_machine.specs.Counting.{CountsHeard, CountsListener};
 ghost use Rattle.rt_machine.specs.Hearings.{has_waiting, listeners_in, live_listeners, silent, hearing_at, TakesWaiting};
-ghost use Rattle.rt_machine.specs.Machines.{CallsListener, Hears};
+ghost use Rattle.rt_machine.specs.Machines.{CallsListener, Hears, machine_of};
 
 use crate::machine::{Hearing, Machine};
 use rt_calls::{App, Calls};
@@ -236,6 +237,8 @@ impl<A: App> Machine<A> {
     /// Calls the first listener that waits with the event on its way. False where none waits.
     pub fn hear(&mut self, app: &A, calls: &mut Calls) -> Result<bool, Stop>
         ensures hears { Hears (A.meaning app.now) self.old self.new result }
+        ensures counted { IfOk result (λ was_heard.
+            CountsHeard (A.meaning app.now) self.old calls.old calls.new was_heard) }
         ensures first { self.new.first ≡ self.old.first }
         ensures work { self.new.work ≡ self.old.work }
         ensures silent { self.old.hearing ≡ None → self.new ≡ self.old }
@@ -280,6 +283,12 @@ impl<A: App> Machine<A> {
     ) -> Result<(), Stop>
         ensures calls { CallsListener (A.meaning app.now) self.old listener.now event bubbles
             others self.new result }
+        ensures counted { OnOk result ((g : _) (left : _) (taken : _) (all : _) →
+            CountsListener (A.meaning app.now) (record (machine_of g left taken self.old) {
+              listeners = all;
+              event = Some (event_of event);
+              bubbles = bubbles;
+            }) (listener_in listener.now) (listeners_of others) calls.old calls.new) }
         ensures first { self.new.first ≡ self.old.first }
         ensures work { self.new.work ≡ self.old.work }
     {

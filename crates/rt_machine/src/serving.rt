@@ -1,7 +1,9 @@
 //! A turn at open work.
-ghost use Rattle.std.specs.Prelude.{◌≡◌, ℕ, IfErr};
+ghost use Rattle.std.specs.Prelude.{◌≡◌, ℕ, IfErr, OnOk};
 ghost use Rattle.rt_reports.specs.Seen.{limits_of};
+ghost use Rattle.rt_fresh.specs.Turn.{turn_of};
 ghost use Rattle.rt_work.specs.Items.{item_of};
+ghost use Rattle.rt_machine.specs.Counting.{CountsChange};
 ghost use Rattle.rt_machine.specs.Ends.{Explains};
 ghost use Rattle.rt_machine.specs.Machines.{KeepsLow, KeepsOn, Serves, ServesLow};
 
@@ -26,6 +28,9 @@ impl<A: App> Machine<A> {
         ensures explains { IfErr result (λ ended. (before after : ℕ) → Explains limits before after ended) }
         ensures serves { Serves (A.meaning app.now) (limits_of limits)
             (item_of item.now) self.old self.new result }
+        ensures counted { OnOk result (CountsChange
+            (λ w. turn_of (A.meaning app.now) w (item_of item.now))
+            self.old.scopes.state calls.old calls.new) }
         ensures remembers { KeepsOn self.old self.new result }
         ensures others { self.new ≡ record self.old {
           scopes = self.new.scopes;
@@ -44,6 +49,9 @@ impl<A: App> Machine<A> {
     fn serve_low(&mut self, app: &A, calls: &mut Calls, item: &Item<A>) -> Result<(), Stop>
         ensures serves { ServesLow (A.meaning app.now) (item_of item.now)
             self.old self.new result }
+        ensures counted { OnOk result (CountsChange
+            (λ w. turn_of (A.meaning app.now) w (item_of item.now))
+            self.old.scopes.state calls.old calls.new) }
         ensures remembers { KeepsLow self.old self.new result }
         ensures others { self.new ≡ record self.old {
           scopes = self.new.scopes;

@@ -1,5 +1,5 @@
 //! The build and the inputs that follow it, each with its report.
-ghost use Rattle.std.specs.Prelude.{◌≡◌, ℕ, ◌+◌, ◌∷◌, [], map, IfOk, IfErr, OnOk};
+ghost use Rattle.std.specs.Prelude.{◌≡◌, ℕ, ◌+◌, ◌∷◌, [], None, map, IfOk, IfErr, OnOk};
 ghost use Rattle.rt_model.specs.Reports.{OpensWith};
 ghost use Rattle.rt_model.specs.Replay as replay;
 ghost use Rattle.rt_model.specs.Replay.{first_state, ones, start, take_next};
@@ -47,6 +47,7 @@ impl<A: App> Machine<A> {
               opened = replay.Build ∷ [];
               left = inputs;
               taken = 0;
+              count = None;
             }) (M.taken sink.old) (M.taken sink.new) self.new result }
     {
         self.build(app, calls)?;
@@ -82,6 +83,7 @@ impl<A: App> Machine<A> {
               opened = replay.Taken number ∷ [];
               left = left;
               taken = number;
+              count = None;
             }) (M.taken sink.old) (M.taken sink.new) self.new result }
     {
         self.receive(input)?;

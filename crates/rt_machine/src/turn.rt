@@ -2,13 +2,14 @@
 ghost use Rattle.std.specs.Prelude.{◌≡◌, ℕ, ◌+◌, [], None, Some, IfOk, IfErr};
 ghost use Rattle.rt_model.specs.Laws.{IsLawful};
 ghost use Rattle.rt_model.specs.OneLog.{types};
+ghost use Rattle.rt_model.specs.State.{OutOfTurns};
 ghost use Rattle.rt_model.specs.World.{Application};
 ghost use Rattle.rt_reports.specs.Seen.{entry_of, limits_of};
 ghost use Rattle.rt_work.specs.Items.{item_of};
 ghost use Rattle.rt_machine.specs.Ends.{Took, Ends, Explains};
 ghost use Rattle.rt_machine.specs.Keeps.{TurnKeeps, WorkKeeps};
-ghost use Rattle.rt_machine.specs.Machines.{first_in};
-ghost use Rattle.rt_machine.specs.Stands.{QuietAs, SettlesAs, StandsAt, StandsBefore, StandsFor, StandsQuiet, TurnsAs};
+ghost use Rattle.rt_machine.specs.Machines.{fault_in, first_in};
+ghost use Rattle.rt_machine.specs.Stands.{counting, QuietAs, SettlesAs, StandsAt, StandsBefore, StandsFor, StandsQuiet, TurnsAs};
 ghost use Rattle.rt_machine.specs.Turns.{taken_by};
 
 use crate::ended::Ended;
@@ -46,8 +47,8 @@ impl<A: App> Machine<A> {
         ensures err { IfErr result (λ ended. Ends limits 0
             (M.taken sink.old) (M.taken sink.new) (M.faults sink.old) (M.faults sink.new) ended) }
         ensures settles { (r : _) (edits : _) →
-            StandsAt (A.meaning app.now) (limits_of limits) r edits self.old →
-            SettlesAs (A.meaning app.now) (limits_of limits) r edits
+            StandsAt (A.meaning app.now) (limits_of limits) (counting r calls.old) edits self.old →
+            SettlesAs (A.meaning app.now) (limits_of limits) (counting r calls.new) edits
             (M.taken sink.old) (M.taken sink.new) self.new result }
     {
         let mut edits = 0u64;
@@ -74,10 +75,13 @@ impl<A: App> Machine<A> {
         ensures err { IfErr result (λ ended. Ends limits 0
             (M.taken sink.old) (M.taken sink.new) (M.faults sink.old) (M.faults sink.new) ended) }
         ensures turns { (r : _) (edits : _) →
-            StandsAt (A.meaning app.now) (limits_of limits) r edits self.old →
-            TurnsAs (A.meaning app.now) (limits_of limits) r edits
-            (M.taken sink.old) (M.taken sink.new) self.new result }
+            StandsAt (A.meaning app.now) (limits_of limits) (counting r calls.old) edits self.old →
+            TurnsAs (A.meaning app.now) (limits_of limits) (counting r calls.new) edits
+            (M.taken sink.old) (M.taken sink.new) self.old self.new result }
         ensures keeps { TurnKeeps self.old self.new result }
+        // Where units are spent nothing was called.
+        ensures uncalled { IfErr result (λ ended. (units : ℕ) →
+            fault_in ended ≡ Some (OutOfTurns units) → calls.new ≡ calls.old) }
     {
         if let Some(item) = self.work.pop() {
             return self.work_turn(app, calls, &item, limits, sink);
@@ -102,10 +106,10 @@ impl<A: App> Machine<A> {
         ensures err { IfErr result (λ ended. Ends limits 0
             (M.taken sink.old) (M.taken sink.new) (M.faults sink.old) (M.faults sink.new) ended) }
         ensures turns { (r : _) (edits : _) (first : _) → first_in self.old ≡ Some first →
-            StandsBefore (A.meaning app.now) (limits_of limits) r (item_of item.now)
-            first edits self.old →
-            TurnsAs (A.meaning app.now) (limits_of limits) r edits
-            (M.taken sink.old) (M.taken sink.new) self.new result }
+            StandsBefore (A.meaning app.now) (limits_of limits) (counting r calls.old)
+            (item_of item.now) first edits self.old →
+            TurnsAs (A.meaning app.now) (limits_of limits) (counting r calls.new) edits
+            (M.taken sink.old) (M.taken sink.new) self.old self.new result }
         ensures keeps { WorkKeeps self.old self.new result }
     {
         match self.serve(app, calls, item, limits) {
@@ -130,7 +134,7 @@ impl<A: App> Machine<A> {
             first_in self.old ≡ Some (entry_of first) → self.old.work ≡ [] →
             StandsFor app limits r (Some (entry_of first)) edits self.old →
             TurnsAs app limits r edits
-            (M.taken sink.old) (M.taken sink.new) self.new result }
+            (M.taken sink.old) (M.taken sink.new) self.old self.new result }
         ensures keeps { WorkKeeps self.old self.new result }
     {
         Ok(Some(self.close(first, sink)?))
@@ -147,10 +151,14 @@ impl<A: App> Machine<A> {
         ensures err { IfErr result (λ ended.
             (before after : ℕ) → Explains limits before after ended) }
         ensures turns { (r : _) (edits : _) → self.old.first ≡ None → self.old.work ≡ [] →
-            StandsFor (A.meaning app.now) (limits_of limits) r None edits self.old →
-            QuietAs (A.meaning app.now) (limits_of limits) r edits self.new result }
+            StandsFor (A.meaning app.now) (limits_of limits) (counting r calls.old) None
+            edits self.old →
+            QuietAs (A.meaning app.now) (limits_of limits) (counting r calls.new) edits
+            self.new result }
         ensures keeps { self.old.work ≡ [] → self.old.first ≡ None →
             TurnKeeps self.old self.new result }
+        ensures uncalled { IfErr result (λ ended. (units : ℕ) →
+            fault_in ended ≡ Some (OutOfTurns units) → calls.new ≡ calls.old) }
     {
         if self.hear(app, calls)? {
             return Ok(Some(0));
@@ -170,10 +178,14 @@ impl<A: App> Machine<A> {
         ensures err { IfErr result (λ ended.
             (before after : ℕ) → Explains limits before after ended) }
         ensures turns { (r : _) (edits : _) → self.old.first ≡ None → self.old.work ≡ [] →
-            StandsQuiet (A.meaning app.now) (limits_of limits) r edits self.old →
-            QuietAs (A.meaning app.now) (limits_of limits) r edits self.new result }
+            StandsQuiet (A.meaning app.now) (limits_of limits) (counting r calls.old) edits
+            self.old →
+            QuietAs (A.meaning app.now) (limits_of limits) (counting r calls.new) edits
+            self.new result }
         ensures keeps { self.old.work ≡ [] → self.old.first ≡ None →
             TurnKeeps self.old self.new result }
+        ensures uncalled { IfErr result (λ ended. (units : ℕ) →
+            fault_in ended ≡ Some (OutOfTurns units) → calls.new ≡ calls.old) }
     {
         // What comes next names what is live.
         due_is_any::<

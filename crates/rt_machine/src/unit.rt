@@ -2,6 +2,7 @@
 ghost use Rattle.std.specs.Prelude.{◌≡◌, ℕ, ◌+◌, false, Some, IfErr, OnOk};
 ghost use Rattle.rt_model.specs.Reports.{is_opening};
 ghost use Rattle.rt_model.specs.State.{OutOfTurns};
+ghost use Rattle.rt_model.specs.Next as next;
 ghost use Rattle.rt_model.specs.Replay as replay;
 ghost use Rattle.rt_reports.specs.Seen.{entry_of, limits_of};
 ghost use Rattle.rt_scopes.specs.Outcomes.{StateComes};
@@ -9,6 +10,7 @@ ghost use Rattle.rt_state.specs.Mirror.{scopes_of};
 ghost use Rattle.rt_state.specs.Names.{work_of as model_work};
 ghost use Rattle.rt_fresh.specs.Turn.{entry_for, unit_of};
 ghost use Rattle.rt_work.specs.Items.{work_of};
+ghost use Rattle.rt_machine.specs.Counting.{CountsChange};
 ghost use Rattle.rt_machine.specs.Ends.{Explains};
 ghost use Rattle.rt_machine.specs.Machines.{Begins, BeginsUnit, Builds, fault_in, first_in, is_rerun, RemembersAt};
 
@@ -44,6 +46,9 @@ fn first_step<A: App>(
 ) -> Result<List<Item<A>>, Stop>
     ensures done { StateComes (λ w. unit_of (A.meaning app.now) w (model_work work))
         scopes.old.state scopes.new.state work_of result }
+    ensures counted { OnOk result (CountsChange
+        (λ w. unit_of (A.meaning app.now) w (model_work work))
+        scopes.old.state calls.old calls.new) }
 {
     match work {
         Work::RerunScope(scope) => scopes.run(app, calls, ScopeId(scope)),
@@ -62,6 +67,9 @@ impl<A: App> Machine<A> {
     /// Begins the build.
     pub fn build(&mut self, app: &A, calls: &mut Calls) -> Result<(), Stop>
         ensures builds { Builds (A.meaning app.now) self.old self.new result }
+        ensures counted { OnOk result (CountsChange
+            (λ w. unit_of (A.meaning app.now) w (next.RerunScope 0))
+            self.old.scopes.state calls.old calls.new) }
         ensures first { first_in self.new ≡ Some replay.Build }
         ensures others { self.new ≡ record self.old {
           scopes = self.new.scopes;
@@ -85,12 +93,17 @@ impl<A: App> Machine<A> {
         ensures explains { IfErr result (λ ended. (before after : ℕ) → Explains limits before after ended) }
         ensures begins { Begins (A.meaning app.now) (limits_of limits) (model_work work)
             self.old self.new result }
+        ensures counted { OnOk result (CountsChange
+            (λ w. unit_of (A.meaning app.now) w (model_work work))
+            self.old.scopes.state calls.old calls.new) }
         ensures first { OnOk result (first_in self.new ≡ Some (entry_for (model_work work))) }
         ensures units { OnOk result (self.new.units ≡ self.old.units + 1) }
         ensures remembers { OnOk result ((g : _) →
             RemembersAt g self.new (scopes_of self.old.scopes.state.rows.table)) }
         ensures spent { IfErr result (λ ended. (units : ℕ) →
             fault_in ended ≡ Some (OutOfTurns units) → self.new ≡ self.old) }
+        ensures uncalled { IfErr result (λ ended. (units : ℕ) →
+            fault_in ended ≡ Some (OutOfTurns units) → calls.new ≡ calls.old) }
         ensures others { self.new ≡ record self.old {
           scopes = self.new.scopes;
           work = self.new.work;
@@ -114,6 +127,9 @@ impl<A: App> Machine<A> {
     fn begin_unit(&mut self, app: &A, calls: &mut Calls, work: Work) -> Result<(), Stop>
         ensures begins { BeginsUnit (A.meaning app.now) (model_work work)
             self.old self.new result }
+        ensures counted { OnOk result (CountsChange
+            (λ w. unit_of (A.meaning app.now) w (model_work work))
+            self.old.scopes.state calls.old calls.new) }
         ensures first { OnOk result (first_in self.new ≡ Some (entry_for (model_work work))) }
         ensures remembers { OnOk result ((g : _) →
             RemembersAt g self.new (scopes_of self.old.scopes.state.rows.table)) }

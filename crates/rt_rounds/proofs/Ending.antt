@@ -1,7 +1,7 @@
 -- A call's end: what is left, its report, and the machine at rest.
 use Rattle.std.proofs.Common.{ℕ, ◌+◌, Bool, true, List, [], ◌∷◌, ◌++◌, ◌≡◌, refl, sym, ap, ◌∙◌, subst, map, length, Ok, Err, inl, inr}
 use Rattle.std.proofs.lemmas.List.{map-append, length-append}
-use Rattle.std.specs.Prelude.{Option, None, option_map}
+use Rattle.std.specs.Prelude.{Option, Some, None, option_map}
 use Rattle.rt_edits.specs.declared.edit.Edit.{Edit}
 use Rattle.rt_mirror.specs.Mirror.{edit_of}
 use Rattle.rt_model.specs.Document as doc
@@ -38,9 +38,9 @@ module _ {P C Q V H T E L : Type 0} where
     pub enabled : new.default_enabled ≡ old.default_enabled
 
   -- a report was made: the machine rests
-  pub rested : (x : model.State (types C Q V H T E L)) (old new : Machine P C Q V H T E L) → DoneAt x old
+  pub rested : {calls : ℕ} (x : model.State (types C Q V H T E L)) (old new : Machine P C Q V H T E L) → DoneAt x old calls
       → new ≡ record old { course = new.course } → (new.course).entries ≡ []
-      → RestsAt x new
+      → RestsAt x new calls
   rested x old new h frame course =
       record {
         idle =
@@ -52,24 +52,25 @@ module _ {P C Q V H T E L : Type 0} where
             };
         kept = h.kept;
         is = ap (λ (d : Machine P C Q V H T E L). state_of h.kept (d.scopes).state) frame ∙ h.is;
+        counted = h.counted;
       }
 
 module _ {P C Q V H T E L : Type 0} (app : Application (types C Q V H T E L)) (lawful : IsLawful (types C Q V H T E L) app)
     (limits : causes.Limits) (props : Q) (whole : Bool) (w : model.State (types C Q V H T E L)) where
   -- a call of one part ended
-  went_one : (until : Until)
+  went_one : (calls : ℕ) (until : Until)
       → ((log : List replay.Entry) (edits : List doc.Edit) (v : replay.Machine (types C Q V H T E L))
       → CallRan app limits until w log edits v → RanBy app limits w until log edits v)
       → (before after : Option (List Edit)) (count : ℕ) (old mid new : Machine P C Q V H T E L)
       → noted old ≡ [] → old.hearing ≡ None → old.default_enabled ≡ true
-      → GoneTo app limits (going_from props w) until [] before after count old mid
+      → GoneTo app limits (going_from props w (Some calls)) until [] before after count old mid
       → Alike mid new
       → ((g : Unkept (types C Q V H T E L)) → state_of g (new.scopes).state ≡ left_by until (state_of g (mid.scopes).state))
-      → WentTo app limits w until before after count new
-  went_one until by before after count old mid new none silent enabled h same left =
+      → WentTo app limits w until before after count new calls
+  went_one calls until by before after count old mid new none silent enabled h same left =
       let on = (h.gone).on in
       let still = (h.gone).silent silent in
-      let ran = call_ran app lawful limits props whole w until before after count old mid none silent h in
+      let ran = call_ran app lawful limits props whole w calls until before after count old mid none silent h in
       record {
         wrote = on.wrote;
         told = on.told;
@@ -86,24 +87,25 @@ module _ {P C Q V H T E L : Type 0} (app : Application (types C Q V H T E L)) (l
               first = same.first ∙ h.over;
               kept = ran.0;
               is = left ran.0;
+              counted = ran.2;
             };
       }
 
   -- a whole render ended
-  went_whole : (before after : Option (List Edit)) (count : ℕ) (old mid new : Machine P C Q V H T E L)
+  went_whole : (calls : ℕ) (before after : Option (List Edit)) (count : ℕ) (old mid new : Machine P C Q V H T E L)
       → noted old ≡ [] → old.hearing ≡ None → old.default_enabled ≡ true
-      → RenderedTo app limits (going_from props w) before after count old mid
+      → RenderedTo app limits (going_from props w (Some calls)) before after count old mid
       → Alike mid new
       → ((g : Unkept (types C Q V H T E L)) → state_of g (new.scopes).state ≡ left_by Renders (state_of g (mid.scopes).state))
-      → WentTo app limits w Renders before after count new
-  went_whole before after count old mid new none silent enabled h same left =
+      → WentTo app limits w Renders before after count new calls
+  went_whole calls before after count old mid new none silent enabled h same left =
       let first = (h.first).gone in
       let second = (h.second).gone in
       let xs : List Edit = (first.on).wrote in
       let ys : List Edit = (second.on).wrote in
       let still = first.silent silent in
       let later = second.silent still.0 in
-      let ran = render_ran app lawful limits props whole w before after count old mid none silent h in
+      let ran = render_ran app lawful limits props whole w calls before after count old mid none silent h in
       let edits : map edit_of (xs ++ ys) ≡ map edit_of xs ++ map edit_of ys = map-append edit_of xs ys in
       record {
         wrote = xs ++ ys;
@@ -125,70 +127,71 @@ module _ {P C Q V H T E L : Type 0} (app : Application (types C Q V H T E L)) (l
               first = same.first ∙ (h.second).over;
               kept = ran.0;
               is = left ran.0;
+              counted = ran.2;
             };
       }
 
   -- a call ended, and what its test left was left
-  pub went_to : (until : Until) (before after : Option (List Edit)) (count : ℕ) (old mid new : Machine P C Q V H T E L)
+  pub went_to : (calls : ℕ) (until : Until) (before after : Option (List Edit)) (count : ℕ) (old mid new : Machine P C Q V H T E L)
       → noted old ≡ [] → old.hearing ≡ None → old.default_enabled ≡ true
-      → GoesBy app limits (going_from props w) until before after old mid (Ok count)
+      → GoesBy app limits (going_from props w (Some calls)) until before after old mid (Ok count)
       → Alike mid new
       → ((g : Unkept (types C Q V H T E L)) → state_of g (new.scopes).state ≡ left_by until (state_of g (mid.scopes).state))
-      → WentTo app limits w until before after count new
-  went_to Events before after count old mid new none silent enabled h same left =
-      went_one Events (λ log edits v r. r) before after count old mid new none silent enabled h same left
-  went_to Settles before after count old mid new none silent enabled h same left =
-      went_one Settles (λ log edits v r. r) before after count old mid new none silent enabled h same left
-  went_to Renders before after count old mid new none silent enabled h same left =
-      went_whole before after count old mid new none silent enabled h same left
+      → WentTo app limits w until before after count new calls
+  went_to calls Events before after count old mid new none silent enabled h same left =
+      went_one calls Events (λ log edits v r. r) before after count old mid new none silent enabled h same left
+  went_to calls Settles before after count old mid new none silent enabled h same left =
+      went_one calls Settles (λ log edits v r. r) before after count old mid new none silent enabled h same left
+  went_to calls Renders before after count old mid new none silent enabled h same left =
+      went_whole calls before after count old mid new none silent enabled h same left
 
   -- a call of one part came to a fault
-  stopped_one : (until : Until)
+  stopped_one : (calls : ℕ) (until : Until)
       → (before after : Option (List Edit)) (fault : model.Fault) (old new : Machine P C Q V H T E L)
       → noted old ≡ [] → old.hearing ≡ None
-      → (h : GoneUpTo app limits (going_from props w) until [] before after fault old new)
-      → (units : ℕ) → fault ≡ model.OutOfTurns units → SpentTo app limits w (noted new) (map edit_of (h.came).wrote) new
-  stopped_one until before after fault old new none silent h units out =
-      call_spent app lawful limits props whole w (map edit_of (h.came).wrote) old new until silent (h.silent silent).0 (h.spent units out)
+      → (h : GoneUpTo app limits (going_from props w (Some calls)) until [] before after fault old new)
+      → (units : ℕ) → fault ≡ model.OutOfTurns units → SpentTo app limits w (noted new) (map edit_of (h.came).wrote) new calls
+  stopped_one calls until before after fault old new none silent h units out =
+      call_spent app lawful limits props whole w calls (map edit_of (h.came).wrote) old new until silent (h.silent silent).0 (h.spent units out)
 
   -- a call came to a fault
-  pub went_up_to : (until : Until) (before after : Option (List Edit)) (ended : Ended) (old new : Machine P C Q V H T E L)
+  pub went_up_to : (calls : ℕ) (until : Until) (before after : Option (List Edit)) (ended : Ended) (old new : Machine P C Q V H T E L)
       → noted old ≡ [] → old.hearing ≡ None
-      → GoesBy app limits (going_from props w) until before after old new (Err ended)
-      → WentOn app limits w until before after (Err ended) new
-  went_up_to Events before after ended old new none silent h =
+      → GoesBy app limits (going_from props w (Some calls)) until before after old new (Err ended)
+      → WentOn app limits w until before after (Err ended) new calls
+  went_up_to calls Events before after ended old new none silent h =
       λ fault why.
       let g = h fault why in
       record {
         wrote = (g.came).wrote;
         told = (g.came).told;
-        stopped = call_stopped app lawful limits props whole w Events before after fault old new none g;
-        spent = stopped_one Events before after fault old new none silent g;
+        stopped = call_stopped app lawful limits props whole w (Some calls) Events before after fault old new none g;
+        spent = stopped_one calls Events before after fault old new none silent g;
       }
-  went_up_to Settles before after ended old new none silent h =
+  went_up_to calls Settles before after ended old new none silent h =
       λ fault why.
       let g = h fault why in
       record {
         wrote = (g.came).wrote;
         told = (g.came).told;
-        stopped = call_stopped app lawful limits props whole w Settles before after fault old new none g;
-        spent = stopped_one Settles before after fault old new none silent g;
+        stopped = call_stopped app lawful limits props whole w (Some calls) Settles before after fault old new none g;
+        spent = stopped_one calls Settles before after fault old new none silent g;
       }
-  went_up_to Renders before after ended old new none silent h =
+  went_up_to calls Renders before after ended old new none silent h =
       λ fault why. elim (h fault why) [ inl g ↦ early fault g | inr g ↦ late fault g ]
     where
-      early : (fault : model.Fault) → GoneUpTo app limits (going_from props w) Events [] before after fault old new
-          → WentUpTo app limits w Renders before after fault new
+      early : (fault : model.Fault) → GoneUpTo app limits (going_from props w (Some calls)) Events [] before after fault old new
+          → WentUpTo app limits w Renders before after fault new calls
       early fault g =
           record {
             wrote = (g.came).wrote;
             told = (g.came).told;
-            stopped = inl (call_stopped app lawful limits props whole w Events before after fault old new none g);
-            spent = stopped_one Events before after fault old new none silent g;
+            stopped = inl (call_stopped app lawful limits props whole w (Some calls) Events before after fault old new none g);
+            spent = stopped_one calls Events before after fault old new none silent g;
           }
 
-      late : (fault : model.Fault) → RenderedUpTo app limits (going_from props w) before after fault old new
-          → WentUpTo app limits w Renders before after fault new
+      late : (fault : model.Fault) → RenderedUpTo app limits (going_from props w (Some calls)) before after fault old new
+          → WentUpTo app limits w Renders before after fault new calls
       late fault g =
           let first = (g.first).gone in
           let xs : List Edit = (first.on).wrote in
@@ -201,22 +204,22 @@ module _ {P C Q V H T E L : Type 0} (app : Application (types C Q V H T E L)) (l
             stopped =
                 inr
                 (subst (λ (es : List doc.Edit). RenderStopped app limits w (noted new) es fault) (sym edits)
-                (render_stopped app lawful limits props whole w before after fault old new none silent g));
+                (render_stopped app lawful limits props whole w (Some calls) before after fault old new none silent g));
             spent =
                 λ units out.
-                subst (λ (es : List doc.Edit). SpentTo app limits w (noted new) es new) (sym edits)
-                (call_spent app lawful limits props whole w (map edit_of xs ++ map edit_of ys) g.between new Renders still.0
+                subst (λ (es : List doc.Edit). SpentTo app limits w (noted new) es new calls) (sym edits)
+                (call_spent app lawful limits props whole w calls (map edit_of xs ++ map edit_of ys) g.between new Renders still.0
                 ((g.second).silent still.0).0 ((g.second).spent units out));
           }
 
 module _ {P C Q V H T E L : Type 0} (app : Application (types C Q V H T E L)) (limits : causes.Limits)
     (w : model.State (types C Q V H T E L)) (until : Until) (before after : Option (List Edit)) where
   -- its report is made
-  pub ran_on : (count : ℕ) (report : Report) (old new : Machine P C Q V H T E L)
-      → WentTo app limits w until before after count old
+  pub ran_on : {calls : ℕ} (count : ℕ) (report : Report) (old new : Machine P C Q V H T E L)
+      → WentTo app limits w until before after count old calls
       → report.log ≡ (old.course).entries → report.edits ≡ count → report.default_enabled ≡ old.default_enabled
       → new ≡ record old { course = new.course } → (new.course).entries ≡ []
-      → RanOn app limits w until before after report new
+      → RanOn app limits w until before after report new calls
   ran_on count report old new h log edits enabled frame course =
       record {
         wrote = h.wrote;
@@ -231,10 +234,10 @@ module _ {P C Q V H T E L : Type 0} (app : Application (types C Q V H T E L)) (l
       }
 
   -- what was done up to a fault is told by no report
-  pub stopped_on : (ended : Ended) (old new : Machine P C Q V H T E L)
-      → WentOn app limits w until before after (Err ended) old
+  pub stopped_on : {calls : ℕ} (ended : Ended) (old new : Machine P C Q V H T E L)
+      → WentOn app limits w until before after (Err ended) old calls
       → new ≡ record old { course = new.course } → (new.course).entries ≡ []
-      → RunsOn app limits w until before after (Err ended) new
+      → RunsOn app limits w until before after (Err ended) new calls
   stopped_on ended old new h frame course =
       λ fault why.
       let g = h fault why in
@@ -252,14 +255,14 @@ module _ {P C Q V H T E L : Type 0} (app : Application (types C Q V H T E L)) (l
 module _ {P C Q V H T E L : Type 0} (app : Application (types C Q V H T E L)) (lawful : IsLawful (types C Q V H T E L) app)
     (limits : causes.Limits) (props : Q) (firsts : Firsts) (provided : List (ℕ × V)) where
   -- the build ended, and its report is made
-  pub built_on : (before after : Option (List Edit)) (count : ℕ) (report : Report) (begun old new : Machine P C Q V H T E L)
+  pub built_on : (calls : ℕ) (before after : Option (List Edit)) (count : ℕ) (report : Report) (begun old new : Machine P C Q V H T E L)
       → begun.hearing ≡ None → begun.default_enabled ≡ true → noted begun ≡ []
-      → FinishedOn app limits (given app limits props firsts provided) [] before after count begun old
+      → FinishedOn app limits (given app limits props firsts provided (Some calls)) [] before after count begun old
       → map entry_of report.log ≡ replay.Build ∷ noted old → report.edits ≡ count → report.default_enabled ≡ old.default_enabled
       → new ≡ record old { course = new.course } → (new.course).entries ≡ []
-      → BuiltOn app limits props firsts provided before after report new
-  built_on before after count report begun old new silent enabled none h log edits told frame course =
-      let r : Going (types C Q V H T E L) = given app limits props firsts provided in
+      → BuiltOn app limits props firsts provided before after report new calls
+  built_on calls before after count report begun old new silent enabled none h log edits told frame course =
+      let r : Going (types C Q V H T E L) = given app limits props firsts provided (Some calls) in
       let still = h.silent silent in
       let s : StandsFor app limits r None (map edit_of (h.on).wrote) old =
       subst (λ (o : Option replay.Entry). StandsFor app limits r o (map edit_of (h.on).wrote) old) (ap (λ o. option_map entry_of o) h.over)
@@ -290,5 +293,5 @@ module _ {P C Q V H T E L : Type 0} (app : Application (types C Q V H T E L)) (l
         enabled = told ∙ still.1 ∙ enabled;
         rests =
             rested v.state old new
-            (record { work = h.idle; hearing = still.0; first = h.over; kept = s.0; is = refl }) frame course;
+            (record { work = h.idle; hearing = still.0; first = h.over; kept = s.0; is = refl; counted = s.2 }) frame course;
       }

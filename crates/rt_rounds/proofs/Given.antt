@@ -1,5 +1,5 @@
 -- The build of a program's runtime, wherever its numbers begin and whatever its root provides.
-use Rattle.std.proofs.Common.{ℕ, ◌<◌, Bool, true, List, [], ◌∷◌, ◌++◌, ◌≡◌, refl, sym, ap, ◌∙◌, subst, map, reverse}
+use Rattle.std.proofs.Common.{ℕ, ◌<◌, Bool, true, List, [], ◌∷◌, ◌++◌, ◌≡◌, refl, sym, ap, ◌∙◌, subst, map, reverse, arith}
 use Rattle.std.proofs.lemmas.List.{append-nil}
 use Rattle.std.specs.Prelude.{Option, Some, None, is_some}
 use Rattle.rt_model.specs.OneLog.{types}
@@ -19,15 +19,21 @@ use Rattle.rt_moves.proofs.Beginnings.{build_logged}
 use Rattle.rt_moves.proofs.Joins.{stays}
 use Rattle.rt_moves.proofs.Reports.{reports_go_on}
 use Rattle.rt_reports.specs.Seen.{entry_of}
+use Rattle.rt_scopes.specs.Counts.{Counts}
 use Rattle.rt_state.specs.Mirror.{Unkept, at_first, state_of}
 use Rattle.rt_fresh.specs.Turn.{unit_of}
 use Rattle.rt_fresh.specs.Underway.{Works}
 use Rattle.rt_fresh.proofs.Underway.{reached_by}
 use Rattle.rt_work.specs.Items.{work_of}
 use Rattle.rt_doms.proofs.Given.{provided_by, starts_provide}
+use Rattle.rt_machine.specs.Counting.{CountsAlong, calls_after}
 use Rattle.rt_machine.specs.Machines.{machine_of, open_work, noted, first_in, IsFresh, Did}
 use Rattle.rt_machine.specs.Stands.{Going, StandsFor, StandsAt}
 use Rattle.rt_machine.specs.declared.machine.Machine.{Machine}
+
+-- no call is counted, and there was none
+pub uncounted : (calls : ℕ) → calls ≡ 0 → Counts calls 0
+uncounted calls none = omega (arith, none)
 
 module _ {K : Types} (app : Application K) (limits : causes.Limits) (props : K.Props) (firsts : Firsts) (provided : List (ℕ × K.Value)) where
   -- a replay's start
@@ -35,8 +41,8 @@ module _ {K : Types} (app : Application K) (limits : causes.Limits) (props : K.P
   given_machine = start_with app props firsts provided []
 
   -- the build on its way
-  abbrev pub given : Going K
-  given = record { props = props; inputs = []; from = given_machine; opened = replay.Build ∷ []; left = []; taken = 0 }
+  abbrev pub given : Option ℕ → Going K
+  given along = record { props = props; inputs = []; from = given_machine; opened = replay.Build ∷ []; left = []; taken = 0; count = along }
 
   abbrev given_at : model.State K → List (model.Item K) → replay.Machine K
   given_at v work = record given_machine { state = v; work = work; built = true; unit = true }
@@ -90,14 +96,15 @@ module _ {P C Q V H T E L : Type 0} (app : Application (types C Q V H T E L)) (l
   built_at h v x items o = record (machine_of h [] 0 x) { state = v; work = items; unit = is_some o }
 
   -- a machine that was just made begins to build
-  pub stands_given : 0 < firsts.elements → (old new : Machine P C Q V H T E L)
+  pub stands_given : (along : Option ℕ) → 0 < firsts.elements → (old new : Machine P C Q V H T E L)
       → IsFresh old
       → state_of at_first (old.scopes).state ≡ (start_with app props firsts provided []).state
       → ((g : Unkept (types C Q V H T E L)) → Did app (unit_of app (state_of g (old.scopes).state) (next.RerunScope 0)) [] old new)
       → first_in new ≡ Some replay.Build
       → new ≡ record old { scopes = new.scopes; work = new.work; first = new.first }
-      → StandsAt app limits (given app limits props firsts provided) [] new
-  stands_given above old new fresh is builds first frame =
+      → CountsAlong along (calls_after (unit_of app (state_of at_first (old.scopes).state) (next.RerunScope 0)))
+      → StandsAt app limits (given app limits props firsts provided along) [] new
+  stands_given along above old new fresh is builds first frame counted =
       let m = start_with app props firsts provided [] in
       let did = builds at_first in
       let h = did.kept in
@@ -117,4 +124,5 @@ module _ {P C Q V H T E L : Type 0} (app : Application (types C Q V H T E L)) (l
       let here : Works app limits props [] m (replay.Build ∷ noted new) [] m.state replay.Build (machine_of h [] 0 new) =
       subst (λ (l : List replay.Entry). Works app limits props [] m (replay.Build ∷ l) [] m.state replay.Build (machine_of h [] 0 new)) (sym log)
       (subst (λ (x : replay.Machine (types C Q V H T E L)). Works app limits props [] m (replay.Build ∷ []) [] m.state replay.Build x) (sym same) on) in
-      subst (λ (o : Option replay.Entry). StandsFor app limits (given app limits props firsts provided) o [] new) (sym first) (h, m.state, here, tt)
+      subst (λ (o : Option replay.Entry). StandsFor app limits (given app limits props firsts provided along) o [] new) (sym first)
+      (h, m.state, here, tt, subst (λ (o : Outcome (types C Q V H T E L)). CountsAlong along (calls_after o)) did.done counted)

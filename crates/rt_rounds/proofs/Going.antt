@@ -26,6 +26,7 @@ use Rattle.rt_state.specs.Mirror.{Unkept, state_of}
 use Rattle.rt_fresh.specs.Underway.{Rests}
 use Rattle.rt_doms.specs.Doms.{Until, Unended, ends_by}
 use Rattle.rt_doms.proofs.Loops.{unended_grows}
+use Rattle.rt_machine.specs.Counting.{CountsAlong}
 use Rattle.rt_machine.specs.Machines.{machine_of, noted, fault_in}
 use Rattle.rt_work.specs.Items.{work_of}
 use Rattle.rt_machine.specs.Hearings.{listeners_in}
@@ -95,6 +96,11 @@ module _ {P C Q V H T E L : Type 0} (app : Application (types C Q V H T E L)) (l
   grown_none : (d : Machine P C Q V H T E L) → Grown app limits r until d d
   grown_none d = record { more = []; logged = sym (append-nil (noted d)); unended = λ m go. tt }
 
+  -- whatever the count is by now
+  pub grown_along : (along : Option ℕ) (old new : Machine P C Q V H T E L) → Grown app limits r until old new
+      → Grown app limits (record r { count = along }) until old new
+  grown_along along old new h = record { more = h.more; logged = h.logged; unended = h.unended }
+
   grown_by : (edits : List doc.Edit) (old mid new : Machine P C Q V H T E L) → Grown app limits r until old mid
       → StandsAt app limits r edits mid → Logs mid new → GoesAt mid
       → Grown app limits r until old new
@@ -151,36 +157,38 @@ module _ {P C Q V H T E L : Type 0} (app : Application (types C Q V H T E L)) (l
       record { on = goes_none app lawful limits r edits now d s; grown = grown_none d; silent = λ none. (none, refl) }
 
   -- one more turn
-  pub gone_more : (edits : List doc.Edit) (before now after : Option (List Edit)) (count more all : ℕ) (old mid new : Machine P C Q V H T E L)
+  pub gone_more : (along : Option ℕ) (edits : List doc.Edit) (before now after : Option (List Edit)) (count more all : ℕ) (old mid new : Machine P C Q V H T E L)
       → (h : GoneOn app limits r until edits before now count old mid)
       → all ≡ count + more
-      → TurnsAs app limits r (edits ++ map edit_of (h.on).wrote) now after new (Ok (Some more))
+      → TurnsAs app limits (record r { count = along }) (edits ++ map edit_of (h.on).wrote) now after mid new (Ok (Some more))
       → TurnKeeps mid new (Ok (Some more))
       → GoesAt mid
-      → GoneOn app limits r until edits before after all old new
-  gone_more edits before now after count more all old mid new h sum t keeps goes =
+      → GoneOn app limits (record r { count = along }) until edits before after all old new
+  gone_more along edits before now after count more all old mid new h sum t keeps goes =
       record {
-        on = goes_more app lawful limits r edits before now after count more all mid new h.on sum t;
-        grown = grown_by (edits ++ map edit_of (h.on).wrote) old mid new h.grown (h.on).stands keeps.logs goes;
+        on = goes_more app lawful limits r along edits before now after count more all mid new h.on sum t;
+        grown = grown_along along old new (grown_by (edits ++ map edit_of (h.on).wrote) old mid new h.grown (h.on).stands keeps.logs goes);
         silent = λ none. still old mid new (h.silent none) (keeps.silent (h.silent none).0);
       }
 
   -- a fault after some turns
-  pub gone_came : (edits : List doc.Edit) (before now after : Option (List Edit)) (count : ℕ) (old mid new : Machine P C Q V H T E L)
+  pub gone_came : (along : Option ℕ) (edits : List doc.Edit) (before now after : Option (List Edit)) (count : ℕ) (old mid new : Machine P C Q V H T E L)
       (ended : Ended)
       → (h : GoneOn app limits r until edits before now count old mid)
-      → TurnsAs app limits r (edits ++ map edit_of (h.on).wrote) now after new (Err ended)
+      → TurnsAs app limits (record r { count = along }) (edits ++ map edit_of (h.on).wrote) now after mid new (Err ended)
       → TurnKeeps mid new (Err ended)
+      → ((units : ℕ) → fault_in ended ≡ Some (model.OutOfTurns units) → along ≡ r.count)
       → GoesAt mid
-      → (fault : model.Fault) → fault_in ended ≡ Some fault → GoneUpTo app limits r until edits before after fault old new
-  gone_came edits before now after count old mid new ended h t keeps goes fault why =
+      → (fault : model.Fault) → fault_in ended ≡ Some fault
+      → GoneUpTo app limits (record r { count = along }) until edits before after fault old new
+  gone_came along edits before now after count old mid new ended h t keeps stays goes fault why =
       let far : List doc.Edit = edits ++ map edit_of (h.on).wrote in
-      let came : CameTo app limits r edits before after fault new =
-      (goes_came app lawful limits r edits before now after count mid new ended h.on t).0 fault why in
+      let came : CameTo app limits (record r { count = along }) edits before after fault new =
+      (goes_came app lawful limits r along edits before now after count mid new ended h.on t).0 fault why in
       let last : Telling (types C Q V H T E L) = (came.refused).last in
       record {
         came = came;
-        grown = grown_by far old mid new h.grown (h.on).stands (keeps.logs fault why) goes;
+        grown = grown_along along old new (grown_by far old mid new h.grown (h.on).stands (keeps.logs fault why) goes);
         silent = λ none. still old mid new (h.silent none) (keeps.silent (h.silent none).0);
         cause =
             calls_refusal limits (λ (x : model.State (types C Q V H T E L)). ends_by until x) last.machine fault (came.refused).cause
@@ -216,11 +224,14 @@ module _ {P C Q V H T E L : Type 0} (app : Application (types C Q V H T E L)) (l
               state = p.state s.0;
               idle = p.idle;
               over = p.done;
+              along =
+                  subst (λ (o : Option ℕ). CountsAlong o s.0.calls)
+                  (sym (stays units (why ∙ ap (λ (f : model.Fault). Some f) out))) s.2;
             };
       }
     where
       -- the machine of the refusal is the one at which the units were spent
-      at_mid : (came : CameTo app limits r edits before after fault new) (p : Spends mid new)
+      at_mid : (came : CameTo app limits (record r { count = along }) edits before after fault new) (p : Spends mid new)
           → (s : StandsFor app limits r None (edits ++ map edit_of (h.on).wrote) mid)
           → machine_of s.0 r.left r.taken mid ≡ (((came.refused).last).machine)
       at_mid came p s =

@@ -31,6 +31,8 @@ use Rattle.rt_state.specs.Names.{fault_of}
 use Rattle.rt_state.specs.declared.names.Stop.{Stop}
 use Rattle.rt_state.specs.declared.names.Stop.TheVariants as stops
 use Rattle.rt_work.specs.Items.{work_of}
+use Rattle.rt_scopes.specs.Counts.{Counts}
+use Rattle.rt_machine.specs.Counting.{CountsHeard}
 use Rattle.rt_machine.specs.Hearings.{event_in}
 use Rattle.rt_machine.specs.Machines.{machine_of, noted, HeardOne, HeardPart, Hears}
 use Rattle.rt_machine.specs.declared.machine.Hearing.{Hearing}
@@ -95,12 +97,14 @@ module _ {K : tree.Types} (app : Application K) (from : replay.Machine K) where
 
 module _ {P C Q V H T E L : Type 0} (app : Application (types C Q V H T E L)) (from : replay.Machine (types C Q V H T E L)) where
   -- where calls have led so far
-  abbrev pub HeardFar : Machine P C Q V H T E L → Type 0
-  HeardFar m = (h : Unkept (types C Q V H T E L)) × HeardSo app from (noted m) (machine_of h [] 0 m)
+  abbrev pub HeardFar : Machine P C Q V H T E L → ℕ → Type 0
+  HeardFar m calls = (h : Unkept (types C Q V H T E L)) × HeardSo app from (noted m) (machine_of h [] 0 m) × Counts calls h.calls
 
-  pub far_more : (old new : Machine P C Q V H T E L) → HeardFar old → Hears app old new (Ok true) → new.first ≡ old.first → new.work ≡ old.work
-      → HeardFar new
-  far_more old new far hears first work =
+  pub far_more : (was calls : ℕ) (old new : Machine P C Q V H T E L) → HeardFar old was → Hears app old new (Ok true)
+      → CountsHeard app old was calls true
+      → new.first ≡ old.first → new.work ≡ old.work
+      → HeardFar new calls
+  far_more was calls old new far hears counts first work =
       let g = far.0 in
       let on = hears g [] 0 in
       let u = machine_of on.0 [] 0 new in
@@ -115,10 +119,14 @@ module _ {P C Q V H T E L : Type 0} (app : Application (types C Q V H T E L)) (f
         on.0,
         subst (λ (l : List replay.Entry). HeardSo app from l u) (sym one.logged)
             (heard_more app from (noted old) (machine_of g [] 0 old) u one.first one.others far.1 one.waits one.heard_is rest refl),
+        subst (λ (x : replay.Machine (types C Q V H T E L)). Counts calls (x.state).calls) one.heard_is
+            (counts g [] 0 one.first one.others one.waits far.2),
       )
 
-  pub far_over : (old new : Machine P C Q V H T E L) → HeardFar old → Hears app old new (Ok false) → HearsAll app from new (Ok tt)
-  far_over old new far hears =
+  pub far_over : (was calls : ℕ) (old new : Machine P C Q V H T E L) → HeardFar old was → Hears app old new (Ok false)
+      → CountsHeard app old was calls false
+      → HearsAll app from new calls (Ok tt)
+  far_over was calls old new far hears counts =
       let g = far.0 in
       let on = hears g [] 0 in
       let m = machine_of g [] 0 old in
@@ -129,11 +137,14 @@ module _ {P C Q V H T E L : Type 0} (app : Application (types C Q V H T E L)) (f
         subst (λ (l : List replay.Entry). HeardSo app from l u) (sym logged)
             (subst (λ (x : replay.Machine (types C Q V H T E L)). HeardSo app from (noted old) x) same far.1),
         ap (λ (x : replay.Machine (types C Q V H T E L)). replay.waiting x) (sym same) ∙ on.0,
+        subst (λ (x : replay.Machine (types C Q V H T E L)). Counts calls (x.state).calls) same
+            (subst (λ (n : ℕ). Counts n g.calls) (sym counts) far.2),
       )
 
-  pub far_stop : (old new : Machine P C Q V H T E L) (stop : Stop) → HeardFar old → Hears app old new (Err stop) → HearsAll app from new (Err stop)
-  far_stop old new stops.OutOfMemory far hears = tt
-  far_stop old new (stops.Fault what) far hears =
+  pub far_stop : {was : ℕ} (calls : ℕ) (old new : Machine P C Q V H T E L) (stop : Stop) → HeardFar old was → Hears app old new (Err stop)
+      → HearsAll app from new calls (Err stop)
+  far_stop calls old new stops.OutOfMemory far hears = tt
+  far_stop calls old new (stops.Fault what) far hears =
       let g = far.0 in
       let part : HeardPart app (machine_of g [] 0 old) (noted old) (noted new) (fault_of what) = hears g [] 0 in
       let one = part.one in
@@ -158,7 +169,7 @@ module _ {P C Q V H T E L : Type 0} where
 module _ {P C Q V H T E L : Type 0} (app : Application (types C Q V H T E L)) (w : model.State (types C Q V H T E L))
     (name : Text) (event : Event L) (element : ℕ) where
   -- an event on its way, from a machine at rest
-  pub far_none : (old begun : Machine P C Q V H T E L) (hearing : Hearing P C Q V H T E L) → (rests : RestsAt w old)
+  pub far_none : {calls : ℕ} (old begun : Machine P C Q V H T E L) (hearing : Hearing P C Q V H T E L) → (rests : RestsAt w old calls)
       → hearing.event ≡ event → hearing.bubbles ≡ event.propagates
       → listeners_of hearing.listeners ≡ heard (state_of (rests.kept) (old.scopes).state) name element event.propagates
       → begun ≡ record old { units = 0; default_enabled = true; hearing = Some hearing }
@@ -198,20 +209,20 @@ module _ {P C Q V H T E L : Type 0} (app : Application (types C Q V H T E L)) (w
       (subst (λ (u : replay.Machine (types C Q V H T E L)). HeardSo app (raised app w name event element) [] u) (sym same) start))
 
   -- so it begins with these listeners
-  pub far_begun : (old : Machine P C Q V H T E L) (listeners : List (CodeListener P C Q V H T E L)) → (rests : RestsAt w old)
+  pub far_begun : {calls : ℕ} (old : Machine P C Q V H T E L) (listeners : List (CodeListener P C Q V H T E L)) → (rests : RestsAt w old calls)
       → listeners_of listeners ≡ heard (state_of (rests.kept) (old.scopes).state) name element event.propagates
       → HeardSo app (raised app w name event element) (noted (begun_at old event listeners)) (machine_of rests.kept [] 0 (begun_at old event listeners))
   far_begun old listeners rests hears =
       far_none old (begun_at old event listeners) (hearing_of event listeners) rests refl refl hears refl
 
   -- no listener waits any more: the event is as the last one left it, and the machine rests
-  pub heard_on : (over new : Machine P C Q V H T E L) (left : Hearing P C Q V H T E L)
-      → HearsAll app (raised app w name event element) over (Ok tt)
+  pub heard_on : (calls : ℕ) (over new : Machine P C Q V H T E L) (left : Hearing P C Q V H T E L)
+      → HearsAll app (raised app w name event element) over calls (Ok tt)
       → over.work ≡ [] → over.first ≡ None
       → over.hearing ≡ Some left
       → new.work ≡ over.work → new.first ≡ over.first → new.hearing ≡ None → (new.course).entries ≡ [] → new.scopes ≡ over.scopes
-      → HeardOn app w name event.payload element event.propagates event.prevented left.event new
-  heard_on over new left far work first is same_work same_first none course scopes =
+      → HeardOn app w name event.payload element event.propagates event.prevented left.event new calls
+  heard_on calls over new left far work first is same_work same_first none course scopes =
       let h = far.0 in
       let last : replay.Machine (types C Q V H T E L) = machine_of h [] 0 over in
       let so : HeardSo app (raised app w name event element) (noted over) last = far.1 in
@@ -237,6 +248,7 @@ module _ {P C Q V H T E L : Type 0} (app : Application (types C Q V H T E L)) (w
               idle = record { work = same_work ∙ work; hearing = none; first = same_first ∙ first; course = course };
               kept = h;
               is = ap (λ s. state_of h s.state) scopes;
+              counted = far.3;
             };
       }
     where
@@ -248,7 +260,8 @@ module _ {P C Q V H T E L : Type 0} (app : Application (types C Q V H T E L)) (w
           ∙ ap (λ (ls : List (Listener (types C Q V H T E L))). replay.no_listener ls) calm
 
   -- a listener came to a fault
-  pub heard_stop : (over new : Machine P C Q V H T E L) (stop : Stop) → HearsAll app (raised app w name event element) over (Err stop)
-      → HearsOn app w name event.payload element event.propagates event.prevented (Err stop) new
-  heard_stop over new stops.OutOfMemory far = tt
-  heard_stop over new (stops.Fault what) far = record { log = noted over; cut = far }
+  pub heard_stop : (calls : ℕ) (over new : Machine P C Q V H T E L) (stop : Stop)
+      → HearsAll app (raised app w name event element) over calls (Err stop)
+      → HearsOn app w name event.payload element event.propagates event.prevented (Err stop) new calls
+  heard_stop calls over new stops.OutOfMemory far = tt
+  heard_stop calls over new (stops.Fault what) far = record { log = noted over; cut = far }

@@ -9,7 +9,9 @@ pub mod Handling
 pub mod Greatest
 pub mod Passes
 pub mod Sorted
+pub mod Alone
 pub mod Breaks
+pub mod Broken
 pub mod Inside
 pub mod Steps
 pub mod Units

@@ -69,10 +69,10 @@ module _ {K : Types} where
 
 module _ {P C Q V H T E L : Type 0} where
   -- the rest was passed over
-  pub polling_rests : (x : model.State (types C Q V H T E L)) (old new : Machine P C Q V H T E L) → (h : RestsAt x old)
+  pub polling_rests : {calls : ℕ} (x : model.State (types C Q V H T E L)) (old new : Machine P C Q V H T E L) → (h : RestsAt x old calls)
       → state_of h.kept (new.scopes).state ≡ polling_rest (state_of h.kept (old.scopes).state)
       → new.work ≡ old.work → new.hearing ≡ old.hearing → new.first ≡ old.first → new.course ≡ old.course
-      → RestsAt (polling_rest x) new
+      → RestsAt (polling_rest x) new calls
   polling_rests x old new h is work hearing first course =
       record {
         idle =
@@ -84,6 +84,7 @@ module _ {P C Q V H T E L : Type 0} where
             };
         kept = h.kept;
         is = is ∙ ap (λ (y : model.State (types C Q V H T E L)). polling_rest y) h.is;
+        counted = h.counted;
       }
 
   pub polled_some : (x : model.State (types C Q V H T E L)) (g : Unkept (types C Q V H T E L)) (d : Machine P C Q V H T E L)
@@ -105,7 +106,8 @@ module _ {P C Q V H T E L : Type 0} where
 module _ {P C Q V H T E L : Type 0} (app : Application (types C Q V H T E L)) (lawful : IsLawful (types C Q V H T E L) app)
     (limits : causes.Limits) (props : Q) (w : model.State (types C Q V H T E L)) where
   -- no unit yet
-  pub polls_begin : (m : Machine P C Q V H T E L) → RestsAt w m → LedTo app limits props false w → PollingOn app limits props w 0 m
+  pub polls_begin : {calls : ℕ} (m : Machine P C Q V H T E L) → RestsAt w m calls → LedTo app limits props false w
+      → PollingOn app limits props w 0 m calls
   polls_begin m rests led =
       record {
         log = [];
@@ -118,12 +120,12 @@ module _ {P C Q V H T E L : Type 0} (app : Application (types C Q V H T E L)) (l
       }
 
   -- one more unit
-  pub polls_more : (now after : Option (List Edit)) (n k : ℕ) (work : Work) (old new : Machine P C Q V H T E L)
-      → (h : PollingOn app limits props w n old)
+  pub polls_more : {was calls : ℕ} (now after : Option (List Edit)) (n k : ℕ) (work : Work) (old new : Machine P C Q V H T E L)
+      → (h : PollingOn app limits props w n old was)
       → k ≡ n + 1 → nat_eq n limits.units ≡ false
       → polling_next h.left ≡ Some work
-      → UnitOn app limits (polling_rest h.left) now after new
-      → PollingOn app limits props w k new
+      → UnitOn app limits (polling_rest h.left) now after new calls
+      → PollingOn app limits props w k new calls
   polls_more now after n k work old new h more few next u =
       let v : replay.Machine (types C Q V H T E L) = record (resting u.left) { units = u.units } in
       let accepted : replay_within app limits (Some (resting (polling_rest h.left))) (u.entry ∷ u.more) ≡ Some v =
@@ -142,11 +144,11 @@ module _ {P C Q V H T E L : Type 0} (app : Application (types C Q V H T E L)) (l
       }
 
   -- nothing may be polled any more
-  pub polls_end : (n : ℕ) (old new : Machine P C Q V H T E L)
-      → (h : PollingOn app limits props w n old)
+  pub polls_end : {calls : ℕ} (n : ℕ) (old new : Machine P C Q V H T E L)
+      → (h : PollingOn app limits props w n old calls)
       → polling_next h.left ≡ None
-      → RestsAt (polling_rest h.left) new
-      → PolledOn app limits w props new
+      → RestsAt (polling_rest h.left) new calls
+      → PolledOn app limits w props new calls
   polls_end n old new h none rests =
       let passed = polling_leads app lawful limits props h.left h.led in
       record {
@@ -165,13 +167,13 @@ module _ {P C Q V H T E L : Type 0} (app : Application (types C Q V H T E L)) (l
       }
 
   -- units were spent
-  pub polls_spent : (n : ℕ) (work : Work) (fault : model.Fault) (old new : Machine P C Q V H T E L)
-      → (h : PollingOn app limits props w n old)
+  pub polls_spent : {calls : ℕ} (n : ℕ) (work : Work) (fault : model.Fault) (old new : Machine P C Q V H T E L)
+      → (h : PollingOn app limits props w n old calls)
       → nat_eq n limits.units ≡ true
       → fault ≡ model.OutOfTurns limits.units
       → polling_next h.left ≡ Some work
-      → RestsAt (polling_rest h.left) new
-      → PollCutOn app limits w props fault new
+      → RestsAt (polling_rest h.left) new calls
+      → PollCutOn app limits w props fault new calls
   polls_spent n work fault old new h all out next rests =
       record {
         log = h.log;
@@ -188,20 +190,20 @@ module _ {P C Q V H T E L : Type 0} (app : Application (types C Q V H T E L)) (l
       }
 
   -- a unit came to a fault
-  pub polls_cut : (now after : Option (List Edit)) (n : ℕ) (work : Work) (fault : model.Fault) (old new : Machine P C Q V H T E L)
-      → (h : PollingOn app limits props w n old)
+  pub polls_cut : {was : ℕ} (calls : ℕ) (now after : Option (List Edit)) (n : ℕ) (work : Work) (fault : model.Fault) (old new : Machine P C Q V H T E L)
+      → (h : PollingOn app limits props w n old was)
       → nat_eq n limits.units ≡ false
       → polling_next h.left ≡ Some work
       → UnitCutOn app limits (polling_rest h.left) now after fault
-      → PollCutOn app limits w props fault new
-  polls_cut now after n work fault old new h few next u = by u.log u.opened u.so
+      → PollCutOn app limits w props fault new calls
+  polls_cut calls now after n work fault old new h few next u = by u.log u.opened u.so
     where
       turns : {A : Type 0} → (units : ℕ) → fault ≡ model.OutOfTurns units → A
       turns units out = absurd (no_room n limits.units h.below few (u.never units out))
 
       by : (log : List replay.Entry) → OpensFirst log
           → ToldSo app limits (resting (polling_rest h.left)) log u.last
-          → PollCutOn app limits w props fault new
+          → PollCutOn app limits w props fault new calls
       by [] opened so =
           let m : replay.Machine (types C Q V H T E L) = resting (polling_rest h.left) in
           let all : nat_eq 0 limits.units ≡ true =

@@ -14,6 +14,7 @@ use Rattle.rt_model.specs.Causes as causes
 use Rattle.rt_model.specs.Asides.{Looked, resting}
 use Rattle.rt_model.proofs.ToldReplayed.{within-replays}
 use Rattle.rt_reports.specs.Seen.{entry_of}
+use Rattle.rt_scopes.specs.Counts.{Counts}
 use Rattle.rt_state.specs.Mirror.{Unkept, state_of}
 use Rattle.rt_fresh.specs.Underway.{Rests}
 use Rattle.rt_work.specs.Items.{work_of}
@@ -29,12 +30,12 @@ use Rattle.rt_rounds.proofs.Going.{quiet_at}
 
 module _ {C Q V H T E L : Type 0} where
   -- a report that no entry opens, from a state on at which nothing is at work
-  abbrev pub going_at : (props : Q) (x : model.State (types C Q V H T E L)) → Going (types C Q V H T E L)
-  going_at props x = record { props = props; inputs = []; from = resting x; opened = []; left = []; taken = 0 }
+  abbrev pub going_at : (props : Q) (x : model.State (types C Q V H T E L)) → Option ℕ → Going (types C Q V H T E L)
+  going_at props x along = record { props = props; inputs = []; from = resting x; opened = []; left = []; taken = 0; count = along }
 
   -- the report of a call, from the look on
-  abbrev pub going_from : (props : Q) (w : model.State (types C Q V H T E L)) → Going (types C Q V H T E L)
-  going_from props w = going_at props (look w)
+  abbrev pub going_from : (props : Q) (w : model.State (types C Q V H T E L)) → Option ℕ → Going (types C Q V H T E L)
+  going_from props w along = going_at props (look w) along
 
 module _ {P C Q V H T E L : Type 0} where
   -- a machine at rest stands for the definitions' one
@@ -62,13 +63,14 @@ module _ {P C Q V H T E L : Type 0} where
 module _ {P C Q V H T E L : Type 0} (app : Application (types C Q V H T E L)) (lawful : IsLawful (types C Q V H T E L) app)
     (limits : causes.Limits) (props : Q) (whole : Bool) (w : model.State (types C Q V H T E L)) where
   -- a report begins where a program's calls have led
-  pub stands_led : (x : model.State (types C Q V H T E L)) (d : Machine P C Q V H T E L)
+  pub stands_led : (calls : ℕ) (x : model.State (types C Q V H T E L)) (d : Machine P C Q V H T E L)
       → d.work ≡ [] → d.hearing ≡ None → d.first ≡ None → (d.course).entries ≡ []
       → d.units ≡ 0 → d.default_enabled ≡ true
       → (g : Unkept (types C Q V H T E L)) → state_of g (d.scopes).state ≡ x
+      → Counts calls g.calls
       → LedTo app limits props whole x
-      → StandsAt app limits (going_at props x) [] d
-  stands_led x d work hearing first course units enabled g is led =
+      → StandsAt app limits (going_at props x (Some calls)) [] d
+  stands_led calls x d work hearing first course units enabled g is counted led =
       let m : replay.Machine (types C Q V H T E L) = resting x in
       let rests : Rests app limits props [] m [] [] m =
       record {
@@ -84,69 +86,77 @@ module _ {P C Q V H T E L : Type 0} (app : Application (types C Q V H T E L)) (l
       (sym (ap (λ es. map entry_of es) course))
       (subst (λ (y : replay.Machine (types C Q V H T E L)). Rests app limits props [] m [] [] y)
       (sym (machine_rest g d x work hearing first units enabled is)) rests) in
-      subst (λ (o : Option replay.Entry). StandsFor app limits (going_at props x) o [] d) (sym (ap (λ o. option_map entry_of o) first)) (g, here)
+      subst (λ (o : Option replay.Entry). StandsFor app limits (going_at props x (Some calls)) o [] d) (sym (ap (λ o. option_map entry_of o) first))
+      (g, here, counted)
 
   -- a call begins
-  pub begins : (d : Machine P C Q V H T E L) → d.work ≡ [] → d.hearing ≡ None → d.first ≡ None → (d.course).entries ≡ []
+  pub begins : (calls : ℕ) (d : Machine P C Q V H T E L) → d.work ≡ [] → d.hearing ≡ None → d.first ≡ None → (d.course).entries ≡ []
       → d.units ≡ 0 → d.default_enabled ≡ true
       → (g : Unkept (types C Q V H T E L)) → state_of g (d.scopes).state ≡ look w
+      → Counts calls g.calls
       → LedTo app limits props whole w
-      → StandsAt app limits (going_from props w) [] d
-  begins d work hearing first course units enabled g is led =
-      stands_led (look w) d work hearing first course units enabled g is
+      → StandsAt app limits (going_from props w (Some calls)) [] d
+  begins calls d work hearing first course units enabled g is counted led =
+      stands_led calls (look w) d work hearing first course units enabled g is counted
       (asides_lead app limits props whole lawful w Looked led tt (inl tt))
 
   -- where a machine stands at which nothing is at work
-  standing : (edits : List doc.Edit) (d : Machine P C Q V H T E L) → StandsAt app limits (going_from props w) edits d → d.first ≡ None
-      → StandsFor app limits (going_from props w) None edits d
-  standing edits d s over = subst (λ (o : Option replay.Entry). StandsFor app limits (going_from props w) o edits d) (ap (λ o. option_map entry_of o) over) s
+  pub standing : (along : Option ℕ) (edits : List doc.Edit) (d : Machine P C Q V H T E L) → StandsAt app limits (going_from props w along) edits d
+      → d.first ≡ None
+      → StandsFor app limits (going_from props w along) None edits d
+  standing along edits d s over =
+      subst (λ (o : Option replay.Entry). StandsFor app limits (going_from props w along) o edits d) (ap (λ o. option_map entry_of o) over) s
 
   -- what a machine wrote down since a call began
   all_noted : (d0 d : Machine P C Q V H T E L) (more : List replay.Entry) → noted d0 ≡ [] → noted d ≡ noted d0 ++ more → more ≡ noted d
   all_noted d0 d more none logged = sym (logged ∙ ap (λ (l : List replay.Entry). l ++ more) none)
 
   -- no unit of it began where the test holds
-  unended_all : (until : Until) (d0 d : Machine P C Q V H T E L) → noted d0 ≡ [] → (h : Grown app limits (going_from props w) until d0 d)
+  pub unended_all : (along : Option ℕ) (until : Until) (d0 d : Machine P C Q V H T E L) → noted d0 ≡ []
+      → (h : Grown app limits (going_from props w along) until d0 d)
       → Unended app (λ (x : model.State (types C Q V H T E L)). ends_by until x) (resting (look w)) (noted d)
-  unended_all until d0 d none h =
+  unended_all along until d0 d none h =
       subst (λ (l : List replay.Entry). Unended app (λ (x : model.State (types C Q V H T E L)). ends_by until x) (resting (look w)) l)
       (all_noted d0 d h.more none h.logged)
       (h.unended (resting (look w)) (ap (λ (l : List replay.Entry). replay.replay_on app (Some (resting (look w))) l) none))
 
   -- a call that processes events, or settles, ended
-  pub call_ran : (until : Until) (before after : Option (List Edit)) (count : ℕ) (d0 d : Machine P C Q V H T E L)
+  pub call_ran : (calls : ℕ) (until : Until) (before after : Option (List Edit)) (count : ℕ) (d0 d : Machine P C Q V H T E L)
       → noted d0 ≡ [] → d0.hearing ≡ None
-      → (h : GoneTo app limits (going_from props w) until [] before after count d0 d)
+      → (h : GoneTo app limits (going_from props w (Some calls)) until [] before after count d0 d)
       → (g : Unkept (types C Q V H T E L))
       × CallRan app limits until w (noted d) (map edit_of (((h.gone).on).wrote)) (machine_of g [] 0 d)
-  call_ran until before after count d0 d none silent h =
+      × Counts calls g.calls
+  call_ran calls until before after count d0 d none silent h =
       let on = (h.gone).on in
-      let t = standing (map edit_of on.wrote) d on.stands h.over in (
+      let t = standing (Some calls) (map edit_of on.wrote) d on.stands h.over in (
         t.0,
         record {
           last = record { machine = machine_of t.0 [] 0 d; before = t.1.before; first = t.1.first; edits = map edit_of on.wrote };
           so = t.1.so;
           edits_are = refl;
           machine = refl;
-          unended = unended_all until d0 d none (h.gone).grown;
-          quiet = quiet_at app lawful limits (going_from props w) until t.0 d h.idle (((h.gone).silent silent).0);
+          unended = unended_all (Some calls) until d0 d none (h.gone).grown;
+          quiet = quiet_at app lawful limits (going_from props w (Some calls)) until t.0 d h.idle (((h.gone).silent silent).0);
           ended = h.ended t.0;
         },
+        t.2,
       )
 
   -- a whole render ended
-  pub render_ran : (before after : Option (List Edit)) (count : ℕ) (d0 d : Machine P C Q V H T E L)
+  pub render_ran : (calls : ℕ) (before after : Option (List Edit)) (count : ℕ) (d0 d : Machine P C Q V H T E L)
       → noted d0 ≡ [] → d0.hearing ≡ None
-      → (h : RenderedTo app limits (going_from props w) before after count d0 d)
+      → (h : RenderedTo app limits (going_from props w (Some calls)) before after count d0 d)
       → (g : Unkept (types C Q V H T E L))
       × RenderRan app limits w (noted d) (map edit_of (((h.first.gone).on).wrote) ++ map edit_of (((h.second.gone).on).wrote))
       (machine_of g [] 0 d)
-  render_ran before after count d0 d none silent h =
+      × Counts calls g.calls
+  render_ran calls before after count d0 d none silent h =
       let first = (h.first).gone in
       let second = (h.second).gone in
       let b : Machine P C Q V H T E L = h.between in
-      let s = standing (map edit_of (first.on).wrote) b (first.on).stands (h.first).over in
-      let t = standing (map edit_of (first.on).wrote ++ map edit_of (second.on).wrote) d (second.on).stands (h.second).over in
+      let s = standing h.counted (map edit_of (first.on).wrote) b (first.on).stands (h.first).over in
+      let t = standing (Some calls) (map edit_of (first.on).wrote ++ map edit_of (second.on).wrote) d (second.on).stands (h.second).over in
       let between : replay.Machine (types C Q V H T E L) = machine_of s.0 [] 0 b in
       let goes : replay.replay_on app (Some (resting (look w))) (noted b) ≡ Some between =
       within-replays app limits (noted b) (resting (look w)) between s.1.so.accepted in
@@ -163,43 +173,44 @@ module _ {P C Q V H T E L : Type 0} (app : Application (types C Q V H T E L)) (l
           so = t.1.so;
           edits_are = refl;
           machine = refl;
-          quiet = quiet_at app lawful limits (going_from props w) Renders t.0 d (h.second).idle (second.silent still.0).0;
+          quiet = quiet_at app lawful limits (going_from props w (Some calls)) Renders t.0 d (h.second).idle (second.silent still.0).0;
           first = noted b;
           more = (second.grown).more;
           whole = sym (second.grown).logged;
           between = between;
           goes = goes;
-          events = unended_all Events d0 b none first.grown;
-          calm = quiet_at app lawful limits (going_from props w) Events s.0 b (h.first).idle still.0;
+          events = unended_all h.counted Events d0 b none first.grown;
+          calm = quiet_at app lawful limits (going_from props w h.counted) Events s.0 b (h.first).idle still.0;
           processed = (h.first).ended s.0;
           renders = (second.grown).unended between goes;
           ended = (h.second).ended t.0;
         },
+        t.2,
       )
 
   -- a call came to a fault
-  pub call_stopped : (until : Until) (before after : Option (List Edit)) (fault : model.Fault) (d0 d : Machine P C Q V H T E L)
+  pub call_stopped : (along : Option ℕ) (until : Until) (before after : Option (List Edit)) (fault : model.Fault) (d0 d : Machine P C Q V H T E L)
       → noted d0 ≡ []
-      → (h : GoneUpTo app limits (going_from props w) until [] before after fault d0 d)
+      → (h : GoneUpTo app limits (going_from props w along) until [] before after fault d0 d)
       → CallStopped app limits until w (noted d) (map edit_of (h.came).wrote) fault
-  call_stopped until before after fault d0 d none h =
+  call_stopped along until before after fault d0 d none h =
       record {
         last = ((h.came).refused).last;
         so = ((h.came).refused).so;
-        unended = unended_all until d0 d none h.grown;
+        unended = unended_all along until d0 d none h.grown;
         cause = h.cause;
         edits_are = ((h.came).refused).edits_are;
       }
 
   -- a whole render came to a fault after events were processed
-  pub render_stopped : (before after : Option (List Edit)) (fault : model.Fault) (d0 d : Machine P C Q V H T E L)
+  pub render_stopped : (along : Option ℕ) (before after : Option (List Edit)) (fault : model.Fault) (d0 d : Machine P C Q V H T E L)
       → noted d0 ≡ [] → d0.hearing ≡ None
-      → (h : RenderedUpTo app limits (going_from props w) before after fault d0 d)
+      → (h : RenderedUpTo app limits (going_from props w along) before after fault d0 d)
       → RenderStopped app limits w (noted d) (map edit_of (((h.first.gone).on).wrote) ++ map edit_of ((h.second).came).wrote) fault
-  render_stopped before after fault d0 d none silent h =
+  render_stopped along before after fault d0 d none silent h =
       let first = (h.first).gone in
       let b : Machine P C Q V H T E L = h.between in
-      let s = standing (map edit_of (first.on).wrote) b (first.on).stands (h.first).over in
+      let s = standing h.counted (map edit_of (first.on).wrote) b (first.on).stands (h.first).over in
       let between : replay.Machine (types C Q V H T E L) = machine_of s.0 [] 0 b in
       let goes : replay.replay_on app (Some (resting (look w))) (noted b) ≡ Some between =
       within-replays app limits (noted b) (resting (look w)) between s.1.so.accepted in
@@ -213,18 +224,18 @@ module _ {P C Q V H T E L : Type 0} (app : Application (types C Q V H T E L)) (l
         whole = sym ((h.second).grown).logged;
         between = between;
         goes = goes;
-        events = unended_all Events d0 b none first.grown;
-        calm = quiet_at app lawful limits (going_from props w) Events s.0 b (h.first).idle (first.silent silent).0;
+        events = unended_all h.counted Events d0 b none first.grown;
+        calm = quiet_at app lawful limits (going_from props w h.counted) Events s.0 b (h.first).idle (first.silent silent).0;
         processed = (h.first).ended s.0;
         renders = ((h.second).grown).unended between goes;
         cause = (h.second).cause;
       }
 
   -- units were spent
-  pub call_spent : (edits : List doc.Edit) (d0 d : Machine P C Q V H T E L) (until : Until) → d0.hearing ≡ None → d.hearing ≡ None
-      → (h : SpentThere app limits (going_from props w) until edits d0 d)
-      → SpentTo app limits w (noted d) edits d
-  call_spent edits d0 d until silent still h =
+  pub call_spent : (calls : ℕ) (edits : List doc.Edit) (d0 d : Machine P C Q V H T E L) (until : Until) → d0.hearing ≡ None → d.hearing ≡ None
+      → (h : SpentThere app limits (going_from props w (Some calls)) until edits d0 d)
+      → SpentTo app limits w (noted d) edits d calls
+  call_spent calls edits d0 d until silent still h =
       record {
         last = h.last;
         spent =
@@ -235,5 +246,5 @@ module _ {P C Q V H T E L : Type 0} (app : Application (types C Q V H T E L)) (l
               machine = refl;
               quiet = h.quiet silent;
             };
-        rests = record { work = h.idle; hearing = still; first = h.over; kept = h.kept; is = h.state };
+        rests = record { work = h.idle; hearing = still; first = h.over; kept = h.kept; is = h.state; counted = h.along };
       }

@@ -25,15 +25,16 @@ use Rattle.rt_state.specs.declared.names.Stop.{Stop}
 use Rattle.rt_state.specs.declared.names.Stop.TheVariants as stops
 use Rattle.rt_doms.specs.Doms.{NoneOpens}
 use Rattle.rt_machine.specs.Machines.{noted, fault_in, IsFresh, Builds}
-use Rattle.rt_machine.specs.Stands.{Broke}
+use Rattle.rt_machine.specs.Stands.{BrokeAt}
 use Rattle.rt_machine.specs.declared.ended.Ended.{Ended}
 use Rattle.rt_machine.specs.declared.ended.Ended.TheVariants as ends
 use Rattle.rt_machine.specs.declared.machine.Machine.{Machine}
-use Rattle.rt_machine.proofs.Breaking.{broke_begun}
+use Rattle.rt_machine.proofs.Breaking.{in_begun}
 use Rattle.rt_machine.proofs.Turning.{grown_none}
-use Rattle.rt_rounds.specs.Going.{FinishCut}
+use Rattle.rt_rounds.specs.Going.{Inside, FinishCut}
 use Rattle.rt_rounds.specs.Rounds.{CutFrom, BuildCut}
-use Rattle.rt_rounds.proofs.Breaks.{broke_from, wanting}
+use Rattle.rt_rounds.proofs.Alone.{alone_of}
+use Rattle.rt_rounds.proofs.Breaks.{wanting}
 use Rattle.rt_rounds.proofs.Given.{given, given_machine, given_rests}
 
 some_fault : (a b : model.Fault) → Some a ≡ Some b → a ≡ b
@@ -82,11 +83,11 @@ module _ {P C Q V H T E L : Type 0} (app : Application (types C Q V H T E L)) (l
       → Builds app old new (Err stop)
       → BuildCut app limits props firsts provided now now (ends.Run stop)
   given_stop old new now stops.OutOfMemory fresh is builds =
-      let r = given app limits props firsts provided in (
+      let r = given app limits props firsts provided None in (
         λ fault why. none_fault why,
         λ none.
-            broke_from app limits r now now (ends.Run stops.OutOfMemory)
-            (broke_begun app limits r now (ends.Run stops.OutOfMemory) (given_rests app limits props firsts provided) ([], refl)),
+            alone_of app limits r [] now now (ends.Run stops.OutOfMemory)
+            (in_begun app limits r now (ends.Run stops.OutOfMemory) (given_rests app limits props firsts provided) ([], refl)) tt,
       )
   given_stop old new now (stops.Fault what) fresh is builds =
       let cut = builds at_first in
@@ -100,11 +101,11 @@ module _ {P C Q V H T E L : Type 0} (app : Application (types C Q V H T E L)) (l
       )
 
   -- or later
-  pub given_later : (before after : Option (List Edit)) (ended : Ended) (old new : Machine P C Q V H T E L) → noted old ≡ []
-      → ((fault : model.Fault) → fault_in ended ≡ Some fault → FinishCut app limits (given app limits props firsts provided) [] before after fault old new)
-      → (fault_in ended ≡ None → Broke app limits (given app limits props firsts provided) [] before after ended)
+  pub given_later : (along : Option ℕ) (before after : Option (List Edit)) (ended : Ended) (old new : Machine P C Q V H T E L) → noted old ≡ []
+      → ((fault : model.Fault) → fault_in ended ≡ Some fault → FinishCut app limits (given app limits props firsts provided along) [] before after fault old new)
+      → (fault_in ended ≡ None → BrokeAt app limits (given app limits props firsts provided along) [] before after ended old)
       → BuildCut app limits props firsts provided before after ended
-  given_later before after ended old new begun cut broke = (
+  given_later along before after ended old new begun cut broke = (
     λ fault why.
         let far = cut fault why in
         let came = far.came in
@@ -120,14 +121,19 @@ module _ {P C Q V H T E L : Type 0} (app : Application (types C Q V H T E L)) (l
           cause = (came.refused).cause;
           edits_are = (came.refused).edits_are;
         },
-    λ none. broke_from app limits (given app limits props firsts provided) before after ended (broke none),
+    λ none.
+        alone_of app limits (given app limits props firsts provided along) (replay.Build ∷ noted old) before after ended (broke none)
+        (subst (λ (l : List replay.Entry). NoneOpens l) (sym begun) tt),
   )
 
-module _ {K : Types} (app : Application K) (limits : causes.Limits) (props : K.Props) (firsts : Firsts) (provided : List (ℕ × K.Value)) where
   -- or for want of memory when all was done
-  pub wanting_later : (before after : Option (List Edit)) → Broke app limits (given app limits props firsts provided) [] before after wanting
+  pub wanting_later : (along : Option ℕ) (before after : Option (List Edit)) (old new : Machine P C Q V H T E L) → noted old ≡ []
+      → Inside old new
+      → BrokeAt app limits (given app limits props firsts provided along) [] before after wanting new
       → BuildCut app limits props firsts provided before after wanting
-  wanting_later before after broke = (
+  wanting_later along before after old new begun inside broke = (
     λ fault why. none_fault why,
-    λ none. broke_from app limits (given app limits props firsts provided) before after wanting broke,
+    λ none.
+        alone_of app limits (given app limits props firsts provided along) (replay.Build ∷ noted new) before after wanting broke
+        (subst (λ (l : List replay.Entry). NoneOpens l) (sym (inside.logged ∙ ap (λ (l : List replay.Entry). l ++ inside.more) begun)) inside.shut),
   )

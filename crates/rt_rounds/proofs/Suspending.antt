@@ -19,7 +19,7 @@ use Rattle.rt_model.specs.Causes as causes
 use Rattle.rt_model.specs.Causes.{refusal, depth_refused, next_height, replay_within}
 use Rattle.rt_model.specs.Told.{telling}
 use Rattle.rt_model.specs.Asides.{Answered, resting}
-use Rattle.rt_model.specs.Rendering.{rendering_rest, rendering_next, resolved_by_height, nothing_resolved, spent_where}
+use Rattle.rt_model.specs.Rendering.{rendering_rest, rendering_next, renders_within, resolved_by_height, nothing_resolved, spent_where}
 use Rattle.rt_model.specs.Rendering as rendering
 use Rattle.rt_values.specs.declared.names.ScopeId.{ScopeId}
 use Rattle.rt_model.proofs.Maps.{eq_same}
@@ -28,11 +28,14 @@ use Rattle.rt_doms.specs.Doms.{LedTo, UnitRan}
 use Rattle.rt_doms.proofs.Leading.{asides_lead}
 use Rattle.rt_doms.proofs.Doms.{passed_leads, units_lead}
 use Rattle.rt_doms.proofs.Counting.{units_follow}
+use Rattle.rt_machine.specs.Short.{PartBy}
+use Rattle.rt_machine.specs.declared.ended.Ended.{Ended}
 use Rattle.rt_machine.specs.declared.machine.Machine.{Machine}
 use Rattle.rt_machine.proofs.Running.{told_more}
+use Rattle.rt_machine.proofs.Short.{in_none}
 use Rattle.rt_machine.proofs.Turning.{grown_none}
-use Rattle.rt_rounds.specs.Rounds.{OpensFirst, RestsAt}
-use Rattle.rt_rounds.specs.Suspended.{UnitOn, UnitCutOn, RenderingOn, RenderedOn, RenderCutOn}
+use Rattle.rt_rounds.specs.Rounds.{BrokeAlone, OpensFirst, RestsAt}
+use Rattle.rt_rounds.specs.Suspended.{UnitOn, UnitCutOn, RenderingOn, RenderedOn, RenderBroke, RenderCutOn}
 use Rattle.rt_rounds.specs.Steps.{Stepped}
 use Rattle.rt_rounds.proofs.Steps.{steps_more}
 use Rattle.rt_rounds.proofs.Units.{picked}
@@ -90,8 +93,8 @@ module _ {C Q V H T E L : Type 0} (app : Application (types C Q V H T E L)) (law
 module _ {P C Q V H T E L : Type 0} (app : Application (types C Q V H T E L)) (lawful : IsLawful (types C Q V H T E L) app)
     (limits : causes.Limits) (props : Q) (w : model.State (types C Q V H T E L)) where
   -- no unit yet
-  pub render_none : (now : Option (List Edit)) (m : Machine P C Q V H T E L) → RestsAt w m → LedTo app limits props false w
-      → RenderingOn app limits props w now now 0 m
+  pub render_none : {calls : ℕ} (now : Option (List Edit)) (m : Machine P C Q V H T E L) → RestsAt w m calls → LedTo app limits props false w
+      → RenderingOn app limits props w now now 0 m calls
   render_none now m rests led =
       record {
         wrote = [];
@@ -107,12 +110,12 @@ module _ {P C Q V H T E L : Type 0} (app : Application (types C Q V H T E L)) (l
       }
 
   -- one more unit
-  pub render_more : (before now after : Option (List Edit)) (n k : ℕ) (work : Work) (old new : Machine P C Q V H T E L)
-      → (h : RenderingOn app limits props w before now n old)
+  pub render_more : {was calls : ℕ} (before now after : Option (List Edit)) (n k : ℕ) (work : Work) (old new : Machine P C Q V H T E L)
+      → (h : RenderingOn app limits props w before now n old was)
       → k ≡ n + 1 → nat_eq n limits.units ≡ false
       → rendering_next h.left ≡ Some work
-      → UnitOn app limits (rendering_rest h.left) now after new
-      → RenderingOn app limits props w before after k new
+      → UnitOn app limits (rendering_rest h.left) now after new calls
+      → RenderingOn app limits props w before after k new calls
   render_more before now after n k work old new h more few next u =
       let v : replay.Machine (types C Q V H T E L) = record (resting u.left) { units = u.units } in
       let ran : UnitRan app limits h.left (u.entry ∷ u.more) (map edit_of u.wrote) v =
@@ -140,12 +143,12 @@ module _ {P C Q V H T E L : Type 0} (app : Application (types C Q V H T E L)) (l
       }
 
   -- nothing may be taken any more
-  pub render_ends : (before after : Option (List Edit)) (n : ℕ) (answer : List ScopeId) (old new : Machine P C Q V H T E L)
-      → (h : RenderingOn app limits props w before after n old)
+  pub render_ends : {calls : ℕ} (before after : Option (List Edit)) (n : ℕ) (answer : List ScopeId) (old new : Machine P C Q V H T E L)
+      → (h : RenderingOn app limits props w before after n old calls)
       → rendering_next h.left ≡ None
       → map (λ (scope : ScopeId). scope.0) answer ≡ resolved_by_height (rendering_rest h.left)
-      → RestsAt (nothing_resolved (rendering_rest h.left)) new
-      → RenderedOn app limits w props before after answer new
+      → RestsAt (nothing_resolved (rendering_rest h.left)) new calls
+      → RenderedOn app limits w props before after answer new calls
   render_ends before after n answer old new h none answers rests =
       record {
         wrote = h.wrote;
@@ -168,13 +171,13 @@ module _ {P C Q V H T E L : Type 0} (app : Application (types C Q V H T E L)) (l
       }
 
   -- units were spent
-  pub render_spent : (before after : Option (List Edit)) (n : ℕ) (work : Work) (fault : model.Fault) (old new : Machine P C Q V H T E L)
-      → (h : RenderingOn app limits props w before after n old)
+  pub render_spent : {calls : ℕ} (before after : Option (List Edit)) (n : ℕ) (work : Work) (fault : model.Fault) (old new : Machine P C Q V H T E L)
+      → (h : RenderingOn app limits props w before after n old calls)
       → nat_eq n limits.units ≡ true
       → fault ≡ model.OutOfTurns limits.units
       → rendering_next h.left ≡ Some work
-      → RestsAt (rendering_rest h.left) new
-      → RenderCutOn app limits w props before after fault new
+      → RestsAt (rendering_rest h.left) new calls
+      → RenderCutOn app limits w props before after fault new calls
   render_spent before after n work fault old new h all out next rests =
       record {
         wrote = h.wrote;
@@ -212,20 +215,20 @@ module _ {P C Q V H T E L : Type 0} (app : Application (types C Q V H T E L)) (l
       }
 
   -- a unit came to a fault
-  pub render_cut : (before now after : Option (List Edit)) (n : ℕ) (work : Work) (fault : model.Fault) (old new : Machine P C Q V H T E L)
-      → (h : RenderingOn app limits props w before now n old)
+  pub render_cut : {was : ℕ} (calls : ℕ) (before now after : Option (List Edit)) (n : ℕ) (work : Work) (fault : model.Fault) (old new : Machine P C Q V H T E L)
+      → (h : RenderingOn app limits props w before now n old was)
       → nat_eq n limits.units ≡ false
       → rendering_next h.left ≡ Some work
       → UnitCutOn app limits (rendering_rest h.left) now after fault
-      → RenderCutOn app limits w props before after fault new
-  render_cut before now after n work fault old new h few next u = by u.log u.opened u.so
+      → RenderCutOn app limits w props before after fault new calls
+  render_cut calls before now after n work fault old new h few next u = by u.log u.opened u.so
     where
       turns : {A : Type 0} → (units : ℕ) → fault ≡ model.OutOfTurns units → A
       turns units out = absurd (no_room n limits.units h.below few (u.never units out))
 
       by : (log : List replay.Entry) → OpensFirst log
           → ToldSo app limits (resting (rendering_rest h.left)) log u.last
-          → RenderCutOn app limits w props before after fault new
+          → RenderCutOn app limits w props before after fault new calls
       by [] opened so =
           let m : replay.Machine (types C Q V H T E L) = resting (rendering_rest h.left) in
           let all : nat_eq 0 limits.units ≡ true =
@@ -266,3 +269,70 @@ module _ {P C Q V H T E L : Type 0} (app : Application (types C Q V H T E L)) (l
                 };
             spent = λ units out. turns units out;
           }
+
+  -- it broke off before another unit
+  pub render_halts : {calls : ℕ} (before now : Option (List Edit)) (n : ℕ) (m : Machine P C Q V H T E L) (ended : Ended)
+      → (h : RenderingOn app limits props w before now n m calls)
+      → PartBy ended [] []
+      → RenderBroke app limits w before now (PartBy ended)
+  render_halts before now n m ended h none =
+      record {
+        log = h.log;
+        left = h.left;
+        units = n;
+        goes = h.goes;
+        done = h.wrote;
+        stepped = h.stepped;
+        shows = h.shows;
+        part = [];
+        told = told_more before now now h.wrote [] h.told (grown_none now);
+        short =
+            (in_none app limits (PartBy ended) (resting (rendering_rest h.left)) (record { alive = refl; idle = refl; unit = refl }) none).short;
+        alone = tt;
+        last = record (resting h.left) { units = n };
+        within = ap (λ (l : List replay.Entry). renders_within app limits (Some (resting w)) l) (append-nil h.log) ∙ h.goes;
+      }
+
+  -- the entries of one more unit, or none, are ones that it may take
+  takes_one : {calls : ℕ} (before now : Option (List Edit)) (n : ℕ) (work : Work) (m : Machine P C Q V H T E L)
+      → (h : RenderingOn app limits props w before now n m calls)
+      → nat_eq n limits.units ≡ false
+      → rendering_next h.left ≡ Some work
+      → (l : List replay.Entry) (v : replay.Machine (types C Q V H T E L)) → OpensFirst l
+      → replay_within app limits (Some (resting (rendering_rest h.left))) l ≡ Some v
+      → (last : replay.Machine (types C Q V H T E L)) × (renders_within app limits (Some (resting w)) (h.log ++ l) ≡ Some last)
+  takes_one before now n work m h few next [] v opened accepted = (
+    record (resting h.left) { units = n },
+    ap (λ (l : List replay.Entry). renders_within app limits (Some (resting w)) l) (append-nil h.log) ∙ h.goes,
+  )
+  takes_one before now n work m h few next (e ∷ more) v opened accepted = (
+    record v { units = n + 1 },
+    units_follow app limits w h.left n h.log more e work v h.goes few next opened accepted,
+  )
+
+  -- it broke off in one more unit
+  pub render_broke : {calls : ℕ} (before now after : Option (List Edit)) (n : ℕ) (work : Work) (m : Machine P C Q V H T E L) (ended : Ended)
+      → (h : RenderingOn app limits props w before now n m calls)
+      → nat_eq n limits.units ≡ false
+      → rendering_next h.left ≡ Some work
+      → BrokeAlone app limits (resting (rendering_rest h.left)) now after ended
+      → RenderBroke app limits w before after (PartBy ended)
+  render_broke before now after n work m ended h few next alone =
+      let broke = alone.broke in
+      let short = broke.short in
+      let far = takes_one before now n work m h few next (short.log ++ short.unit) (short.last).machine alone.alone (short.cut).accepted in
+      record {
+        log = h.log;
+        left = h.left;
+        units = n;
+        goes = h.goes;
+        done = h.wrote;
+        stepped = h.stepped;
+        shows = h.shows;
+        part = broke.wrote;
+        told = told_more before now after h.wrote broke.wrote h.told broke.told;
+        short = short;
+        alone = alone.alone;
+        last = far.0;
+        within = far.1;
+      }

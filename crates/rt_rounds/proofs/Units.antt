@@ -53,9 +53,9 @@ none_mapped f (x ∷ xs) h = cc
 
 module _ {P C Q V H T E L : Type 0} where
   -- another machine that rests as this one does, at the same state
-  pub unit_rests : (y : model.State (types C Q V H T E L)) (old new : Machine P C Q V H T E L) → RestsAt y old
+  pub unit_rests : {calls : ℕ} (y : model.State (types C Q V H T E L)) (old new : Machine P C Q V H T E L) → RestsAt y old calls
       → new.work ≡ old.work → new.hearing ≡ old.hearing → new.first ≡ old.first → new.course ≡ old.course → new.scopes ≡ old.scopes
-      → RestsAt y new
+      → RestsAt y new calls
   unit_rests y old new h work hearing first course scopes =
       record {
         idle =
@@ -67,13 +67,14 @@ module _ {P C Q V H T E L : Type 0} where
             };
         kept = h.kept;
         is = ap (λ k. state_of h.kept k.state) scopes ∙ h.is;
+        counted = h.counted;
       }
 
   -- the rest was passed over
-  pub passed_rests : (x : model.State (types C Q V H T E L)) (old new : Machine P C Q V H T E L) → (h : RestsAt x old)
+  pub passed_rests : {calls : ℕ} (x : model.State (types C Q V H T E L)) (old new : Machine P C Q V H T E L) → (h : RestsAt x old calls)
       → state_of h.kept (new.scopes).state ≡ rendering_rest (state_of h.kept (old.scopes).state)
       → new.work ≡ old.work → new.hearing ≡ old.hearing → new.first ≡ old.first → new.course ≡ old.course
-      → RestsAt (rendering_rest x) new
+      → RestsAt (rendering_rest x) new calls
   passed_rests x old new h is work hearing first course =
       record {
         idle =
@@ -85,13 +86,15 @@ module _ {P C Q V H T E L : Type 0} where
             };
         kept = h.kept;
         is = is ∙ ap (λ (y : model.State (types C Q V H T E L)). rendering_rest y) h.is;
+        counted = h.counted;
       }
 
   -- the answer was taken
-  pub answered_rests : (x : model.State (types C Q V H T E L)) (old new : Machine P C Q V H T E L) → (h : RestsAt (rendering_rest x) old)
+  pub answered_rests : {calls : ℕ} (x : model.State (types C Q V H T E L)) (old new : Machine P C Q V H T E L)
+      → (h : RestsAt (rendering_rest x) old calls)
       → state_of h.kept (new.scopes).state ≡ nothing_resolved (state_of h.kept (old.scopes).state)
       → new.work ≡ old.work → new.hearing ≡ old.hearing → new.first ≡ old.first → new.course ≡ old.course
-      → RestsAt (nothing_resolved (rendering_rest x)) new
+      → RestsAt (nothing_resolved (rendering_rest x)) new calls
   answered_rests x old new h is work hearing first course =
       record {
         idle =
@@ -103,6 +106,7 @@ module _ {P C Q V H T E L : Type 0} where
             };
         kept = h.kept;
         is = is ∙ ap (λ (y : model.State (types C Q V H T E L)). nothing_resolved y) h.is;
+        counted = h.counted;
       }
 
   -- what code finds is what comes next
@@ -145,7 +149,7 @@ module _ {P C Q V H T E L : Type 0} where
       }
 
   -- but for the first one, none of a unit's entries begins one
-  opens_first : (begun mid new : Machine P C Q V H T E L) → noted begun ≡ [] → Logs begun mid → Inside mid new → OpensFirst (noted new)
+  pub opens_first : (begun mid new : Machine P C Q V H T E L) → noted begun ≡ [] → Logs begun mid → Inside mid new → OpensFirst (noted new)
   opens_first begun mid new none (inl same) h =
       subst (λ (l : List replay.Entry). OpensFirst l)
       (sym (h.logged ∙ ap (λ (l : List replay.Entry). l ++ h.more) (same ∙ none)))
@@ -157,7 +161,7 @@ module _ {P C Q V H T E L : Type 0} where
       ∙ ap (λ (l : List replay.Entry). l ++ h.more) (one.logged ∙ ap (λ (l : List replay.Entry). l ++ one.entry ∷ []) none)))
       h.shut
 
-  opens_one : (begun mid : Machine P C Q V H T E L) → noted begun ≡ [] → Logs begun mid → OpensFirst (noted mid)
+  pub opens_one : (begun mid : Machine P C Q V H T E L) → noted begun ≡ [] → Logs begun mid → OpensFirst (noted mid)
   opens_one begun mid none (inl same) = subst (λ (l : List replay.Entry). OpensFirst l) (sym (same ∙ none)) tt
   opens_one begun mid none (inr one) =
       subst (λ (l : List replay.Entry). OpensFirst l)
@@ -166,37 +170,39 @@ module _ {P C Q V H T E L : Type 0} where
 module _ {P C Q V H T E L : Type 0} (app : Application (types C Q V H T E L)) (lawful : IsLawful (types C Q V H T E L) app)
     (limits : causes.Limits) (props : Q) (y : model.State (types C Q V H T E L)) where
   -- a unit begins
-  pub unit_begins : (d : Machine P C Q V H T E L) → RestsAt y d → d.units ≡ 0 → d.default_enabled ≡ true
+  pub unit_begins : (calls : ℕ) (d : Machine P C Q V H T E L) → RestsAt y d calls → d.units ≡ 0 → d.default_enabled ≡ true
       → LedTo app limits props false y
-      → StandsAt app limits (going_at props y) [] d
-  unit_begins d rests units enabled led =
-      stands_led app lawful limits props false y y d (rests.idle).work (rests.idle).hearing (rests.idle).first (rests.idle).course
-      units enabled rests.kept rests.is led
+      → StandsAt app limits (going_at props y (Some calls)) [] d
+  unit_begins calls d rests units enabled led =
+      stands_led app lawful limits props false y calls y d (rests.idle).work (rests.idle).hearing (rests.idle).first (rests.idle).course
+      units enabled rests.kept rests.is rests.counted led
 
   -- it was done, and no report tells of it
-  pub unit_done : (before now after : Option (List Edit)) (count more : ℕ) (begun mid old new : Machine P C Q V H T E L)
+  pub unit_done : (was calls : ℕ) (before now after : Option (List Edit)) (count more : ℕ) (begun mid old new : Machine P C Q V H T E L)
       → noted begun ≡ [] → begun.hearing ≡ None → begun.default_enabled ≡ true
-      → TurnsAs app limits (going_at props y) [] before now mid (Ok (Some count))
+      → TurnsAs app limits (going_at props y (Some was)) [] before now begun mid (Ok (Some count))
       → TurnKeeps begun mid (Ok (Some count))
-      → ((edits : List doc.Edit) → StandsAt app limits (going_at props y) edits mid → FinishesAs app limits (going_at props y) edits now after mid old (Ok more))
+      → ((edits : List doc.Edit) → StandsAt app limits (going_at props y (Some was)) edits mid
+      → FinishesAs app limits (going_at props y (Some calls)) edits now after mid old (Ok more))
       → (noted old ≡ [] → ⊥)
       → new ≡ record old { course = new.course } → (new.course).entries ≡ []
-      → UnitOn app limits y before after new
-  unit_done before now after count more begun mid old new none silent enabled t keeps finishes some frame course =
+      → UnitOn app limits y before after new calls
+  unit_done was calls before now after count more begun mid old new none silent enabled t keeps finishes some frame course =
       let f = finishes (map edit_of t.wrote) t.stands in
       let quiet = keeps.silent silent in
       let still = f.silent quiet.0 in
       let all : map edit_of (t.wrote ++ (f.on).wrote) ≡ map edit_of t.wrote ++ map edit_of (f.on).wrote = map-append edit_of t.wrote (f.on).wrote in
       let edits : List doc.Edit = map edit_of t.wrote ++ map edit_of (f.on).wrote in
-      let s : StandsFor app limits (going_at props y) None edits old = resting_at app lawful limits (going_at props y) Events edits old (f.on).stands f.over in
+      let s : StandsFor app limits (going_at props y (Some calls)) None edits old =
+      resting_at app lawful limits (going_at props y (Some calls)) Events edits old (f.on).stands f.over in
       by (noted old) refl (opens_first begun mid old none keeps.logs f.inside) f still all s
     where
       by : (log : List replay.Entry) → noted old ≡ log → OpensFirst log
-          → (f : FinishesAs app limits (going_at props y) (map edit_of t.wrote) now after mid old (Ok more))
+          → (f : FinishesAs app limits (going_at props y (Some calls)) (map edit_of t.wrote) now after mid old (Ok more))
           → (old.hearing ≡ None) × (old.default_enabled ≡ mid.default_enabled)
           → map edit_of (t.wrote ++ (f.on).wrote) ≡ map edit_of t.wrote ++ map edit_of (f.on).wrote
-          → StandsFor app limits (going_at props y) None (map edit_of t.wrote ++ map edit_of (f.on).wrote) old
-          → UnitOn app limits y before after new
+          → StandsFor app limits (going_at props y (Some calls)) None (map edit_of t.wrote ++ map edit_of (f.on).wrote) old
+          → UnitOn app limits y before after new calls
       by [] is opened f still all s = absurd (some is)
       by (e ∷ rest) is opened f still all s =
           let z : model.State (types C Q V H T E L) = state_of s.0 (old.scopes).state in
@@ -227,16 +233,16 @@ module _ {P C Q V H T E L : Type 0} (app : Application (types C Q V H T E L)) (l
                   quiet = refl;
                 }));
             rests =
-                rested z old new (record { work = f.idle; hearing = still.0; first = f.over; kept = s.0; is = refl }) frame course;
+                rested z old new (record { work = f.idle; hearing = still.0; first = f.over; kept = s.0; is = refl; counted = s.2 }) frame course;
           }
 
   -- a fault came in its first turn
-  pub unit_cut_first : (before after : Option (List Edit)) (begun new : Machine P C Q V H T E L) (ended : Ended)
+  pub unit_cut_first : (along : Option ℕ) (before after : Option (List Edit)) (begun new : Machine P C Q V H T E L) (ended : Ended)
       → noted begun ≡ []
-      → TurnsAs app limits (going_at props y) [] before after new (Err ended)
+      → TurnsAs app limits (going_at props y along) [] before after begun new (Err ended)
       → TurnKeeps begun new (Err ended)
       → (fault : model.Fault) → fault_in ended ≡ Some fault → UnitCutOn app limits y before after fault
-  unit_cut_first before after begun new ended none t keeps fault why =
+  unit_cut_first along before after begun new ended none t keeps fault why =
       let came = t.0 fault why in
       let last : replay.Machine (types C Q V H T E L) = ((came.refused).last).machine in
       record {
@@ -262,14 +268,15 @@ module _ {P C Q V H T E L : Type 0} (app : Application (types C Q V H T E L)) (l
       one a b h = cc
 
   -- or later
-  pub unit_cut_later : (before now after : Option (List Edit)) (count : ℕ) (begun mid new : Machine P C Q V H T E L) (ended : Ended)
+  pub unit_cut_later : (was along : Option ℕ) (before now after : Option (List Edit)) (count : ℕ) (begun mid new : Machine P C Q V H T E L) (ended : Ended)
       → noted begun ≡ []
-      → TurnsAs app limits (going_at props y) [] before now mid (Ok (Some count))
+      → TurnsAs app limits (going_at props y was) [] before now begun mid (Ok (Some count))
       → TurnKeeps begun mid (Ok (Some count))
-      → ((edits : List doc.Edit) → StandsAt app limits (going_at props y) edits mid → FinishesAs app limits (going_at props y) edits now after mid new (Err ended))
+      → ((edits : List doc.Edit) → StandsAt app limits (going_at props y was) edits mid
+      → FinishesAs app limits (going_at props y along) edits now after mid new (Err ended))
       → (fault : model.Fault) → fault_in ended ≡ Some fault → UnitCutOn app limits y before after fault
-  unit_cut_later before now after count begun mid new ended none t keeps finishes fault why =
-      let f : FinishCut app limits (going_at props y) (map edit_of t.wrote) now after fault mid new = finishes (map edit_of t.wrote) t.stands fault why in
+  unit_cut_later was along before now after count begun mid new ended none t keeps finishes fault why =
+      let f : FinishCut app limits (going_at props y along) (map edit_of t.wrote) now after fault mid new = finishes (map edit_of t.wrote) t.stands fault why in
       let refused = (f.came).refused in
       record {
         wrote = t.wrote ++ (f.came).wrote;

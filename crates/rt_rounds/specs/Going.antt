@@ -13,8 +13,9 @@ use Rattle.rt_model.specs.Sentences.{call_refusal}
 use Rattle.rt_state.specs.Mirror.{Unkept, state_of}
 use Rattle.rt_fresh.specs.Underway.{Rests}
 use Rattle.rt_doms.specs.Doms.{Until, Events, Renders, Unended, NoneOpens, ends_by}
+use Rattle.rt_machine.specs.Counting.{CountsAlong}
 use Rattle.rt_machine.specs.Machines.{noted, fault_in}
-use Rattle.rt_machine.specs.Stands.{Going, GoesOn, CameTo}
+use Rattle.rt_machine.specs.Stands.{Going, GoesOn, CameTo, BrokeIn}
 use Rattle.rt_machine.specs.declared.ended.Ended.{Ended}
 use Rattle.rt_machine.specs.declared.machine.Machine.{Machine}
 
@@ -52,6 +53,7 @@ module _ {P C Q V H T E L : Type 0} (app : Application (types C Q V H T E L)) (l
     pub state : state_of kept (new.scopes).state ≡ at_rest last.state
     pub idle : new.work ≡ []
     pub over : new.first ≡ None
+    pub along : CountsAlong r.count kept.calls
 
   -- a fault of the definitions came
   pub record GoneUpTo (edits : List doc.Edit) (before after : Option (List Edit)) (fault : model.Fault)
@@ -62,6 +64,15 @@ module _ {P C Q V H T E L : Type 0} (app : Application (types C Q V H T E L)) (l
     pub cause :
         call_refusal limits (λ (x : model.State (types C Q V H T E L)). ends_by until x) (((came.refused).last).machine) ≡ Some fault
     pub spent : (units : ℕ) → fault ≡ model.OutOfTurns units → SpentThere (edits ++ map edit_of came.wrote) old new
+
+  -- it broke off: these entries were written down, no unit among them began where the test holds, and no other one was begun
+  pub record BrokeUntil (edits : List doc.Edit) (before after : Option (List Edit)) (ended : Ended) (old : Machine P C Q V H T E L) :
+      Type 0 where
+    pub more : List replay.Entry
+    pub unended :
+        (m : replay.Machine (types C Q V H T E L)) → replay.replay_on app (Some r.from) (r.opened ++ noted old) ≡ Some m
+        → Unended app (λ (x : model.State (types C Q V H T E L)). ends_by until x) m more
+    pub broke : BrokeIn app limits r ((r.opened ++ noted old) ++ more) edits before after ended
 
   -- by what is answered
   abbrev pub GoesUntil :
@@ -106,20 +117,37 @@ module _ {P C Q V H T E L : Type 0} (app : Application (types C Q V H T E L)) (l
     -- a whole render: events were processed up to a machine between, and it went on from there
     pub record RenderedTo (before after : Option (List Edit)) (count : ℕ) (old new : Machine P C Q V H T E L) : Type 0 where
       pub between : Machine P C Q V H T E L
+      pub counted : Option ℕ
       pub middle : Option (List Edit)
       pub events : ℕ
       pub more : ℕ
       pub all : count ≡ events + more
-      pub first : GoneTo app limits r Events [] before middle events old between
+      pub first : GoneTo app limits (record r { count = counted }) Events [] before middle events old between
       pub second : GoneTo app limits r Renders (map edit_of (((first.gone).on).wrote)) middle after more between new
 
     -- it came to a fault after events were processed
     pub record RenderedUpTo (before after : Option (List Edit)) (fault : model.Fault) (old new : Machine P C Q V H T E L) : Type 0 where
       pub between : Machine P C Q V H T E L
+      pub counted : Option ℕ
       pub middle : Option (List Edit)
       pub events : ℕ
-      pub first : GoneTo app limits r Events [] before middle events old between
+      pub first : GoneTo app limits (record r { count = counted }) Events [] before middle events old between
       pub second : GoneUpTo app limits r Renders (map edit_of (((first.gone).on).wrote)) middle after fault between new
+
+    -- it broke off after events were processed
+    pub record RenderedShort (before after : Option (List Edit)) (ended : Ended) (old : Machine P C Q V H T E L) : Type 0 where
+      pub between : Machine P C Q V H T E L
+      pub counted : Option ℕ
+      pub middle : Option (List Edit)
+      pub events : ℕ
+      pub first : GoneTo app limits (record r { count = counted }) Events [] before middle events old between
+      pub second : BrokeUntil app limits r Renders (map edit_of (((first.gone).on).wrote)) middle after ended between
+
+    -- a call broke off, by what it goes up to
+    abbrev pub BrokeBy : Until → Option (List Edit) → Option (List Edit) → Ended → Machine P C Q V H T E L → Type 0
+    BrokeBy Renders before after ended old =
+        BrokeUntil app limits r Events [] before after ended old ⊎ RenderedShort before after ended old
+    BrokeBy until before after ended old = BrokeUntil app limits r until [] before after ended old
 
     -- a call's turns, by what it goes up to and by what is answered
     abbrev pub GoesBy :

@@ -16,6 +16,7 @@ use Rattle.rt_doms.specs.Doms.{HandleRan, NoneOpens}
 use Rattle.rt_machine.specs.Machines.{machine_of, noted}
 use Rattle.rt_machine.specs.declared.machine.Machine.{Machine}
 use Rattle.rt_parts.specs.declared.event.Event.{Event}
+use Rattle.rt_scopes.specs.Counts.{Counts}
 use Rattle.rt_state.specs.Mirror.{Unkept}
 use Rattle.rt_state.specs.Names.{fault_of}
 use Rattle.rt_state.specs.declared.names.Stop.{Stop}
@@ -40,13 +41,14 @@ module _ {K : Types} (app : Application K) (from : replay.Machine K) where
 
 module _ {P C Q V H T E L : Type 0} (app : Application (types C Q V H T E L)) (from : replay.Machine (types C Q V H T E L)) where
   -- listeners were called as long as one waited, by what is answered
-  abbrev pub HearsAll : Machine P C Q V H T E L → Result (Unit {0}) Stop → Type 0
-  HearsAll m (Ok u) =
+  abbrev pub HearsAll : Machine P C Q V H T E L → ℕ → Result (Unit {0}) Stop → Type 0
+  HearsAll m calls (Ok u) =
       (h : Unkept (types C Q V H T E L))
       × HeardSo app from (noted m) (machine_of h [] 0 m)
       × (replay.waiting (machine_of h [] 0 m) ≡ [])
-  HearsAll m (Err stops.OutOfMemory) = Unit {0}
-  HearsAll m (Err (stops.Fault what)) = HeardCut app from (noted m) (fault_of what)
+      × Counts calls h.calls
+  HearsAll m calls (Err stops.OutOfMemory) = Unit {0}
+  HearsAll m calls (Err (stops.Fault what)) = HeardCut app from (noted m) (fault_of what)
 
 module _ {C Q V H T E L : Type 0} (app : Application (types C Q V H T E L)) (w : model.State (types C Q V H T E L))
     (name : Text) (payload : L) (element : ℕ) (bubbles prevented : Bool) where
@@ -66,14 +68,14 @@ module _ {C Q V H T E L : Type 0} (app : Application (types C Q V H T E L)) (w :
 module _ {P C Q V H T E L : Type 0} (app : Application (types C Q V H T E L)) (w : model.State (types C Q V H T E L))
     (name : Text) (payload : L) (element : ℕ) (bubbles prevented : Bool) where
   -- the event was handled, and the machine rests
-  pub record HeardOn (event : Event L) (m : Machine P C Q V H T E L) : Type 0 where
+  pub record HeardOn (event : Event L) (m : Machine P C Q V H T E L) (calls : ℕ) : Type 0 where
     pub log : List replay.Entry
     pub last : replay.Machine (types C Q V H T E L)
     pub heard : HeardBy app w name payload element bubbles prevented log last event
-    pub rests : RestsAt last.state m
+    pub rests : RestsAt last.state m calls
 
   -- by what is answered
-  abbrev pub HearsOn : Result (Event L) Stop → Machine P C Q V H T E L → Type 0
-  HearsOn (Ok event) m = HeardOn event m
-  HearsOn (Err stops.OutOfMemory) m = Unit {0}
-  HearsOn (Err (stops.Fault what)) m = HeardUpTo app w name payload element bubbles prevented (fault_of what)
+  abbrev pub HearsOn : Result (Event L) Stop → Machine P C Q V H T E L → ℕ → Type 0
+  HearsOn (Ok event) m calls = HeardOn event m calls
+  HearsOn (Err stops.OutOfMemory) m calls = Unit {0}
+  HearsOn (Err (stops.Fault what)) m calls = HeardUpTo app w name payload element bubbles prevented (fault_of what)

@@ -1,10 +1,10 @@
 -- What a program's call does on a machine, from one rest to the next.
-use Rattle.std.specs.Prelude.{◌≡◌, ◌⊎◌, ℕ, true, List, [], ◌∷◌, map, length, Option, Some, None, Result, Ok, Err}
+use Rattle.std.specs.Prelude.{◌≡◌, ◌⊎◌, ℕ, true, List, [], ◌∷◌, ◌++◌, map, length, Option, Some, None, Result, Ok, Err}
 use Rattle.rt_edits.specs.Sinks.{grown}
 use Rattle.rt_edits.specs.declared.edit.Edit.{Edit}
 use Rattle.rt_mirror.specs.Mirror.{edit_of}
 use Rattle.rt_model.specs.Document as document
-use Rattle.rt_model.specs.Next.{at_rest}
+use Rattle.rt_model.specs.Next.{at_rest, look}
 use Rattle.rt_model.specs.OneLog.{types}
 use Rattle.rt_model.specs.Tree.{Types}
 use Rattle.rt_model.specs.World.{Application, Firsts}
@@ -13,10 +13,13 @@ use Rattle.rt_model.specs.Replay as replay
 use Rattle.rt_model.specs.Causes as causes
 use Rattle.rt_model.specs.Causes.{refusal, edits_at_refusal}
 use Rattle.rt_model.specs.Told.{Telling}
+use Rattle.rt_model.specs.Asides.{resting}
+use Rattle.rt_model.specs.Sentences.{events_end, render_ends}
 use Rattle.rt_moves.specs.Reports.{ToldSo}
-use Rattle.rt_doms.specs.Doms.{Until, Events, Renders, NoneOpens, GivenBuildRan, CallRan, CallSpent, CallStopped, RenderRan, RenderStopped, left_by}
+use Rattle.rt_doms.specs.Doms.{Until, Events, Renders, Unended, NoneOpens, ends_by, GivenBuildRan, CallRan, CallSpent, CallStopped, RenderRan, RenderStopped, left_by}
 use Rattle.rt_reports.specs.Seen.{entry_of}
 use Rattle.rt_reports.specs.declared.report.Report.{Report}
+use Rattle.rt_scopes.specs.Counts.{Counts}
 use Rattle.rt_state.specs.Mirror.{Unkept, state_of}
 use Rattle.rt_machine.specs.Machines.{fault_in, noted}
 use Rattle.rt_machine.specs.Short.{Short, PartBy}
@@ -36,19 +39,21 @@ module _ {P C Q V H T E L : Type 0} where
     pub first : m.first ≡ None
     pub course : (m.course).entries ≡ []
 
-  -- nothing is at work, and the machine stands for this state; the entries of the call are still there
-  pub record DoneAt (x : model.State (types C Q V H T E L)) (m : Machine P C Q V H T E L) : Type 0 where
+  -- nothing is at work, and the machine stands for this state, as the count of calls does; the entries of the call are still there
+  pub record DoneAt (x : model.State (types C Q V H T E L)) (m : Machine P C Q V H T E L) (calls : ℕ) : Type 0 where
     pub work : m.work ≡ []
     pub hearing : m.hearing ≡ None
     pub first : m.first ≡ None
     pub kept : Unkept (types C Q V H T E L)
     pub is : state_of kept (m.scopes).state ≡ x
+    pub counted : Counts calls kept.calls
 
-  -- a machine at rest at a state of the definitions
-  pub record RestsAt (w : model.State (types C Q V H T E L)) (m : Machine P C Q V H T E L) : Type 0 where
+  -- a machine at rest at a state of the definitions, and the count of calls stands for the calls up to there
+  pub record RestsAt (w : model.State (types C Q V H T E L)) (m : Machine P C Q V H T E L) (calls : ℕ) : Type 0 where
     pub idle : Idle m
     pub kept : Unkept (types C Q V H T E L)
     pub is : state_of kept (m.scopes).state ≡ w
+    pub counted : Counts calls kept.calls
 
 module _ {K : Types} (app : Application K) (limits : causes.Limits) (from : replay.Machine K) where
   -- a build that began here came to a fault: a log at whose end the definitions refuse, and the sink took the edits up to there
@@ -70,6 +75,35 @@ module _ {K : Types} (app : Application K) (limits : causes.Limits) (from : repl
     pub told : after ≡ grown before wrote
     pub short : Short app limits (PartBy ended) from (map edit_of wrote)
 
+  -- so the build or a unit by itself broke off: no entry but its first begins a unit
+  pub record BrokeAlone (before after : Option (List Edit)) (ended : Ended) : Type 0 where
+    pub broke : BrokeFrom before after ended
+    pub alone : OpensFirst ((broke.short).log ++ (broke.short).unit)
+
+module _ {K : Types} (app : Application K) (w : model.State K) where
+  -- the log of a render that went on after events were processed, up to a machine between: no unit of it began where a test holds
+  pub record PastEvents (log : List replay.Entry) : Type 0 where
+    pub first : List replay.Entry
+    pub more : List replay.Entry
+    pub whole : first ++ more ≡ log
+    pub between : replay.Machine K
+    pub goes : replay.replay_on app (Some (resting (look w))) first ≡ Some between
+    pub events : Unended app (λ (x : model.State K). events_end x) (resting (look w)) first
+    pub calm : replay.is_quiet between ≡ true
+    pub processed : events_end between.state ≡ true
+    pub renders : Unended app (λ (x : model.State K). render_ends x) between more
+
+  -- no unit of a call's log began where the call ends: a render processes events, or went on after that
+  abbrev pub UnendedBy : Until → List replay.Entry → Type 0
+  UnendedBy Renders log = Unended app (λ (x : model.State K). events_end x) (resting (look w)) log ⊎ PastEvents log
+  UnendedBy until log = Unended app (λ (x : model.State K). ends_by until x) (resting (look w)) log
+
+module _ {K : Types} (app : Application K) (limits : causes.Limits) (w : model.State K) where
+  -- a call broke off, and had begun no unit where it ends
+  pub record CallBroke (until : Until) (before after : Option (List Edit)) (ended : Ended) : Type 0 where
+    pub broke : BrokeFrom app limits (resting (look w)) before after ended
+    pub unended : UnendedBy app w until ((broke.short).log ++ (broke.short).unit)
+
 module _ {K : Types} (app : Application K) (limits : causes.Limits) (w : model.State K) where
   -- what is proved of a call that ended, by what it goes up to: a render goes up to there in its two parts
   abbrev pub RanBy : Until → List replay.Entry → List document.Edit → replay.Machine K → Type 0
@@ -85,68 +119,69 @@ module _ {P C Q V H T E L : Type 0} (app : Application (types C Q V H T E L)) (l
     (w : model.State (types C Q V H T E L)) where
   -- a call that takes unit after unit ended: its report is that of what it did, the sink took its edits, and the machine rests
   -- at the state as the test for the end left it
-  pub record RanOn (until : Until) (before after : Option (List Edit)) (report : Report) (m : Machine P C Q V H T E L) :
-      Type 0 where
+  pub record RanOn (until : Until) (before after : Option (List Edit)) (report : Report) (m : Machine P C Q V H T E L)
+      (calls : ℕ) : Type 0 where
     pub wrote : List Edit
     pub told : after ≡ grown before wrote
     pub counted : length wrote ≡ report.edits
     pub last : replay.Machine (types C Q V H T E L)
     pub ran : RanBy app limits w until (map entry_of report.log) (map edit_of wrote) last
     pub enabled : report.default_enabled ≡ true
-    pub rests : RestsAt (left_by until last.state) m
+    pub rests : RestsAt (left_by until last.state) m calls
 
   -- units were spent: the machine rests, with what is owed
-  pub record SpentOn (log : List replay.Entry) (edits : List document.Edit) (m : Machine P C Q V H T E L) : Type 0 where
+  pub record SpentOn (log : List replay.Entry) (edits : List document.Edit) (m : Machine P C Q V H T E L) (calls : ℕ) : Type 0 where
     pub last : replay.Machine (types C Q V H T E L)
     pub spent : CallSpent app limits w log edits last
-    pub rests : RestsAt (at_rest last.state) m
+    pub rests : RestsAt (at_rest last.state) m calls
 
   -- it came to a fault of the definitions
   pub record StoppedOn (until : Until) (before after : Option (List Edit)) (fault : model.Fault)
-      (m : Machine P C Q V H T E L) : Type 0 where
+      (m : Machine P C Q V H T E L) (calls : ℕ) : Type 0 where
     pub wrote : List Edit
     pub told : after ≡ grown before wrote
     pub log : List replay.Entry
     pub stopped : StoppedBy app limits w until log (map edit_of wrote) fault
-    pub spent : (units : ℕ) → fault ≡ model.OutOfTurns units → SpentOn log (map edit_of wrote) m
+    pub spent : (units : ℕ) → fault ≡ model.OutOfTurns units → SpentOn log (map edit_of wrote) m calls
 
   -- before its report is made: its entries are those of the machine
-  pub record WentTo (until : Until) (before after : Option (List Edit)) (count : ℕ) (m : Machine P C Q V H T E L) : Type 0 where
+  pub record WentTo (until : Until) (before after : Option (List Edit)) (count : ℕ) (m : Machine P C Q V H T E L) (calls : ℕ) :
+      Type 0 where
     pub wrote : List Edit
     pub told : after ≡ grown before wrote
     pub counted : length wrote ≡ count
     pub last : replay.Machine (types C Q V H T E L)
     pub ran : RanBy app limits w until (noted m) (map edit_of wrote) last
     pub enabled : m.default_enabled ≡ true
-    pub rests : DoneAt (left_by until last.state) m
+    pub rests : DoneAt (left_by until last.state) m calls
 
-  pub record SpentTo (log : List replay.Entry) (edits : List document.Edit) (m : Machine P C Q V H T E L) : Type 0 where
+  pub record SpentTo (log : List replay.Entry) (edits : List document.Edit) (m : Machine P C Q V H T E L) (calls : ℕ) : Type 0 where
     pub last : replay.Machine (types C Q V H T E L)
     pub spent : CallSpent app limits w log edits last
-    pub rests : DoneAt (at_rest last.state) m
+    pub rests : DoneAt (at_rest last.state) m calls
 
-  pub record WentUpTo (until : Until) (before after : Option (List Edit)) (fault : model.Fault) (m : Machine P C Q V H T E L) :
-      Type 0 where
+  pub record WentUpTo (until : Until) (before after : Option (List Edit)) (fault : model.Fault) (m : Machine P C Q V H T E L)
+      (calls : ℕ) : Type 0 where
     pub wrote : List Edit
     pub told : after ≡ grown before wrote
     pub stopped : StoppedBy app limits w until (noted m) (map edit_of wrote) fault
-    pub spent : (units : ℕ) → fault ≡ model.OutOfTurns units → SpentTo (noted m) (map edit_of wrote) m
+    pub spent : (units : ℕ) → fault ≡ model.OutOfTurns units → SpentTo (noted m) (map edit_of wrote) m calls
 
-  abbrev pub WentOn : Until → Option (List Edit) → Option (List Edit) → Result ℕ Ended → Machine P C Q V H T E L → Type 0
-  WentOn until before after (Ok count) m = WentTo until before after count m
-  WentOn until before after (Err ended) m =
-      (fault : model.Fault) → fault_in ended ≡ Some fault → WentUpTo until before after fault m
+  abbrev pub WentOn : Until → Option (List Edit) → Option (List Edit) → Result ℕ Ended → Machine P C Q V H T E L → ℕ → Type 0
+  WentOn until before after (Ok count) m calls = WentTo until before after count m calls
+  WentOn until before after (Err ended) m calls =
+      (fault : model.Fault) → fault_in ended ≡ Some fault → WentUpTo until before after fault m calls
 
   -- by what is answered
-  abbrev pub RunsOn : Until → Option (List Edit) → Option (List Edit) → Result Report Ended → Machine P C Q V H T E L → Type 0
-  RunsOn until before after (Ok report) m = RanOn until before after report m
-  RunsOn until before after (Err ended) m =
-      (fault : model.Fault) → fault_in ended ≡ Some fault → StoppedOn until before after fault m
+  abbrev pub RunsOn : Until → Option (List Edit) → Option (List Edit) → Result Report Ended → Machine P C Q V H T E L → ℕ → Type 0
+  RunsOn until before after (Ok report) m calls = RanOn until before after report m calls
+  RunsOn until before after (Err ended) m calls =
+      (fault : model.Fault) → fault_in ended ≡ Some fault → StoppedOn until before after fault m calls
 
 module _ {P C Q V H T E L : Type 0} (app : Application (types C Q V H T E L)) (limits : causes.Limits) (props : Q)
     (firsts : Firsts) (provided : List (ℕ × V)) where
   -- the build ended: its report, what the sink took, and the machine rests where the build ended
-  pub record BuiltOn (before after : Option (List Edit)) (report : Report) (m : Machine P C Q V H T E L) : Type 0 where
+  pub record BuiltOn (before after : Option (List Edit)) (report : Report) (m : Machine P C Q V H T E L) (calls : ℕ) : Type 0 where
     pub wrote : List Edit
     pub told : after ≡ grown before wrote
     pub counted : length wrote ≡ report.edits
@@ -155,7 +190,7 @@ module _ {P C Q V H T E L : Type 0} (app : Application (types C Q V H T E L)) (l
     -- no entry but the build begins a unit
     pub alone : OpensFirst (map entry_of report.log)
     pub enabled : report.default_enabled ≡ true
-    pub rests : RestsAt last.state m
+    pub rests : RestsAt last.state m calls
 
 module _ {K : Types} (app : Application K) (limits : causes.Limits) (props : K.Props) (firsts : Firsts)
     (provided : List (ℕ × K.Value)) where
@@ -164,4 +199,4 @@ module _ {K : Types} (app : Application K) (limits : causes.Limits) (props : K.P
   BuildCut before after ended =
       ((fault : model.Fault) → fault_in ended ≡ Some fault
       → CutFrom app limits (replay.start_with app props firsts provided []) before after fault)
-      × (fault_in ended ≡ None → BrokeFrom app limits (replay.start_with app props firsts provided []) before after ended)
+      × (fault_in ended ≡ None → BrokeAlone app limits (replay.start_with app props firsts provided []) before after ended)

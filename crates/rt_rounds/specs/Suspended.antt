@@ -21,6 +21,7 @@ use Rattle.rt_moves.specs.Reports.{ToldSo}
 use Rattle.rt_model.specs.Told.{Telling}
 use Rattle.rt_machine.specs.Ends.{Took}
 use Rattle.rt_machine.specs.Machines.{fault_in}
+use Rattle.rt_machine.specs.Short.{Short}
 use Rattle.rt_machine.specs.declared.ended.Ended.{Ended}
 use Rattle.rt_machine.specs.declared.machine.Machine.{Machine}
 use Rattle.rt_values.specs.declared.names.ScopeId.{ScopeId}
@@ -73,12 +74,33 @@ module _ {C Q V H T E L : Type 0} (app : Application (types C Q V H T E L)) (lim
     pub edits_are : edits_at_refusal app limits last ≡ map edit_of part
     pub all : wrote ≡ done ++ part
 
+module _ {C Q V H T E L : Type 0} (app : Application (types C Q V H T E L)) (limits : causes.Limits)
+    (w : model.State (types C Q V H T E L)) where
+  -- such a render broke off, for want of memory or at its sink: the sink took the edits of the units that were finished, which make
+  -- what showed then, and after them a part of the edits that are due from where the rest was passed over, of one unit more at most
+  pub record RenderBroke (before after : Option (List Edit)) (Part : List document.Edit → List document.Edit → Type 0) : Type 0 where
+    pub log : List replay.Entry
+    pub left : model.State (types C Q V H T E L)
+    pub units : ℕ
+    pub goes : renders_within app limits (Some (resting w)) log ≡ Some (record (resting left) { units = units })
+    pub done : List Edit
+    pub stepped : Stepped app limits w log (map edit_of done) left
+    pub shows : document_after (map edit_of done) (view w) ≡ Ok (view left)
+    pub part : List Edit
+    pub told : after ≡ grown before (done ++ part)
+    pub short : Short app limits Part (resting (rendering_rest left)) (map edit_of part)
+    -- but for the first of these last entries none begins a unit
+    pub alone : OpensFirst (short.log ++ short.unit)
+    -- and the render may take that one
+    pub last : replay.Machine (types C Q V H T E L)
+    pub within : renders_within app limits (Some (resting w)) (log ++ (short.log ++ short.unit)) ≡ Some last
+
 module _ {P C Q V H T E L : Type 0} (app : Application (types C Q V H T E L)) (limits : causes.Limits)
     (w : model.State (types C Q V H T E L)) where
   -- such a render ended: its edits make what shows, its answer is the boundaries that turned to their children by height, and none
   -- of these is left
-  pub record RenderedOn (props : Q) (before after : Option (List Edit)) (answer : List ScopeId) (m : Machine P C Q V H T E L) :
-      Type 0 where
+  pub record RenderedOn (props : Q) (before after : Option (List Edit)) (answer : List ScopeId) (m : Machine P C Q V H T E L)
+      (calls : ℕ) : Type 0 where
     pub wrote : List Edit
     pub told : after ≡ grown before wrote
     pub log : List replay.Entry
@@ -87,11 +109,11 @@ module _ {P C Q V H T E L : Type 0} (app : Application (types C Q V H T E L)) (l
     pub shows : document_after (map edit_of wrote) (view w) ≡ Ok (view left)
     pub answers : map (λ scope. scope.0) answer ≡ resolved_by_height left
     pub led : LedTo app limits props false (nothing_resolved left)
-    pub rests : RestsAt (nothing_resolved left) m
+    pub rests : RestsAt (nothing_resolved left) m calls
 
   -- it came to a fault of the definitions
-  pub record RenderCutOn (props : Q) (before after : Option (List Edit)) (fault : model.Fault) (m : Machine P C Q V H T E L) :
-      Type 0 where
+  pub record RenderCutOn (props : Q) (before after : Option (List Edit)) (fault : model.Fault) (m : Machine P C Q V H T E L)
+      (calls : ℕ) : Type 0 where
     pub wrote : List Edit
     pub told : after ≡ grown before wrote
     pub log : List replay.Entry
@@ -103,26 +125,26 @@ module _ {P C Q V H T E L : Type 0} (app : Application (types C Q V H T E L)) (l
     pub spent : (units : ℕ) → fault ≡ model.OutOfTurns units
         → (document_after (map edit_of wrote) (view w) ≡ Ok (view (rendering_rest last.state)))
         × LedTo app limits props false (rendering_rest last.state)
-        × RestsAt (rendering_rest last.state) m
+        × RestsAt (rendering_rest last.state) m calls
 
   -- by what is answered
   abbrev pub RendersOn :
-      Q → Option (List Edit) → Option (List Edit) → Result (List ScopeId) Ended → Machine P C Q V H T E L → Type 0
-  RendersOn props before after (Ok answer) m = RenderedOn props before after answer m
-  RendersOn props before after (Err ended) m =
-      (fault : model.Fault) → fault_in ended ≡ Some fault → RenderCutOn props before after fault m
+      Q → Option (List Edit) → Option (List Edit) → Result (List ScopeId) Ended → Machine P C Q V H T E L → ℕ → Type 0
+  RendersOn props before after (Ok answer) m calls = RenderedOn props before after answer m calls
+  RendersOn props before after (Err ended) m calls =
+      (fault : model.Fault) → fault_in ended ≡ Some fault → RenderCutOn props before after fault m calls
 
   -- a poll of suspended work ended: nothing new shows
-  pub record PolledOn (props : Q) (m : Machine P C Q V H T E L) : Type 0 where
+  pub record PolledOn (props : Q) (m : Machine P C Q V H T E L) (calls : ℕ) : Type 0 where
     pub log : List replay.Entry
     pub left : model.State (types C Q V H T E L)
     pub went : PollsTo app limits w log left
     pub shows : view left ≡ view w
     pub led : LedTo app limits props false left
-    pub rests : RestsAt left m
+    pub rests : RestsAt left m calls
 
   -- it came to a fault of the definitions
-  pub record PollCutOn (props : Q) (fault : model.Fault) (m : Machine P C Q V H T E L) : Type 0 where
+  pub record PollCutOn (props : Q) (fault : model.Fault) (m : Machine P C Q V H T E L) (calls : ℕ) : Type 0 where
     pub log : List replay.Entry
     pub last : replay.Machine (types C Q V H T E L)
     pub goes : polls_within app limits (Some (resting w)) log ≡ Some last
@@ -131,12 +153,12 @@ module _ {P C Q V H T E L : Type 0} (app : Application (types C Q V H T E L)) (l
     pub spent : (units : ℕ) → fault ≡ model.OutOfTurns units
         → (view (polling_rest last.state) ≡ view w)
         × LedTo app limits props false (polling_rest last.state)
-        × RestsAt (polling_rest last.state) m
+        × RestsAt (polling_rest last.state) m calls
 
   -- by what is answered
-  abbrev pub PollsOn : Q → Result (Unit {0}) Ended → Machine P C Q V H T E L → Type 0
-  PollsOn props (Ok u) m = PolledOn props m
-  PollsOn props (Err ended) m = (fault : model.Fault) → fault_in ended ≡ Some fault → PollCutOn props fault m
+  abbrev pub PollsOn : Q → Result (Unit {0}) Ended → Machine P C Q V H T E L → ℕ → Type 0
+  PollsOn props (Ok u) m calls = PolledOn props m calls
+  PollsOn props (Err ended) m calls = (fault : model.Fault) → fault_in ended ≡ Some fault → PollCutOn props fault m calls
 
 module _ {C Q V H T E L : Type 0} (app : Application (types C Q V H T E L)) (limits : causes.Limits)
     (y : model.State (types C Q V H T E L)) where
@@ -155,7 +177,7 @@ module _ {C Q V H T E L : Type 0} (app : Application (types C Q V H T E L)) (lim
 module _ {P C Q V H T E L : Type 0} (app : Application (types C Q V H T E L)) (limits : causes.Limits)
     (y : model.State (types C Q V H T E L)) where
   -- a unit was done by itself, and the machine rests
-  pub record UnitOn (before after : Option (List Edit)) (m : Machine P C Q V H T E L) : Type 0 where
+  pub record UnitOn (before after : Option (List Edit)) (m : Machine P C Q V H T E L) (calls : ℕ) : Type 0 where
     pub wrote : List Edit
     pub told : after ≡ grown before wrote
     pub entry : replay.Entry
@@ -164,17 +186,17 @@ module _ {P C Q V H T E L : Type 0} (app : Application (types C Q V H T E L)) (l
     pub left : model.State (types C Q V H T E L)
     pub units : ℕ
     pub ran : UnitFrom app limits y (entry ∷ more) (map edit_of wrote) (record (resting left) { units = units })
-    pub rests : RestsAt left m
+    pub rests : RestsAt left m calls
 
   -- by what is answered
-  abbrev pub UnitsOn : Option (List Edit) → Option (List Edit) → Result (Unit {0}) Ended → Machine P C Q V H T E L → Type 0
-  UnitsOn before after (Ok u) m = UnitOn before after m
-  UnitsOn before after (Err ended) m = (fault : model.Fault) → fault_in ended ≡ Some fault → UnitCutOn app limits y before after fault
+  abbrev pub UnitsOn : Option (List Edit) → Option (List Edit) → Result (Unit {0}) Ended → Machine P C Q V H T E L → ℕ → Type 0
+  UnitsOn before after (Ok u) m calls = UnitOn before after m calls
+  UnitsOn before after (Err ended) m calls = (fault : model.Fault) → fault_in ended ≡ Some fault → UnitCutOn app limits y before after fault
 
 module _ {P C Q V H T E L : Type 0} (app : Application (types C Q V H T E L)) (limits : causes.Limits) (props : Q)
     (w : model.State (types C Q V H T E L)) where
   -- a render while suspended so far: so many units were done
-  pub record RenderingOn (before after : Option (List Edit)) (units : ℕ) (m : Machine P C Q V H T E L) : Type 0 where
+  pub record RenderingOn (before after : Option (List Edit)) (units : ℕ) (m : Machine P C Q V H T E L) (calls : ℕ) : Type 0 where
     pub wrote : List Edit
     pub told : after ≡ grown before wrote
     pub log : List replay.Entry
@@ -184,14 +206,14 @@ module _ {P C Q V H T E L : Type 0} (app : Application (types C Q V H T E L)) (l
     pub led : LedTo app limits props false left
     pub stepped : Stepped app limits w log (map edit_of wrote) left
     pub shows : document_after (map edit_of wrote) (view w) ≡ Ok (view left)
-    pub rests : RestsAt left m
+    pub rests : RestsAt left m calls
 
   -- a poll of suspended work so far: so many units were done
-  pub record PollingOn (units : ℕ) (m : Machine P C Q V H T E L) : Type 0 where
+  pub record PollingOn (units : ℕ) (m : Machine P C Q V H T E L) (calls : ℕ) : Type 0 where
     pub log : List replay.Entry
     pub left : model.State (types C Q V H T E L)
     pub goes : polls_within app limits (Some (resting w)) log ≡ Some (record (resting left) { units = units })
     pub below : units ≤ limits.units
     pub led : LedTo app limits props false left
     pub shows : view left ≡ view w
-    pub rests : RestsAt left m
+    pub rests : RestsAt left m calls

@@ -4,7 +4,7 @@ ghost use Rattle.rt_model.specs.Replay.{first_state, provided_all};
 ghost use Rattle.rt_model.specs.World.{Firsts};
 ghost use Rattle.rt_machine.specs.Ends.{Ends, Took};
 ghost use Rattle.rt_machine.specs.Machines.{IsFresh, fault_in};
-ghost use Rattle.rt_machine.specs.Stands.{Broke, StandsAt};
+ghost use Rattle.rt_machine.specs.Stands.{BrokeAt, StandsAt, counting};
 ghost use Rattle.rt_rounds.specs.Going.{FinishesAs};
 ghost use Rattle.rt_reports.specs.Counted.{CountsLog};
 ghost use Rattle.rt_reports.specs.Seen.{limits_of};
@@ -30,8 +30,9 @@ pub fn build_report<A: App, M: WriteMutations>(
         0 < firsts.elements → IsFresh machine.old →
         state_of at_first machine.old.scopes.state ≡ provided_all (A.meaning app.now)
         (first_state (A.meaning app.now).root props firsts) provided →
+        calls.old ≡ 0 →
         BuiltOn (A.meaning app.now) (limits_of limits) props firsts provided
-        (M.taken sink.old) (M.taken sink.new) report machine.new) }
+        (M.taken sink.old) (M.taken sink.new) report machine.new calls.new) }
     ensures cut { IfErr result (λ ended. (props : _) (firsts : Firsts) (provided : _) →
         0 < firsts.elements → IsFresh machine.old →
         state_of at_first machine.old.scopes.state ≡ provided_all (A.meaning app.now)
@@ -59,14 +60,14 @@ pub(crate) fn finish<A: App, M: WriteMutations>(
     sink: &mut M,
 ) -> Result<u64, Ended>
     ensures finishes { (r : _) (edits : _) →
-        StandsAt (A.meaning app.now) (limits_of limits) r edits machine.old →
-        FinishesAs (A.meaning app.now) (limits_of limits) r edits
+        StandsAt (A.meaning app.now) (limits_of limits) (counting r calls.old) edits machine.old →
+        FinishesAs (A.meaning app.now) (limits_of limits) (counting r calls.new) edits
         (M.taken sink.old) (M.taken sink.new) machine.old machine.new result }
-    // For want of memory, or at its sink.
+    // For want of memory, or at its sink: no unit was begun.
     ensures breaks { IfErr result (λ ended. (r : _) (edits : _) → fault_in ended ≡ None →
-        StandsAt (A.meaning app.now) (limits_of limits) r edits machine.old →
-        Broke (A.meaning app.now) (limits_of limits) r edits
-        (M.taken sink.old) (M.taken sink.new) ended) }
+        StandsAt (A.meaning app.now) (limits_of limits) (counting r calls.old) edits machine.old →
+        BrokeAt (A.meaning app.now) (limits_of limits) (counting r calls.new) edits
+        (M.taken sink.old) (M.taken sink.new) ended machine.old) }
     ensures ok { IfOk result (λ taken. Took (M.taken sink.old) (M.taken sink.new)
         (M.faults sink.old) (M.faults sink.new) taken) }
     ensures err { IfErr result (λ ended. Ends limits 0

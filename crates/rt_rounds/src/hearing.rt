@@ -5,6 +5,7 @@ ghost use Rattle.rt_model.specs.Heard.{heard};
 ghost use Rattle.rt_machine.specs.Machines.{machine_of, noted};
 ghost use Rattle.rt_rounds.specs.Handled.{HeardSo, HearsAll, HearsOn};
 ghost use Rattle.rt_rounds.specs.Rounds.{RestsAt};
+ghost use Rattle.rt_scopes.specs.Counts.{Counts};
 ghost use Rattle.rt_shown.specs.Hearing.{listeners_of};
 ghost use Rattle.rt_state.specs.Mirror.{state_of};
 
@@ -26,9 +27,9 @@ pub fn handle<A: App>(
     element: ElementId,
 ) -> Result<Event<A::Payload>, Stop>
     // At a machine at rest an event comes to those that hear it.
-    ensures hears { (w : _) → RestsAt w machine.old →
+    ensures hears { (w : _) → RestsAt w machine.old calls.old →
         HearsOn (A.meaning app.now) w name.now event.payload element.0 event.propagates
-        event.prevented result machine.new }
+        event.prevented result machine.new calls.new }
 {
     let bubbles = event.propagates;
     let listeners = hearers(machine, name, element, bubbles)?;
@@ -66,7 +67,7 @@ fn hearers<A: App>(
 fn hear_all<A: App>(machine: &mut Machine<A>, app: &A, calls: &mut Calls) -> Result<(), Stop>
     ensures hears { (from : _) (g : _) →
         HeardSo (A.meaning app.now) from (noted machine.old) (machine_of g [] 0 machine.old) →
-        HearsAll (A.meaning app.now) from machine.new result }
+        Counts calls.old g.calls → HearsAll (A.meaning app.now) from machine.new calls.new result }
     ensures first { machine.new.first ≡ machine.old.first }
     ensures work { machine.new.work ≡ machine.old.work }
 {

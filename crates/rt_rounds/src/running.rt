@@ -2,15 +2,13 @@
 ghost use Rattle.std.specs.Prelude.{◌≡◌, true, false, [], None, IfOk, IfErr};
 ghost use Rattle.rt_doms.specs.Doms.{LedTo, Renders, ends_by};
 ghost use Rattle.rt_machine.specs.Machines.{fault_in};
-ghost use Rattle.rt_machine.specs.Stands.{Broke, StandsAt};
-ghost use Rattle.rt_model.specs.Asides.{resting};
-ghost use Rattle.rt_model.specs.Next.{look};
-ghost use Rattle.rt_rounds.specs.Going.{GoesBy, GoesUntil};
+ghost use Rattle.rt_machine.specs.Stands.{StandsAt, counting};
+ghost use Rattle.rt_rounds.specs.Going.{BrokeBy, BrokeUntil, GoesBy, GoesUntil};
 ghost use Rattle.rt_state.specs.Mirror.{state_of};
 ghost use Rattle.rt_machine.specs.Ends.{Ends, Took};
 ghost use Rattle.rt_reports.specs.Counted.{CountsLog};
 ghost use Rattle.rt_reports.specs.Seen.{limits_of};
-ghost use Rattle.rt_rounds.specs.Rounds.{BrokeFrom, RestsAt, RunsOn, WentOn};
+ghost use Rattle.rt_rounds.specs.Rounds.{CallBroke, RestsAt, RunsOn, WentOn};
 ghost use Rattle.rt_rounds.specs.Untils.{until_of};
 
 use crate::building::rests;
@@ -31,15 +29,15 @@ pub fn run_report<A: App, M: WriteMutations>(
     sink: &mut M,
 ) -> Result<Report, Ended>
     // A machine at rest where a program's calls have led does what the definitions say of the call.
-    ensures runs { (props : _) (whole : _) (w : _) → RestsAt w machine.old →
+    ensures runs { (props : _) (whole : _) (w : _) → RestsAt w machine.old calls.old →
         LedTo (A.meaning app.now) (limits_of limits) props whole w →
         RunsOn (A.meaning app.now) (limits_of limits) w (until_of until)
-        (M.taken sink.old) (M.taken sink.new) result machine.new }
+        (M.taken sink.old) (M.taken sink.new) result machine.new calls.new }
     // For want of memory, or at its sink.
     ensures breaks { IfErr result (λ ended. (props : _) (whole : _) (w : _) →
-        fault_in ended ≡ None → RestsAt w machine.old →
+        fault_in ended ≡ None → RestsAt w machine.old calls.old →
         LedTo (A.meaning app.now) (limits_of limits) props whole w →
-        BrokeFrom (A.meaning app.now) (limits_of limits) (resting (look w))
+        CallBroke (A.meaning app.now) (limits_of limits) w (until_of until)
         (M.taken sink.old) (M.taken sink.new) ended) }
     ensures counts { IfOk result (λ report. CountsLog report) }
     ensures took { IfOk result (λ report. Took (M.taken sink.old) (M.taken sink.new)
@@ -66,15 +64,15 @@ fn begin_and_run<A: App, M: WriteMutations>(
     limits: Limits,
     sink: &mut M,
 ) -> Result<u64, Ended>
-    ensures runs { (props : _) (whole : _) (w : _) → RestsAt w machine.old →
+    ensures runs { (props : _) (whole : _) (w : _) → RestsAt w machine.old calls.old →
         LedTo (A.meaning app.now) (limits_of limits) props whole w →
         WentOn (A.meaning app.now) (limits_of limits) w (until_of until)
-        (M.taken sink.old) (M.taken sink.new) result machine.new }
+        (M.taken sink.old) (M.taken sink.new) result machine.new calls.new }
     // For want of memory, or at its sink.
     ensures breaks { IfErr result (λ ended. (props : _) (whole : _) (w : _) →
-        fault_in ended ≡ None → RestsAt w machine.old →
+        fault_in ended ≡ None → RestsAt w machine.old calls.old →
         LedTo (A.meaning app.now) (limits_of limits) props whole w →
-        BrokeFrom (A.meaning app.now) (limits_of limits) (resting (look w))
+        CallBroke (A.meaning app.now) (limits_of limits) w (until_of until)
         (M.taken sink.old) (M.taken sink.new) ended) }
     ensures ok { IfOk result (λ taken. Took (M.taken sink.old) (M.taken sink.new)
         (M.faults sink.old) (M.faults sink.new) taken) }
@@ -99,13 +97,14 @@ fn run<A: App, M: WriteMutations>(
     limits: Limits,
     sink: &mut M,
 ) -> Result<u64, Ended>
-    ensures runs { (r : _) → StandsAt (A.meaning app.now) (limits_of limits) r [] machine.old →
-        GoesBy (A.meaning app.now) (limits_of limits) r (until_of until)
+    ensures runs { (r : _) →
+        StandsAt (A.meaning app.now) (limits_of limits) (counting r calls.old) [] machine.old →
+        GoesBy (A.meaning app.now) (limits_of limits) (counting r calls.new) (until_of until)
         (M.taken sink.old) (M.taken sink.new) machine.old machine.new result }
     ensures breaks { IfErr result (λ ended. (r : _) → fault_in ended ≡ None →
-        StandsAt (A.meaning app.now) (limits_of limits) r [] machine.old →
-        Broke (A.meaning app.now) (limits_of limits) r []
-        (M.taken sink.old) (M.taken sink.new) ended) }
+        StandsAt (A.meaning app.now) (limits_of limits) (counting r calls.old) [] machine.old →
+        BrokeBy (A.meaning app.now) (limits_of limits) (counting r calls.new) (until_of until)
+        (M.taken sink.old) (M.taken sink.new) ended machine.old) }
     ensures ok { IfOk result (λ taken. Took (M.taken sink.old) (M.taken sink.new)
         (M.faults sink.old) (M.faults sink.new) taken) }
     ensures err { IfErr result (λ ended. Ends limits 0
@@ -127,13 +126,14 @@ fn render<A: App, M: WriteMutations>(
     limits: Limits,
     sink: &mut M,
 ) -> Result<u64, Ended>
-    ensures renders { (r : _) → StandsAt (A.meaning app.now) (limits_of limits) r [] machine.old →
-        GoesBy (A.meaning app.now) (limits_of limits) r Renders
+    ensures renders { (r : _) →
+        StandsAt (A.meaning app.now) (limits_of limits) (counting r calls.old) [] machine.old →
+        GoesBy (A.meaning app.now) (limits_of limits) (counting r calls.new) Renders
         (M.taken sink.old) (M.taken sink.new) machine.old machine.new result }
     ensures breaks { IfErr result (λ ended. (r : _) → fault_in ended ≡ None →
-        StandsAt (A.meaning app.now) (limits_of limits) r [] machine.old →
-        Broke (A.meaning app.now) (limits_of limits) r []
-        (M.taken sink.old) (M.taken sink.new) ended) }
+        StandsAt (A.meaning app.now) (limits_of limits) (counting r calls.old) [] machine.old →
+        BrokeBy (A.meaning app.now) (limits_of limits) (counting r calls.new) Renders
+        (M.taken sink.old) (M.taken sink.new) ended machine.old) }
     ensures ok { IfOk result (λ taken. Took (M.taken sink.old) (M.taken sink.new)
         (M.faults sink.old) (M.faults sink.new) taken) }
     ensures err { IfErr result (λ ended. Ends limits 0
@@ -154,13 +154,15 @@ fn go_on<A: App, M: WriteMutations>(
     sink: &mut M,
 ) -> Result<u64, Ended>
     ensures goes { (r : _) (edits : _) →
-        StandsAt (A.meaning app.now) (limits_of limits) r edits machine.old →
-        GoesUntil (A.meaning app.now) (limits_of limits) r (until_of until) edits
+        StandsAt (A.meaning app.now) (limits_of limits) (counting r calls.old) edits machine.old →
+        GoesUntil (A.meaning app.now) (limits_of limits) (counting r calls.new) (until_of until)
+        edits
         (M.taken sink.old) (M.taken sink.new) machine.old machine.new result }
     ensures breaks { IfErr result (λ ended. (r : _) (edits : _) → fault_in ended ≡ None →
-        StandsAt (A.meaning app.now) (limits_of limits) r edits machine.old →
-        Broke (A.meaning app.now) (limits_of limits) r edits
-        (M.taken sink.old) (M.taken sink.new) ended) }
+        StandsAt (A.meaning app.now) (limits_of limits) (counting r calls.old) edits machine.old →
+        BrokeUntil (A.meaning app.now) (limits_of limits) (counting r calls.new)
+        (until_of until) edits
+        (M.taken sink.old) (M.taken sink.new) ended machine.old) }
     ensures ok { IfOk result (λ taken. Took (M.taken sink.old) (M.taken sink.new)
         (M.faults sink.old) (M.faults sink.new) taken) }
     ensures err { IfErr result (λ ended. Ends limits 0

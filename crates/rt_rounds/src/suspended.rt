@@ -4,11 +4,13 @@ ghost use Rattle.std.specs.Prelude.{◌≡◌, ◌+◌, ℕ, false, nat_eq, None
 ghost use Rattle.rt_doms.specs.Doms.{LedTo};
 ghost use Rattle.rt_machine.specs.Ends.{Ends, Explains};
 ghost use Rattle.rt_machine.specs.Machines.{fault_in};
+ghost use Rattle.rt_machine.specs.Short.{PartBy};
+ghost use Rattle.rt_model.specs.Asides.{resting};
 ghost use Rattle.rt_model.specs.State.{OutOfTurns};
 ghost use Rattle.rt_reports.specs.Seen.{limits_of};
 ghost use Rattle.rt_state.specs.Mirror.{state_of};
-ghost use Rattle.rt_rounds.specs.Rounds.{RestsAt};
-ghost use Rattle.rt_rounds.specs.Suspended.{PollsOn, RendersOn, TookSome, UnitsOn, polled_next};
+ghost use Rattle.rt_rounds.specs.Rounds.{BrokeAlone, RestsAt};
+ghost use Rattle.rt_rounds.specs.Suspended.{PollsOn, RenderBroke, RendersOn, TookSome, UnitsOn, polled_next};
 
 use crate::building::finish;
 use crate::passing::{polling_rest, rendering_rest};
@@ -31,10 +33,16 @@ pub fn render_suspended<A: App, M: WriteMutations>(
     sink: &mut M,
 ) -> Result<List<ScopeId>, Ended>
     // From a machine at rest to which a program's calls have led.
-    ensures renders { (props : _) (w : _) → RestsAt w machine.old →
+    ensures renders { (props : _) (w : _) → RestsAt w machine.old calls.old →
         LedTo (A.meaning app.now) (limits_of limits) props false w →
         RendersOn (A.meaning app.now) (limits_of limits) w props
-        (M.taken sink.old) (M.taken sink.new) result machine.new }
+        (M.taken sink.old) (M.taken sink.new) result machine.new calls.new }
+    // For want of memory, or at its sink.
+    ensures breaks { IfErr result (λ ended. (props : _) (w : _) → fault_in ended ≡ None →
+        RestsAt w machine.old calls.old →
+        LedTo (A.meaning app.now) (limits_of limits) props false w →
+        RenderBroke (A.meaning app.now) (limits_of limits) w
+        (M.taken sink.old) (M.taken sink.new) (PartBy ended)) }
     ensures took { IfOk result (λ answer. TookSome (M.taken sink.old) (M.taken sink.new)
         (M.faults sink.old) (M.faults sink.new)) }
     ensures err { IfErr result (λ ended. Ends limits 0
@@ -60,9 +68,10 @@ pub fn poll_suspended<A: App>(
     limits: Limits,
 ) -> Result<(), Ended>
     // From a machine at rest to which a program's calls have led.
-    ensures polls { (props : _) (w : _) → RestsAt w machine.old →
+    ensures polls { (props : _) (w : _) → RestsAt w machine.old calls.old →
         LedTo (A.meaning app.now) (limits_of limits) props false w →
-        PollsOn (A.meaning app.now) (limits_of limits) w props result machine.new }
+        PollsOn (A.meaning app.now) (limits_of limits) w props result machine.new
+        calls.new }
     // Nothing is written anywhere.
     ensures err { IfErr result (λ ended. Ends limits 0 None None 0 0 ended) }
 {
@@ -114,10 +123,15 @@ fn one_unit<A: App, M: WriteMutations>(
     limits: Limits,
     sink: &mut M,
 ) -> Result<(), Ended>
-    ensures unit { (props : _) (y : _) → RestsAt y machine.old →
+    ensures unit { (props : _) (y : _) → RestsAt y machine.old calls.old →
         LedTo (A.meaning app.now) (limits_of limits) props false y →
         UnitsOn (A.meaning app.now) (limits_of limits) y (M.taken sink.old) (M.taken sink.new)
-        result machine.new }
+        result machine.new calls.new }
+    ensures breaks { IfErr result (λ ended. (props : _) (y : _) → fault_in ended ≡ None →
+        RestsAt y machine.old calls.old →
+        LedTo (A.meaning app.now) (limits_of limits) props false y →
+        BrokeAlone (A.meaning app.now) (limits_of limits) (resting y)
+        (M.taken sink.old) (M.taken sink.new) ended) }
     ensures ok { IfOk result (λ done. TookSome (M.taken sink.old) (M.taken sink.new)
         (M.faults sink.old) (M.faults sink.new)) }
     ensures err { IfErr result (λ ended. Ends limits 0

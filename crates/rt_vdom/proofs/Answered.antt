@@ -11,18 +11,18 @@ use Rattle.rt_model.specs.Replay as replay
 use Rattle.rt_model.specs.State as model
 use Rattle.rt_doms.specs.Doms.{Until, Events}
 use Rattle.rt_parts.specs.declared.event.Event.{Event}
-use Rattle.rt_model.specs.Asides.{resting}
-use Rattle.rt_model.specs.Next.{look}
 use Rattle.rt_reports.specs.Seen.{entry_of, limits_of}
 use Rattle.rt_reports.specs.declared.fault.Fault.{Fault}
 use Rattle.rt_reports.specs.declared.limits.Limits.{Limits}
 use Rattle.rt_reports.specs.declared.report.Report.{Report}
 use Rattle.rt_state.specs.Mirror.{Unkept}
+use Rattle.rt_machine.specs.Short.{PartOf}
 use Rattle.rt_rounds.specs.Handled.{HeardUpTo}
+use Rattle.rt_rounds.specs.Suspended.{RenderBroke}
 use Rattle.rt_vdom.specs.Calls.{WantsMemory, ran_fault}
 use Rattle.rt_vdom.specs.Doms.{IsStarted, StateIn}
 use Rattle.rt_vdom.specs.Handles.{HandlesAs, PollCut, RenderCut, PolledFrom, PolledSuspended, PollsOnAs, PollsSuspendedAs, RendersSuspendedAs, Worked, WorksAs, answers, sees_none, taken_in}
-use Rattle.rt_vdom.specs.Runs.{BrokeOff, Builds, BuildsToList, Runs, RunsAs, RunsToList, Stopped, Went}
+use Rattle.rt_vdom.specs.Runs.{CallBrokeOff, Builds, BuildsToList, Runs, RunsAs, RunsToList, Stopped, Went}
 use Rattle.rt_vdom.specs.declared.dom.VirtualDom.{VirtualDom}
 use Rattle.rt_vdom.specs.declared.poll.Poll.{Poll}
 use Rattle.rt_vdom.specs.declared.refusal.DomFault.{DomFault}
@@ -34,7 +34,7 @@ module _ {P C Q V H T E L : Type 0} (meaning : P → Application (types C Q V H 
       (new : VirtualDom P C Q V H T E L) (fault : DomFault)
       → ((f : model.Fault) → ran_fault fault ≡ Some f → Stopped meaning until props whole w before after new f)
       → ((what : Fault) → fault ≡ refusals.Run what → ran_fault fault ≡ None
-      → BrokeOff (meaning new.app) (limits_of new.limits) (resting (look w)) before after what)
+      → CallBrokeOff (meaning new.app) (limits_of new.limits) w until before after what)
       → RunsAs meaning until props whole w before after new (Err fault)
   runs_err until props whole w before after new (refusals.Run what) h k = (h, k what refl)
   runs_err until props whole w before after new refusals.NotBuilt h k = tt
@@ -55,11 +55,13 @@ module _ {P C Q V H T E L : Type 0} (meaning : P → Application (types C Q V H 
       (new : VirtualDom P C Q V H T E L) (fault : DomFault)
       → ((f : model.Fault) → ran_fault fault ≡ Some f
       → RenderCut meaning props w before after new f)
+      → ((what : Fault) → fault ≡ refusals.Run what → ran_fault fault ≡ None
+      → RenderBroke (meaning new.app) (limits_of new.limits) w before after (PartOf what))
       → RendersSuspendedAs meaning props w before after new (Err fault)
-  renders_err props w before after new (refusals.Run what) h = h
-  renders_err props w before after new refusals.NotBuilt h = tt
-  renders_err props w before after new refusals.AlreadyBuilt h = tt
-  renders_err props w before after new refusals.Failed h = tt
+  renders_err props w before after new (refusals.Run what) h k = (h, k what refl)
+  renders_err props w before after new refusals.NotBuilt h k = tt
+  renders_err props w before after new refusals.AlreadyBuilt h k = tt
+  renders_err props w before after new refusals.Failed h k = tt
 
   -- of messages that were taken in before a call came to a fault
   pub works_err : (props : Q) (whole : Bool) (w : model.State (types C Q V H T E L)) (drained : Drained)

@@ -129,6 +129,7 @@ module _ {P C Q V H T E L : Type 0} (meaning : P → Application (types C Q V H 
               idle = record { work = s.idle.work; hearing = s.idle.hearing; first = s.idle.first; course = s.idle.course };
               kept = came.0;
               is = sym (ap (λ (o : model.Outcome (types C Q V H T E L)). left_of w o) now);
+              counted = came.2 s.counted;
               led = leads props whole lawful w (Advanced task) s.led tt (inl tt);
             };
       }

@@ -31,10 +31,14 @@ use Rattle.rt_reports.specs.Seen.{entry_of, limits_of}
 use Rattle.rt_reports.specs.declared.fault.Fault.{Fault}
 use Rattle.rt_reports.specs.declared.report.Report.{Report}
 use Rattle.rt_reports.specs.declared.limits.Limits.{Limits}
-use Rattle.rt_rounds.specs.Rounds.{BrokeFrom, RanBy, StoppedBy, RestsAt}
+use Rattle.rt_model.specs.Asides.{resting}
+use Rattle.rt_model.specs.Next.{look}
+use Rattle.rt_model.specs.Rendering.{rendering_rest}
+use Rattle.rt_rounds.specs.Rounds.{BrokeAlone, CallBroke, RanBy, StoppedBy, RestsAt}
+use Rattle.rt_rounds.specs.Suspended.{RenderBroke}
 use Rattle.rt_vdom.specs.Doms.{Stands}
 use Rattle.rt_vdom.specs.Calls.{Keeps}
-use Rattle.rt_vdom.specs.Runs.{BrokeOff, HoldsBy, ComesBy, Runs, RunsOnce, Settled}
+use Rattle.rt_vdom.specs.Runs.{BuildBroke, CallBrokeOff, HoldsBy, ComesBy, Runs, RunsOnce, Settled}
 use Rattle.rt_vdom.specs.declared.dom.VirtualDom.{VirtualDom}
 use Rattle.rt_vdom.specs.declared.refusal.DomFault.{DomFault}
 
@@ -77,8 +81,8 @@ module _ {P C Q V H T E L : Type 0} (meaning : P → Application (types C Q V H 
 module _ {P C Q V H T E L : Type 0} (meaning : P → Application (types C Q V H T E L)) where
   -- a dom that stands for a state keeps a machine that rests there
   pub rests_in : (props : Q) (whole : Bool) (w : model.State (types C Q V H T E L)) (d : VirtualDom P C Q V H T E L)
-      → Stands meaning props whole w d → RestsAt w d.machine
-  rests_in props whole w d s = record { idle = s.idle; kept = s.kept; is = s.is }
+      → Stands meaning props whole w d → RestsAt w d.machine d.calls
+  rests_in props whole w d s = record { idle = s.idle; kept = s.kept; is = s.is; counted = s.counted }
 
   -- nothing is asked of what was passed over on the way
   pub any_way : (props : Q) (whole : Bool) (w : model.State (types C Q V H T E L)) (d : VirtualDom P C Q V H T E L)
@@ -146,16 +150,17 @@ module _ {K : Types} where
 module _ {P C Q V H T E L : Type 0} (app : Application (types C Q V H T E L)) (w : model.State (types C Q V H T E L))
     (name : Text) (payload : L) (element : ℕ) (bubbles prevented : Bool) where
   -- a listener came to the fault that is answered
-  pub cut_of : (m : Machine P C Q V H T E L) (stop : Stop) (fault : model.Fault) → HearsOn app w name payload element bubbles prevented (Err stop) m
+  pub cut_of : (calls : ℕ) (m : Machine P C Q V H T E L) (stop : Stop) (fault : model.Fault)
+      → HearsOn app w name payload element bubbles prevented (Err stop) m calls
       → fault_in (ends.Run stop) ≡ Some fault
       → HeardUpTo app w name payload element bubbles prevented fault
-  cut_of m stops.OutOfMemory fault h why = cc
-  cut_of m (stops.Fault what) fault h why =
+  cut_of calls m stops.OutOfMemory fault h why = cc
+  cut_of calls m (stops.Fault what) fault h why =
       subst (λ (f : model.Fault). HeardUpTo app w name payload element bubbles prevented f) (some_is (cause_of what) fault why) h
 
 module _ {K : Types} (app : Application K) (limits : causes.Limits) (from : replay.Machine K) where
   -- a report that broke off, by another word for what the sink took of the unit that was cut
-  short_parts : (P R : List document.Edit → List document.Edit → Type 0) (edits : List document.Edit)
+  abbrev short_parts : (P R : List document.Edit → List document.Edit → Type 0) (edits : List document.Edit)
       → ((taken whole : List document.Edit) → P taken whole → R taken whole)
       → Short app limits P from edits
       → Short app limits R from edits
@@ -175,14 +180,58 @@ module _ {K : Types} (app : Application K) (limits : causes.Limits) (from : repl
         edits_are = s.edits_are;
       }
 
-  -- by the fault that is answered
-  pub broken_as : (before after : Option (List Edit)) (ended : Ended) (what : Fault)
+  -- of a build, by the fault that is answered
+  pub build_broken_as : (before after : Option (List Edit)) (ended : Ended) (what : Fault)
       → ((taken edits : List document.Edit) → PartBy ended taken edits → PartOf what taken edits)
-      → BrokeFrom app limits from before after ended
-      → BrokeOff app limits from before after what
-  broken_as before after ended what f b =
+      → BrokeAlone app limits from before after ended
+      → BuildBroke app limits from before after what
+  build_broken_as before after ended what f b =
       record {
-        wrote = b.wrote;
+        broke =
+            record {
+              wrote = (b.broke).wrote;
+              told = (b.broke).told;
+              short = short_parts (PartBy ended) (PartOf what) (map edit_of (b.broke).wrote) f (b.broke).short;
+            };
+        alone = b.alone;
+      }
+
+module _ {C Q V H T E L : Type 0} (app : Application (types C Q V H T E L)) (limits : causes.Limits)
+    (w : model.State (types C Q V H T E L)) where
+  -- of a call
+  pub call_broken_as : (until : Until) (before after : Option (List Edit)) (ended : Ended) (what : Fault)
+      → ((taken edits : List document.Edit) → PartBy ended taken edits → PartOf what taken edits)
+      → CallBroke app limits w until before after ended
+      → CallBrokeOff app limits w until before after what
+  call_broken_as until before after ended what f b =
+      record {
+        broke =
+            record {
+              wrote = (b.broke).wrote;
+              told = (b.broke).told;
+              short = short_parts app limits (resting (look w)) (PartBy ended) (PartOf what) (map edit_of (b.broke).wrote) f (b.broke).short;
+            };
+        unended = b.unended;
+      }
+
+  -- so of a render while suspended
+  pub render_broken_as : (before after : Option (List Edit)) (ended : Ended) (what : Fault)
+      → ((taken edits : List document.Edit) → PartBy ended taken edits → PartOf what taken edits)
+      → RenderBroke app limits w before after (PartBy ended)
+      → RenderBroke app limits w before after (PartOf what)
+  render_broken_as before after ended what f b =
+      record {
+        log = b.log;
+        left = b.left;
+        units = b.units;
+        goes = b.goes;
+        done = b.done;
+        stepped = b.stepped;
+        shows = b.shows;
+        part = b.part;
         told = b.told;
-        short = short_parts (PartBy ended) (PartOf what) (map edit_of b.wrote) f b.short;
+        short = short_parts app limits (resting (rendering_rest b.left)) (PartBy ended) (PartOf what) (map edit_of b.part) f b.short;
+        alone = b.alone;
+        last = b.last;
+        within = b.within;
       }

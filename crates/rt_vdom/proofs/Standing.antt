@@ -47,6 +47,7 @@ module _ {P C Q V H T E L : Type 0} (meaning : P → Application (types C Q V H 
         idle = record { work = st.idle.work; hearing = st.idle.hearing; first = st.idle.first; course = st.idle.course };
         kept = st.kept;
         is = is st.kept ∙ ap change st.is;
+        counted = st.counted;
         led =
             subst (λ (x : model.State (types C Q V H T E L)). LedTo (meaning d.app) (limits_of d.limits) props whole x) (sym same)
             (leads lawful w a st.led allowed (inl passes));

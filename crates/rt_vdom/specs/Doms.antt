@@ -9,6 +9,7 @@ use Rattle.rt_calls.specs.Calls.{firsts_of}
 use Rattle.rt_doms.specs.Doms.{LedTo}
 use Rattle.rt_reports.specs.Seen.{limits_of}
 use Rattle.rt_reports.specs.declared.limits.Limits.{Limits}
+use Rattle.rt_scopes.specs.Counts.{Counts}
 use Rattle.rt_state.specs.Mirror.{Unkept, at_first, state_of}
 use Rattle.rt_machine.specs.Machines.{IsFresh}
 use Rattle.rt_rounds.specs.Rounds.{Idle}
@@ -38,12 +39,14 @@ module _ {P C Q V H T E L : Type 0} (meaning : P → Application (types C Q V H 
     pub unused : IsFresh d.machine
     pub first : StateIn at_first d ≡ replay.provided_all (meaning app) (replay.first_state (meaning app).root props firsts) provided
 
-  -- a built dom stands for a state to which the calls of a program have led
+  -- a built dom stands for a state to which the calls of a program have led, and its count of the application's calls stands for those
+  -- that the definitions count
   pub record Stands (props : Q) (whole : Bool) (w : model.State (types C Q V H T E L)) (d : VirtualDom P C Q V H T E L) : Type 0 where
     pub built : d.stage ≡ stages.Built
     pub idle : Idle d.machine
     pub kept : Unkept (types C Q V H T E L)
     pub is : StateIn kept d ≡ w
+    pub counted : Counts d.calls kept.calls
     pub led : LedTo (meaning d.app) (limits_of d.limits) props whole w
 
   -- the root wrapper is there before the build, and as long as a dom stands for a state

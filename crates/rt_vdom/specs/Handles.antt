@@ -14,11 +14,12 @@ use Rattle.rt_model.specs.World.{Application}
 use Rattle.rt_model.specs.Replay as replay
 use Rattle.rt_model.specs.State as model
 use Rattle.rt_doms.specs.Doms.{Events, left_by}
+use Rattle.rt_machine.specs.Short.{PartOf}
 use Rattle.rt_parts.specs.declared.event.Event.{Event}
 use Rattle.rt_reports.specs.Seen.{fault_of, limits_of, message_of}
 use Rattle.rt_values.specs.declared.names.ScopeId.{ScopeId}
 use Rattle.rt_rounds.specs.Handled.{HeardBy, HeardUpTo}
-use Rattle.rt_rounds.specs.Suspended.{PollsTo, RendersTo, PollCutOn, RenderCutOn}
+use Rattle.rt_rounds.specs.Suspended.{PollsTo, RendersTo, PollCutOn, RenderBroke, RenderCutOn}
 use Rattle.rt_vdom.specs.Doms.{Stands}
 use Rattle.rt_vdom.specs.Runs.{HoldsBy, Stopped}
 use Rattle.rt_vdom.specs.declared.dom.VirtualDom.{VirtualDom}
@@ -111,7 +112,7 @@ module _ {P C Q V H T E L : Type 0} (meaning : P → Application (types C Q V H 
   -- it came to a fault; where units were spent the dom stands for what is left
   pub record RenderCut (props : Q) (w : model.State (types C Q V H T E L)) (before after : Option (List Edit))
       (d : VirtualDom P C Q V H T E L) (fault : model.Fault) : Type 0 where
-    pub cut : RenderCutOn (meaning d.app) (limits_of d.limits) w props before after fault d.machine
+    pub cut : RenderCutOn (meaning d.app) (limits_of d.limits) w props before after fault d.machine d.calls
     pub stands : (units : ℕ) → fault ≡ model.OutOfTurns units → Stands meaning props false (rendering_rest (cut.last).state) d
 
   -- by what is answered
@@ -120,8 +121,8 @@ module _ {P C Q V H T E L : Type 0} (meaning : P → Application (types C Q V H 
       → Result (List ScopeId) DomFault → Type 0
   RendersSuspendedAs props w before after new (Ok answer) = RenderedSuspended props w before after answer new
   RendersSuspendedAs props w before after new (Err (refusals.Run what)) =
-      (fault : model.Fault) → fault_of what ≡ Some fault
-      → RenderCut props w before after new fault
+      ((fault : model.Fault) → fault_of what ≡ Some fault → RenderCut props w before after new fault)
+      × (fault_of what ≡ None → RenderBroke (meaning new.app) (limits_of new.limits) w before after (PartOf what))
   RendersSuspendedAs props w before after new (Err other) = Unit {0}
 
   -- a render while suspended
@@ -144,7 +145,7 @@ module _ {P C Q V H T E L : Type 0} (meaning : P → Application (types C Q V H 
   -- they came to a fault; where units were spent the dom stands for what is left
   pub record PollCut (props : Q) (w : model.State (types C Q V H T E L)) (d : VirtualDom P C Q V H T E L) (fault : model.Fault) :
       Type 0 where
-    pub cut : PollCutOn (meaning d.app) (limits_of d.limits) w props fault d.machine
+    pub cut : PollCutOn (meaning d.app) (limits_of d.limits) w props fault d.machine d.calls
     pub stands : (units : ℕ) → fault ≡ model.OutOfTurns units → Stands meaning props false (polling_rest (cut.last).state) d
 
   -- by what is answered

@@ -1,5 +1,5 @@
 -- What a dom's calls say that build, and that take unit after unit.
-use Rattle.std.specs.Prelude.{◌≡◌, ◌<◌, ◌⊎◌, ℕ, Bool, true, List, [], map, length, Option, Some, None, Result, Ok, Err, IfOk}
+use Rattle.std.specs.Prelude.{◌≡◌, ◌<◌, ◌⊎◌, ℕ, Bool, true, List, [], ◌++◌, map, length, Option, Some, None, Result, Ok, Err, IfOk}
 use Rattle.rt_edits.specs.Sinks.{grown}
 use Rattle.rt_edits.specs.declared.edit.Edit.{Edit}
 use Rattle.rt_mirror.specs.Mirror.{edit_of}
@@ -23,7 +23,7 @@ use Rattle.rt_reports.specs.Seen.{entry_of, fault_of, limits_of}
 use Rattle.rt_reports.specs.declared.fault.Fault.{Fault}
 use Rattle.rt_reports.specs.declared.limits.Limits.{Limits}
 use Rattle.rt_reports.specs.declared.report.Report.{Report}
-use Rattle.rt_rounds.specs.Rounds.{CutFrom, OpensFirst, RanBy, StoppedBy}
+use Rattle.rt_rounds.specs.Rounds.{CutFrom, OpensFirst, RanBy, StoppedBy, UnendedBy}
 use Rattle.rt_vdom.specs.Doms.{IsStarted, Stands}
 use Rattle.rt_vdom.specs.declared.dom.VirtualDom.{VirtualDom}
 use Rattle.rt_vdom.specs.declared.refusal.DomFault.{DomFault}
@@ -36,6 +36,17 @@ module _ {K : Types} (app : Application K) (limits : causes.Limits) (from : repl
     pub wrote : List Edit
     pub told : after ≡ grown before wrote
     pub short : Short app limits (PartOf what) from (map edit_of wrote)
+
+  -- so a build broke off: no entry but the build begins a unit
+  pub record BuildBroke (before after : Option (List Edit)) (what : Fault) : Type 0 where
+    pub broke : BrokeOff before after what
+    pub alone : OpensFirst ((broke.short).log ++ (broke.short).unit)
+
+module _ {K : Types} (app : Application K) (limits : causes.Limits) (w : model.State K) where
+  -- so a call broke off: it had begun no unit where it ends
+  pub record CallBrokeOff (until : Until) (before after : Option (List Edit)) (what : Fault) : Type 0 where
+    pub broke : BrokeOff app limits (resting (aside_state app w Looked)) before after what
+    pub unended : UnendedBy app w until ((broke.short).log ++ (broke.short).unit)
 
 module _ {P C Q V H T E L : Type 0} (meaning : P → Application (types C Q V H T E L)) where
   -- the build ended: its log is accepted, its edits make what shows of an empty document, and the dom stands for where it ended
@@ -58,7 +69,7 @@ module _ {P C Q V H T E L : Type 0} (meaning : P → Application (types C Q V H 
   BuildStopped app limits props firsts provided before after what =
       let from = replay.start_with (meaning app) props firsts provided [] in
       ((fault : model.Fault) → fault_of what ≡ Some fault → CutFrom (meaning app) (limits_of limits) from before after fault)
-      × (fault_of what ≡ None → BrokeOff (meaning app) (limits_of limits) from before after what)
+      × (fault_of what ≡ None → BuildBroke (meaning app) (limits_of limits) from before after what)
 
   -- a dom that isn't built yet is built, whatever its root provides and wherever its numbers begin; elements have none below 1
   abbrev pub Builds :
@@ -125,8 +136,7 @@ module _ {P C Q V H T E L : Type 0} (meaning : P → Application (types C Q V H 
   RunsAs until props whole w before after new (Ok report) = Went until props whole w before after new report
   RunsAs until props whole w before after new (Err (refusals.Run what)) =
       ((fault : model.Fault) → fault_of what ≡ Some fault → Stopped until props whole w before after new fault)
-      × (fault_of what ≡ None
-      → BrokeOff (meaning new.app) (limits_of new.limits) (resting (aside_state (meaning new.app) w Looked)) before after what)
+      × (fault_of what ≡ None → CallBrokeOff (meaning new.app) (limits_of new.limits) w until before after what)
   RunsAs until props whole w before after new (Err other) = Unit {0}
 
   -- a call that takes unit after unit, of a dom that stands for a state

@@ -1,5 +1,6 @@
 use Rattle.std.proofs.Common.{map, subst}
 use Rattle.rt_reports.specs.Seen.{entry_of, limits_of}
+use Rattle.rt_machine.specs.Stands.{without_count}
 use Rattle.rt_audit.specs.Finding.{boundless}
 use Rattle.rt_audit.specs.Judging.{FindsIn}
 use Rattle.rt_audit.proofs.Found.{list_good}
@@ -11,22 +12,22 @@ loop-turn-init g c = λ r keeps. keeps
 pub loop-turn-preserved : goal.loop-turn-preserved
 loop-turn-preserved g c =
     λ r keeps.
-    subst (λ f. FindsIn (g.A.App.meaning c.args.app.now) (limits_of boundless) r (map entry_of c.args.list.now) c.follow_once.new.machine f) c.in-SoFar.is
+    subst (λ f. FindsIn (g.A.App.meaning c.args.app.now) (limits_of boundless) (without_count r) (map entry_of c.args.list.now) c.follow_once.new.machine f) c.in-SoFar.is
     (c.in_ok-found.ensures.finds r (c.loop-turn.invariant r keeps))
 
 pub returns-in-Bad : goal.returns-in-Bad
 returns-in-Bad g c = record {
   judges = λ r keeps.
-      subst (λ f. FindsIn (g.A.App.meaning c.args.app.now) (limits_of boundless) r (map entry_of c.args.list.now) c.follow_once.new.machine f) c.in-Bad.is
+      subst (λ f. FindsIn (g.A.App.meaning c.args.app.now) (limits_of boundless) (without_count r) (map entry_of c.args.list.now) c.follow_once.new.machine f) c.in-Bad.is
       (c.in_ok-found.ensures.finds r (c.loop-turn.invariant r keeps));
 }
 
 pub returns-in-Good : goal.returns-in-Good
 returns-in-Good g c = record {
   judges = λ r keeps.
-      list_good (g.A.App.meaning c.args.app.now) (limits_of boundless) r (map entry_of c.args.list.now) c.follow_once.new.machine c.report.new.self
+      list_good (g.A.App.meaning c.args.app.now) (limits_of boundless) (without_count r) (map entry_of c.args.list.now) c.follow_once.new.machine c.report.new.self
       (c.follow_once.new.machine).course.later
-      (subst (λ f. FindsIn (g.A.App.meaning c.args.app.now) (limits_of boundless) r (map entry_of c.args.list.now) c.follow_once.new.machine f) c.in-Good.is
+      (subst (λ f. FindsIn (g.A.App.meaning c.args.app.now) (limits_of boundless) (without_count r) (map entry_of c.args.list.now) c.follow_once.new.machine f) c.in-Good.is
       (c.in_ok-found.ensures.finds r (c.loop-turn.invariant r keeps)))
       c.report.ensures.others c.report.ensures.course;
 }

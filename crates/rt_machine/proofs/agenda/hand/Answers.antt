@@ -4,6 +4,8 @@ use Rattle.rt_model.specs.Replay as replay
 use Rattle.rt_model.specs.Run.{run}
 use Rattle.rt_model.specs.State as model
 use Rattle.rt_state.specs.Mirror.{state_of}
+use Rattle.rt_machine.specs.Counting.{calls_after}
+use Rattle.rt_machine.proofs.Counting.{change_silent, on_any, on_as, props_calls}
 use Rattle.rt_machine.proofs.Arms.{came_as, handed_kept, handed_fed, entry_kept, entry_fed, noted_as, noted_any, noted_one}
 use Rattle.rt_machine.proofs.agenda.hand.Goals as goal
 
@@ -55,3 +57,29 @@ returns-in_err-note-clause-handed g c = λ kept. (kept, search rules)
 
 pub returns-in_err-note-2-clause-handed : goal.returns-in_err-note-2-clause-handed
 returns-in_err-note-2-clause-handed g c = λ kept. (kept, search rules)
+
+pub returns-in_ok-note-clause-counted : goal.returns-in_ok-note-clause-counted
+returns-in_ok-note-clause-counted g c =
+    let app = g.A.App.meaning c.args.app.now in
+    on_any c.put.result
+    (change_silent (λ w. replay.handed app w c.args.child (component_of c.args.component.now)) c.args.scopes.now.state c.args.calls.now
+    (
+    λ kept.
+    let w = state_of kept c.args.scopes.now.state in
+    ap (λ o. calls_after o) (handed_kept app w c.args.child (component_of c.args.component.now) (sym (c.keeps-kept.ensures kept) ∙ c.if-kept.true))
+    ∙ props_calls app w c.args.child (component_of c.args.component.now)
+    ))
+
+pub returns-in_ok-note-2-clause-counted : goal.returns-in_ok-note-2-clause-counted
+returns-in_ok-note-2-clause-counted g c =
+    let app = g.A.App.meaning c.args.app.now in
+    on_as (λ w. replay.handed app w c.args.child (component_of c.args.component.now)) (λ w. run app (replay.with_props app w c.args.child (component_of c.in_ok-component.component)) c.args.child)
+    c.args.scopes.now.state c.args.scopes.now.state c.args.calls.now c.put_and_run.new.calls c.put_and_run.result
+    (
+    λ kept.
+    let w = state_of kept c.args.scopes.now.state in
+    sym
+    (handed_fed app w c.args.child (component_of c.args.component.now) (sym (c.keeps-kept.ensures kept) ∙ c.if-kept.false)
+    ∙ ap (λ x. run app (replay.with_props app w c.args.child (component_of x)) c.args.child) (sym c.in_ok-component.ensures))
+    )
+    c.put_and_run.ensures.counted

@@ -5,6 +5,8 @@ use Rattle.rt_model.specs.State as model
 use Rattle.rt_places.specs.Places.{place_of, side_name_of}
 use Rattle.rt_state.specs.Mirror.{state_of}
 use Rattle.rt_work.specs.Items.{work_of}
+use Rattle.rt_machine.specs.Counting.{calls_after}
+use Rattle.rt_machine.proofs.Counting.{change_silent, on_as}
 use Rattle.rt_machine.proofs.Arms.{came_as, copied, made_dead, noted_any, noted_one}
 use Rattle.rt_machine.proofs.agenda.make.Goals as goal
 
@@ -37,3 +39,28 @@ returns-in_err-note-clause-made g c = λ kept. (kept, search rules)
 
 pub returns-in_err-place-clause-made : goal.returns-in_err-place-clause-made
 returns-in_err-place-clause-made g c = λ kept. (kept, search rules)
+
+pub returns-then-is_live-clause-counted : goal.returns-then-is_live-clause-counted
+returns-then-is_live-clause-counted g c =
+    let app = g.A.App.meaning c.args.app.now in
+    on_as (λ w. replay.made app w c.args.scope (side_name_of c.args.side) (place_of c.args.place.now) (component_of c.args.component.now)) (λ w. replay.made app w c.args.scope (side_name_of c.args.side) (place_of c.in_ok-place.place) (component_of c.in_ok-place.component))
+    c.args.scopes.now.state c.args.scopes.now.state c.args.calls.now c.make_below.new.calls c.make_below.result
+    (
+    λ kept.
+    let w = state_of kept c.args.scopes.now.state in
+    sym
+    (ap (λ x. replay.made app w c.args.scope (side_name_of c.args.side) (place_of x) (component_of c.args.component.now)) (sym (copied _ _ _ c.copy.ensures.copy c.in_ok-place.ensures.left))
+    ∙ ap (λ x. replay.made app w c.args.scope (side_name_of c.args.side) (place_of c.in_ok-place.place) (component_of x)) (sym (copied _ _ _ c.copy-2.ensures c.in_ok-place.ensures.right)))
+    )
+    c.make_below.ensures.counted
+
+pub returns-else-is_live-clause-counted : goal.returns-else-is_live-clause-counted
+returns-else-is_live-clause-counted g c =
+    let app = g.A.App.meaning c.args.app.now in
+    change_silent (λ w. replay.made app w c.args.scope (side_name_of c.args.side) (place_of c.args.place.now) (component_of c.args.component.now)) c.args.scopes.now.state c.args.calls.now
+    (
+    λ kept.
+    ap (λ o. calls_after o)
+    (made_dead app (state_of kept c.args.scopes.now.state) c.args.scope (side_name_of c.args.side) (place_of c.args.place.now) (component_of c.args.component.now)
+    (sym (c.is_live.ensures kept) ∙ c.if-is_live.false))
+    )

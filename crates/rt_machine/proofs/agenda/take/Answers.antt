@@ -1,7 +1,11 @@
-use Rattle.std.proofs.Common.{rules}
+use Rattle.std.proofs.Common.{rules, []}
 use Rattle.std.proofs.lemmas.Result.{err_from_is_err_and}
+use Rattle.rt_model.specs.Removal.{removed}
+use Rattle.rt_model.specs.State.{Drop}
 use Rattle.rt_places.specs.Places.{side_name_of}
 use Rattle.rt_state.specs.Mirror.{state_of}
+use Rattle.rt_fresh.specs.Turn.{turn_of}
+use Rattle.rt_machine.proofs.Counting.{change_as, on_done, take_calls}
 use Rattle.rt_machine.proofs.Arms.{noted_any, noted_one_as, take_cut, take_done, gone_entry}
 use Rattle.rt_machine.proofs.agenda.take.Goals as goal
 
@@ -38,3 +42,11 @@ returns-in_err-note-clause-turned g c = λ kept. (kept, search rules)
 
 pub returns-in_err-drop_again-clause-turned : goal.returns-in_err-drop_again-clause-turned
 returns-in_err-drop_again-clause-turned g c = λ kept. (kept, search rules)
+
+pub returns-clause-counted : goal.returns-clause-counted
+returns-clause-counted g c =
+    let app = g.A.App.meaning c.args.app.now in
+    change_as (λ w. turn_of app w (Drop c.args.child c.args.scope (side_name_of c.args.side))) (λ w. removed app w c.in_ok-leaf.leaf)
+    c.args.scopes.now.state c.args.scopes.now.state c.args.calls.now c.remove_leaf.new.calls
+    (λ kept. take_calls app (state_of kept c.args.scopes.now.state) c.args.child c.args.scope (side_name_of c.args.side) c.in_ok-leaf.leaf (c.in_ok-leaf.ensures kept))
+    (on_done (λ w. removed app w c.in_ok-leaf.leaf) c.args.scopes.now.state c.remove_leaf.new.self.state c.args.calls.now c.remove_leaf.new.calls [] c.in_ok-remove_leaf.ensures.removed)

@@ -1,8 +1,14 @@
-use Rattle.std.proofs.Common.{ap}
+use Rattle.std.proofs.Common.{ap, sym, ◌∙◌}
+use Rattle.rt_mirror.specs.Sealed.{component_of}
+use Rattle.rt_model.specs.Boundary.{boundary_step}
+use Rattle.rt_model.specs.State.{Row, Feed, Make, Drop}
+use Rattle.rt_places.specs.Places.{kind_of, place_of, side_name_of}
 use Rattle.rt_state.specs.Mirror.{state_of}
 use Rattle.rt_fresh.specs.Turn.{turn_of, entries_at}
-use Rattle.rt_work.specs.Items.{item_of}
+use Rattle.rt_work.specs.Items.{item_of, row_step_of, work_of}
+use Rattle.rt_machine.specs.Counting.{calls_after}
 use Rattle.rt_machine.proofs.Arms.{came_as, noted_as}
+use Rattle.rt_machine.proofs.Counting.{change_silent, draw_calls, on_any, on_comes, on_item}
 use Rattle.rt_machine.proofs.agenda.turn_at.Goals as goal
 
 pub returns-in-Draw-clause-turned : goal.returns-in-Draw-clause-turned
@@ -49,3 +55,36 @@ pub returns-in-Drop-clause-noted : goal.returns-in-Drop-clause-noted
 returns-in-Drop-clause-noted g c =
     λ kept.
     noted_as _ _ _ _ _ (ap (λ i. entries_at (g.A.App.meaning c.args.app.now) (state_of kept c.args.scopes.now.state) (item_of i)) c.in-Drop.is) (c.take.ensures.noted kept)
+
+pub returns-in-Draw-clause-counted : goal.returns-in-Draw-clause-counted
+returns-in-Draw-clause-counted g c =
+    let app = g.A.App.meaning c.args.app.now in
+    on_any c.draw.result
+    (change_silent (λ w. turn_of app w (item_of c.args.item.now)) c.args.scopes.now.state c.args.calls.now
+    (
+    λ kept.
+    ap (λ i. calls_after (turn_of app (state_of kept c.args.scopes.now.state) (item_of i))) c.in-Draw.is
+    ∙ draw_calls (state_of kept c.args.scopes.now.state) c.in-Draw.scope (side_name_of c.in-Draw.side) (place_of c.in-Draw.place) (kind_of c.in-Draw.kind)
+    ))
+
+pub returns-in-Row-clause-counted : goal.returns-in-Row-clause-counted
+returns-in-Row-clause-counted g c =
+    let app = g.A.App.meaning c.args.app.now in
+    on_item app (item_of c.args.item.now) (Row c.in-Row.boundary (row_step_of c.in-Row.step)) c.args.scopes.now.state c.args.calls.now c.boundary_step.new.calls c.boundary_step.result
+    (ap (λ i. item_of i) (sym c.in-Row.is))
+    (on_comes (λ w. boundary_step app w c.in-Row.boundary (row_step_of c.in-Row.step)) c.args.scopes.now.state c.boundary_step.new.scopes.state c.args.calls.now c.boundary_step.new.calls work_of c.boundary_step.result c.boundary_step.ensures.done)
+
+pub returns-in-Feed-clause-counted : goal.returns-in-Feed-clause-counted
+returns-in-Feed-clause-counted g c =
+    on_item (g.A.App.meaning c.args.app.now) (item_of c.args.item.now) (Feed c.in-Feed.scope (side_name_of c.in-Feed.side) (place_of c.in-Feed.place) (component_of c.in-Feed.component)) c.args.scopes.now.state c.args.calls.now c.feed.new.calls c.feed.result
+    (ap (λ i. item_of i) (sym c.in-Feed.is)) c.feed.ensures.counted
+
+pub returns-in-Make-clause-counted : goal.returns-in-Make-clause-counted
+returns-in-Make-clause-counted g c =
+    on_item (g.A.App.meaning c.args.app.now) (item_of c.args.item.now) (Make c.in-Make.scope (side_name_of c.in-Make.side) (place_of c.in-Make.place) (component_of c.in-Make.component)) c.args.scopes.now.state c.args.calls.now c.make.new.calls c.make.result
+    (ap (λ i. item_of i) (sym c.in-Make.is)) c.make.ensures.counted
+
+pub returns-in-Drop-clause-counted : goal.returns-in-Drop-clause-counted
+returns-in-Drop-clause-counted g c =
+    on_item (g.A.App.meaning c.args.app.now) (item_of c.args.item.now) (Drop c.in-Drop.child c.in-Drop.scope (side_name_of c.in-Drop.side)) c.args.scopes.now.state c.args.calls.now c.take.new.calls c.take.result
+    (ap (λ i. item_of i) (sym c.in-Drop.is)) c.take.ensures.counted

@@ -4,11 +4,15 @@ use Rattle.std.specs.Prelude.{Ok}
 use Rattle.rt_mirror.specs.Mirror.{edit_of}
 use Rattle.rt_reports.specs.Seen.{limits_of}
 use Rattle.rt_machine.specs.Keeps.{TurnKeeps}
-use Rattle.rt_machine.specs.Stands.{TurnsAs}
+use Rattle.rt_machine.specs.Counting.{now_at}
+use Rattle.rt_machine.specs.Machines.{noted}
+use Rattle.rt_machine.specs.Stands.{TurnsAs, counting}
+use Rattle.rt_machine.proofs.Breaking.{in_after, in_along}
 use Rattle.rt_machine.proofs.Quiet.{goes_none, goes_more, goes_came}
 use Rattle.rt_machine.proofs.Sinks.{took-more, took-to, some-taken, took-ends, ends-low, run-after}
 use Rattle.rt_machine.proofs.Turning.{grown_none}
-use Rattle.rt_rounds.proofs.Breaks.{breaks_on, breaks_idle}
+use Rattle.rt_rounds.proofs.Alone.{inside_broke}
+use Rattle.rt_rounds.proofs.Breaks.{wanting, breaks_at, idles_at}
 use Rattle.rt_rounds.proofs.Inside.{inside_none, inside_on, finish_cut}
 use Rattle.rt_rounds.proofs.building.finish.Goals as goal
 
@@ -16,7 +20,7 @@ pub loop-turn-init : goal.loop-turn-init
 loop-turn-init g c =
     record {
       took = record { edits = []; told = grown_none (g.M.WriteMutations.taken c.args.sink.now); counted = refl; later = search rules };
-      on = λ r edits stands. goes_none (g.A.App.meaning c.args.app.now) (g.met.A.App.lawful c.args.app.now) (limits_of c.args.limits) r edits (g.M.WriteMutations.taken c.args.sink.now) c.args.machine.now stands;
+      on = λ r edits stands. goes_none (g.A.App.meaning c.args.app.now) (g.met.A.App.lawful c.args.app.now) (limits_of c.args.limits) (counting r c.args.calls.now) edits (g.M.WriteMutations.taken c.args.sink.now) c.args.machine.now stands;
       inside = inside_none c.args.machine.now;
       silent = λ none. (none, refl);
     }
@@ -49,8 +53,8 @@ returns-in_err-written-clause-finishes g c =
     let more = edits ++ map edit_of on.wrote in
     let works = c.rests.ensures.works c.if-rests.false in
     let keeps = c.in_err-written.ensures.keeps in
-    finish_cut (g.A.App.meaning c.args.app.now) limits r edits (g.M.WriteMutations.taken c.args.sink.now) (g.M.WriteMutations.taken c.turn.new.sink) c.args.machine.now c.loop-turn.machine c.turn.new.self c.in_err-written.field-0.0 fault why c.loop-turn.invariant.inside works keeps
-    ((goes_came (g.A.App.meaning c.args.app.now) (g.met.A.App.lawful c.args.app.now) limits r edits (g.M.WriteMutations.taken c.args.sink.now) (g.M.WriteMutations.taken c.loop-turn.sink) (g.M.WriteMutations.taken c.turn.new.sink) c.loop-turn.edits c.loop-turn.machine c.turn.new.self c.in_err-written.field-0.0 on
+    finish_cut (g.A.App.meaning c.args.app.now) limits (counting r c.turn.new.calls) edits (g.M.WriteMutations.taken c.args.sink.now) (g.M.WriteMutations.taken c.turn.new.sink) c.args.machine.now c.loop-turn.machine c.turn.new.self c.in_err-written.field-0.0 fault why c.loop-turn.invariant.inside works keeps
+    ((goes_came (g.A.App.meaning c.args.app.now) (g.met.A.App.lawful c.args.app.now) limits (counting r c.loop-turn.calls) (now_at c.turn.new.calls r.count) edits (g.M.WriteMutations.taken c.args.sink.now) (g.M.WriteMutations.taken c.loop-turn.sink) (g.M.WriteMutations.taken c.turn.new.sink) c.loop-turn.edits c.loop-turn.machine c.turn.new.self c.in_err-written.field-0.0 on
     (c.in_err-written.ensures.turns r more on.stands)).0 fault why)
     )
 
@@ -90,9 +94,9 @@ loop-turn-preserved g c =
           let limits = limits_of c.args.limits in
           let on = c.loop-turn.invariant.on r edits stands in
           let more = edits ++ map edit_of on.wrote in
-          goes_more (g.A.App.meaning c.args.app.now) (g.met.A.App.lawful c.args.app.now) limits r edits (g.M.WriteMutations.taken c.args.sink.now) (g.M.WriteMutations.taken c.loop-turn.sink) (g.M.WriteMutations.taken c.turn.new.sink) c.loop-turn.edits c.in-Some.written c.in_ok-edits.edits c.loop-turn.machine c.turn.new.self on
+          goes_more (g.A.App.meaning c.args.app.now) (g.met.A.App.lawful c.args.app.now) limits (counting r c.loop-turn.calls) (now_at c.turn.new.calls r.count) edits (g.M.WriteMutations.taken c.args.sink.now) (g.M.WriteMutations.taken c.loop-turn.sink) (g.M.WriteMutations.taken c.turn.new.sink) c.loop-turn.edits c.in-Some.written c.in_ok-edits.edits c.loop-turn.machine c.turn.new.self on
           c.in_ok-edits.ensures
-          (subst (λ o. TurnsAs (g.A.App.meaning c.args.app.now) limits r more (g.M.WriteMutations.taken c.loop-turn.sink) (g.M.WriteMutations.taken c.turn.new.sink) c.turn.new.self (Ok o)) c.in-Some.is
+          (subst (λ o. TurnsAs (g.A.App.meaning c.args.app.now) limits (counting r c.turn.new.calls) more (g.M.WriteMutations.taken c.loop-turn.sink) (g.M.WriteMutations.taken c.turn.new.sink) c.loop-turn.machine c.turn.new.self (Ok o)) c.in-Some.is
           (c.in_ok-written.ensures.turns r more on.stands));
       silent =
           λ none.
@@ -107,11 +111,17 @@ returns-in_err-written-clause-breaks g c =
     rw (p.1, p.2)
     (
     λ r edits none stands.
+    let app = g.A.App.meaning c.args.app.now in
     let limits = limits_of c.args.limits in
     let on = c.loop-turn.invariant.on r edits stands in
     let more = edits ++ map edit_of on.wrote in
-    (goes_came (g.A.App.meaning c.args.app.now) (g.met.A.App.lawful c.args.app.now) limits r edits (g.M.WriteMutations.taken c.args.sink.now) (g.M.WriteMutations.taken c.loop-turn.sink) (g.M.WriteMutations.taken c.turn.new.sink) c.loop-turn.edits c.loop-turn.machine c.turn.new.self c.in_err-written.field-0.0 on
-    (c.in_err-written.ensures.turns r more on.stands)).1 none
+    let before = g.M.WriteMutations.taken c.args.sink.now in
+    let now = g.M.WriteMutations.taken c.loop-turn.sink in
+    let after = g.M.WriteMutations.taken c.turn.new.sink in
+    let ended = c.in_err-written.field-0.0 in
+    inside_broke app limits (counting r c.turn.new.calls) edits before after ended c.args.machine.now c.loop-turn.machine c.loop-turn.invariant.inside
+    (in_after app limits (counting r c.loop-turn.calls) (now_at c.turn.new.calls r.count) (r.opened ++ noted c.loop-turn.machine) edits before now after c.loop-turn.edits c.loop-turn.machine ended on
+    ((c.in_err-written.ensures.turns r more on.stands).1 none))
     )
 
 pub returns-in_err-edits-clause-breaks : goal.returns-in_err-edits-clause-breaks
@@ -120,27 +130,47 @@ returns-in_err-edits-clause-breaks g c =
     rw (p.1, p.2)
     (
     λ r edits none stands.
+    let app = g.A.App.meaning c.args.app.now in
+    let lawful = g.met.A.App.lawful c.args.app.now in
     let limits = limits_of c.args.limits in
     let on = c.loop-turn.invariant.on r edits stands in
     let more = edits ++ map edit_of on.wrote in
-    breaks_on (g.A.App.meaning c.args.app.now) (g.met.A.App.lawful c.args.app.now) limits r edits (g.M.WriteMutations.taken c.args.sink.now) (g.M.WriteMutations.taken c.turn.new.sink) (c.loop-turn.edits + c.in-Some.written) c.turn.new.self
-    (goes_more (g.A.App.meaning c.args.app.now) (g.met.A.App.lawful c.args.app.now) limits r edits (g.M.WriteMutations.taken c.args.sink.now) (g.M.WriteMutations.taken c.loop-turn.sink) (g.M.WriteMutations.taken c.turn.new.sink) c.loop-turn.edits c.in-Some.written (c.loop-turn.edits + c.in-Some.written) c.loop-turn.machine c.turn.new.self on refl
-    (subst (λ o. TurnsAs (g.A.App.meaning c.args.app.now) limits r more (g.M.WriteMutations.taken c.loop-turn.sink) (g.M.WriteMutations.taken c.turn.new.sink) c.turn.new.self (Ok o)) c.in-Some.is
-    (c.in_ok-written.ensures.turns r more on.stands)))
+    let before = g.M.WriteMutations.taken c.args.sink.now in
+    let now = g.M.WriteMutations.taken c.loop-turn.sink in
+    let after = g.M.WriteMutations.taken c.turn.new.sink in
+    let keeps = subst (λ o. TurnKeeps c.loop-turn.machine c.turn.new.self (Ok o)) c.in-Some.is c.in_ok-written.ensures.keeps in
+    inside_broke app limits (counting r c.turn.new.calls) edits before after wanting c.args.machine.now c.turn.new.self
+    (inside_on c.args.machine.now c.loop-turn.machine c.turn.new.self c.loop-turn.invariant.inside keeps.logs (c.rests.ensures.works c.if-rests.false))
+    (breaks_at app lawful limits (counting r c.turn.new.calls) edits before after (c.loop-turn.edits + c.in-Some.written) c.turn.new.self
+    (goes_more app lawful limits (counting r c.loop-turn.calls) (now_at c.turn.new.calls r.count) edits before now after c.loop-turn.edits c.in-Some.written (c.loop-turn.edits + c.in-Some.written) c.loop-turn.machine c.turn.new.self on refl
+    (subst (λ o. TurnsAs app limits (counting r c.turn.new.calls) more now after c.loop-turn.machine c.turn.new.self (Ok o)) c.in-Some.is
+    (c.in_ok-written.ensures.turns r more on.stands))))
     )
 
 pub returns-in_default-clause-breaks : goal.returns-in_default-clause-breaks
 returns-in_default-clause-breaks g c =
     λ r edits none stands.
+    let app = g.A.App.meaning c.args.app.now in
+    let lawful = g.met.A.App.lawful c.args.app.now in
     let limits = limits_of c.args.limits in
     let on = c.loop-turn.invariant.on r edits stands in
     let more = edits ++ map edit_of on.wrote in
+    let before = g.M.WriteMutations.taken c.args.sink.now in
+    let now = g.M.WriteMutations.taken c.loop-turn.sink in
+    let after = g.M.WriteMutations.taken c.turn.new.sink in
     let idle =
-    subst (λ o. TurnsAs (g.A.App.meaning c.args.app.now) limits r more (g.M.WriteMutations.taken c.loop-turn.sink) (g.M.WriteMutations.taken c.turn.new.sink) c.turn.new.self (Ok o)) c.in_default.is
+    subst (λ o. TurnsAs app limits (counting r c.turn.new.calls) more now after c.loop-turn.machine c.turn.new.self (Ok o)) c.in_default.is
     (c.in_ok-written.ensures.turns r more on.stands) in
-    breaks_idle (g.A.App.meaning c.args.app.now) (g.met.A.App.lawful c.args.app.now) limits r edits (g.M.WriteMutations.taken c.args.sink.now) (g.M.WriteMutations.taken c.loop-turn.sink) (g.M.WriteMutations.taken c.turn.new.sink) c.loop-turn.edits c.loop-turn.machine on idle.0
+    inside_broke app limits (counting r c.turn.new.calls) edits before after wanting c.args.machine.now c.loop-turn.machine c.loop-turn.invariant.inside
+    (in_along app limits (counting r c.loop-turn.calls) (now_at c.turn.new.calls r.count) (r.opened ++ noted c.loop-turn.machine) edits before after wanting
+    (idles_at app lawful limits (counting r c.loop-turn.calls) edits before now after c.loop-turn.edits c.loop-turn.machine on idle.0))
 
 pub returns-clause-breaks : goal.returns-clause-breaks
 returns-clause-breaks g c =
     λ r edits none stands.
-    breaks_on (g.A.App.meaning c.args.app.now) (g.met.A.App.lawful c.args.app.now) (limits_of c.args.limits) r edits (g.M.WriteMutations.taken c.args.sink.now) (g.M.WriteMutations.taken c.loop-turn.sink) c.loop-turn.edits c.loop-turn.machine (c.loop-turn.invariant.on r edits stands)
+    let app = g.A.App.meaning c.args.app.now in
+    let limits = limits_of c.args.limits in
+    let before = g.M.WriteMutations.taken c.args.sink.now in
+    let now = g.M.WriteMutations.taken c.loop-turn.sink in
+    inside_broke app limits (counting r c.loop-turn.calls) edits before now wanting c.args.machine.now c.loop-turn.machine c.loop-turn.invariant.inside
+    (breaks_at app (g.met.A.App.lawful c.args.app.now) limits (counting r c.loop-turn.calls) edits before now c.loop-turn.edits c.loop-turn.machine (c.loop-turn.invariant.on r edits stands))

@@ -3,7 +3,7 @@ use Rattle.std.proofs.Common.{◌≡◌}
 use Rattle.std.specs.Prelude.{None}
 use Rattle.rt_reports.specs.Seen.{limits_of}
 use Rattle.rt_machine.specs.Ends.{Took}
-use Rattle.rt_machine.specs.Stands.{StandsAt, GoesOn}
+use Rattle.rt_machine.specs.Stands.{StandsAt, GoesOn, counting}
 use Rattle.rt_rounds.specs.Going.{Inside}
 use Rattle.rt_rounds.proofs.building.finish.Given as goal
 
@@ -12,8 +12,8 @@ invariant-loop-turn g l = record {
   took : Took (g.M.WriteMutations.taken l.fn.sink) (g.M.WriteMutations.taken l.sink) (g.M.WriteMutations.faults l.fn.sink) (g.M.WriteMutations.faults l.sink) l.edits;
   on :
       (r : _) (edits : _)
-      → StandsAt (g.A.App.meaning l.app) (limits_of l.fn.limits) r edits l.fn.machine
-      → GoesOn (g.A.App.meaning l.app) (limits_of l.fn.limits) r edits (g.M.WriteMutations.taken l.fn.sink) (g.M.WriteMutations.taken l.sink) l.edits l.machine;
+      → StandsAt (g.A.App.meaning l.app) (limits_of l.fn.limits) (counting r l.fn.calls) edits l.fn.machine
+      → GoesOn (g.A.App.meaning l.app) (limits_of l.fn.limits) (counting r l.calls) edits (g.M.WriteMutations.taken l.fn.sink) (g.M.WriteMutations.taken l.sink) l.edits l.machine;
   inside : Inside l.fn.machine l.machine;
   silent : l.fn.machine.hearing ≡ None → (l.machine.hearing ≡ None) × (l.machine.default_enabled ≡ l.fn.machine.default_enabled);
 }

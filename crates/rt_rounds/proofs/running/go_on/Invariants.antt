@@ -1,7 +1,7 @@
 -- The edits of the turns so far were taken, and the call stands with them; no unit began where its test holds.
 use Rattle.rt_reports.specs.Seen.{limits_of}
 use Rattle.rt_machine.specs.Ends.{Took}
-use Rattle.rt_machine.specs.Stands.{StandsAt}
+use Rattle.rt_machine.specs.Stands.{StandsAt, counting}
 use Rattle.rt_rounds.specs.Going.{GoneOn}
 use Rattle.rt_rounds.specs.Untils.{until_of}
 use Rattle.rt_rounds.proofs.running.go_on.Given as goal
@@ -11,6 +11,6 @@ invariant-loop-turn g l = record {
   took : Took (g.M.WriteMutations.taken l.fn.sink) (g.M.WriteMutations.taken l.sink) (g.M.WriteMutations.faults l.fn.sink) (g.M.WriteMutations.faults l.sink) l.edits;
   on :
       (r : _) (edits : _)
-      → StandsAt (g.A.App.meaning l.app) (limits_of l.fn.limits) r edits l.fn.machine
-      → GoneOn (g.A.App.meaning l.app) (limits_of l.fn.limits) r (until_of l.fn.until) edits (g.M.WriteMutations.taken l.fn.sink) (g.M.WriteMutations.taken l.sink) l.edits l.fn.machine l.machine;
+      → StandsAt (g.A.App.meaning l.app) (limits_of l.fn.limits) (counting r l.fn.calls) edits l.fn.machine
+      → GoneOn (g.A.App.meaning l.app) (limits_of l.fn.limits) (counting r l.calls) (until_of l.fn.until) edits (g.M.WriteMutations.taken l.fn.sink) (g.M.WriteMutations.taken l.sink) l.edits l.fn.machine l.machine;
 }

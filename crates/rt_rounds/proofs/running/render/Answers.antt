@@ -2,9 +2,12 @@ use Rattle.std.proofs.Common.{[], sym, map, inl, inr}
 use Rattle.std.proofs.lemmas.Result.{err_from_is_err_and}
 use Rattle.rt_mirror.specs.Mirror.{edit_of}
 use Rattle.rt_machine.proofs.Sinks.{took-more, took-to, took-ends, ends-low, run-after}
-use Rattle.rt_machine.proofs.Breaking.{broke_after}
+use Rattle.rt_machine.specs.Counting.{now_at}
+use Rattle.rt_machine.specs.Stands.{counting}
 use Rattle.rt_reports.specs.Seen.{limits_of}
-use Rattle.rt_rounds.proofs.Breaks.{breaks_on, wanting}
+use Rattle.rt_doms.specs.Doms.{Renders}
+use Rattle.rt_rounds.proofs.Breaks.{breaks_at, wanting}
+use Rattle.rt_rounds.proofs.Broken.{until_broke}
 use Rattle.rt_rounds.proofs.running.render.Goals as goal
 
 pub returns-in_err-first-clause-renders : goal.returns-in_err-first-clause-renders
@@ -25,6 +28,7 @@ returns-in_err-more-clause-renders g c =
     let first = c.in_ok-first.ensures.goes r [] stands in
     inr (record {
       between = c.go_on.new.machine;
+      counted = now_at c.go_on.new.calls r.count;
       middle = g.M.WriteMutations.taken c.go_on.new.sink;
       events = c.in_ok-first.first;
       first = first;
@@ -54,6 +58,7 @@ returns-clause-renders g c =
     let first = c.in_ok-first.ensures.goes r [] stands in
     record {
       between = c.go_on.new.machine;
+      counted = now_at c.go_on.new.calls r.count;
       middle = g.M.WriteMutations.taken c.go_on.new.sink;
       events = c.in_ok-first.first;
       more = c.in_ok-more.more;
@@ -68,7 +73,7 @@ returns-clause-ok g c = took-to _ _ _ _ _ _ _ _ _ (sym c.in_ok-sum.ensures) c.in
 pub returns-in_err-first-clause-breaks : goal.returns-in_err-first-clause-breaks
 returns-in_err-first-clause-breaks g c =
     let p = err_from_is_err_and c.from_residual.result c.from_residual.ensures.1 in
-    rw (p.1, p.2) (λ r none stands. c.in_err-first.ensures.breaks r [] none stands)
+    rw (p.1, p.2) (λ r none stands. inl (c.in_err-first.ensures.breaks r [] none stands))
 
 pub returns-in_err-more-clause-breaks : goal.returns-in_err-more-clause-breaks
 returns-in_err-more-clause-breaks g c =
@@ -76,9 +81,15 @@ returns-in_err-more-clause-breaks g c =
     rw (p.1, p.2)
     (
     λ r none stands.
-    let on = (c.in_ok-first.ensures.goes r [] stands).gone.on in
-    broke_after (g.A.App.meaning c.args.app.now) (limits_of c.args.limits) r [] (g.M.WriteMutations.taken c.args.sink.now) (g.M.WriteMutations.taken c.go_on.new.sink) (g.M.WriteMutations.taken c.go_on-2.new.sink) c.in_ok-first.first c.go_on.new.machine c.in_err-more.field-0.0 on
-    (c.in_err-more.ensures.breaks r (map edit_of on.wrote) none on.stands)
+    let first = c.in_ok-first.ensures.goes r [] stands in
+    inr (record {
+      between = c.go_on.new.machine;
+      counted = now_at c.go_on.new.calls r.count;
+      middle = g.M.WriteMutations.taken c.go_on.new.sink;
+      events = c.in_ok-first.first;
+      first = first;
+      second = c.in_err-more.ensures.breaks r (map edit_of ((first.gone).on).wrote) none ((first.gone).on).stands;
+    })
     )
 
 pub returns-in_err-sum-clause-breaks : goal.returns-in_err-sum-clause-breaks
@@ -88,9 +99,21 @@ returns-in_err-sum-clause-breaks g c =
     (
     λ r none stands.
     let app = g.A.App.meaning c.args.app.now in
+    let lawful = g.met.A.App.lawful c.args.app.now in
     let limits = limits_of c.args.limits in
-    let on = (c.in_ok-first.ensures.goes r [] stands).gone.on in
-    let more = (c.in_ok-more.ensures.goes r (map edit_of on.wrote) on.stands).gone.on in
-    broke_after app limits r [] (g.M.WriteMutations.taken c.args.sink.now) (g.M.WriteMutations.taken c.go_on.new.sink) (g.M.WriteMutations.taken c.go_on-2.new.sink) c.in_ok-first.first c.go_on.new.machine wanting on
-    (breaks_on app (g.met.A.App.lawful c.args.app.now) limits r (map edit_of on.wrote) (g.M.WriteMutations.taken c.go_on.new.sink) (g.M.WriteMutations.taken c.go_on-2.new.sink) c.in_ok-more.more c.go_on-2.new.machine more)
+    let first = c.in_ok-first.ensures.goes r [] stands in
+    let edits = map edit_of ((first.gone).on).wrote in
+    let far = (c.in_ok-more.ensures.goes r edits ((first.gone).on).stands).gone in
+    let middle = g.M.WriteMutations.taken c.go_on.new.sink in
+    let after = g.M.WriteMutations.taken c.go_on-2.new.sink in
+    inr (record {
+      between = c.go_on.new.machine;
+      counted = now_at c.go_on.new.calls r.count;
+      middle = middle;
+      events = c.in_ok-first.first;
+      first = first;
+      second =
+          until_broke app lawful limits (counting r c.go_on-2.new.calls) Renders edits middle after wanting c.go_on.new.machine c.go_on-2.new.machine far.grown
+          (breaks_at app lawful limits (counting r c.go_on-2.new.calls) edits middle after c.in_ok-more.more c.go_on-2.new.machine far.on);
+    })
     )

@@ -76,7 +76,7 @@ returns-in_err-one_unit-clause-polls g c =
     let mid = record (c.loop-unit.machine) { scopes = record (c.loop-unit.machine.scopes) { state = c.polling_rest.new.state } } in
     let at = polling_rests h.left c.loop-unit.machine mid h.rests (c.in_ok-polling_rest.ensures.rests (h.rests).kept) refl refl refl refl in
     let next = polled_some h.left at.kept mid at.is c.polls.result (c.polls.ensures at.kept) c.if-not-polls.false in
-    polls_cut app lawful limits props w None None c.loop-unit.units next.0 fault c.loop-unit.machine c.one_unit.new.machine h
+    polls_cut app lawful limits props w c.one_unit.new.calls None None c.loop-unit.units next.0 fault c.loop-unit.machine c.one_unit.new.machine h
     c.in_ok-units.ensures.counts.1 next.1
     (c.in_err-one_unit.ensures.unit props (polling_rest h.left) at (polling_leads app lawful limits props h.left h.led).0 fault why)
     )

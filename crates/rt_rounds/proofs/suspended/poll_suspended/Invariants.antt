@@ -9,6 +9,6 @@ use Rattle.rt_rounds.proofs.suspended.poll_suspended.Given as goal
 abbrev pub invariant-loop-unit : goal.invariant-loop-unit
 invariant-loop-unit g l =
     (props : _) (w : _)
-    → RestsAt w l.fn.machine
+    → RestsAt w l.fn.machine l.fn.calls
     → LedTo (g.A.App.meaning l.app) (limits_of l.fn.limits) props false w
-    → PollingOn (g.A.App.meaning l.app) (limits_of l.fn.limits) props w l.units l.machine
+    → PollingOn (g.A.App.meaning l.app) (limits_of l.fn.limits) props w l.units l.machine l.calls

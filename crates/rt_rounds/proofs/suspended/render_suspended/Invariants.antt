@@ -11,7 +11,7 @@ invariant-loop-unit g l = record {
   took : TookSome (g.M.WriteMutations.taken l.fn.sink) (g.M.WriteMutations.taken l.sink) (g.M.WriteMutations.faults l.fn.sink) (g.M.WriteMutations.faults l.sink);
   on :
       (props : _) (w : _)
-      → RestsAt w l.fn.machine
+      → RestsAt w l.fn.machine l.fn.calls
       → LedTo (g.A.App.meaning l.app) (limits_of l.fn.limits) props false w
-      → RenderingOn (g.A.App.meaning l.app) (limits_of l.fn.limits) props w (g.M.WriteMutations.taken l.fn.sink) (g.M.WriteMutations.taken l.sink) l.units l.machine;
+      → RenderingOn (g.A.App.meaning l.app) (limits_of l.fn.limits) props w (g.M.WriteMutations.taken l.fn.sink) (g.M.WriteMutations.taken l.sink) l.units l.machine l.calls;
 }

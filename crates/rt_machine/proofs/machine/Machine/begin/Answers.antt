@@ -27,3 +27,16 @@ pub returns-in_err-self-clause-spent : goal.returns-in_err-self-clause-spent
 returns-in_err-self-clause-spent g c =
     let p = err_from_is_err_and c.from_residual.result c.from_residual.ensures.1 in
     rw (p.1, p.2) (λ units why. absurd (cc why))
+
+pub returns-clause-counted : goal.returns-clause-counted
+returns-clause-counted g c = c.in_ok-begin_unit.ensures.counted
+
+pub returns-in_err-begin_unit-clause-uncalled : goal.returns-in_err-begin_unit-clause-uncalled
+returns-in_err-begin_unit-clause-uncalled g c =
+    let p = err_from_is_err_and c.from_residual-in_err-begin_unit.result c.from_residual-in_err-begin_unit.ensures.1 in
+    rw (p.1, p.2) (λ units why. stop_never_spent c.in_err-begin_unit.field-0.0 units why)
+
+pub returns-in_err-self-clause-uncalled : goal.returns-in_err-self-clause-uncalled
+returns-in_err-self-clause-uncalled g c =
+    let p = err_from_is_err_and c.from_residual.result c.from_residual.ensures.1 in
+    rw (p.1, p.2) (λ units why. refl)

@@ -46,3 +46,6 @@ returns-clause-remembers g c =
     (record c.args.self.now { scopes = c.first_step.new.scopes; course = c.note.new.self; stood = c.in_ok-self.field-0; lived = length c.as_slice.result.now; first = Some c.entry_for-entry.result; work = c.stack.new.onto })
     kept came.0 c.entry_for-entry.ensures.entry c.in_ok-self.ensures
     (ap (λ xs. length xs) c.as_slice.ensures.rows ∙ sym (length_each _)) (done_state _ _ _ came.1)
+
+pub returns-clause-counted : goal.returns-clause-counted
+returns-clause-counted g c = c.in_ok-items.ensures.counted

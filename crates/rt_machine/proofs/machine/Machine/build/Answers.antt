@@ -1,9 +1,11 @@
 use Rattle.std.proofs.Common.{[], Err}
 use Rattle.std.proofs.lemmas.Result.{err_from_is_err_and}
 use Rattle.std.specs.Prelude.{Some}
+use Rattle.rt_model.specs.Run.{run}
 use Rattle.rt_reports.specs.declared.entry.Entry.TheVariants as entries
 use Rattle.rt_work.specs.Items.{work_of}
 use Rattle.rt_machine.proofs.Arms.{noted_any, noted_none}
+use Rattle.rt_machine.proofs.Counting.{on_done}
 use Rattle.rt_machine.proofs.Stacks.{stack_is}
 use Rattle.rt_machine.proofs.Steps.{did_cut}
 use Rattle.rt_machine.proofs.machine.Machine.build.Goals as goal
@@ -29,3 +31,6 @@ returns-clause-builds g c =
       open_is = stack_is _ _ c.in_ok-work.work c.in_ok-stack.ensures;
       logged = noted_none c.args.self.now.course.entries;
     }
+
+pub returns-clause-counted : goal.returns-clause-counted
+returns-clause-counted g c = on_done (λ w. run (g.A.App.meaning c.args.app.now) w 0) c.args.self.now.scopes.state c.run.new.self.state c.args.calls.now c.run.new.calls (work_of c.in_ok-work.work) c.in_ok-work.ensures.run

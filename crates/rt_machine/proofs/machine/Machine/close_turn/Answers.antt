@@ -2,7 +2,7 @@ use Rattle.std.proofs.Common.{ap}
 use Rattle.std.proofs.lemmas.Result.{err_from_is_err_and}
 use Rattle.rt_reports.specs.Seen.{entry_of}
 use Rattle.rt_machine.specs.Machines.{fault_in}
-use Rattle.rt_machine.proofs.Breaking.{broke_closing}
+use Rattle.rt_machine.proofs.Breaking.{in_closes}
 use Rattle.rt_machine.proofs.Steps.{no_fault}
 use Rattle.rt_machine.proofs.Turning.{stands_closed}
 use Rattle.rt_machine.specs.Machines.{noted}
@@ -17,7 +17,7 @@ returns-in_err-close-clause-turns g c =
     λ app lawful limits r edits is idle stands. (
       λ fault why. no_fault (fault_in c.in_err-close.field-0.0) c.in_err-close.ensures.cause why,
       λ none.
-          broke_closing app lawful limits r (entry_of c.args.first) edits c.args.self.now
+          in_closes app lawful limits r (entry_of c.args.first) edits c.args.self.now
           (g.M.WriteMutations.taken c.args.sink.now) (g.M.WriteMutations.taken c.close.new.sink) c.in_err-close.field-0.0 stands idle c.in_err-close.ensures.part,
     )
     )

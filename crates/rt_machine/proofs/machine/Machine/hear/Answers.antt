@@ -5,6 +5,7 @@ use Rattle.rt_state.specs.Mirror.{state_of}
 use Rattle.rt_shown.specs.Hearing.{listener_in, listeners_of}
 use Rattle.rt_machine.specs.Hearings.{live_listeners, listeners_in, TakesWaiting}
 use Rattle.rt_machine.specs.Machines.{HearsAs, machine_of, noted}
+use Rattle.rt_machine.proofs.Counting.{heard_first}
 use Rattle.rt_machine.proofs.Hearings.{first_called, first_cut}
 use Rattle.rt_machine.proofs.machine.Machine.hear.Goals as goal
 
@@ -72,3 +73,19 @@ returns-in-None-clause-passed g c = λ is. refl
 
 pub returns-in_default-clause-passed : goal.returns-in_default-clause-passed
 returns-in_default-clause-passed g c = λ is. refl
+
+pub returns-in_ok-call-in-Some-2-clause-counted : goal.returns-in_ok-call-in-Some-2-clause-counted
+returns-in_ok-call-in-Some-2-clause-counted g c =
+    λ kept left taken first others waits.
+    let app = g.A.App.meaning c.args.app.now in
+    let same = ap (λ o. machine_of kept left taken (record c.args.self.now { hearing = o })) (sym c.take.ensures.value ∙ c.in-Some.is) in
+    heard_first app (machine_of kept left taken c.args.self.now) (machine_of kept left taken (record c.args.self.now { hearing = Some c.in-Some.hearing }))
+    first (listener_in c.in-Some-2.listener) others (listeners_of c.first_waiting.new.listeners) c.args.calls.now c.call.new.calls same waits
+    (subst (λ o. TakesWaiting (state_of kept c.args.self.now.scopes.state) o c.in-Some.hearing.listeners c.first_waiting.new.listeners) c.in-Some-2.is (c.in_ok-listener.ensures kept))
+    (c.in_ok-call-in-Some-2.ensures.counted kept left taken (listeners_of c.in-Some.hearing.listeners))
+
+pub returns-in-None-clause-counted : goal.returns-in-None-clause-counted
+returns-in-None-clause-counted g c = refl
+
+pub returns-in_default-clause-counted : goal.returns-in_default-clause-counted
+returns-in_default-clause-counted g c = refl

@@ -3,11 +3,15 @@ use Rattle.std.proofs.lemmas.Result.{err_from_is_err_and}
 use Rattle.std.specs.Prelude.{Ok}
 use Rattle.rt_reports.specs.Seen.{limits_of}
 use Rattle.rt_machine.specs.Machines.{HearsAs, machine_of, noted}
-use Rattle.rt_machine.specs.Stands.{QuietAs, StandsQuiet}
+use Rattle.rt_model.specs.Replay as replay
+use Rattle.rt_machine.specs.Counting.{CountsHeard, now_at}
+use Rattle.rt_machine.specs.Stands.{QuietAs, StandsQuiet, counting}
+use Rattle.rt_machine.proofs.Counting.{along}
+use Rattle.rt_machine.proofs.Keeps.{if_err}
 use Rattle.rt_machine.proofs.Quiet.{stands_silent, quiet_cut}
 use Rattle.rt_machine.proofs.Turning.{stands_heard}
 use Rattle.rt_state.specs.Mirror.{at_first}
-use Rattle.rt_machine.proofs.Noting.{heard_keeps, unheard_keeps, passed_keeps}
+use Rattle.rt_machine.proofs.Noting.{stop_never_spent, heard_keeps, unheard_keeps, passed_keeps}
 use Rattle.rt_machine.proofs.machine.Machine.quiet_turn.Goals as goal
 
 pub returns-in_err-hear-clause-turns : goal.returns-in_err-hear-clause-turns
@@ -16,7 +20,7 @@ returns-in_err-hear-clause-turns g c =
     rw (p.1, p.2)
     (
     λ r edits over idle stands fault why.
-    quiet_cut (g.A.App.meaning c.args.app.now) (g.met.A.App.lawful c.args.app.now) (limits_of c.args.limits) r edits c.args.self.now c.hear.new.self c.in_err-hear.field-0.0 fault stands
+    quiet_cut (g.A.App.meaning c.args.app.now) (g.met.A.App.lawful c.args.app.now) (limits_of c.args.limits) (counting r c.args.calls.now) edits c.args.self.now c.hear.new.self c.in_err-hear.field-0.0 fault stands
     (λ kept. c.in_err-hear.ensures.hears kept r.left r.taken) why
     )
 
@@ -24,17 +28,24 @@ pub returns-then-branch-clause-turns : goal.returns-then-branch-clause-turns
 returns-then-branch-clause-turns g c =
     λ r edits over idle stands.
     let app = g.A.App.meaning c.args.app.now in
-    stands_heard app (g.met.A.App.lawful c.args.app.now) (limits_of c.args.limits) r edits c.args.self.now c.hear.new.self stands (c.hear.ensures.first ∙ over)
+    stands_heard app (g.met.A.App.lawful c.args.app.now) (limits_of c.args.limits) (counting r c.args.calls.now) (now_at c.hear.new.calls r.count) edits c.args.self.now c.hear.new.self stands (c.hear.ensures.first ∙ over)
     (λ kept. subst (λ b. HearsAs app (machine_of kept r.left r.taken c.args.self.now) (noted c.args.self.now) (noted c.hear.new.self) (λ h. machine_of h r.left r.taken c.hear.new.self) (Ok b)) c.if-branch.true (c.in_ok-hear.ensures.hears kept r.left r.taken))
     (c.hear.ensures.work ∙ idle)
+    (
+    λ kept first others waits.
+    let m = machine_of kept r.left r.taken c.args.self.now in
+    along r.count c.args.calls.now c.hear.new.calls kept.calls ((replay.heard_event app m first others m.event).state).calls
+    (subst (λ b. CountsHeard app c.args.self.now c.args.calls.now c.hear.new.calls b) c.if-branch.true c.in_ok-hear.ensures.counted kept r.left r.taken first others waits)
+    )
 
 pub returns-clause-turns : goal.returns-clause-turns
 returns-clause-turns g c =
     λ r edits over idle stands.
     let app = g.A.App.meaning c.args.app.now in
     c.next_turn.ensures.turns r edits (c.hear.ensures.first ∙ over) (c.hear.ensures.work ∙ idle)
-    (stands_silent app (g.met.A.App.lawful c.args.app.now) (limits_of c.args.limits) r edits c.args.self.now c.hear.new.self stands
-    (λ kept. subst (λ b. HearsAs app (machine_of kept r.left r.taken c.args.self.now) (noted c.args.self.now) (noted c.hear.new.self) (λ h. machine_of h r.left r.taken c.hear.new.self) (Ok b)) c.if-branch.false (c.in_ok-hear.ensures.hears kept r.left r.taken)))
+    (subst (λ n. StandsQuiet app (limits_of c.args.limits) (counting r n) edits c.hear.new.self) (sym (subst (λ b. CountsHeard app c.args.self.now c.args.calls.now c.hear.new.calls b) c.if-branch.false c.in_ok-hear.ensures.counted))
+    (stands_silent app (g.met.A.App.lawful c.args.app.now) (limits_of c.args.limits) (counting r c.args.calls.now) edits c.args.self.now c.hear.new.self stands
+    (λ kept. subst (λ b. HearsAs app (machine_of kept r.left r.taken c.args.self.now) (noted c.args.self.now) (noted c.hear.new.self) (λ h. machine_of h r.left r.taken c.hear.new.self) (Ok b)) c.if-branch.false (c.in_ok-hear.ensures.hears kept r.left r.taken))))
 
 pub returns-in_err-hear-clause-keeps : goal.returns-in_err-hear-clause-keeps
 returns-in_err-hear-clause-keeps g c =
@@ -59,3 +70,13 @@ returns-clause-keeps g c =
     λ idle over.
     passed_keeps c.args.self.now c.hear.new.self c.next_turn.new.self c.next_turn.result idle over (c.in_ok-hear.ensures.passed c.if-branch.false) c.hear.ensures.silent
     (c.next_turn.ensures.keeps (c.hear.ensures.work ∙ idle) (c.hear.ensures.first ∙ over))
+
+pub returns-in_err-hear-clause-uncalled : goal.returns-in_err-hear-clause-uncalled
+returns-in_err-hear-clause-uncalled g c =
+    let p = err_from_is_err_and c.from_residual.result c.from_residual.ensures.1 in
+    rw (p.1, p.2) (λ units why. stop_never_spent c.in_err-hear.field-0.0 units why)
+
+pub returns-clause-uncalled : goal.returns-clause-uncalled
+returns-clause-uncalled g c =
+    if_err c.next_turn.result c.next_turn.ensures.uncalled
+    (λ ended stays units why. stays units why ∙ subst (λ b. CountsHeard (g.A.App.meaning c.args.app.now) c.args.self.now c.args.calls.now c.hear.new.calls b) c.if-branch.false c.in_ok-hear.ensures.counted)

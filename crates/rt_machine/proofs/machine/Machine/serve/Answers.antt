@@ -24,3 +24,6 @@ returns-in_err-serve_low-in-None-clause-remembers g c =
 pub returns-in_ok-serve_low-in-None-clause-serves : goal.returns-in_ok-serve_low-in-None-clause-serves
 returns-in_ok-serve_low-in-None-clause-serves g c =
     λ kept. (c.in_ok-height.ensures.refused kept ∙ ap (λ o. option_map model.TooDeep o) c.in-None.is, c.in_ok-serve_low-in-None.ensures.serves kept)
+
+pub returns-in_ok-serve_low-in-None-clause-counted : goal.returns-in_ok-serve_low-in-None-clause-counted
+returns-in_ok-serve_low-in-None-clause-counted g c = c.in_ok-serve_low-in-None.ensures.counted

@@ -51,3 +51,6 @@ returns-in_err-work-clause-remembers g c =
     (c.in_ok-keep_where.ensures.stands was)
     (stopped_state _ _ c.in_err-work.field-0.0 what is (c.in_err-work.ensures.turned kept).1)
     ))
+
+pub returns-clause-counted : goal.returns-clause-counted
+returns-clause-counted g c = c.in_ok-work.ensures.counted

@@ -2,7 +2,7 @@
 use Rattle.std.proofs.Common.{◌≡◌}
 use Rattle.rt_reports.specs.Seen.{limits_of}
 use Rattle.rt_machine.specs.Ends.{Took}
-use Rattle.rt_machine.specs.Stands.{StandsAt, GoesOn}
+use Rattle.rt_machine.specs.Stands.{StandsAt, GoesOn, counting}
 use Rattle.rt_machine.proofs.machine.Machine.settle.Given as goal
 
 abbrev pub invariant-loop-turn : goal.invariant-loop-turn
@@ -10,6 +10,6 @@ invariant-loop-turn g l = record {
   took : Took (g.M.WriteMutations.taken l.fn.sink) (g.M.WriteMutations.taken l.sink) (g.M.WriteMutations.faults l.fn.sink) (g.M.WriteMutations.faults l.sink) l.edits;
   on :
       (r : _) (edits : _)
-      → StandsAt (g.A.App.meaning l.app) (limits_of l.fn.limits) r edits l.fn.self
-      → GoesOn (g.A.App.meaning l.app) (limits_of l.fn.limits) r edits (g.M.WriteMutations.taken l.fn.sink) (g.M.WriteMutations.taken l.sink) l.edits l.self;
+      → StandsAt (g.A.App.meaning l.app) (limits_of l.fn.limits) (counting r l.fn.calls) edits l.fn.self
+      → GoesOn (g.A.App.meaning l.app) (limits_of l.fn.limits) (counting r l.calls) edits (g.M.WriteMutations.taken l.fn.sink) (g.M.WriteMutations.taken l.sink) l.edits l.self;
 }

@@ -4,7 +4,7 @@ use Rattle.rt_mirror.specs.Mirror.{edit_of}
 use Rattle.rt_doms.proofs.Doms.{given_builds_hold}
 use Rattle.rt_reports.specs.Seen.{entry_of, limits_of}
 use Rattle.rt_model.specs.Replay.{start_with}
-use Rattle.rt_vdom.proofs.Ran.{broken_as}
+use Rattle.rt_vdom.proofs.Ran.{build_broken_as}
 use Rattle.rt_vdom.proofs.dom.VirtualDom.build.Goals as goal
 
 pub returns-in-Ok-clause-builds : goal.returns-in-Ok-clause-builds
@@ -13,7 +13,7 @@ returns-in-Ok-clause-builds g c =
     let d = c.args.self.now in
     let app = g.A.App.meaning d.app in
     let lawful = g.met.A.App.lawful d.app in
-    let ran = c.in-Ok.ensures.builds props firsts provided above started.unused started.first in
+    let ran = c.in-Ok.ensures.builds props firsts provided above started.unused started.first started.uncalled in
     let holds = given_builds_hold app lawful (limits_of d.limits) props firsts provided (map entry_of (c.in-Ok.report).log) (map edit_of ran.wrote) ran.last above ran.ran in
     record {
       wrote = ran.wrote;
@@ -29,6 +29,7 @@ returns-in-Ok-clause-builds g c =
             idle = (ran.rests).idle;
             kept = (ran.rests).kept;
             is = (ran.rests).is;
+            counted = (ran.rests).counted;
             led = holds.leads;
           };
     }
@@ -41,7 +42,7 @@ returns-in-Err-clause-builds g c =
     let cut = c.in-Err.ensures.cut props firsts provided above started.unused started.first in (
       λ fault why. cut.0 fault (sym c.fault.ensures.of ∙ why),
       λ none.
-          broken_as app (limits_of d.limits) (start_with app props firsts provided []) (g.M.WriteMutations.taken c.args.to.now)
+          build_broken_as app (limits_of d.limits) (start_with app props firsts provided []) (g.M.WriteMutations.taken c.args.to.now)
           (g.M.WriteMutations.taken c.build_report.new.sink) c.in-Err.ended c.fault.result c.fault.ensures.parts
           (cut.1 (sym c.fault.ensures.of ∙ none)),
     )

@@ -2,12 +2,10 @@
 use Rattle.std.proofs.Common.{map, sym, ap, ◌∙◌, subst}
 use Rattle.std.specs.Prelude.{Some}
 use Rattle.rt_mirror.specs.Mirror.{edit_of}
-use Rattle.rt_model.specs.Asides.{resting}
-use Rattle.rt_model.specs.Next.{look}
 use Rattle.rt_reports.specs.Seen.{entry_of, limits_of}
 use Rattle.rt_rounds.specs.Untils.{until_of}
 use Rattle.rt_vdom.specs.Calls.{PartIn}
-use Rattle.rt_vdom.proofs.Ran.{broken_as, holds_by, leads_by, comes_by, spent_by, rests_in}
+use Rattle.rt_vdom.proofs.Ran.{call_broken_as, holds_by, leads_by, comes_by, spent_by, rests_in}
 use Rattle.rt_vdom.proofs.Answered.{runs_err}
 use Rattle.rt_vdom.proofs.dom.VirtualDom.go_on.Goals as goal
 
@@ -33,6 +31,7 @@ returns-in-Ok-clause-runs g c =
             idle = (ran.rests).idle;
             kept = (ran.rests).kept;
             is = (ran.rests).is;
+            counted = (ran.rests).counted;
             led = leads_by (λ app. g.A.App.meaning app) d.app lawful d.limits props whole w s.led until (map entry_of (c.in-Ok.report).log) (map edit_of ran.wrote) ran.last holds;
           };
     }
@@ -66,7 +65,7 @@ returns-in-Err-clause-runs g c =
           (record {
             last = p.last;
             holds = holds;
-            stands = record { built = s.built; idle = (p.rests).idle; kept = (p.rests).kept; is = (p.rests).is; led = holds.leads };
+            stands = record { built = s.built; idle = (p.rests).idle; kept = (p.rests).kept; is = (p.rests).is; counted = (p.rests).counted; led = holds.leads };
           });
     })
     )
@@ -74,7 +73,7 @@ returns-in-Err-clause-runs g c =
     λ what is none.
     let broke = c.in-Err.ensures.breaks props whole w (sym c.ended.ensures.of ∙ none) (rests_in (λ app. g.A.App.meaning app) props whole w d s) s.led in
     rw c.ended.ensures.others
-    (broken_as (g.A.App.meaning d.app) (limits_of d.limits) (resting (look w)) before after c.in-Err.ended what
+    (call_broken_as (g.A.App.meaning d.app) (limits_of d.limits) w until before after c.in-Err.ended what
     (λ taken edits part. subst (λ f. PartIn f taken edits) is (c.ended.ensures.parts taken edits part)) broke)
     )
 

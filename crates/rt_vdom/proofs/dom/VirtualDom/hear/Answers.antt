@@ -22,7 +22,7 @@ returns-in-Ok-clause-handles g c =
       last = ran.last;
       heard = ran.heard;
       shows = one_document (view w) (view ran.last.state) on.1;
-      stands = record { built = s.built; idle = (ran.rests).idle; kept = (ran.rests).kept; is = (ran.rests).is; led = on.0 };
+      stands = record { built = s.built; idle = (ran.rests).idle; kept = (ran.rests).kept; is = (ran.rests).is; counted = (ran.rests).counted; led = on.0 };
     }
 
 pub returns-in-Err-clause-handles : goal.returns-in-Err-clause-handles
@@ -34,7 +34,7 @@ returns-in-Err-clause-handles g c =
     (
     λ fault why.
     rw c.ended.ensures.others
-    (cut_of (g.A.App.meaning d.app) w c.args.name.now e.payload c.args.element.0 e.propagates e.prevented c.handle.new.machine c.in-Err.stop fault
+    (cut_of (g.A.App.meaning d.app) w c.args.name.now e.payload c.args.element.0 e.propagates e.prevented c.handle.new.calls c.handle.new.machine c.in-Err.stop fault
     (c.in-Err.ensures.hears w (rests_in (λ app. g.A.App.meaning app) props whole w d s)) (sym c.ended.ensures.of ∙ why))
     )
 

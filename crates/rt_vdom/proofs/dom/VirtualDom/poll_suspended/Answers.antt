@@ -21,6 +21,7 @@ returns-in-Ok-clause-polls g c =
             idle = (ran.rests).idle;
             kept = (ran.rests).kept;
             is = (ran.rests).is;
+            counted = (ran.rests).counted;
             led = ran.led;
           };
     }
@@ -42,7 +43,7 @@ returns-in-Err-clause-polls g c =
           λ units out.
           let p = far.spent units out in
           rw (c.ended.ensures.spent units (cause ∙ ap (λ f. Some f) out))
-          (record { built = s.built; idle = (p.2).idle; kept = (p.2).kept; is = (p.2).is; led = p.1 });
+          (record { built = s.built; idle = (p.2).idle; kept = (p.2).kept; is = (p.2).is; counted = (p.2).counted; led = p.1 });
     })
     )
 

@@ -1,7 +1,9 @@
 -- What a render while suspended leaves.
-use Rattle.std.proofs.Common.{sym, ap, ◌∙◌}
+use Rattle.std.proofs.Common.{sym, ap, ◌∙◌, subst}
 use Rattle.std.specs.Prelude.{Some}
-use Rattle.rt_vdom.proofs.Ran.{any_way, rests_in}
+use Rattle.rt_reports.specs.Seen.{limits_of}
+use Rattle.rt_vdom.specs.Calls.{PartIn}
+use Rattle.rt_vdom.proofs.Ran.{any_way, render_broken_as, rests_in}
 use Rattle.rt_vdom.proofs.Answered.{renders_err}
 use Rattle.rt_vdom.proofs.dom.VirtualDom.render_suspended.Goals as goal
 
@@ -24,6 +26,7 @@ returns-in-Ok-clause-renders g c =
             idle = (ran.rests).idle;
             kept = (ran.rests).kept;
             is = (ran.rests).is;
+            counted = (ran.rests).counted;
             led = ran.led;
           };
     }
@@ -34,7 +37,8 @@ returns-in-Err-clause-renders g c =
     let d = c.args.self.now in
     let cut = c.in-Err.ensures.renders props w (rests_in (λ app. g.A.App.meaning app) props whole w d s) (any_way (λ app. g.A.App.meaning app) props whole w d s) in
     renders_err (λ app. g.A.App.meaning app) props w (g.M.WriteMutations.taken c.args.to.now) (g.M.WriteMutations.taken c.render_suspended.new.sink) c.ended.new.self
-    c.ended.result (
+    c.ended.result
+    (
     λ fault why.
     let cause = sym c.ended.ensures.of ∙ why in
     let far = cut fault cause in
@@ -45,8 +49,18 @@ returns-in-Err-clause-renders g c =
           λ units out.
           let p = far.spent units out in
           rw (c.ended.ensures.spent units (cause ∙ ap (λ f. Some f) out))
-          (record { built = s.built; idle = (p.2).idle; kept = (p.2).kept; is = (p.2).is; led = p.1 });
+          (record { built = s.built; idle = (p.2).idle; kept = (p.2).kept; is = (p.2).is; counted = (p.2).counted; led = p.1 });
     })
+    )
+    (
+    λ what is none.
+    let broke =
+    c.in-Err.ensures.breaks props w (sym c.ended.ensures.of ∙ none) (rests_in (λ app. g.A.App.meaning app) props whole w d s)
+    (any_way (λ app. g.A.App.meaning app) props whole w d s) in
+    rw c.ended.ensures.others
+    (render_broken_as (g.A.App.meaning d.app) (limits_of d.limits) w (g.M.WriteMutations.taken c.args.to.now)
+    (g.M.WriteMutations.taken c.render_suspended.new.sink) c.in-Err.ended what
+    (λ taken edits part. subst (λ f. PartIn f taken edits) is (c.ended.ensures.parts taken edits part)) broke)
     )
 
 pub returns-in-Err-clause-caused : goal.returns-in-Err-clause-caused
