@@ -11,7 +11,11 @@ use std::io::{Error, ErrorKind, Read};
 use std::process::ExitCode;
 use std::rt::Env;
 use std::sync::Wait;
-use std::thread::Threads;
+use std::thread::{Builder, Threads};
+
+/// The bytes of stack that a run may take: several times what the deepest documents took that were
+/// tried. What a run doesn't reach of it takes no memory.
+const STACK: usize = 1 << 30;
 
 /// What a status means, where it isn't 0.
 fn meaning(status: u8) -> Option<&'static str> {
@@ -53,8 +57,13 @@ fn words_given<R: Env + AllocGlobal>(rt: &R) -> Result<Vec<Text>, u8> {
 
 /// The whole program without threads over the standard streams. The answer is the status; of a
 /// source that isn't in the form, `refusal` is where and what was wanted there.
-fn run(rt: &HostRuntime, words: &[Text], refusal: &mut Option<String>) -> u8 {
-    let mut source = StandardIn::new(rt.reader());
+fn run<R: Print + AllocGlobal, I: Read + Drop>(
+    rt: &R,
+    reader: I,
+    words: &[Text],
+    refusal: &mut Option<String>,
+) -> u8 {
+    let mut source = StandardIn::new(reader);
     let mut out = StandardOut::new(rt);
     show_and_say(rt.alloc(), words, &mut source, &mut out, refusal)
 }
@@ -79,14 +88,32 @@ fn run_posted<R: Threads + Wait + Sync + Print + AllocGlobal, I: Read + Drop>(
     )
 }
 
-fn main(rt: HostRuntime) -> ExitCode {
+/// Runs what the words ask for. The status; and of a source that isn't in the form, where and what
+/// was wanted there.
+fn run_as_asked<R: Env + Threads + Wait + Sync + Print + AllocGlobal, I: Read + Drop>(
+    rt: &R,
+    reader: I,
+) -> (u8, Option<String>) {
     let mut refusal = None;
-    let status = match words_given(&rt) {
+    let status = match words_given(rt) {
         Ok(words) if asks_for_posters(words.as_slice()) => {
-            run_posted(&rt, rt.reader(), words.as_slice(), &mut refusal)
+            run_posted(rt, reader, words.as_slice(), &mut refusal)
         }
-        Ok(words) => run(&rt, words.as_slice(), &mut refusal),
+        Ok(words) => run(rt, reader, words.as_slice(), &mut refusal),
         Err(status) => status,
+    };
+    (status, refusal)
+}
+
+fn main(rt: HostRuntime) -> ExitCode {
+    // A deep document is shown, printed and dropped by calls as deep: they have a thread with room.
+    let thread = Builder::new()
+        .stack_size(STACK)
+        .spawn(&rt, move || run_as_asked(&rt, rt.reader()));
+    let (status, refusal) = match thread {
+        Ok(running) => running.join(&rt),
+        // Where there is none it is done here.
+        Err(_) => run_as_asked(&rt, rt.reader()),
     };
     if let Some(line) = refusal {
         let _ = eprintln!(rt; "status {status}: {line}");
