@@ -3,6 +3,8 @@
 #![tactic(auto)]
 
 mod rows;
+mod runs;
+mod twins;
 
 use rows::put_rows;
 use rt_streams::{StandardIn, StandardOut, read_all};

@@ -1,6 +1,8 @@
 //! A row: a line with a sign and its name; a line with words, if there are any; a line with the
-//! numbers of the read and of the put that fail, if they do; and its source.
+//! numbers of the read and of the put that fail, if they do; and its source. Or a line that names an
+//! example, and the same application in JSON; or the line of a runtime that is kept.
 
+use crate::twins::{put_kept, put_twin};
 use rt_show::show_and_say;
 use rt_streams::{BytesOut, BytesSource, Out, OutError};
 use rt_values::{List, OutOfMemory, Text};
@@ -73,10 +75,30 @@ fn run<O: Out>(
     out.put(end.as_bytes())
 }
 
+/// What stands before the end of the last line.
+fn without_end(rest: &[u8]) -> &[u8] {
+    match rest.split_last() {
+        Some((_end, source)) => source,
+        None => rest,
+    }
+}
+
 fn put_row<O: Out>(alloc: Global, row: &[u8], out: &mut O) -> Result<(), OutError> {
     let (name, rest) = line_in(row);
     out.put(name)?;
     out.put(b"\n")?;
+    let (line, after) = line_in(rest);
+    if let Some(example) = behind(line, "twin ") {
+        return put_twin(alloc, example, without_end(after), out);
+    }
+    if behind(line, "kept").is_some() {
+        return put_kept(alloc, out);
+    }
+    put_run(alloc, rest, out)
+}
+
+/// Runs what stands behind the name of a row.
+fn put_run<O: Out>(alloc: Global, rest: &[u8], out: &mut O) -> Result<(), OutError> {
     let (line, after) = line_in(rest);
     let (words, rest) = match behind(line, "words ") {
         Some(line) => (words_in(alloc, line)?, after),
@@ -87,11 +109,7 @@ fn put_row<O: Out>(alloc: Global, row: &[u8], out: &mut O) -> Result<(), OutErro
         Some(line) => ((digit_at(line, 0), digit_at(line, 2)), after),
         None => ((0, 0), rest),
     };
-    let source = match rest.split_last() {
-        Some((_end, source)) => source,
-        None => rest,
-    };
-    run(alloc, &words, fails, source, out)
+    run(alloc, &words, fails, without_end(rest), out)
 }
 
 /// Runs each row, and puts its name and what came of it.

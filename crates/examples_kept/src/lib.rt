@@ -1,5 +1,5 @@
 //! A runtime that a program keeps: a counter is built, told of a click, rendered, written to, settled,
-//! looked at and closed. What it writes is printed, and what was found.
+//! looked at and closed. What it writes comes as lines.
 #![tactic(auto)]
 
 use examples_counter::Counter;
@@ -39,49 +39,53 @@ fn put_line(lines: &mut List<u8>, line: List<u8>) -> Result<(), DomFault> {
     }
 }
 
+/// The runtime: its application is the counter.
+type Kept = VirtualDom<Paged<Counter>>;
+
 /// A counter that isn't built yet.
-fn made(alloc: Global) -> Result<VirtualDom<Paged<Counter>>, DomFault> {
+fn made(alloc: Global) -> Result<Kept, DomFault> {
     match VirtualDom::new(alloc, Paged { pages: Counter }, LIMITS) {
         Ok(dom) => Ok(dom),
         Err(fault) => Err(DomFault::Run(fault)),
     }
 }
 
-/// Does all that, and appends the lines. The height of the counter's scope.
-fn kept(alloc: Global, lines: &mut List<u8>) -> Result<u64, DomFault> {
-    let mut dom = made(alloc)?;
-    // It is built once, and what shows is written to a list.
+/// It is built once, and what shows is written to a list.
+fn builds(alloc: Global, lines: &mut List<u8>, dom: &mut Kept) -> Result<(), DomFault> {
     let built = dom.rebuild_to_vec()?;
-    put_edits(alloc, lines, built.edits())?;
-    // A click at the button, and what shows after it.
+    put_edits(alloc, lines, built.edits())
+}
+
+/// A click at the button, and what shows after it.
+fn clicks(alloc: Global, lines: &mut List<u8>, dom: &mut Kept) -> Result<(), DomFault> {
     dom.handle_event("click", Event::new(Nothing, true), ElementId(1))?;
     let raised = dom.render_immediate_to_vec()?;
-    put_edits(alloc, lines, raised.edits())?;
-    // Another value from outside, and all that is owed, over a sink of the program's own.
+    put_edits(alloc, lines, raised.edits())
+}
+
+/// Another value from outside, and all that is owed, over a sink of the program's own.
+fn writes(alloc: Global, lines: &mut List<u8>, dom: &mut Kept) -> Result<(), DomFault> {
     dom.write(1, 40)?;
     let mut sink = Mutations::default_list(alloc);
     dom.settle(&mut sink)?;
-    put_edits(alloc, lines, sink.edits())?;
-    let height = dom.height(COUNTER).unwrap_or(0);
-    match dom.close() {
-        Ok(_counter) => Ok(height),
-        Err(fault) => Err(DomFault::Run(fault)),
-    }
+    put_edits(alloc, lines, sink.edits())
 }
 
-fn main(rt: HostRuntime) {
-    let mut lines = List::new(rt.alloc());
-    let ended = kept(rt.alloc(), &mut lines);
-    for byte in lines.as_slice() {
-        let byte = *byte as char;
-        let _ = print!(rt; "{byte}");
-    }
-    match ended {
-        Ok(height) => {
-            let _ = println!(rt; "height {height}");
-        }
-        Err(fault) => {
-            let _ = println!(rt; "{fault}");
-        }
+/// All that is done while it is there. The height of the counter's scope.
+fn uses(alloc: Global, lines: &mut List<u8>, dom: &mut Kept) -> Result<u64, DomFault> {
+    builds(alloc, lines, dom)?;
+    clicks(alloc, lines, dom)?;
+    writes(alloc, lines, dom)?;
+    Ok(dom.height(COUNTER).unwrap_or(0))
+}
+
+/// Makes the runtime, uses it and closes it, and appends the lines of what it wrote. The height of the
+/// counter's scope, or the first fault.
+pub fn kept(alloc: Global, lines: &mut List<u8>) -> Result<u64, DomFault> {
+    let mut dom = made(alloc)?;
+    let height = uses(alloc, lines, &mut dom);
+    match dom.close() {
+        Ok(_counter) => height,
+        Err(fault) => Err(DomFault::Run(fault)),
     }
 }
