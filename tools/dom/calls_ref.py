@@ -148,7 +148,9 @@ def do(dom, src, ws, out):
     elif k == "insert": dom.insert_error(n, ws[2]); out.append("ok")
     elif k == "clear": dom.clear_errors(n); out.append("ok")
     elif k == "after":
-        dom.after_suspense_resolved(n, (names(src.actions)[int(ws[2])], tuple(value(w) for w in ws[3:]))); out.append("ok")
+        # a number that no action has names an effect that can be registered, not run
+        known = dict(enumerate(names(src.actions)))
+        dom.after_suspense_resolved(n, (known.get(int(ws[2]), ""), tuple(value(w) for w in ws[3:]))); out.append("ok")
     elif k == "freeze": dom.freeze(n); out.append("ok")
     elif k == "event":
         e = Event(value(ws[3]), ws[4] == "1")

@@ -16,6 +16,14 @@ C['row33b']=(src('3'),"limits 10000 128 pre","query\nclose\n")
 C['row33c']=(src('3'),"limits 10000 128 new","with 0 sx\nprovide 1 sy\ninplace\nquery\n")
 C['row34a']=(src('12'),"limits 10000 128 props","inplace\nthrow 5 x\nsettle\nquery\ninsert 4 y\nquery\nclear 4\nquery\n")
 C['row34b']=(src('14'),"limits 10000 128 props","inplace\nsettle\nafter 4 0\nspawn 3 iso 0 i0\nquery\n")
+# the callback is called once the boundary turns, and what it writes is shown
+called=json.loads(src('14'))
+called['actions']={"Set":{"params":["c"],"do":[{"write":"c","be":5}]}}
+called['components']['Article']['view']=[{"text":{"read":"d"}}]
+C['row34c']=(json.dumps(called,ensure_ascii=False,separators=(',',':')),"limits 10000 128 props","inplace\nmarkctx 4\nsettle\nafter 4 0 c1\nspawn 3 iso 0 c1\nevents\nmarkctx 99\nmarkall\nrender\nwake 1\nevents\nsettle\nquery\n")
+# the height that a scope may have: one too few for the child's, and just enough
+C['row4a']=(src('4'),"limits 10000 3 props","rebuild\nsettle\n")
+C['row4b']=(src('4'),"limits 10000 4 props","rebuild\nsettle\nwrite 1 i2\nsettle\n")
 r153='{"components":{"App":{"do":[{"cell":"k","init":1},{"spawn":"t","task":"F","args":[]}],"view":[{"boundary":"suspense","kids":[{"pick":[{"read":"k"},[{"use":"Kid","props":[{"get":"t"}]}],["gone"]]}]}]},"Kid":{"params":["t"],"do":[{"suspend":"t"}],"view":[]}},"tasks":{"F":{"steps":[[],[]]}},"root":"App"}'
 C['r15_3']=(r153,"limits 10000 128 props","inplace\nsettle\nwrite 1 i0\nsettle\nquery\nwake 1\nsettle\nquery\n")
 r151='{"components":{"App":{"do":[{"cell":"c","init":0}],"view":[{"text":{"read":"c"}},{"use":"Kid","props":[{"get":"c"}]}]},"Kid":{"params":["c"],"do":[{"write":"c","be":1}],"view":["k"]}},"root":"App"}'
