@@ -46,3 +46,50 @@ pub use Rattle.rt_vdom.specs.Calls as DomCalls
 pub use Rattle.rt_vdom.specs.Doms
 pub use Rattle.rt_vdom.specs.Handles
 pub use Rattle.rt_vdom.specs.Runs
+pub use Rattle.rt_vdom.specs.declared.dom.VirtualDom
+pub use Rattle.rt_vdom.specs.declared.poll.Poll
+pub use Rattle.rt_vdom.specs.declared.refusal.DomFault
+pub use Rattle.rt_reports.specs.Seen
+pub use Rattle.rt_reports.specs.Counted
+pub use Rattle.rt_reports.specs.declared.fault.Fault
+pub use Rattle.rt_reports.specs.declared.limits.Limits
+pub use Rattle.rt_reports.specs.declared.report.Report
+pub use Rattle.rt_calls.specs.Enter
+pub use Rattle.rt_calls.specs.Hooks
+pub use Rattle.rt_calls.specs.Kept
+pub use Rattle.rt_calls.specs.Steps
+pub use Rattle.rt_calls.specs.World as Worlds
+pub use Rattle.rt_calls.specs.declared.faults.Counter
+pub use Rattle.rt_calls.specs.declared.faults.CxFault
+pub use Rattle.rt_mirror.specs.Sealed
+pub use Rattle.rt_machine.specs.Machines
+pub use Rattle.rt_machine.specs.Short
+pub use Rattle.rt_headline.specs.Carried
+pub use Rattle.rt_session.specs.Posted
+pub use Rattle.rt_named.specs.Named
+pub use Rattle.rt_doms.specs.Doms as CallsOnDoms
+pub use Rattle.rt_rounds.specs.Handled
+pub use Rattle.rt_rounds.specs.Rounds
+pub use Rattle.rt_rounds.specs.Suspended
+pub use Rattle.rt_rounds.specs.Untils
+pub use Rattle.rt_scopes.specs.Counts
+pub use Rattle.rt_state.specs.Climbs
+pub use Rattle.rt_state.specs.Mirror as StateMirror
+pub use Rattle.rt_state.specs.Outputs
+pub use Rattle.rt_boundary.specs.Seen as BoundarySeen
+pub use Rattle.rt_model.specs.Asides
+pub use Rattle.rt_model.specs.Bodies as BodiesRan
+pub use Rattle.rt_model.specs.Commands
+pub use Rattle.rt_model.specs.Current
+pub use Rattle.rt_model.specs.Document as Edits
+pub use Rattle.rt_model.specs.Merge
+pub use Rattle.rt_model.specs.Next
+pub use Rattle.rt_model.specs.Queries
+pub use Rattle.rt_model.specs.Removal
+pub use Rattle.rt_model.specs.Rendering
+pub use Rattle.rt_model.specs.Replay
+pub use Rattle.rt_model.specs.Run
+pub use Rattle.rt_model.specs.Sentences
+pub use Rattle.rt_model.specs.State
+pub use Rattle.rt_model.specs.View
+pub use Rattle.rt_parts.specs.declared.error.RenderError

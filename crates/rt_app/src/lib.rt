@@ -8,12 +8,13 @@ pub use rt_bodies::{
     Bodied, Bodies, KeepsCells, Nothing, Paged, Pages, own_cell, read_all, remembered,
     unless_refused, write_all,
 };
-pub use rt_calls::{App, BodyCx, BodyTurn, Cx, CxFault, TaskStep, Turn};
+pub use rt_calls::{App, BodyCx, BodyTurn, Cx, CxFault, Firsts, TaskStep, Turn};
 pub use rt_cells::{ReactiveContext, Source, Target};
 pub use rt_edits::{
     DocAttr, DocFault, DocKind, DocNode, Document, Edit, FailingMutations, Mutations,
     NoOpMutations, SinkError, WriteMutations,
 };
+pub use rt_inbox::{Gate, NoGate, Taken};
 pub use rt_markup::{
     block, child, clickable, clickable_over, element, labelled, listens, one, path, slot, text, two,
 };
