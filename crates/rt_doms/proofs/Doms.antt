@@ -37,7 +37,7 @@ use Rattle.rt_doms.proofs.Leading.{asides_lead, quiet_alive, quiet_idle, rest_at
 
 module _ {K : Types} (app : Application K) where
   -- what a call that ended tells of its log
-  ran_told : (limits : Limits) (until : Until) (w : State K) (log : List Entry) (edits : List Edit) (v : Machine K)
+  pub ran_told : (limits : Limits) (until : Until) (w : State K) (log : List Entry) (edits : List Edit) (v : Machine K)
       → CallRan app limits until w log edits v → CallSpent app limits w log edits v
   ran_told limits until w log edits v r = record { last = r.last; so = r.so; edits_are = r.edits_are; machine = r.machine; quiet = r.quiet }
 

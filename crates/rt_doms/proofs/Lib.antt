@@ -8,3 +8,4 @@ pub mod Once
 pub mod Counting
 pub mod Polls
 pub mod Given
+pub mod Carried

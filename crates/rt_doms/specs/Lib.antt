@@ -1,2 +1,3 @@
 pub mod Doms
 pub mod Polls
+pub mod Carries

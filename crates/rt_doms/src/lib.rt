@@ -6,8 +6,10 @@
 mod programs;
 
 pub use programs::{
-    asides_lead, builds_hold, calls_come_to, calls_hold, given_builds_hold, handles_lead,
-    passed_comes_next, passed_leads, polled_comes_next, polling_leads, polls_follow, polls_lead,
+    asides_draw_none, asides_lead, builds_carry_anew, builds_hold, calls_carry_anew, calls_come_to,
+    calls_hold, given_builds_hold, handles_lead, logs_keep_drawn, passed_comes_next, passed_leads,
+    polled_comes_next, polling_leads, polls_follow, polls_lead, renders_carry_anew,
     renders_come_to, renders_hold, renders_make_or_feed, renders_rerun_in_turn, renders_run_once,
-    rests_alike, settled_hold, spent_hold, unended_grows, units_follow, units_lead,
+    rests_alike, settled_hold, spent_carry_anew, spent_hold, suspended_carry_anew, unended_grows,
+    units_follow, units_lead,
 };

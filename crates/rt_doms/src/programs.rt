@@ -4,6 +4,8 @@ ghost use Rattle.rt_doms.specs.Doms.{AsidesLead, BuildsHold, CallsComeTo, CallsH
 ghost use Rattle.rt_doms.specs.Doms.{PassedComesNext, PassedLeads, RendersComeTo, RendersHold, RendersMakeOrFeed};
 ghost use Rattle.rt_doms.specs.Doms.{RendersRerunInTurn, RendersRunOnce};
 ghost use Rattle.rt_doms.specs.Doms.{RestsAlike, SettledHold, SpentHold, UnendedGrows, UnitsFollow, UnitsLead};
+ghost use Rattle.rt_doms.specs.Carries.{AsidesDrawNone, BuildsCarryAnew, CallsCarryAnew, RendersCarryAnew, SpentCarryAnew};
+ghost use Rattle.rt_doms.specs.Carries.{LogsKeepDrawn, SuspendedCarryAnew};
 ghost use Rattle.rt_doms.specs.Polls.{PolledComesNext, PollingLeads, PollsFollow, PollsLead};
 ghost use Rattle.rt_model.specs.OneLog.{types};
 ghost use Rattle.rt_model.specs.World.{Application};
@@ -125,4 +127,40 @@ pub fn polls_lead<C, P, V, H, T, E, L>()
 /// It is one more unit of a poll of suspended work, which counts its units together.
 pub fn polls_follow<C, P, V, H, T, E, L>()
     ensures { (app : Application (types C P V H T E L)) → PollsFollow app }
+{}
+
+/// The edits of a call that takes unit after unit carry numbers of hidden nodes that are shown again, and
+/// numbers that no edit carried before, whatever edits came before the call.
+pub fn calls_carry_anew<C, P, V, H, T, E, L>()
+    ensures { (app : Application (types C P V H T E L)) → CallsCarryAnew app }
+{}
+
+/// So do those of a whole render.
+pub fn renders_carry_anew<C, P, V, H, T, E, L>()
+    ensures { (app : Application (types C P V H T E L)) → RendersCarryAnew app }
+{}
+
+/// So do those of a call whose units were spent.
+pub fn spent_carry_anew<C, P, V, H, T, E, L>()
+    ensures { (app : Application (types C P V H T E L)) → SpentCarryAnew app }
+{}
+
+/// So do those of one unit of a render while suspended.
+pub fn suspended_carry_anew<C, P, V, H, T, E, L>()
+    ensures { (app : Application (types C P V H T E L)) → SuspendedCarryAnew app }
+{}
+
+/// So do those of a build, before which there are none.
+pub fn builds_carry_anew<C, P, V, H, T, E, L>()
+    ensures { (app : Application (types C P V H T E L)) → BuildsCarryAnew app }
+{}
+
+/// A call that logs no entry draws no number of an element.
+pub fn asides_draw_none<C, P, V, H, T, E, L>()
+    ensures { (app : Application (types C P V H T E L)) → AsidesDrawNone app }
+{}
+
+/// Along an accepted log what was drawn stays drawn.
+pub fn logs_keep_drawn<C, P, V, H, T, E, L>()
+    ensures { (app : Application (types C P V H T E L)) → LogsKeepDrawn app }
 {}

@@ -8,7 +8,7 @@ use Rattle.rt_model.specs.State.{Fault, State, Item, Feed, Make, Drop, Outcome, 
 use Rattle.rt_model.specs.Next.{Work, RerunScope, PollTask, RunEffects, at_rest, next_at_rest}
 use Rattle.rt_model.specs.Run.{run}
 use Rattle.rt_model.specs.Heard.{Listener}
-use Rattle.rt_model.specs.Replay.{Entry, Build, Taken, Heard, Rerun, Poll, Effects, Made, Fed, Kept, Removed, Input, Machine, ended_by, if_live, waiting, one_more_unit, rested, is_due, due_item, due_heard, due_work, due, polled, effects_run, outcome_of, change_by, ones}
+use Rattle.rt_model.specs.Replay.{Entry, Build, Taken, Heard, Rerun, Poll, Effects, Made, Fed, Kept, Removed, Input, Machine, ended_by, if_live, waiting, one_more_unit, rested, is_due, due_item, due_heard, due_work, due, polled, effects_run, outcome_of, change_by}
 use Rattle.rt_model.specs.Told.{opens}
 use Rattle.rt_model.specs.Causes.{Limits}
 use Rattle.rt_model.proofs.LastsAlways.{live_of}
@@ -201,12 +201,6 @@ module _ {K : Types} (app : Application K) (lawful : IsLawful K app) (limits : L
         comes = comes-append app limits r.parts (ByMoves moves ∷ []) (begin_of app limits props inputs m r) m u r.comes (u, leads, refl);
       }
 
-  -- numbers begin where they began
-  pub plain_on : (m u : Machine K) (moves : List Move) (r : IsReached m) (leads : Leads app limits m moves u) → r.firsts ≡ ones
-      → (reached_on m u moves r leads).firsts ≡ ones
-  unfolding reached_on
-  plain_on m u moves r leads plain = plain
-
   -- a fact that says nothing
   abbrev Nothing : State K → List (Item K) → Type 0
   Nothing w work = Unit {0}
@@ -277,6 +271,13 @@ module _ {K : Types} (app : Application K) (lawful : IsLawful K app) (limits : L
       let h = leads.1 in
       let here : (leads.0).dead ≡ None = alive_before app limits leads.0 v moves (leads.0).dead refl leads.2 alive in
       built_on leads.0 v moves (move_sound app lawful limits m leads.0 (Logged e) h s) ((fits_entry m leads.0 e s h).built here) leads.2 alive
+
+  -- after an entry that was accepted the build has begun
+  pub built_after : (m u v : Machine K) (e : Entry) (moves : List Move) → IsReached m → IsLogged app limits m e u → Leads app limits u moves v
+      → v.dead ≡ None → v.built ≡ true
+  built_after m u v e moves r h leads alive =
+      let here : u.dead ≡ None = alive_before app limits u v moves u.dead refl leads alive in
+      built_on u v moves (move_sound app lawful limits m u (Logged e) h (sound m r)) ((fits_entry m u e (sound m r) h).built here) leads alive
 
   -- from where the way began
   record OnWay (firsts : Firsts) (contexts : List (ℕ × K.Value)) (m : Machine K) : Type 0 where

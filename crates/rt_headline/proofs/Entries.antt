@@ -6,16 +6,15 @@ use Rattle.rt_model.specs.Tree.{Types}
 use Rattle.rt_model.specs.World.{Application}
 use Rattle.rt_model.specs.Laws.{IsLawful}
 use Rattle.rt_model.specs.State.{Fault, State}
-use Rattle.rt_model.specs.Replay.{Entry, Input, Machine, is_due, due, change_by, step, accepts, rows_left, replay_on, start, ones}
+use Rattle.rt_model.specs.Replay.{Entry, Input, Machine, is_due, due, change_by, step, accepts, rows_left, replay_on}
 use Rattle.rt_model.specs.Document.{Edit}
 use Rattle.rt_model.specs.Caused.{caused}
 use Rattle.rt_model.specs.Causes.{Limits, refusal, replay_within}
 use Rattle.rt_model.specs.Told.{Telling, opens, opened, closed_unit, told_entry}
 use Rattle.rt_model.specs.Sentences.{all_carried, AllMayCome}
 use Rattle.rt_model.proofs.FaultsOnce.{open_gate}
-use Rattle.rt_model.proofs.LastsAlways.{logs_last}
+use Rattle.rt_model.proofs.LastsAlways.{rises_lasts}
 use Rattle.rt_model.proofs.Maps.{by_test}
-use Rattle.rt_model.proofs.ToldReplayed.{replay-append}
 use Rattle.rt_moves.specs.Moves.{Move, Closed, Logged, serves_item, Inside, IsSettled, AtWork, Leads}
 use Rattle.rt_moves.specs.Reached.{Reached}
 use Rattle.rt_moves.proofs.Fuel.{fuel_suffices}
@@ -24,16 +23,19 @@ use Rattle.rt_moves.proofs.Joins.{Inside-append, Leads-append}
 use Rattle.rt_moves.proofs.Logs.{logs_are_moves}
 use Rattle.rt_moves.proofs.Tellings.{told_where, told_machine}
 use Rattle.rt_moves.proofs.Lists.{every_join}
-use Rattle.rt_headline.proofs.Begins.{idle_settled, work_open, matches_serves, reached_on, plain_on, idle, matches_entry, unit_begins, entry_aside}
+use Rattle.rt_headline.proofs.Begins.{idle_settled, work_open, matches_serves, reached_on, idle, matches_entry, build_first, built_after, unit_begins, entry_aside}
 use Rattle.rt_headline.proofs.Carries.{carried_both}
 use Rattle.rt_headline.proofs.Drawn.{Below, still_below}
 use Rattle.rt_headline.proofs.Rests.{Begins, begins, Finishes, rests, no_moves}
-use Rattle.rt_headline.proofs.Open.{serves_opens_none, OpenUnit, in_work, unit_reached, unit_plain}
+use Rattle.rt_headline.proofs.Open.{serves_opens_none, OpenUnit, in_work, unit_reached}
 use Rattle.rt_headline.proofs.Wrote.{Wrote, unit_wrote}
 
 module _ {K : Types} where
   same_telling : (t u : Telling K) → Some t ≡ Some u → t ≡ u
   same_telling t u h = cc
+
+  unbuilt : {P : Type 0} (v : Machine K) → v.built ≡ true → v.built ≡ false → P
+  unbuilt v built not_built = let absurdity : true ≡ false = sym built ∙ not_built in cc
 
 module _ {K : Types} (app : Application K) (lawful : IsLawful K app) (props : K.Props) (inputs : List (Input K)) (limits : Limits) where
   abbrev From : Machine K → Type 0
@@ -44,11 +46,9 @@ module _ {K : Types} (app : Application K) (lawful : IsLawful K app) (props : K.
 
   -- between two entries of a session
   pub record Between (before : List Edit) (t : Telling K) : Type 0 where
-    pub log : List Entry
-    pub accepted : replay_on app (Some (start app props inputs)) log ≡ Some t.machine
     pub reached : From t.machine
-    -- the way began where numbers begin at 1
-    pub plain : reached.firsts ≡ ones
+    -- before the build nothing was told
+    pub none_before : t.machine.built ≡ false → all_carried (before ++ t.edits) ≡ []
     pub settled : IsSettled t.machine
     pub alive : t.machine.dead ≡ None
     pub low : Below t.machine.state.next.elements (all_carried (before ++ t.edits))
@@ -63,25 +63,22 @@ module _ {K : Types} (app : Application K) (lawful : IsLawful K app) (props : K.
 
   -- of an accepted entry: the moves that it is made of
   record Moved (m v : Machine K) (e : Entry) : Type 0 where
-    log : List Entry
-    accepted : replay_on app (Some (start app props inputs)) log ≡ Some v
     settled : IsSettled v
     alive : v.dead ≡ None
+    built : v.built ≡ true
     rises : m.state.next.elements ≤ v.state.next.elements
     begins : Begins app limits m v e
 
   -- nothing more was told
   still : (before : List Edit) (t u : Telling K) (v : Machine K) (e : Entry) → Moved t.machine v e → Below t.machine.state.next.elements (all_carried (before ++ t.edits)) → u ≡ record t { machine = v }
-      → (reached : From v) → reached.firsts ≡ ones → ((v.unit ≡ false) ⊎ InUnit (all_carried (before ++ t.edits)) t.before t.first v) → Stepped before t u
-  still before t u v e moved low same reached plain phase =
+      → From v → ((v.unit ≡ false) ⊎ InUnit (all_carried (before ++ t.edits)) t.before t.first v) → Stepped before t u
+  still before t u v e moved low same reached phase =
       subst (λ (x : Telling K). Stepped before t x) (sym same)
       (record {
         next =
             record {
-              log = moved.log;
-              accepted = moved.accepted;
               reached = reached;
-              plain = plain;
+              none_before = λ q. unbuilt v moved.built q;
               settled = moved.settled;
               alive = moved.alive;
               low = still_below (all_carried (before ++ t.edits)) t.machine.state.next.elements v.state.next.elements moved.rises low;
@@ -94,16 +91,14 @@ module _ {K : Types} (app : Application K) (lawful : IsLawful K app) (props : K.
 
   -- a unit's edits were told
   over : (before : List Edit) (t u : Telling K) (v : Machine K) (e : Entry) (edits : List Edit) → Moved t.machine v e → Below t.machine.state.next.elements (all_carried (before ++ t.edits))
-      → u ≡ record t { machine = v; edits = t.edits ++ edits } → (reached : From v) → reached.firsts ≡ ones → v.unit ≡ false → Wrote app lawful props inputs limits (all_carried (before ++ t.edits)) t.before v edits → Stepped before t u
-  over before t u v e edits moved low same reached plain unit wrote =
+      → u ≡ record t { machine = v; edits = t.edits ++ edits } → From v → v.unit ≡ false → Wrote app lawful props inputs limits (all_carried (before ++ t.edits)) t.before v edits → Stepped before t u
+  over before t u v e edits moved low same reached unit wrote =
       subst (λ (x : Telling K). Stepped before t x) (sym same)
       (record {
         next =
             record {
-              log = moved.log;
-              accepted = moved.accepted;
               reached = reached;
-              plain = plain;
+              none_before = λ q. unbuilt v moved.built q;
               settled = moved.settled;
               alive = moved.alive;
               low = all_low;
@@ -141,7 +136,7 @@ module _ {K : Types} (app : Application K) (lawful : IsLawful K app) (props : K.
             begun = o.begun;
             opening = o.opening;
             reached = o.reached;
-            plain = o.plain;
+            none_before = o.none_before;
             alive = o.alive;
             unit = o.unit;
             logged = o.logged;
@@ -166,17 +161,15 @@ module _ {K : Types} (app : Application K) (lawful : IsLawful K app) (props : K.
           let here : InUnit xs t.before t.first v = on b.rest v b.leads inside in
           let work : AtWork v = in_work app lawful props inputs limits xs t.before t.first v here moved.alive in
           still before t u v e moved low (told_as true work.unit) (unit_reached app lawful props inputs limits xs t.before t.first v here)
-          (unit_plain app lawful props inputs limits xs t.before t.first v here) (inr here)
+          (inr here)
 
       ends : Finishes app limits b.middle v → Stepped before t u
       ends f =
           let here : InUnit xs t.before t.first f.served = on f.moves f.served f.leads f.inside in
           let unit : v.unit ≡ false = ap (λ (x : Machine K). x.unit) (f.closed).gives in
           let open_at : From f.served = unit_reached app lawful props inputs limits xs t.before t.first f.served here in
-          let plain = plain_on app lawful limits props inputs f.served v (Closed ∷ []) open_at (v, f.closed, refl)
-          (unit_plain app lawful props inputs limits xs t.before t.first f.served here) in
           let reached : From v = reached_on app lawful limits props inputs f.served v (Closed ∷ []) open_at (v, f.closed, refl) in
-          over before t u v e (caused app t.before v.state t.first) moved low (told_as false unit) reached plain unit (unit_wrote app lawful props inputs limits xs t.before t.first f.served v here f.closed)
+          over before t u v e (caused app t.before v.state t.first) moved low (told_as false unit) reached unit (unit_wrote app lawful props inputs limits xs t.before t.first f.served v here f.closed)
 
   -- one more entry
   module _ (before : List Edit) (t u : Telling K) (e : Entry) (so : Between before t) (none_refused : refusal limits t.machine ≡ None) (due_now : is_due app (due app t.machine) e ≡ true) where
@@ -204,13 +197,13 @@ module _ {K : Types} (app : Application K) (lawful : IsLawful K app) (props : K.
     moved alive =
         let found = logs_are_moves app limits m v (e ∷ []) so.settled within in
         let x : Machine K = change_by app t.machine t.machine.work e in
+        let b : Begins app limits m v e = begins app limits m v found.0 e so.settled found.1 found.2 in
         record {
-          log = so.log ++ e ∷ [];
-          accepted = replay-append app so.log (e ∷ []) (Some (start app props inputs)) ∙ ap (λ (o : Option (Machine K)). replay_on app o (e ∷ [])) so.accepted ∙ alone;
           settled = (fuel_suffices app (rows_left x.work) (rows_left x.work) x (omega arith) (omega arith)).1;
           alive = alive;
-          rises = ((logs_last app lawful props inputs so.log m so.accepted).rises (e ∷ []) v alone).elements;
-          begins = begins app limits m v found.0 e so.settled found.1 found.2;
+          built = built_after app lawful limits props inputs m b.middle v e b.rest so.reached b.logged b.leads alive;
+          rises = (rises_lasts app lawful m (e ∷ []) v alone).elements;
+          begins = b;
         }
 
     at_rest_on : (h : Moved m v e) → u ≡ closed_unit app (opened t e) (opens e || m.unit) v → m.unit ≡ false → Stepped before t u
@@ -234,7 +227,7 @@ module _ {K : Types} (app : Application K) (lawful : IsLawful K app) (props : K.
               begun = b.middle;
               opening = q;
               reached = so.reached;
-              plain = so.plain;
+              none_before = λ is. so.none_before (build_first app m so.alive idle_before (subst (λ (d : Entry). due app m ≡ Some d) is (b.logged).due_is));
               alive = so.alive;
               unit = rest;
               logged = b.logged;
@@ -262,8 +255,7 @@ module _ {K : Types} (app : Application K) (lawful : IsLawful K app) (props : K.
             ∙ ap (λ (x : Bool). closed_unit app (if x then anew else t) (x || m.unit) v) q
             ∙ ap (λ (x : Bool). closed_unit app t x v) rest
             ∙ ap (λ (x : Option Fault). told_where app t false v x) h.alive in
-            still before t u v e h so.low told reached
-            (plain_on app lawful limits props inputs m v (Logged e ∷ b.rest) so.reached (b.middle, b.logged, b.leads) so.plain) (inl unit)
+            still before t u v e h so.low told reached (inl unit)
 
     in_unit_on : (h : Moved m v e) → u ≡ closed_unit app (opened t e) (opens e || m.unit) v → InUnit (all_carried (before ++ t.edits)) t.before t.first m → Stepped before t u
     in_unit_on h same o =
@@ -277,7 +269,7 @@ module _ {K : Types} (app : Application K) (lawful : IsLawful K app) (props : K.
           begun = o.begun;
           opening = o.opening;
           reached = o.reached;
-          plain = o.plain;
+          none_before = o.none_before;
           alive = o.alive;
           unit = o.unit;
           logged = o.logged;

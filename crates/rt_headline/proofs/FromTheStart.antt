@@ -40,7 +40,7 @@ module _ {K : Types} (app : Application K) (lawful : IsLawful K app) (props : K.
   So before t = Between app lawful props inputs limits before t
 
   -- a log of such entries
-  log_so : (before : List Edit) (log more : List Entry) (t u : Telling K) (last : Machine K) → So before t → tell_log app (Some t) log ≡ Some u → replay_within app limits (Some t.machine) (log ++ more) ≡ Some last
+  pub log_so : (before : List Edit) (log more : List Entry) (t u : Telling K) (last : Machine K) → So before t → tell_log app (Some t) log ≡ Some u → replay_within app limits (Some t.machine) (log ++ more) ≡ Some last
       → u.machine.dead ≡ None → So before u × (replay_within app limits (Some u.machine) more ≡ Some last)
   log_so before [] more t u last so tells go alive =
       subst (λ (x : Telling K). So before x × (replay_within app limits (Some x.machine) more ≡ Some last)) (same_telling t u tells) (so, go)
@@ -72,10 +72,8 @@ module _ {K : Types} (app : Application K) (lawful : IsLawful K app) (props : K.
       let unit : t.machine.unit ≡ false =
       sym (ap (λ (o : Option Fault). moves_alone o t.machine.work t.machine.unit) so.alive ∙ ap (λ (xs : List (Item K)). moves_alone None xs t.machine.unit) (quiet_idle t.machine quiet)) ∙ so.settled in
       record {
-        log = so.log;
-        accepted = so.accepted;
         reached = so.reached;
-        plain = so.plain;
+        none_before = λ q. ap (λ (es : List Edit). all_carried es) (append-nil (before ++ t.edits)) ∙ so.none_before q;
         settled = so.settled;
         alive = so.alive;
         low = subst (λ (es : List Edit). Below t.machine.state.next.elements (all_carried es)) (sym (append-nil (before ++ t.edits))) so.low;
@@ -104,10 +102,8 @@ module _ {K : Types} (app : Application K) (lawful : IsLawful K app) (props : K.
   start_so : So [] (telling (start app props inputs))
   start_so =
       record {
-        log = [];
-        accepted = refl;
         reached = record { firsts = ones; above = ones_above; contexts = []; parts = []; comes = refl };
-        plain = refl;
+        none_before = λ q. refl;
         settled = refl;
         alive = refl;
         low = tt;
@@ -116,7 +112,7 @@ module _ {K : Types} (app : Application K) (lawful : IsLawful K app) (props : K.
 
 module _ {K : Types} (app : Application K) where
   -- an accepted entry came where no fault had ended the run
-  came_alive : (m v : Machine K) (e : Entry) → replay_on app (Some m) (e ∷ []) ≡ Some v → m.dead ≡ None
+  pub came_alive : (m v : Machine K) (e : Entry) → replay_on app (Some m) (e ∷ []) ≡ Some v → m.dead ≡ None
   came_alive m v e h = by_dead m.dead refl
     where
       by_dead : (o : Option Fault) → m.dead ≡ o → m.dead ≡ None

@@ -17,7 +17,7 @@ mod Open
 mod Running
 mod Dying
 mod Wrote
-mod Entries
+pub mod Entries
 mod Faulted
-mod FromTheStart
+pub mod FromTheStart
 mod Fronts

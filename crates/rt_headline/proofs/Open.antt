@@ -1,17 +1,17 @@
 -- While a unit is open: how it began, and the work that was served since.
-use Rattle.std.proofs.Common.{ℕ, true, false, List, ◌∷◌, ◌≡◌, refl}
+use Rattle.std.proofs.Common.{ℕ, true, false, List, [], ◌∷◌, ◌≡◌, refl}
 use Rattle.std.specs.Prelude.{None}
 use Rattle.rt_model.specs.Tree.{Types}
 use Rattle.rt_model.specs.World.{Application}
 use Rattle.rt_model.specs.Laws.{IsLawful}
 use Rattle.rt_model.specs.State.{State}
-use Rattle.rt_model.specs.Replay.{Entry, Build, Taken, Heard, Rerun, Poll, Effects, Made, Fed, Kept, Removed, Input, Machine, ones}
+use Rattle.rt_model.specs.Replay.{Entry, Build, Taken, Heard, Rerun, Poll, Effects, Made, Fed, Kept, Removed, Input, Machine}
 use Rattle.rt_model.specs.Causes.{Limits}
 use Rattle.rt_model.specs.Told.{opens}
 use Rattle.rt_moves.specs.Moves.{Move, Logged, serves_item, Inside, AtWork, IsLogged, Leads}
 use Rattle.rt_moves.specs.Reached.{Reached}
 use Rattle.rt_moves.proofs.Insides.{inside_lasts}
-use Rattle.rt_headline.proofs.Begins.{reached_on, plain_on}
+use Rattle.rt_headline.proofs.Begins.{reached_on}
 use Rattle.rt_headline.proofs.Drawn.{Below}
 
 pub serves_opens_none : (e : Entry) → serves_item e ≡ true → opens e ≡ false
@@ -36,8 +36,8 @@ module _ {K : Types} (app : Application K) (lawful : IsLawful K app) (props : K.
     pub begun : Machine K
     pub opening : opens first ≡ true
     pub reached : From from
-    -- the way began where numbers begin at 1
-    pub plain : reached.firsts ≡ ones
+    -- the build comes before all edits
+    pub none_before : first ≡ Build → xs ≡ []
     pub alive : from.dead ≡ None
     pub unit : from.unit ≡ false
     pub logged : IsLogged app limits from first begun
@@ -61,8 +61,3 @@ module _ {K : Types} (app : Application K) (lawful : IsLawful K app) (props : K.
 
   pub unit_reached : (xs : List ℕ) (w : State K) (first : Entry) (m : Machine K) → OpenUnit xs w first m → From m
   unit_reached xs w first m o = reached_on app lawful limits props inputs o.from m (Logged first ∷ o.done) o.reached (o.begun, o.logged, o.leads)
-
-  pub unit_plain : (xs : List ℕ) (w : State K) (first : Entry) (m : Machine K) (o : OpenUnit xs w first m) → (unit_reached xs w first m o).firsts ≡ ones
-  unfolding unit_reached
-  unit_plain xs w first m o =
-      plain_on app lawful limits props inputs o.from m (Logged first ∷ o.done) o.reached (o.begun, o.logged, o.leads) o.plain

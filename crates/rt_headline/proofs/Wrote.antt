@@ -1,11 +1,10 @@
 -- What a unit wrote that has ended: its edits carry what may come, and what was drawn by its end.
-use Rattle.std.proofs.Common.{ℕ, ◌<◌, true, false, List, [], ◌∷◌, ◌≡◌, ◌⊎◌, inl, inr, refl, sym, ap, ◌∙◌, subst, arith}
-use Rattle.std.specs.Prelude.{None}
+use Rattle.std.proofs.Common.{ℕ, ◌<◌, true, List, [], ◌∷◌, ◌≡◌, inl, refl, sym, ap, ◌∙◌, subst, arith}
 use Rattle.rt_model.specs.Tree.{Types}
-use Rattle.rt_model.specs.World.{Application, Firsts}
+use Rattle.rt_model.specs.World.{Application}
 use Rattle.rt_model.specs.Laws.{IsLawful}
 use Rattle.rt_model.specs.State.{State}
-use Rattle.rt_model.specs.Replay.{Entry, Build, Taken, Heard, Rerun, Poll, Effects, Made, Fed, Kept, Removed, Input, Machine, ones}
+use Rattle.rt_model.specs.Replay.{Entry, Build, Taken, Heard, Rerun, Poll, Effects, Made, Fed, Kept, Removed, Input, Machine}
 use Rattle.rt_model.specs.Document.{Edit, AppendChildren, count_of}
 use Rattle.rt_model.specs.View.{view}
 use Rattle.rt_model.specs.Caused.{written, caused}
@@ -13,14 +12,14 @@ use Rattle.rt_model.specs.Causes.{Limits}
 use Rattle.rt_model.specs.Told.{opens}
 use Rattle.rt_model.specs.Sentences.{all_carried, MayCome, AllMayCome}
 use Rattle.rt_moves.specs.Moves.{Closed, AtWork, IsClosed, IsLogged}
-use Rattle.rt_moves.specs.Reached.{start_at, Reached}
+use Rattle.rt_moves.specs.Reached.{Reached}
 use Rattle.rt_rerun.proofs.Nodes.{Settled}
 use Rattle.rt_rerun.proofs.Settled.{settled_of}
 use Rattle.rt_moves.specs.Reruns.{Reruns}
 use Rattle.rt_rerun.proofs.Homes.{Under}
-use Rattle.rt_headline.proofs.Begins.{build_first, reached_on, idle, start_or_built}
+use Rattle.rt_headline.proofs.Begins.{reached_on}
 use Rattle.rt_headline.proofs.Carries.{carries, appended_carries}
-use Rattle.rt_headline.proofs.Drawn.{Below, less_than, never_among, all_listed}
+use Rattle.rt_headline.proofs.Drawn.{Below, less_than, all_listed}
 use Rattle.rt_headline.proofs.Shown.{shown_stands, in_range, carried_comes, may_come, comes_low}
 use Rattle.rt_headline.proofs.Open.{OpenUnit, in_work, unit_reached}
 
@@ -39,11 +38,12 @@ module _ {K : Types} (app : Application K) (lawful : IsLawful K app) (props : K.
   nothing_wrote : (xs : List ℕ) (w : State K) (v : Machine K) → Wrote xs w v []
   nothing_wrote xs w v = record { come = tt; low = tt }
 
-  build_wrote : (xs : List ℕ) (from v : Machine K) → (reached : From from) → reached.firsts ≡ ones → from.dead ≡ None → from.built ≡ false → Below from.state.next.elements xs → Settled v.state
-      → Wrote xs from.state v (AppendChildren 0 (view v.state) ∷ [])
-  build_wrote xs from v reached plain alive unbuilt low done =
+  build_wrote : (xs : List ℕ) (w : State K) (v : Machine K) → xs ≡ [] → Settled v.state → Wrote xs w v (AppendChildren 0 (view v.state) ∷ [])
+  build_wrote xs w v none done =
       record {
-        come = all_listed (λ n. MayCome xs from.state n) (all_carried edits) (λ n more. inl (never_among (λ k. (0 < k) × (k < 1)) n (λ p. let above = p.0 in let less = p.1 in omega (arith, above, less)) xs low_1));
+        come =
+            subst (λ (earlier : List ℕ). AllMayCome earlier w edits) (sym none)
+            (all_listed (λ n. MayCome [] w n) (all_carried edits) (λ n more. inl refl));
         low = all_listed (λ n. (0 < n) × (n < v.state.next.elements)) (all_carried edits) (λ n more. range n more);
       }
     where
@@ -55,14 +55,6 @@ module _ {K : Types} (app : Application K) (lawful : IsLawful K app) (props : K.
           let shows : carries n edits ≡ count_of n (view v.state) = appended_carries n 0 (view v.state) in
           let u : Under v.state done n 0 = shown_stands v.state done n (omega (arith, more, shows)) in
           in_range v.state done n 0 u
-
-      first_numbers : (from ≡ start_at app props reached.firsts reached.contexts inputs) ⊎ (from.built ≡ true) → Below 1 xs
-      first_numbers (inl same) =
-          subst (λ (f : Firsts). Below f.elements xs) plain (subst (λ (x : Machine K). Below x.state.next.elements xs) same low)
-      first_numbers (inr built) = let absurdity : false ≡ true = sym unbuilt ∙ built in cc
-
-      low_1 : Below 1 xs
-      low_1 = first_numbers (start_or_built app lawful limits props inputs from reached alive)
 
   rerun_wrote : (xs : List ℕ) (from v : Machine K) (s : ℕ) → Reruns app limits props inputs from s v → Below from.state.next.elements xs → Wrote xs from.state v (written app from.state v.state s)
   rerun_wrote xs from v s r low =
@@ -78,7 +70,7 @@ module _ {K : Types} (app : Application K) (lawful : IsLawful K app) (props : K.
   -- a unit ends
   pub unit_wrote : (xs : List ℕ) (w : State K) (first : Entry) (m v : Machine K) → InUnit xs w first m → IsClosed m v → Wrote xs w v (caused app w v.state first)
   unit_wrote xs w first m v o closed =
-      subst (λ (x : State K). Wrote xs x v (caused app x v.state first)) (sym o.before_is) (by_entry first o.opening o.logged)
+      subst (λ (x : State K). Wrote xs x v (caused app x v.state first)) (sym o.before_is) (by_entry first o.opening o.none_before o.logged)
     where
       work : AtWork m
       work = in_work app lawful props inputs limits xs w first m o closed.alive
@@ -91,18 +83,16 @@ module _ {K : Types} (app : Application K) (lawful : IsLawful K app) (props : K.
           settled_of app lawful limits props inputs v reached_v (ap (λ (x : Machine K). x.dead) closed.gives ∙ closed.alive)
           (ap (λ (x : Machine K). x.built) closed.gives ∙ work.built) (ap (λ (x : Machine K). x.work) closed.gives ∙ closed.idle)
 
-      none : (o.from).work ≡ []
-      none = idle app lawful limits props inputs o.from o.reached o.alive o.unit
-
-      by_entry : (e : Entry) → opens e ≡ true → IsLogged app limits o.from e o.begun → Wrote xs (o.from).state v (caused app (o.from).state v.state e)
-      by_entry Build h logged = build_wrote xs o.from v o.reached o.plain o.alive (build_first app o.from o.alive none logged.due_is) o.low done
-      by_entry (Rerun s) h logged =
+      by_entry : (e : Entry) → opens e ≡ true → (e ≡ Build → xs ≡ []) → IsLogged app limits o.from e o.begun
+          → Wrote xs (o.from).state v (caused app (o.from).state v.state e)
+      by_entry Build h none logged = build_wrote xs (o.from).state v (none refl) done
+      by_entry (Rerun s) h none logged =
           rerun_wrote xs o.from v s (record { begun = o.begun; served = m; moves = o.done; reached = o.reached; logged = logged; leads = o.leads; inside = o.inside; closed = closed }) o.low
-      by_entry (Poll t) h logged = nothing_wrote xs (o.from).state v
-      by_entry (Effects s) h logged = nothing_wrote xs (o.from).state v
-      by_entry (Taken k) h logged = cc
-      by_entry (Heard s) h logged = cc
-      by_entry (Made s) h logged = cc
-      by_entry (Fed s) h logged = cc
-      by_entry (Kept s) h logged = cc
-      by_entry (Removed s) h logged = cc
+      by_entry (Poll t) h none logged = nothing_wrote xs (o.from).state v
+      by_entry (Effects s) h none logged = nothing_wrote xs (o.from).state v
+      by_entry (Taken k) h none logged = cc
+      by_entry (Heard s) h none logged = cc
+      by_entry (Made s) h none logged = cc
+      by_entry (Fed s) h none logged = cc
+      by_entry (Kept s) h none logged = cc
+      by_entry (Removed s) h none logged = cc
