@@ -43,6 +43,7 @@ pub use Rattle.rt_parts.specs.declared.attribute.AttributeValue
 pub use Rattle.rt_parts.specs.declared.template.TemplateAttribute
 pub use Rattle.rt_parts.specs.declared.template.TemplateNode
 pub use Rattle.rt_vdom.specs.Calls as DomCalls
+pub use Rattle.rt_vdom.specs.Carried as StepsCarried
 pub use Rattle.rt_vdom.specs.Doms
 pub use Rattle.rt_vdom.specs.Handles
 pub use Rattle.rt_vdom.specs.Runs
@@ -67,6 +68,7 @@ pub use Rattle.rt_machine.specs.Short
 pub use Rattle.rt_headline.specs.Carried
 pub use Rattle.rt_session.specs.Posted
 pub use Rattle.rt_named.specs.Named
+pub use Rattle.rt_doms.specs.Carries
 pub use Rattle.rt_doms.specs.Doms as CallsOnDoms
 pub use Rattle.rt_rounds.specs.Handled
 pub use Rattle.rt_rounds.specs.Rounds

@@ -1,5 +1,5 @@
 -- What is said of a dom's calls, by what is answered.
-use Rattle.std.proofs.Common.{ℕ, Bool, true, false, ◌&&◌, List, [], ◌≡◌, refl, sym, ap, ◌∙◌, subst, map}
+use Rattle.std.proofs.Common.{ℕ, ◌<◌, Bool, true, false, ◌&&◌, List, [], ◌≡◌, refl, sym, ap, ◌∙◌, subst, map}
 use Rattle.std.specs.Prelude.{Option, Some, None, Result, Ok, Err}
 use Rattle.rt_edits.specs.declared.edit.Edit.{Edit}
 use Rattle.rt_inbox.specs.declared.message.Drained.{Drained}
@@ -9,20 +9,22 @@ use Rattle.rt_model.specs.World.{Application, Firsts}
 use Rattle.rt_model.specs.Rendering.{suspended_remains}
 use Rattle.rt_model.specs.Replay as replay
 use Rattle.rt_model.specs.State as model
-use Rattle.rt_doms.specs.Doms.{Until, Events}
+use Rattle.rt_doms.specs.Doms.{Until, Events, Renders}
 use Rattle.rt_parts.specs.declared.event.Event.{Event}
 use Rattle.rt_reports.specs.Seen.{entry_of, limits_of}
 use Rattle.rt_reports.specs.declared.fault.Fault.{Fault}
+use Rattle.rt_reports.specs.declared.fault.Fault.TheVariants as faults
 use Rattle.rt_reports.specs.declared.limits.Limits.{Limits}
 use Rattle.rt_reports.specs.declared.report.Report.{Report}
 use Rattle.rt_state.specs.Mirror.{Unkept}
 use Rattle.rt_machine.specs.Short.{PartOf}
+use Rattle.rt_moves.proofs.Begun.{ones_above}
 use Rattle.rt_rounds.specs.Handled.{HeardUpTo}
 use Rattle.rt_rounds.specs.Suspended.{RenderBroke}
 use Rattle.rt_vdom.specs.Calls.{WantsMemory, ran_fault}
 use Rattle.rt_vdom.specs.Doms.{IsStarted, StateIn}
 use Rattle.rt_vdom.specs.Handles.{HandlesAs, PollCut, RenderCut, PolledFrom, PolledSuspended, PollsOnAs, PollsSuspendedAs, RendersSuspendedAs, Worked, WorksAs, answers, sees_none, taken_in}
-use Rattle.rt_vdom.specs.Runs.{CallBrokeOff, Builds, BuildsToList, Runs, RunsAs, RunsToList, Stopped, Went}
+use Rattle.rt_vdom.specs.Runs.{CallBrokeOff, Builds, BuildsToList, BuildStopped, PrebuiltStopped, RendersToList, Runs, RunsAs, RunsOnce, Stopped, Went}
 use Rattle.rt_vdom.specs.declared.dom.VirtualDom.{VirtualDom}
 use Rattle.rt_vdom.specs.declared.poll.Poll.{Poll}
 use Rattle.rt_vdom.specs.declared.refusal.DomFault.{DomFault}
@@ -97,20 +99,21 @@ module _ {P C Q V H T E L : Type 0} (meaning : P → Application (types C Q V H 
         stands = went.stands;
       }
 
-  -- a call over a list of what is written
-  pub list_ok : {M : Type 0} (until : Until) (taken : M → Option (List Edit)) (old new : VirtualDom P C Q V H T E L) (list : M)
-      (report : Report) (before : Option (List Edit)) → before ≡ Some []
-      → Runs meaning until before (taken list) old new (Ok report)
-      → RunsToList meaning until taken old new (Ok list)
-  list_ok until taken old new list report before start runs =
-      (report, subst (λ (b : Option (List Edit)). Runs meaning until b (taken list) old new (Ok report)) start runs)
+  -- a whole render over a list of what is written
+  pub list_ok : {M : Type 0} (taken : M → Option (List Edit)) (old new : VirtualDom P C Q V H T E L) (list : M) (report : Report)
+      (before : Option (List Edit)) → before ≡ Some []
+      → Runs meaning Renders before (taken list) old new (Ok report)
+      → RunsOnce meaning old new (Ok report)
+      → RendersToList meaning taken old new (Ok list)
+  list_ok taken old new list report before start runs once =
+      (report, subst (λ (b : Option (List Edit)). Runs meaning Renders b (taken list) old new (Ok report)) start runs, once)
 
-  pub list_err : {M : Type 0} (until : Until) (taken : M → Option (List Edit)) (old new : VirtualDom P C Q V H T E L)
-      (before after : Option (List Edit)) (fault : DomFault) → before ≡ Some []
-      → Runs meaning until before after old new (Err fault)
-      → RunsToList meaning until taken old new (Err fault)
-  list_err until taken old new before after fault start runs =
-      (after, subst (λ (b : Option (List Edit)). Runs meaning until b after old new (Err fault)) start runs)
+  pub list_err : {M : Type 0} (taken : M → Option (List Edit)) (old new : VirtualDom P C Q V H T E L) (before after : Option (List Edit))
+      (fault : DomFault) → before ≡ Some []
+      → Runs meaning Renders before after old new (Err fault)
+      → RendersToList meaning taken old new (Err fault)
+  list_err taken old new before after fault start runs =
+      (after, subst (λ (b : Option (List Edit)). Runs meaning Renders b after old new (Err fault)) start runs)
 
   -- so a build does
   pub build_ok : {M : Type 0} (taken : M → Option (List Edit)) (old new : VirtualDom P C Q V H T E L) (list : M) (report : Report)
@@ -141,6 +144,25 @@ module _ {P C Q V H T E L : Type 0} (meaning : P → Application (types C Q V H 
             s.first
             ∙ ap (λ (a : P). replay.provided_all (meaning a) (replay.first_state (meaning a).root props firsts) provided) (sym s.owned);
       }
+
+  -- making and building one came to a fault of the definitions where its build did
+  pub prebuilt_stopped : (app : P) (props : Q) (limits : Limits) (d : VirtualDom P C Q V H T E L) (what : Fault)
+      → IsStarted meaning app props replay.ones [] limits d
+      → ((props : Q) (firsts : Firsts) (provided : List (ℕ × V)) → 0 < firsts.elements
+      → IsStarted meaning d.app props firsts provided d.limits d
+      → BuildStopped meaning d.app d.limits props firsts provided None None what)
+      → PrebuiltStopped meaning app limits props what
+  prebuilt_stopped app props limits d what started builds =
+      let stopped : PrebuiltStopped meaning d.app d.limits props what =
+      (builds props replay.ones [] ones_above (started_own app props replay.ones [] limits d started)).0 in
+      subst (λ (l : Limits). PrebuiltStopped meaning app l props what) started.limited
+      (subst (λ (a : P). PrebuiltStopped meaning a d.limits props what) started.owned stopped)
+
+  -- nor did it where memory was wanting before the build
+  pub prebuilt_wanting : (app : P) (props : Q) (limits : Limits) (what : Fault) → what ≡ faults.OutOfMemory
+      → PrebuiltStopped meaning app limits props what
+  prebuilt_wanting app props limits what wants =
+      subst (λ (f : Fault). PrebuiltStopped meaning app limits props f) (sym wants) (λ fault why. cc)
 
   -- of polls of suspended work
   pub polls_on_err : (props : Q) (w : model.State (types C Q V H T E L)) (new : VirtualDom P C Q V H T E L) (fault : DomFault)

@@ -1,5 +1,6 @@
 mod Looked
 mod Standing
+mod Carried
 mod Ran
 mod Failed
 mod Polled

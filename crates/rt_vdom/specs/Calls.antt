@@ -2,6 +2,7 @@
 use Rattle.std.specs.Prelude.{◌≡◌, ◌⊎◌, ℕ, ◌+◌, Bool, true, false, Option, Some, None, List}
 use Rattle.std.specs.Prelude.{[], ◌∷◌, ◌++◌, Result, Ok, Err, OnOk, OnErr, IfErr, IsTrue, if◌then◌else◌}
 use Rattle.rt_calls.specs.declared.faults.Counter.{Counter}
+use Rattle.rt_calls.specs.declared.faults.Counter.TheVariants as counters
 use Rattle.rt_model.specs.Document as document
 use Rattle.rt_model.specs.Asides.{left_of}
 use Rattle.rt_model.specs.Lists.{Text, at}
@@ -24,7 +25,7 @@ use Rattle.rt_scopes.specs.Counts.{Counts}
 use Rattle.rt_vdom.specs.declared.poll.Poll.{Poll}
 use Rattle.rt_vdom.specs.declared.poll.Poll.TheVariants as polls
 use Rattle.rt_state.specs.Mirror.{Unkept}
-use Rattle.rt_vdom.specs.Doms.{IsStarted, Stands, StateIn}
+use Rattle.rt_vdom.specs.Doms.{IsStarted, NextIn, Stands, StateIn}
 use Rattle.rt_vdom.specs.declared.dom.Stage.{Stage}
 use Rattle.rt_vdom.specs.declared.dom.Stage.TheVariants as stages
 use Rattle.rt_vdom.specs.declared.dom.VirtualDom.{VirtualDom}
@@ -133,6 +134,11 @@ module _ {P C Q V H T E L : Type 0} where
 
   abbrev pub FailsOn : {A : Type 0} → VirtualDom P C Q V H T E L → Result A DomFault → Type 0
   FailsOn new result = IfErr result (λ fault. FailsAt new fault)
+
+  -- the scope is live, and memory was wanting, or tasks have no number left
+  abbrev pub WantsTask : VirtualDom P C Q V H T E L → ℕ → DomFault → Type 0
+  WantsTask old scope fault =
+      ((g : Unkept (types C Q V H T E L)) → is_live (StateIn g old) scope ≡ true) × WantsNumber counters.Tasks (NextIn old).tasks fault
 
 module _ {P C Q V H T E L : Type 0} (meaning : P → Application (types C Q V H T E L)) where
   -- a call that logs no entry: a dom that stands for a state stands for another one after it

@@ -21,6 +21,7 @@ use Rattle.rt_values.specs.declared.names.ScopeId.{ScopeId}
 use Rattle.rt_rounds.specs.Handled.{HeardBy, HeardUpTo}
 use Rattle.rt_rounds.specs.Suspended.{PollsTo, RendersTo, PollCutOn, RenderBroke, RenderCutOn}
 use Rattle.rt_vdom.specs.Doms.{Stands}
+use Rattle.rt_vdom.specs.Carried.{StepsCarryOn}
 use Rattle.rt_vdom.specs.Runs.{HoldsBy, Stopped}
 use Rattle.rt_vdom.specs.declared.dom.VirtualDom.{VirtualDom}
 use Rattle.rt_vdom.specs.declared.poll.Poll.{Poll}
@@ -69,8 +70,8 @@ module _ {P C Q V H T E L : Type 0} (meaning : P → Application (types C Q V H 
       (props : Q) (whole : Bool) (w : model.State (types C Q V H T E L)) → Stands meaning props whole w old
       → HandlesAs props whole w name event element new result
 
-  -- messages were taken in and events processed: nothing was written; pending exactly where no scope is seen then and no message
-  -- was left to drain
+  -- messages were taken in and events processed, where what is written goes nowhere; pending exactly where no scope is seen then and
+  -- no message was left to drain
   pub record Worked (props : Q) (whole : Bool) (w : model.State (types C Q V H T E L)) (drained : Drained)
       (answer : Poll (Unit {0})) (d : VirtualDom P C Q V H T E L) : Type 0 where
     pub wrote : List Edit
@@ -107,6 +108,9 @@ module _ {P C Q V H T E L : Type 0} (meaning : P → Application (types C Q V H 
     pub went : RendersTo (meaning d.app) (limits_of d.limits) w log (map edit_of wrote) left
     pub shows : document_after (map edit_of wrote) (view w) ≡ Ok (view left)
     pub answers_as : map (λ scope. scope.0) answer ≡ resolved_by_height left
+    -- after whatever edits carried what was drawn, each number that its edits carry is that of a hidden node that is shown again, or one
+    -- that no edit carried before
+    pub carries : StepsCarryOn (meaning d.app) w ((went.stepped).steps) (map edit_of wrote) (nothing_resolved left)
     pub stands : Stands meaning props false (nothing_resolved left) d
 
   -- it came to a fault; where units were spent the dom stands for what is left

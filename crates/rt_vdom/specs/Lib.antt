@@ -1,4 +1,5 @@
 pub mod Doms
 pub mod Calls
+pub mod Carried
 pub mod Runs
 pub mod Handles

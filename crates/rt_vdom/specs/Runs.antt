@@ -18,6 +18,7 @@ use Rattle.rt_model.specs.State as model
 use Rattle.rt_model.specs.Asides.{Looked, aside_state, resting}
 use Rattle.rt_doms.specs.Doms.{Until, Events, Renders, BuildHolds, GivenBuildRan}
 use Rattle.rt_doms.specs.Doms.{CallHolds, RenderHolds, RenderComesTo, SpentHolds, ends_by, left_by}
+use Rattle.rt_doms.specs.Carries.{Carries, CarriesOn}
 use Rattle.rt_machine.specs.Short.{Short, PartOf}
 use Rattle.rt_reports.specs.Seen.{entry_of, fault_of, limits_of}
 use Rattle.rt_reports.specs.declared.fault.Fault.{Fault}
@@ -62,6 +63,11 @@ module _ {P C Q V H T E L : Type 0} (meaning : P → Application (types C Q V H 
     -- no entry but the build begins a unit
     pub alone : OpensFirst (map entry_of report.log)
     pub holds : BuildHolds (meaning d.app) (limits_of d.limits) props (map edit_of wrote) last
+    -- no edit came before, and all numbers that its edits carry were drawn
+    pub carries :
+        Carries (meaning d.app) [] (replay.start_with (meaning d.app) props firsts provided []) (map entry_of report.log) (map edit_of wrote)
+        last.state
+    pub enabled : report.default_enabled ≡ true
     pub stands : Stands meaning props true last.state d
 
   -- it came to a fault: the sink took the edits up to where the definitions refuse, or it broke off
@@ -109,14 +115,22 @@ module _ {P C Q V H T E L : Type 0} (meaning : P → Application (types C Q V H 
     pub last : replay.Machine (types C Q V H T E L)
     pub ran : RanBy (meaning d.app) (limits_of d.limits) w until (map entry_of report.log) (map edit_of wrote) last
     pub holds : HoldsBy d.app d.limits props whole w until (map entry_of report.log) (map edit_of wrote) last
+    -- after whatever edits carried what was drawn, each number that its edits carry is that of a hidden node that is shown again, or one
+    -- that no edit carried before
+    pub carries :
+        CarriesOn (meaning d.app) w (resting (aside_state (meaning d.app) w Looked)) (map entry_of report.log) (map edit_of wrote)
+        (left_by until last.state)
     pub enabled : report.default_enabled ≡ true
     pub stands : Stands meaning props whole (left_by until last.state) d
 
   -- its units were spent: its edits make what shows, each live scope is current or owed a run, and the dom stands for what is left
-  pub record Spent (props : Q) (whole : Bool) (w : model.State (types C Q V H T E L)) (wrote : List Edit)
+  pub record Spent (props : Q) (whole : Bool) (w : model.State (types C Q V H T E L)) (log : List replay.Entry) (wrote : List Edit)
       (d : VirtualDom P C Q V H T E L) : Type 0 where
     pub last : replay.Machine (types C Q V H T E L)
     pub holds : SpentHolds (meaning d.app) (limits_of d.limits) props whole w (map edit_of wrote) last
+    -- its edits carry what those of a call that ended carry
+    pub carries :
+        CarriesOn (meaning d.app) w (resting (aside_state (meaning d.app) w Looked)) log (map edit_of wrote) (at_rest last.state)
     pub stands : Stands meaning props whole (at_rest last.state) d
 
   -- it came to a fault of the definitions, with what the sink took of it
@@ -127,7 +141,7 @@ module _ {P C Q V H T E L : Type 0} (meaning : P → Application (types C Q V H 
     pub log : List replay.Entry
     pub stopped : StoppedBy (meaning d.app) (limits_of d.limits) w until log (map edit_of wrote) fault
     pub comes_to : ComesBy d.app d.limits props whole w until log fault
-    pub spent : (units : ℕ) → fault ≡ model.OutOfTurns units → Spent props whole w wrote d
+    pub spent : (units : ℕ) → fault ≡ model.OutOfTurns units → Spent props whole w log wrote d
 
   -- by what is answered
   abbrev pub RunsAs :
@@ -147,13 +161,7 @@ module _ {P C Q V H T E L : Type 0} (meaning : P → Application (types C Q V H 
       (props : Q) (whole : Bool) (w : model.State (types C Q V H T E L)) → Stands meaning props whole w old
       → RunsAs until props whole w before after new result
 
-  -- a call over a list of what is written: it is that list
-  abbrev pub RunsToList :
-      {M : Type 0} → Until → (M → Option (List Edit)) → VirtualDom P C Q V H T E L → VirtualDom P C Q V H T E L → Result M DomFault → Type 0
-  RunsToList until taken old new (Ok list) = (report : Report) × Runs until (Some []) (taken list) old new (Ok report)
-  RunsToList until taken old new (Err fault) = (after : Option (List Edit)) × Runs until (Some []) after old new (Err fault)
-
-  -- so a build does
+  -- a build over a list of what is written: it is that list
   abbrev pub BuildsToList :
       {M : Type 0} → (M → Option (List Edit)) → VirtualDom P C Q V H T E L → VirtualDom P C Q V H T E L → Result M DomFault → Type 0
   BuildsToList taken old new (Ok list) = (report : Report) × Builds (Some []) (taken list) old new (Ok report)
@@ -165,6 +173,12 @@ module _ {P C Q V H T E L : Type 0} (meaning : P → Application (types C Q V H 
     pub built : Built props replay.ones [] None None d report
     pub owned : d.app ≡ app
     pub limited : d.limits ≡ limits
+
+  -- making and building one came to a fault of the definitions: that of the build
+  abbrev pub PrebuiltStopped : P → Limits → Q → Fault → Type 0
+  PrebuiltStopped app limits props what =
+      (fault : model.Fault) → fault_of what ≡ Some fault
+      → CutFrom (meaning app) (limits_of limits) (replay.start_with (meaning app) props replay.ones [] []) None None fault
 
   -- after a call that settles, where no suspended render has passed over anything, each output is current, and a boundary shows its
   -- fallback exactly while a live task holds it
@@ -189,3 +203,10 @@ module _ {P C Q V H T E L : Type 0} (meaning : P → Application (types C Q V H 
   RunsOnce old new result =
       (props : Q) (whole : Bool) (w : model.State (types C Q V H T E L)) → Stands meaning props whole w old
       → IfOk result (λ report. BodiesRan (meaning new.app) w (map entry_of report.log))
+
+  -- a whole render over a list of what is written: it is that list, and bodies ran as the report tells
+  abbrev pub RendersToList :
+      {M : Type 0} → (M → Option (List Edit)) → VirtualDom P C Q V H T E L → VirtualDom P C Q V H T E L → Result M DomFault → Type 0
+  RendersToList taken old new (Ok list) =
+      (report : Report) × Runs Renders (Some []) (taken list) old new (Ok report) × RunsOnce old new (Ok report)
+  RendersToList taken old new (Err fault) = (after : Option (List Edit)) × Runs Renders (Some []) after old new (Err fault)

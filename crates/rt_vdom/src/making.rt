@@ -7,7 +7,7 @@ ghost use Rattle.rt_reports.specs.declared.fault.Fault.TheVariants as faults;
 ghost use Rattle.rt_machine.specs.Ends.{Causes};
 ghost use Rattle.rt_vdom.specs.Calls.{CausesAt, Closes, FailsAll, Keeps, Ran, WantsFresh, as_run};
 ghost use Rattle.rt_vdom.specs.Doms.{IsStarted};
-ghost use Rattle.rt_vdom.specs.Runs.{Builds, BuildsToList, Prebuilt};
+ghost use Rattle.rt_vdom.specs.Runs.{Builds, BuildsToList, Prebuilt, PrebuiltStopped};
 
 use crate::dom::{Stage, VirtualDom};
 use crate::refusal::DomFault;
@@ -78,6 +78,8 @@ impl<A: App> VirtualDom<A> {
     pub fn prebuilt(alloc: Global, app: A, limits: Limits) -> Result<VirtualDom<A>, Fault>
         ensures built { IfOk result (λ dom.
             Prebuilt (λ app. A.meaning app) app (A.props_of_none app) limits dom) }
+        ensures stopped { IfErr result (λ what.
+            PrebuiltStopped (λ app. A.meaning app) app limits (A.props_of_none app) what) }
         ensures cause { IfErr result (λ fault. Causes limits 0 0 fault) }
     {
         let mut dom = VirtualDom::new(alloc, app, limits)?;

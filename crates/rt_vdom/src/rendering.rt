@@ -6,7 +6,7 @@ ghost use Rattle.rt_rounds.specs.Untils.{until_of};
 ghost use Rattle.rt_vdom.specs.Calls.{CausesAt, Does, FailsOn, Keeps, Ran, WantsBuilt, WantsMemory};
 ghost use Rattle.rt_vdom.specs.Doms.{StateIn};
 ghost use Rattle.rt_vdom.specs.Handles.{Works, answers, sees_none, taken_in};
-ghost use Rattle.rt_vdom.specs.Runs.{Runs, RunsOnce, RunsToList, Settled};
+ghost use Rattle.rt_vdom.specs.Runs.{RendersToList, Runs, RunsOnce, Settled};
 
 use crate::dom::{Stage, VirtualDom};
 use crate::poll::{Poll, pending_where};
@@ -53,7 +53,7 @@ impl<A: App> VirtualDom<A> {
 
     /// The same, answering what it writes.
     pub fn render_immediate_to_vec(&mut self) -> Result<Mutations, DomFault>
-        ensures runs { RunsToList (λ app. A.meaning app) Renders
+        ensures runs { RendersToList (λ app. A.meaning app)
             (λ to. ⟦<Mutations as WriteMutations>⟧.taken to) self.old self.new result }
         ensures refused { WantsBuilt Ran self.old self.new result }
         ensures owned { Keeps self.old self.new }

@@ -4,10 +4,9 @@ ghost use Rattle.rt_model.specs.Lists.{at};
 ghost use Rattle.rt_model.specs.Commands.{activated, end, post};
 ghost use Rattle.rt_model.specs.Next.{is_active};
 ghost use Rattle.rt_model.specs.State.{Woken};
-ghost use Rattle.rt_vdom.specs.Calls.{Does, FailsOn, Keeps, LeavesAll, PollsNow, Ran};
-ghost use Rattle.rt_vdom.specs.Calls.{WantsBuilt, WantsMemory, WantsNothing, WantsNumber, spawned_by, task_spawned, told_by};
-ghost use Rattle.rt_vdom.specs.Doms.{NextIn, StateIn};
-ghost use Rattle.rt_calls.specs.declared.faults.Counter.TheVariants as counters;
+ghost use Rattle.rt_vdom.specs.Calls.{CausesAt, Does, FailsOn, Keeps, LeavesAll, PollsNow, Ran};
+ghost use Rattle.rt_vdom.specs.Calls.{WantsBuilt, WantsMemory, WantsNothing, WantsTask, spawned_by, task_spawned, told_by};
+ghost use Rattle.rt_vdom.specs.Doms.{StateIn};
 
 use crate::dom::{Stage, VirtualDom, after};
 use crate::poll::Poll;
@@ -78,7 +77,8 @@ pub trait TaskCalls {
         ensures polled { PollsNow (λ app. A.meaning app) (number self.now) dom.old dom.new result }
         ensures refused { WantsBuilt Ran dom.old dom.new result }
         ensures owned { Keeps dom.old dom.new }
-        ensures fails { FailsOn dom.new result };
+        ensures fails { FailsOn dom.new result }
+        ensures caused { IfErr result (λ fault. CausesAt dom.old.limits 0 0 fault) };
 }
 
 impl TaskCalls for Task {
@@ -123,8 +123,7 @@ pub fn task_new<A: App>(
         dom.old dom.new result }
     ensures number { IfOk result (λ task. (g : _) →
         option_map (λ t. t.0) task ≡ task_spawned (StateIn g dom.old) scope.0) }
-    ensures refused { WantsBuilt (WantsNumber counters.Tasks (NextIn dom.old).tasks)
-        dom.old dom.new result }
+    ensures refused { WantsBuilt (WantsTask dom.old scope.0) dom.old dom.new result }
     ensures owned { Keeps dom.old dom.new }
     ensures kept { LeavesAll dom.old dom.new result }
 {
@@ -138,8 +137,7 @@ impl<A: App> VirtualDom<A> {
             self.old self.new result }
         ensures number { IfOk result (λ task. (g : _) →
             option_map (λ t. t.0) task ≡ task_spawned (StateIn g self.old) scope.0) }
-        ensures refused { WantsBuilt (WantsNumber counters.Tasks (NextIn self.old).tasks)
-            self.old self.new result }
+        ensures refused { WantsBuilt (WantsTask self.old scope.0) self.old self.new result }
         ensures owned { Keeps self.old self.new }
         ensures kept { LeavesAll self.old self.new result }
     {
@@ -156,8 +154,7 @@ impl<A: App> VirtualDom<A> {
             self.old self.new result }
         ensures number { IfOk result (λ task. (g : _) →
             option_map (λ t. t.0) task ≡ task_spawned (StateIn g self.old) scope.0) }
-        ensures refused { WantsBuilt (WantsNumber counters.Tasks (NextIn self.old).tasks)
-            self.old self.new result }
+        ensures refused { WantsBuilt (WantsTask self.old scope.0) self.old self.new result }
         ensures owned { Keeps self.old self.new }
         ensures kept { LeavesAll self.old self.new result }
     {
@@ -175,8 +172,7 @@ impl<A: App> VirtualDom<A> {
             (λ w. spawned_by w scope.0 task_state isomorphic) self.old self.new result }
         ensures number { IfOk result (λ task. (g : _) →
             option_map (λ t. t.0) task ≡ task_spawned (StateIn g self.old) scope.0) }
-        ensures refused { WantsBuilt (WantsNumber counters.Tasks (NextIn self.old).tasks)
-            self.old self.new result }
+        ensures refused { WantsBuilt (WantsTask self.old scope.0) self.old self.new result }
         ensures owned { Keeps self.old self.new }
         ensures kept { LeavesAll self.old self.new result }
     {
@@ -198,8 +194,7 @@ impl<A: App> VirtualDom<A> {
             (λ w. spawned_by w scope task_state isomorphic) self.old self.new result }
         ensures number { IfOk result (λ task. (g : _) →
             option_map (λ t. t.0) task ≡ task_spawned (StateIn g self.old) scope) }
-        ensures refused { IfErr result (λ fault.
-            WantsNumber counters.Tasks (NextIn self.old).tasks fault) }
+        ensures refused { IfErr result (λ fault. WantsTask self.old scope fault) }
         ensures owned { Keeps self.old self.new }
         ensures kept { LeavesAll self.old self.new result }
     {
@@ -300,6 +295,7 @@ impl<A: App> VirtualDom<A> {
         ensures refused { WantsBuilt Ran self.old self.new result }
         ensures owned { Keeps self.old self.new }
         ensures fails { FailsOn self.new result }
+        ensures caused { IfErr result (λ fault. CausesAt self.old.limits 0 0 fault) }
     {
         match self.stage {
             Stage::Failed => Err(DomFault::Failed),
@@ -314,6 +310,7 @@ impl<A: App> VirtualDom<A> {
         ensures refused { IfErr result (λ fault. Ran fault) }
         ensures owned { Keeps self.old self.new }
         ensures fails { self.old.stage ≡ Stage.Built → FailsOn self.new result }
+        ensures caused { IfErr result (λ fault. CausesAt self.old.limits 0 0 fault) }
     {
         let state = &self.machine.scopes.state;
         if !state.has_task(task.0) {

@@ -1,6 +1,7 @@
 -- What the machine built is what stands after it.
 use Rattle.std.proofs.Common.{[], map, refl, sym, ◌∙◌}
 use Rattle.rt_mirror.specs.Mirror.{edit_of}
+use Rattle.rt_doms.proofs.Carried.{builds_carry_anew}
 use Rattle.rt_doms.proofs.Doms.{given_builds_hold}
 use Rattle.rt_reports.specs.Seen.{entry_of, limits_of}
 use Rattle.rt_model.specs.Replay.{start_with}
@@ -23,6 +24,8 @@ returns-in-Ok-clause-builds g c =
       ran = ran.ran;
       alone = ran.alone;
       holds = holds;
+      carries = builds_carry_anew app lawful (limits_of d.limits) props firsts provided (map entry_of (c.in-Ok.report).log) (map edit_of ran.wrote) ran.last above ran.ran;
+      enabled = ran.enabled;
       stands =
           record {
             built = refl;

@@ -5,6 +5,8 @@ use Rattle.rt_mirror.specs.Mirror.{edit_of}
 use Rattle.rt_reports.specs.Seen.{entry_of, limits_of}
 use Rattle.rt_rounds.specs.Untils.{until_of}
 use Rattle.rt_vdom.specs.Calls.{PartIn}
+use Rattle.rt_doms.proofs.Carried.{spent_carry_anew}
+use Rattle.rt_vdom.proofs.Carried.{carries_by}
 use Rattle.rt_vdom.proofs.Ran.{call_broken_as, holds_by, leads_by, comes_by, spent_by, rests_in}
 use Rattle.rt_vdom.proofs.Answered.{runs_err}
 use Rattle.rt_vdom.proofs.dom.VirtualDom.go_on.Goals as goal
@@ -24,6 +26,7 @@ returns-in-Ok-clause-runs g c =
       last = ran.last;
       ran = ran.ran;
       holds = holds;
+      carries = carries_by (g.A.App.meaning d.app) lawful (limits_of d.limits) props whole w s.led until (map entry_of (c.in-Ok.report).log) (map edit_of ran.wrote) ran.last ran.ran;
       enabled = ran.enabled;
       stands =
           record {
@@ -65,6 +68,7 @@ returns-in-Err-clause-runs g c =
           (record {
             last = p.last;
             holds = holds;
+            carries = spent_carry_anew (g.A.App.meaning d.app) lawful (limits_of d.limits) props whole w far.log (map edit_of far.wrote) p.last s.led p.spent;
             stands = record { built = s.built; idle = (p.rests).idle; kept = (p.rests).kept; is = (p.rests).is; counted = (p.rests).counted; led = holds.leads };
           });
     })

@@ -52,3 +52,6 @@ returns-in-Err-clause-polled g c =
 
 pub returns-in-Err-clause-fails : goal.returns-in-Err-clause-fails
 returns-in-Err-clause-fails g c = λ built. c.ended.ensures.fails built
+
+pub returns-in-Err-clause-caused : goal.returns-in-Err-clause-caused
+returns-in-Err-clause-caused g c = c.ended.ensures.causes 0 0 tt

@@ -1,8 +1,10 @@
 -- What a render while suspended leaves.
-use Rattle.std.proofs.Common.{sym, ap, ◌∙◌, subst}
+use Rattle.std.proofs.Common.{map, sym, ap, ◌∙◌, subst}
 use Rattle.std.specs.Prelude.{Some}
+use Rattle.rt_mirror.specs.Mirror.{edit_of}
 use Rattle.rt_reports.specs.Seen.{limits_of}
 use Rattle.rt_vdom.specs.Calls.{PartIn}
+use Rattle.rt_vdom.proofs.Carried.{rendered_carries}
 use Rattle.rt_vdom.proofs.Ran.{any_way, render_broken_as, rests_in}
 use Rattle.rt_vdom.proofs.Answered.{renders_err}
 use Rattle.rt_vdom.proofs.dom.VirtualDom.render_suspended.Goals as goal
@@ -20,6 +22,9 @@ returns-in-Ok-clause-renders g c =
       went = ran.went;
       shows = ran.shows;
       answers_as = ran.answers;
+      carries =
+          rendered_carries (g.A.App.meaning d.app) (g.met.A.App.lawful d.app) (limits_of d.limits) props w ran.left ran.log (map edit_of ran.wrote)
+          (any_way (λ app. g.A.App.meaning app) props whole w d s) ran.went;
       stands =
           record {
             built = s.built;

@@ -1,4 +1,4 @@
-use Rattle.std.proofs.Common.{◌≡◌, ◌+◌, ◌∷◌, [], refl, arith, sym, ap, ◌∙◌, true, false, subst}
+use Rattle.std.proofs.Common.{◌≡◌, ◌+◌, ◌∷◌, [], inl, inr, refl, arith, sym, ap, ◌∙◌, true, false, subst}
 use Rattle.std.specs.Prelude.{None}
 use Rattle.rt_model.specs.World.{Spawn}
 use Rattle.rt_model.specs.Run.{with_next}
@@ -47,6 +47,14 @@ returns-in-Ok-clause-number g c = λ kept.
 pub returns-then-not-is_live-clause-number : goal.returns-then-not-is_live-clause-number
 returns-then-not-is_live-clause-number g c = λ kept.
     sym (task_not (StateIn kept c.args.self.now) c.args.scope (sym (c.is_live.ensures kept) ∙ c.if-not-is_live.true))
+
+-- a scope that isn't live is refused nothing
+pub returns-in_default-clause-refused : goal.returns-in_default-clause-refused
+returns-in_default-clause-refused g c =
+    (λ kept. sym (c.is_live.ensures kept) ∙ c.if-not-is_live.false, inr (refl, c.in_default.ensures.end))
+
+pub returns-in-Err-clause-refused : goal.returns-in-Err-clause-refused
+returns-in-Err-clause-refused g c = (λ kept. sym (c.is_live.ensures kept) ∙ c.if-not-is_live.false, inl refl)
 
 -- a refusal leaves all: the number is there again
 pub returns-in-Err-clause-kept : goal.returns-in-Err-clause-kept
