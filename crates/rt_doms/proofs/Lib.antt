@@ -5,6 +5,7 @@ pub mod Loops
 mod Calling
 mod Quick
 pub mod Once
+pub mod Muted
 pub mod Counting
 pub mod Polls
 pub mod Given

@@ -147,6 +147,13 @@ module _ {K : Types} (app : Application K) where
         calm = λ alive. (refl, look_posted w);
       }
 
+  -- the log of a call that processes events has polls and batches of effects alone
+  pub events_log : (limits : Limits) (w : State K) (log : List Entry) (v : Machine K)
+      → replay_within app limits (Some (resting (look w))) log ≡ Some v
+      → Unended app (λ (x : State K). events_end x) (resting (look w)) log
+      → AllByRecursion (λ (e : Entry). quick e ≡ true) log
+  events_log limits w log v go unended = (events_quick limits log (resting (look w)) v (begins limits w) go unended).0
+
   pub renders_make_or_feed : RendersMakeOrFeed app
   renders_make_or_feed limits w log edits v r =
       let b : Pause limits (resting (look w)) = begins limits w in

@@ -1,3 +1,4 @@
 pub mod Doms
 pub mod Polls
 pub mod Carries
+pub mod Muted

@@ -6,6 +6,7 @@ ghost use Rattle.rt_doms.specs.Doms.{RendersRerunInTurn, RendersRunOnce};
 ghost use Rattle.rt_doms.specs.Doms.{RestsAlike, SettledHold, SpentHold, UnendedGrows, UnitsFollow, UnitsLead};
 ghost use Rattle.rt_doms.specs.Carries.{AsidesDrawNone, BuildsCarryAnew, CallsCarryAnew, RendersCarryAnew, SpentCarryAnew};
 ghost use Rattle.rt_doms.specs.Carries.{LogsKeepDrawn, SuspendedCarryAnew};
+ghost use Rattle.rt_doms.specs.Muted.{AsidesShowNothing, EventsWriteNothing, StoppedWriteNothing};
 ghost use Rattle.rt_doms.specs.Polls.{PolledComesNext, PollingLeads, PollsFollow, PollsLead};
 ghost use Rattle.rt_model.specs.OneLog.{types};
 ghost use Rattle.rt_model.specs.World.{Application};
@@ -163,4 +164,19 @@ pub fn asides_draw_none<C, P, V, H, T, E, L>()
 /// Along an accepted log what was drawn stays drawn.
 pub fn logs_keep_drawn<C, P, V, H, T, E, L>()
     ensures { (app : Application (types C P V H T E L)) → LogsKeepDrawn app }
+{}
+
+/// A call that processes events writes nothing.
+pub fn events_write_nothing<C, P, V, H, T, E, L>()
+    ensures { (app : Application (types C P V H T E L)) → EventsWriteNothing app }
+{}
+
+/// Nor does one that came to a fault.
+pub fn stopped_write_nothing<C, P, V, H, T, E, L>()
+    ensures { (app : Application (types C P V H T E L)) → StoppedWriteNothing app }
+{}
+
+/// A call that logs no entry shows nothing new.
+pub fn asides_show_nothing<C, P, V, H, T, E, L>()
+    ensures { (app : Application (types C P V H T E L)) → AsidesShowNothing app }
 {}
