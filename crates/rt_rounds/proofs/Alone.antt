@@ -11,6 +11,7 @@ use Rattle.rt_model.specs.Causes as causes
 use Rattle.rt_model.specs.Told.{opens, count_entries}
 use Rattle.rt_doms.specs.Doms.{NoneOpens}
 use Rattle.rt_machine.specs.Machines.{noted}
+use Rattle.rt_machine.specs.Short.{PartBy}
 use Rattle.rt_machine.specs.Stands.{Going, BrokeIn, BrokeAt}
 use Rattle.rt_machine.specs.declared.ended.Ended.{Ended}
 use Rattle.rt_machine.specs.declared.machine.Machine.{Machine}
@@ -64,7 +65,7 @@ module _ {K : Types} (app : Application K) (limits : causes.Limits) (r : Going K
   pub alone_of : (entries : List replay.Entry) (before after : Option (List Edit)) (ended : Ended)
       → BrokeIn app limits r entries [] before after ended
       → OpensFirst entries
-      → BrokeAlone app limits r.from before after ended
+      → BrokeAlone app limits r.from before after (PartBy ended)
   alone_of entries before after ended broke opened =
       let s = broke.short in
       record {

@@ -44,7 +44,7 @@ module _ {P C Q V H T E L : Type 0} (app : Application (types C Q V H T E L)) (l
 module _ {C Q V H T E L : Type 0} (app : Application (types C Q V H T E L)) (limits : causes.Limits) (props : Q)
     (w : model.State (types C Q V H T E L)) where
   -- nothing was taken from this state on
-  pub broke_nothing : (now : Option (List Edit)) (ended : Ended) → PartBy ended [] [] → BrokeAlone app limits (resting w) now now ended
+  pub broke_nothing : (now : Option (List Edit)) (ended : Ended) → PartBy ended [] [] → BrokeAlone app limits (resting w) now now (PartBy ended)
   broke_nothing now ended none =
       alone_of app limits (going_at props w None) [] now now ended
       (in_begun app limits (going_at props w None) now ended (record { alive = refl; idle = refl; unit = refl }) none) tt

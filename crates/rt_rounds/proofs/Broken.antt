@@ -150,7 +150,7 @@ unended_none app w Settles = tt
 
 module _ {C Q V H T E L : Type 0} (app : Application (types C Q V H T E L)) (limits : causes.Limits) (w : model.State (types C Q V H T E L)) where
   -- memory was wanting for the first look
-  pub broke_look : (until : Until) (now : Option (List Edit)) → CallBroke app limits w until now now wanting
+  pub broke_look : (until : Until) (now : Option (List Edit)) → CallBroke app limits w until now now (PartBy wanting)
   broke_look until now =
       record {
         broke =
@@ -170,7 +170,7 @@ module _ {P C Q V H T E L : Type 0} (app : Application (types C Q V H T E L)) (l
       → UnendedBy app w until log)
       → noted old ≡ []
       → BrokeUntil app limits (going_from props w along) by [] before after ended old
-      → CallBroke app limits w until before after ended
+      → CallBroke app limits w until before after (PartBy ended)
   broke_one by until along before after ended old gives none h =
       let broke = h.broke in
       let s = broke.short in
@@ -193,7 +193,7 @@ module _ {P C Q V H T E L : Type 0} (app : Application (types C Q V H T E L)) (l
   broke_past : (along : Option ℕ) (before after : Option (List Edit)) (ended : Ended) (old : Machine P C Q V H T E L)
       → noted old ≡ [] → old.hearing ≡ None
       → RenderedShort app limits (going_from props w along) before after ended old
-      → CallBroke app limits w Renders before after ended
+      → CallBroke app limits w Renders before after (PartBy ended)
   broke_past along before after ended old none silent h =
       let first = (h.first).gone in
       let b : Machine P C Q V H T E L = h.between in
@@ -223,7 +223,7 @@ module _ {P C Q V H T E L : Type 0} (app : Application (types C Q V H T E L)) (l
   pub call_broke : (along : Option ℕ) (until : Until) (before after : Option (List Edit)) (ended : Ended) (old : Machine P C Q V H T E L)
       → noted old ≡ [] → old.hearing ≡ None
       → BrokeBy app limits (going_from props w along) until before after ended old
-      → CallBroke app limits w until before after ended
+      → CallBroke app limits w until before after (PartBy ended)
   call_broke along Events before after ended old none silent h =
       broke_one Events Events along before after ended old (λ log u. u) none h
   call_broke along Settles before after ended old none silent h =

@@ -194,12 +194,7 @@ module _ {P C Q V H T E L : Type 0} (app : Application (types C Q V H T E L)) (l
               earlier = h.log;
               unit = [];
               whole = sym (append-nil h.log);
-              left = h.left;
-              units = n;
-              goes = h.goes;
-              done = h.wrote;
-              stepped = h.stepped;
-              shows = h.shows;
+              far = record { left = h.left; units = n; goes = h.goes; done = h.wrote; stepped = h.stepped; shows = h.shows };
               last = telling (resting (rendering_rest h.left));
               so = record { accepted = refl; told = refl };
               part = [];
@@ -255,12 +250,7 @@ module _ {P C Q V H T E L : Type 0} (app : Application (types C Q V H T E L)) (l
                   earlier = h.log;
                   unit = e ∷ more;
                   whole = refl;
-                  left = h.left;
-                  units = n;
-                  goes = h.goes;
-                  done = h.wrote;
-                  stepped = h.stepped;
-                  shows = h.shows;
+                  far = record { left = h.left; units = n; goes = h.goes; done = h.wrote; stepped = h.stepped; shows = h.shows };
                   last = u.last;
                   so = so;
                   part = u.wrote;
@@ -278,12 +268,7 @@ module _ {P C Q V H T E L : Type 0} (app : Application (types C Q V H T E L)) (l
   render_halts before now n m ended h none =
       record {
         log = h.log;
-        left = h.left;
-        units = n;
-        goes = h.goes;
-        done = h.wrote;
-        stepped = h.stepped;
-        shows = h.shows;
+        far = record { left = h.left; units = n; goes = h.goes; done = h.wrote; stepped = h.stepped; shows = h.shows };
         part = [];
         told = told_more before now now h.wrote [] h.told (grown_none now);
         short =
@@ -315,7 +300,7 @@ module _ {P C Q V H T E L : Type 0} (app : Application (types C Q V H T E L)) (l
       → (h : RenderingOn app limits props w before now n m calls)
       → nat_eq n limits.units ≡ false
       → rendering_next h.left ≡ Some work
-      → BrokeAlone app limits (resting (rendering_rest h.left)) now after ended
+      → BrokeAlone app limits (resting (rendering_rest h.left)) now after (PartBy ended)
       → RenderBroke app limits w before after (PartBy ended)
   render_broke before now after n work m ended h few next alone =
       let broke = alone.broke in
@@ -323,12 +308,7 @@ module _ {P C Q V H T E L : Type 0} (app : Application (types C Q V H T E L)) (l
       let far = takes_one before now n work m h few next (short.log ++ short.unit) (short.last).machine alone.alone (short.cut).accepted in
       record {
         log = h.log;
-        left = h.left;
-        units = n;
-        goes = h.goes;
-        done = h.wrote;
-        stepped = h.stepped;
-        shows = h.shows;
+        far = record { left = h.left; units = n; goes = h.goes; done = h.wrote; stepped = h.stepped; shows = h.shows };
         part = broke.wrote;
         told = told_more before now after h.wrote broke.wrote h.told broke.told;
         short = short;

@@ -1,5 +1,5 @@
 -- What a program's call does on a machine, from one rest to the next.
-use Rattle.std.specs.Prelude.{◌≡◌, ◌⊎◌, ℕ, true, List, [], ◌∷◌, ◌++◌, map, length, Option, Some, None, Result, Ok, Err}
+use Rattle.std.specs.Prelude.{◌≡◌, ◌⊎◌, ℕ, Bool, true, List, [], ◌∷◌, ◌++◌, map, length, Option, Some, None, Result, Ok, Err}
 use Rattle.rt_edits.specs.Sinks.{grown}
 use Rattle.rt_edits.specs.declared.edit.Edit.{Edit}
 use Rattle.rt_mirror.specs.Mirror.{edit_of}
@@ -68,16 +68,16 @@ module _ {K : Types} (app : Application K) (limits : causes.Limits) (from : repl
     pub cause : refusal limits last.machine ≡ Some fault
     pub edits_are : edits_at_refusal app limits last ≡ map edit_of wrote
 
-  -- it broke off, for want of memory or at its sink: the sink took the edits of the units that were finished, and a part of those
-  -- of the one that was cut
-  pub record BrokeFrom (before after : Option (List Edit)) (ended : Ended) : Type 0 where
+  -- what began here broke off, for want of memory or at its sink: the sink took the edits of the units that were finished, and such a
+  -- part of those of the one that was cut
+  pub record BrokeFrom (before after : Option (List Edit)) (Part : List document.Edit → List document.Edit → Type 0) : Type 0 where
     pub wrote : List Edit
     pub told : after ≡ grown before wrote
-    pub short : Short app limits (PartBy ended) from (map edit_of wrote)
+    pub short : Short app limits Part from (map edit_of wrote)
 
-  -- so the build or a unit by itself broke off: no entry but its first begins a unit
-  pub record BrokeAlone (before after : Option (List Edit)) (ended : Ended) : Type 0 where
-    pub broke : BrokeFrom before after ended
+  -- so a build or a unit by itself broke off: no entry but its first begins a unit
+  pub record BrokeAlone (before after : Option (List Edit)) (Part : List document.Edit → List document.Edit → Type 0) : Type 0 where
+    pub broke : BrokeFrom before after Part
     pub alone : OpensFirst ((broke.short).log ++ (broke.short).unit)
 
 module _ {K : Types} (app : Application K) (w : model.State K) where
@@ -100,8 +100,9 @@ module _ {K : Types} (app : Application K) (w : model.State K) where
 
 module _ {K : Types} (app : Application K) (limits : causes.Limits) (w : model.State K) where
   -- a call broke off, and had begun no unit where it ends
-  pub record CallBroke (until : Until) (before after : Option (List Edit)) (ended : Ended) : Type 0 where
-    pub broke : BrokeFrom app limits (resting (look w)) before after ended
+  pub record CallBroke (until : Until) (before after : Option (List Edit)) (Part : List document.Edit → List document.Edit → Type 0) :
+      Type 0 where
+    pub broke : BrokeFrom app limits (resting (look w)) before after Part
     pub unended : UnendedBy app w until ((broke.short).log ++ (broke.short).unit)
 
 module _ {K : Types} (app : Application K) (limits : causes.Limits) (w : model.State K) where
@@ -115,25 +116,37 @@ module _ {K : Types} (app : Application K) (limits : causes.Limits) (w : model.S
   StoppedBy Renders log edits fault = CallStopped app limits Events w log edits fault ⊎ RenderStopped app limits w log edits fault
   StoppedBy until log edits fault = CallStopped app limits until w log edits fault
 
-module _ {P C Q V H T E L : Type 0} (app : Application (types C Q V H T E L)) (limits : causes.Limits)
-    (w : model.State (types C Q V H T E L)) where
-  -- a call that takes unit after unit ended: its report is that of what it did, the sink took its edits, and the machine rests
-  -- at the state as the test for the end left it
-  pub record RanOn (until : Until) (before after : Option (List Edit)) (report : Report) (m : Machine P C Q V H T E L)
-      (calls : ℕ) : Type 0 where
+module _ {K : Types} (app : Application K) (limits : causes.Limits) (w : model.State K) (Rests : model.State K → Type 0) where
+  -- a call that takes unit after unit ended, with this log: the sink took its edits, so many as are counted, and it rests at the state
+  -- as the test for the end left it
+  pub record EndedAt (until : Until) (before after : Option (List Edit)) (log : List replay.Entry) (count : ℕ) (default : Bool) :
+      Type 0 where
     pub wrote : List Edit
     pub told : after ≡ grown before wrote
-    pub counted : length wrote ≡ report.edits
-    pub last : replay.Machine (types C Q V H T E L)
-    pub ran : RanBy app limits w until (map entry_of report.log) (map edit_of wrote) last
-    pub enabled : report.default_enabled ≡ true
-    pub rests : RestsAt (left_by until last.state) m calls
+    pub counted : length wrote ≡ count
+    pub last : replay.Machine K
+    pub ran : RanBy app limits w until log (map edit_of wrote) last
+    -- no default was prevented
+    pub enabled : default ≡ true
+    pub rests : Rests (left_by until last.state)
 
-  -- units were spent: the machine rests, with what is owed
-  pub record SpentOn (log : List replay.Entry) (edits : List document.Edit) (m : Machine P C Q V H T E L) (calls : ℕ) : Type 0 where
-    pub last : replay.Machine (types C Q V H T E L)
+  -- units were spent: it rests, with what is owed
+  pub record SpentAt (log : List replay.Entry) (edits : List document.Edit) : Type 0 where
+    pub last : replay.Machine K
     pub spent : CallSpent app limits w log edits last
-    pub rests : RestsAt (at_rest last.state) m calls
+    pub rests : Rests (at_rest last.state)
+
+module _ {P C Q V H T E L : Type 0} (app : Application (types C Q V H T E L)) (limits : causes.Limits)
+    (w : model.State (types C Q V H T E L)) where
+  -- a call ended: its report is that of what it did, and the machine is at rest
+  abbrev pub RanOn : Until → Option (List Edit) → Option (List Edit) → Report → Machine P C Q V H T E L → ℕ → Type 0
+  RanOn until before after report m calls =
+      EndedAt app limits w (λ (x : model.State (types C Q V H T E L)). RestsAt x m calls) until before after (map entry_of report.log)
+      report.edits report.default_enabled
+
+  -- its units were spent, and the machine is at rest
+  abbrev pub SpentOn : List replay.Entry → List document.Edit → Machine P C Q V H T E L → ℕ → Type 0
+  SpentOn log edits m calls = SpentAt app limits w (λ (x : model.State (types C Q V H T E L)). RestsAt x m calls) log edits
 
   -- it came to a fault of the definitions
   pub record StoppedOn (until : Until) (before after : Option (List Edit)) (fault : model.Fault)
@@ -145,20 +158,13 @@ module _ {P C Q V H T E L : Type 0} (app : Application (types C Q V H T E L)) (l
     pub spent : (units : ℕ) → fault ≡ model.OutOfTurns units → SpentOn log (map edit_of wrote) m calls
 
   -- before its report is made: its entries are those of the machine
-  pub record WentTo (until : Until) (before after : Option (List Edit)) (count : ℕ) (m : Machine P C Q V H T E L) (calls : ℕ) :
-      Type 0 where
-    pub wrote : List Edit
-    pub told : after ≡ grown before wrote
-    pub counted : length wrote ≡ count
-    pub last : replay.Machine (types C Q V H T E L)
-    pub ran : RanBy app limits w until (noted m) (map edit_of wrote) last
-    pub enabled : m.default_enabled ≡ true
-    pub rests : DoneAt (left_by until last.state) m calls
+  abbrev pub WentTo : Until → Option (List Edit) → Option (List Edit) → ℕ → Machine P C Q V H T E L → ℕ → Type 0
+  WentTo until before after count m calls =
+      EndedAt app limits w (λ (x : model.State (types C Q V H T E L)). DoneAt x m calls) until before after (noted m) count
+      m.default_enabled
 
-  pub record SpentTo (log : List replay.Entry) (edits : List document.Edit) (m : Machine P C Q V H T E L) (calls : ℕ) : Type 0 where
-    pub last : replay.Machine (types C Q V H T E L)
-    pub spent : CallSpent app limits w log edits last
-    pub rests : DoneAt (at_rest last.state) m calls
+  abbrev pub SpentTo : List replay.Entry → List document.Edit → Machine P C Q V H T E L → ℕ → Type 0
+  SpentTo log edits m calls = SpentAt app limits w (λ (x : model.State (types C Q V H T E L)). DoneAt x m calls) log edits
 
   pub record WentUpTo (until : Until) (before after : Option (List Edit)) (fault : model.Fault) (m : Machine P C Q V H T E L)
       (calls : ℕ) : Type 0 where
@@ -199,4 +205,4 @@ module _ {K : Types} (app : Application K) (limits : causes.Limits) (props : K.P
   BuildCut before after ended =
       ((fault : model.Fault) → fault_in ended ≡ Some fault
       → CutFrom app limits (replay.start_with app props firsts provided []) before after fault)
-      × (fault_in ended ≡ None → BrokeAlone app limits (replay.start_with app props firsts provided []) before after ended)
+      × (fault_in ended ≡ None → BrokeAlone app limits (replay.start_with app props firsts provided []) before after (PartBy ended))

@@ -56,39 +56,36 @@ module _ {K : Types} (app : Application K) (limits : causes.Limits) (w : model.S
 
 module _ {C Q V H T E L : Type 0} (app : Application (types C Q V H T E L)) (limits : causes.Limits)
     (w : model.State (types C Q V H T E L)) where
-  -- what a sink took of such a render that came to a fault: the edits of the units that were finished, which make what showed then,
-  -- and those of the one that was cut up to where it is refused; where units were spent none was cut
-  pub record TakenUpTo (log : List replay.Entry) (wrote : List Edit) : Type 0 where
-    pub earlier : List replay.Entry
-    pub unit : List replay.Entry
-    pub whole : log ≡ earlier ++ unit
-    pub left : model.State (types C Q V H T E L)
-    pub units : ℕ
-    pub goes : renders_within app limits (Some (resting w)) earlier ≡ Some (record (resting left) { units = units })
-    pub done : List Edit
-    pub stepped : Stepped app limits w earlier (map edit_of done) left
-    pub shows : document_after (map edit_of done) (view w) ≡ Ok (view left)
-    pub last : Telling (types C Q V H T E L)
-    pub so : ToldSo app limits (resting (rendering_rest left)) unit last
-    pub part : List Edit
-    pub edits_are : edits_at_refusal app limits last ≡ map edit_of part
-    pub all : wrote ≡ done ++ part
-
-module _ {C Q V H T E L : Type 0} (app : Application (types C Q V H T E L)) (limits : causes.Limits)
-    (w : model.State (types C Q V H T E L)) where
-  -- such a render broke off, for want of memory or at its sink: the sink took the edits of the units that were finished, which make
-  -- what showed then, and after them a part of the edits that are due from where the rest was passed over, of one unit more at most
-  pub record RenderBroke (before after : Option (List Edit)) (Part : List document.Edit → List document.Edit → Type 0) : Type 0 where
-    pub log : List replay.Entry
+  -- how far such a render came: the units of this log were finished, and their edits make what showed then
+  pub record CameFar (log : List replay.Entry) : Type 0 where
     pub left : model.State (types C Q V H T E L)
     pub units : ℕ
     pub goes : renders_within app limits (Some (resting w)) log ≡ Some (record (resting left) { units = units })
     pub done : List Edit
     pub stepped : Stepped app limits w log (map edit_of done) left
     pub shows : document_after (map edit_of done) (view w) ≡ Ok (view left)
+
+  -- what a sink took of one that came to a fault: the edits of the units that were finished, and those of the one that was cut up to
+  -- where it is refused; where units were spent none was cut
+  pub record TakenUpTo (log : List replay.Entry) (wrote : List Edit) : Type 0 where
+    pub earlier : List replay.Entry
+    pub unit : List replay.Entry
+    pub whole : log ≡ earlier ++ unit
+    pub far : CameFar earlier
+    pub last : Telling (types C Q V H T E L)
+    pub so : ToldSo app limits (resting (rendering_rest far.left)) unit last
     pub part : List Edit
-    pub told : after ≡ grown before (done ++ part)
-    pub short : Short app limits Part (resting (rendering_rest left)) (map edit_of part)
+    pub edits_are : edits_at_refusal app limits last ≡ map edit_of part
+    pub all : wrote ≡ far.done ++ part
+
+  -- one broke off, for want of memory or at its sink: the sink took the edits of the units that were finished, and after them a part
+  -- of the edits that are due from where the rest was passed over, of one unit more at most
+  pub record RenderBroke (before after : Option (List Edit)) (Part : List document.Edit → List document.Edit → Type 0) : Type 0 where
+    pub log : List replay.Entry
+    pub far : CameFar log
+    pub part : List Edit
+    pub told : after ≡ grown before (far.done ++ part)
+    pub short : Short app limits Part (resting (rendering_rest far.left)) (map edit_of part)
     -- but for the first of these last entries none begins a unit
     pub alone : OpensFirst (short.log ++ short.unit)
     -- and the render may take that one

@@ -2,6 +2,7 @@
 ghost use Rattle.std.specs.Prelude.{◌≡◌, true, false, [], None, IfOk, IfErr};
 ghost use Rattle.rt_doms.specs.Doms.{LedTo, Renders, ends_by};
 ghost use Rattle.rt_machine.specs.Machines.{fault_in};
+ghost use Rattle.rt_machine.specs.Short.{PartBy};
 ghost use Rattle.rt_machine.specs.Stands.{StandsAt, counting};
 ghost use Rattle.rt_rounds.specs.Going.{BrokeBy, BrokeUntil, GoesBy, GoesUntil};
 ghost use Rattle.rt_state.specs.Mirror.{state_of};
@@ -38,7 +39,7 @@ pub fn run_report<A: App, M: WriteMutations>(
         fault_in ended ≡ None → RestsAt w machine.old calls.old →
         LedTo (A.meaning app.now) (limits_of limits) props whole w →
         CallBroke (A.meaning app.now) (limits_of limits) w (until_of until)
-        (M.taken sink.old) (M.taken sink.new) ended) }
+        (M.taken sink.old) (M.taken sink.new) (PartBy ended)) }
     ensures counts { IfOk result (λ report. CountsLog report) }
     ensures took { IfOk result (λ report. Took (M.taken sink.old) (M.taken sink.new)
         (M.faults sink.old) (M.faults sink.new) report.edits) }
@@ -73,7 +74,7 @@ fn begin_and_run<A: App, M: WriteMutations>(
         fault_in ended ≡ None → RestsAt w machine.old calls.old →
         LedTo (A.meaning app.now) (limits_of limits) props whole w →
         CallBroke (A.meaning app.now) (limits_of limits) w (until_of until)
-        (M.taken sink.old) (M.taken sink.new) ended) }
+        (M.taken sink.old) (M.taken sink.new) (PartBy ended)) }
     ensures ok { IfOk result (λ taken. Took (M.taken sink.old) (M.taken sink.new)
         (M.faults sink.old) (M.faults sink.new) taken) }
     ensures err { IfErr result (λ ended. Ends limits 0

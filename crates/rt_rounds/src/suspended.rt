@@ -131,7 +131,7 @@ fn one_unit<A: App, M: WriteMutations>(
         RestsAt y machine.old calls.old →
         LedTo (A.meaning app.now) (limits_of limits) props false y →
         BrokeAlone (A.meaning app.now) (limits_of limits) (resting y)
-        (M.taken sink.old) (M.taken sink.new) ended) }
+        (M.taken sink.old) (M.taken sink.new) (PartBy ended)) }
     ensures ok { IfOk result (λ done. TookSome (M.taken sink.old) (M.taken sink.new)
         (M.faults sink.old) (M.faults sink.new)) }
     ensures err { IfErr result (λ ended. Ends limits 0

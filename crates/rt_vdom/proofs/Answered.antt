@@ -4,7 +4,9 @@ use Rattle.std.specs.Prelude.{Option, Some, None, Result, Ok, Err}
 use Rattle.rt_edits.specs.declared.edit.Edit.{Edit}
 use Rattle.rt_inbox.specs.declared.message.Drained.{Drained}
 use Rattle.rt_model.specs.Lists.{Text}
+use Rattle.rt_mirror.specs.Mirror.{edit_of}
 use Rattle.rt_model.specs.OneLog.{types}
+use Rattle.rt_model.specs.View.{view}
 use Rattle.rt_model.specs.World.{Application, Firsts}
 use Rattle.rt_model.specs.Rendering.{suspended_remains}
 use Rattle.rt_model.specs.Replay as replay
@@ -20,11 +22,12 @@ use Rattle.rt_state.specs.Mirror.{Unkept}
 use Rattle.rt_machine.specs.Short.{PartOf}
 use Rattle.rt_moves.proofs.Begun.{ones_above}
 use Rattle.rt_rounds.specs.Handled.{HeardUpTo}
+use Rattle.rt_rounds.specs.Rounds.{CallBroke}
 use Rattle.rt_rounds.specs.Suspended.{RenderBroke}
 use Rattle.rt_vdom.specs.Calls.{WantsMemory, ran_fault}
 use Rattle.rt_vdom.specs.Doms.{IsStarted, StateIn}
 use Rattle.rt_vdom.specs.Handles.{HandlesAs, PollCut, RenderCut, PolledFrom, PolledSuspended, PollsOnAs, PollsSuspendedAs, RendersSuspendedAs, Worked, WorksAs, answers, sees_none, taken_in}
-use Rattle.rt_vdom.specs.Runs.{CallBrokeOff, Builds, BuildsToList, BuildStopped, PrebuiltStopped, RendersToList, Runs, RunsAs, RunsOnce, Stopped, Went}
+use Rattle.rt_vdom.specs.Runs.{Builds, BuildsToList, BuildStopped, HoldsBy, PrebuiltStopped, RendersToList, Runs, RunsAs, RunsOnce, Stopped, Went}
 use Rattle.rt_vdom.specs.declared.dom.VirtualDom.{VirtualDom}
 use Rattle.rt_vdom.specs.declared.poll.Poll.{Poll}
 use Rattle.rt_vdom.specs.declared.refusal.DomFault.{DomFault}
@@ -36,7 +39,7 @@ module _ {P C Q V H T E L : Type 0} (meaning : P → Application (types C Q V H 
       (new : VirtualDom P C Q V H T E L) (fault : DomFault)
       → ((f : model.Fault) → ran_fault fault ≡ Some f → Stopped meaning until props whole w before after new f)
       → ((what : Fault) → fault ≡ refusals.Run what → ran_fault fault ≡ None
-      → CallBrokeOff (meaning new.app) (limits_of new.limits) w until before after what)
+      → CallBroke (meaning new.app) (limits_of new.limits) w until before after (PartOf what))
       → RunsAs meaning until props whole w before after new (Err fault)
   runs_err until props whole w before after new (refusals.Run what) h k = (h, k what refl)
   runs_err until props whole w before after new refusals.NotBuilt h k = tt
@@ -84,15 +87,19 @@ module _ {P C Q V H T E L : Type 0} (meaning : P → Application (types C Q V H 
   -- messages were taken in, and events processed
   pub worked : (props : Q) (whole : Bool) (w : model.State (types C Q V H T E L)) (drained : Drained)
       (new : VirtualDom P C Q V H T E L) (report : Report) (answer : Poll (Unit {0}))
+      → view (taken_in w drained) ≡ view w
       → Went meaning Events props whole (taken_in w drained) None None new report
       → ((g : Unkept (types C Q V H T E L)) → answer ≡ answers (sees_none (StateIn g new).seen && drained.emptied))
       → Worked meaning props whole w drained answer new
-  worked props whole w drained new report answer went waits =
+  worked props whole w drained new report answer same went waits =
       record {
-        wrote = went.wrote;
         log = map entry_of report.log;
         last = went.last;
-        holds = went.holds;
+        holds =
+            subst
+            (λ (es : List Edit). HoldsBy meaning new.app new.limits props whole (taken_in w drained) Events (map entry_of report.log)
+            (map edit_of es) went.last) went.silent went.holds;
+        shows = went.still ∙ same;
         answers_as =
             waits went.stands.kept
             ∙ ap (λ (x : model.State (types C Q V H T E L)). answers (sees_none x.seen && drained.emptied)) went.stands.is;

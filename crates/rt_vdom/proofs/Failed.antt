@@ -12,10 +12,11 @@ use Rattle.rt_reports.specs.declared.fault.Fault.TheVariants as faults
 use Rattle.rt_state.specs.declared.names.Fault.TheVariants as causes
 use Rattle.rt_state.specs.declared.names.Stop.{Stop}
 use Rattle.rt_state.specs.declared.names.Stop.TheVariants as stops
-use Rattle.rt_vdom.specs.Calls.{FailsAt, spent_in}
+use Rattle.rt_vdom.specs.Calls.{FailsAt, Ran, RanNoUnit, ran_fault, spent_in}
 use Rattle.rt_vdom.specs.declared.dom.Stage.{Stage}
 use Rattle.rt_vdom.specs.declared.dom.Stage.TheVariants as stages
 use Rattle.rt_vdom.specs.declared.dom.VirtualDom.{VirtualDom}
+use Rattle.rt_vdom.specs.declared.refusal.DomFault.{DomFault}
 use Rattle.rt_vdom.specs.declared.refusal.DomFault.TheVariants as refusals
 
 -- a run's own end spends no units
@@ -25,6 +26,34 @@ run_unspent (stops.Fault (causes.IdsExhausted what)) = refl
 run_unspent (stops.Fault (causes.HookChanged scope index kept asked)) = refl
 run_unspent (stops.Fault (causes.NoSuchTask scope task)) = refl
 run_unspent (stops.Fault (causes.BadNode scope)) = refl
+
+turns_none : (stop : Stop) (units : ℕ) → Some (model.OutOfTurns units) ≡ fault_in (ends.Run stop) → ⊥
+turns_none stops.OutOfMemory units h = cc
+turns_none (stops.Fault (causes.IdsExhausted what)) units h = cc
+turns_none (stops.Fault (causes.HookChanged scope index kept asked)) units h = cc
+turns_none (stops.Fault (causes.NoSuchTask scope task)) units h = cc
+turns_none (stops.Fault (causes.BadNode scope)) units h = cc
+
+depth_none : (stop : Stop) (height : ℕ) → Some (model.TooDeep height) ≡ fault_in (ends.Run stop) → ⊥
+depth_none stops.OutOfMemory height h = cc
+depth_none (stops.Fault (causes.IdsExhausted what)) height h = cc
+depth_none (stops.Fault (causes.HookChanged scope index kept asked)) height h = cc
+depth_none (stops.Fault (causes.NoSuchTask scope task)) height h = cc
+depth_none (stops.Fault (causes.BadNode scope)) height h = cc
+
+-- nor is it that of a height
+pub no_unit : (stop : Stop) (fault : DomFault) → Ran fault → ran_fault fault ≡ fault_in (ends.Run stop) → RanNoUnit fault
+no_unit stop (refusals.Run faults.OutOfMemory) ran same = tt
+no_unit stop (refusals.Run faults.SinkFault) ran same = tt
+no_unit stop (refusals.Run (faults.OutOfTurns units)) ran same = turns_none stop units same
+no_unit stop (refusals.Run (faults.TooDeep height)) ran same = depth_none stop height same
+no_unit stop (refusals.Run (faults.IdsExhausted what)) ran same = tt
+no_unit stop (refusals.Run (faults.HookChanged scope index kept asked)) ran same = tt
+no_unit stop (refusals.Run (faults.NoSuchTask scope task)) ran same = tt
+no_unit stop (refusals.Run (faults.BadNode scope)) ran same = tt
+no_unit stop refusals.NotBuilt ran same = ran
+no_unit stop refusals.AlreadyBuilt ran same = ran
+no_unit stop refusals.Failed ran same = ran
 
 module _ {P C Q V H T E L : Type 0} (new : VirtualDom P C Q V H T E L) where
   fails_at : (fault : Fault) → (spent_in (fault_of fault) ≡ true → new.stage ≡ stages.Built)

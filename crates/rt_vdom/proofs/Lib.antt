@@ -2,6 +2,7 @@ mod Looked
 mod Standing
 mod Carried
 mod Ran
+mod Stilled
 mod Failed
 mod Polled
 mod Answered

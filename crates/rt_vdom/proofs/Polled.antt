@@ -7,12 +7,14 @@ use Rattle.rt_model.specs.Lists.{at}
 use Rattle.rt_model.specs.Next.{is_active}
 use Rattle.rt_model.specs.OneLog.{types}
 use Rattle.rt_model.specs.Tree.{Types}
+use Rattle.rt_model.specs.View.{view}
 use Rattle.rt_model.specs.World.{Application}
 use Rattle.rt_model.specs.Commands.{unqueued}
 use Rattle.rt_model.specs.Replay as replay
 use Rattle.rt_model.specs.State as model
 use Rattle.rt_model.proofs.Maps.{pick_true, pick_false}
 use Rattle.rt_doms.specs.Doms.{AsidesLead}
+use Rattle.rt_doms.proofs.Muted.{asides_show_nothing}
 use Rattle.rt_machine.specs.Machines.{fault_in}
 use Rattle.rt_machine.specs.declared.ended.Ended.TheVariants as ends
 use Rattle.rt_reports.specs.Seen.{limits_of}
@@ -92,6 +94,11 @@ module _ {P C Q V H T E L : Type 0} (meaning : P → Application (types C Q V H 
             let same : left_of w (replay.polled_now (meaning d.app) w task) ≡ w =
             ap (λ (o : model.Outcome (types C Q V H T E L)). left_of w o) (polled_none (meaning d.app) w task none) in
             subst (λ (x : model.State (types C Q V H T E L)). Stands meaning props whole x d) (sym same) s;
+        shows =
+            λ props whole w s.
+            let none : is_active w task ≡ false =
+            ap (λ (x : model.State (types C Q V H T E L)). is_active x task) (sym s.is) ∙ idle s.kept in
+            ap (λ (o : model.Outcome (types C Q V H T E L)). view (left_of w o)) (polled_none (meaning d.app) w task none);
       }
 
   -- a dom after a poll
@@ -132,6 +139,8 @@ module _ {P C Q V H T E L : Type 0} (meaning : P → Application (types C Q V H 
               counted = came.2 s.counted;
               led = leads props whole lawful w (Advanced task) s.led tt (inl tt);
             };
+        shows =
+            λ props whole w s. asides_show_nothing (meaning d.app) lawful (limits_of d.limits) props whole w (Advanced task) s.led tt (inl tt);
       }
 
 module _ {P C Q V H T E L : Type 0} (meaning : P → Application (types C Q V H T E L)) where

@@ -38,7 +38,7 @@ use Rattle.rt_rounds.specs.Rounds.{BrokeAlone, CallBroke, RanBy, StoppedBy, Rest
 use Rattle.rt_rounds.specs.Suspended.{RenderBroke}
 use Rattle.rt_vdom.specs.Doms.{Stands}
 use Rattle.rt_vdom.specs.Calls.{Keeps}
-use Rattle.rt_vdom.specs.Runs.{BuildBroke, CallBrokeOff, HoldsBy, ComesBy, Runs, RunsOnce, Settled}
+use Rattle.rt_vdom.specs.Runs.{HoldsBy, ComesBy, Runs, RunsOnce, Settled}
 use Rattle.rt_vdom.specs.declared.dom.VirtualDom.{VirtualDom}
 use Rattle.rt_vdom.specs.declared.refusal.DomFault.{DomFault}
 
@@ -183,8 +183,8 @@ module _ {K : Types} (app : Application K) (limits : causes.Limits) (from : repl
   -- of a build, by the fault that is answered
   pub build_broken_as : (before after : Option (List Edit)) (ended : Ended) (what : Fault)
       → ((taken edits : List document.Edit) → PartBy ended taken edits → PartOf what taken edits)
-      → BrokeAlone app limits from before after ended
-      → BuildBroke app limits from before after what
+      → BrokeAlone app limits from before after (PartBy ended)
+      → BrokeAlone app limits from before after (PartOf what)
   build_broken_as before after ended what f b =
       record {
         broke =
@@ -201,8 +201,8 @@ module _ {C Q V H T E L : Type 0} (app : Application (types C Q V H T E L)) (lim
   -- of a call
   pub call_broken_as : (until : Until) (before after : Option (List Edit)) (ended : Ended) (what : Fault)
       → ((taken edits : List document.Edit) → PartBy ended taken edits → PartOf what taken edits)
-      → CallBroke app limits w until before after ended
-      → CallBrokeOff app limits w until before after what
+      → CallBroke app limits w until before after (PartBy ended)
+      → CallBroke app limits w until before after (PartOf what)
   call_broken_as until before after ended what f b =
       record {
         broke =
@@ -222,15 +222,10 @@ module _ {C Q V H T E L : Type 0} (app : Application (types C Q V H T E L)) (lim
   render_broken_as before after ended what f b =
       record {
         log = b.log;
-        left = b.left;
-        units = b.units;
-        goes = b.goes;
-        done = b.done;
-        stepped = b.stepped;
-        shows = b.shows;
+        far = b.far;
         part = b.part;
         told = b.told;
-        short = short_parts app limits (resting (rendering_rest b.left)) (PartBy ended) (PartOf what) (map edit_of b.part) f b.short;
+        short = short_parts app limits (resting (rendering_rest (b.far).left)) (PartBy ended) (PartOf what) (map edit_of b.part) f b.short;
         alone = b.alone;
         last = b.last;
         within = b.within;

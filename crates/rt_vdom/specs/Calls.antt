@@ -8,6 +8,7 @@ use Rattle.rt_model.specs.Asides.{left_of}
 use Rattle.rt_model.specs.Lists.{Text, at}
 use Rattle.rt_model.specs.OneLog.{types}
 use Rattle.rt_model.specs.Tree.{Types}
+use Rattle.rt_model.specs.View.{view}
 use Rattle.rt_model.specs.World.{Application, Firsts, at_end}
 use Rattle.rt_model.specs.Replay as replay
 use Rattle.rt_model.specs.State as model
@@ -49,6 +50,13 @@ WantsNumber what next fault =
 abbrev pub Ran : DomFault → Type 0
 Ran (refusals.Run fault) = Unit {0}
 Ran other = ⊥
+
+-- what was done takes no unit and came to a fault: neither that of spent units nor that of a height
+abbrev pub RanNoUnit : DomFault → Type 0
+RanNoUnit (refusals.Run (faults.OutOfTurns units)) = ⊥
+RanNoUnit (refusals.Run (faults.TooDeep height)) = ⊥
+RanNoUnit (refusals.Run fault) = Unit {0}
+RanNoUnit other = ⊥
 
 -- what a run answers, as a call of a dom answers it
 abbrev pub as_run : {A : Type 0} → Result A Fault → Result A DomFault
@@ -177,6 +185,10 @@ module _ {P C Q V H T E L : Type 0} (meaning : P → Application (types C Q V H 
     pub stands :
         (props : Q) (whole : Bool) (w : model.State (types C Q V H T E L)) → Stands meaning props whole w old
         → Stands meaning props whole (left_of w (replay.polled_now (meaning old.app) w task)) new
+    -- in which nothing new shows
+    pub shows :
+        (props : Q) (whole : Bool) (w : model.State (types C Q V H T E L)) → Stands meaning props whole w old
+        → view (left_of w (replay.polled_now (meaning old.app) w task)) ≡ view w
 
   -- by what is answered
   abbrev pub PollsNowAs :

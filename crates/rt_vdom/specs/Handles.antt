@@ -70,14 +70,14 @@ module _ {P C Q V H T E L : Type 0} (meaning : P → Application (types C Q V H 
       (props : Q) (whole : Bool) (w : model.State (types C Q V H T E L)) → Stands meaning props whole w old
       → HandlesAs props whole w name event element new result
 
-  -- messages were taken in and events processed, where what is written goes nowhere; pending exactly where no scope is seen then and
-  -- no message was left to drain
+  -- messages were taken in and events processed: nothing is written and nothing new shows; pending exactly where no scope is seen then
+  -- and no message was left to drain
   pub record Worked (props : Q) (whole : Bool) (w : model.State (types C Q V H T E L)) (drained : Drained)
       (answer : Poll (Unit {0})) (d : VirtualDom P C Q V H T E L) : Type 0 where
-    pub wrote : List Edit
     pub log : List replay.Entry
     pub last : replay.Machine (types C Q V H T E L)
-    pub holds : HoldsBy meaning d.app d.limits props whole (taken_in w drained) Events log (map edit_of wrote) last
+    pub holds : HoldsBy meaning d.app d.limits props whole (taken_in w drained) Events log [] last
+    pub shows : view (left_by Events last.state) ≡ view w
     pub answers_as : answer ≡ answers (sees_none (left_by Events last.state).seen && drained.emptied)
     pub stands : Stands meaning props whole (left_by Events last.state) d
 

@@ -1,12 +1,12 @@
 -- What a dom's calls say that build, and that take unit after unit.
-use Rattle.std.specs.Prelude.{◌≡◌, ◌<◌, ◌⊎◌, ℕ, Bool, true, List, [], ◌++◌, map, length, Option, Some, None, Result, Ok, Err, IfOk}
+use Rattle.std.specs.Prelude.{◌≡◌, ◌<◌, ◌⊎◌, ℕ, Bool, true, List, [], map, length, Option, Some, None, Result, Ok, Err, IfOk}
 use Rattle.rt_edits.specs.Sinks.{grown}
 use Rattle.rt_edits.specs.declared.edit.Edit.{Edit}
 use Rattle.rt_mirror.specs.Mirror.{edit_of}
 use Rattle.rt_model.specs.Document as document
-use Rattle.rt_model.specs.Causes as causes
 use Rattle.rt_model.specs.OneLog.{types}
 use Rattle.rt_model.specs.Tree.{Types}
+use Rattle.rt_model.specs.View.{view}
 use Rattle.rt_model.specs.World.{Application, Firsts}
 use Rattle.rt_model.specs.Bodies.{NoneAfterRerun, OthersMadeOrFed, RerunsTheSeen}
 use Rattle.rt_model.specs.Current.{AllCurrent}
@@ -19,35 +19,26 @@ use Rattle.rt_model.specs.Asides.{Looked, aside_state, resting}
 use Rattle.rt_doms.specs.Doms.{Until, Events, Renders, BuildHolds, GivenBuildRan}
 use Rattle.rt_doms.specs.Doms.{CallHolds, RenderHolds, RenderComesTo, SpentHolds, ends_by, left_by}
 use Rattle.rt_doms.specs.Carries.{Carries, CarriesOn}
-use Rattle.rt_machine.specs.Short.{Short, PartOf}
+use Rattle.rt_machine.specs.Short.{PartOf}
 use Rattle.rt_reports.specs.Seen.{entry_of, fault_of, limits_of}
 use Rattle.rt_reports.specs.declared.fault.Fault.{Fault}
 use Rattle.rt_reports.specs.declared.limits.Limits.{Limits}
 use Rattle.rt_reports.specs.declared.report.Report.{Report}
-use Rattle.rt_rounds.specs.Rounds.{CutFrom, OpensFirst, RanBy, StoppedBy, UnendedBy}
+use Rattle.rt_rounds.specs.Rounds.{BrokeAlone, CallBroke, CutFrom, OpensFirst, RanBy, StoppedBy}
 use Rattle.rt_vdom.specs.Doms.{IsStarted, Stands}
 use Rattle.rt_vdom.specs.declared.dom.VirtualDom.{VirtualDom}
 use Rattle.rt_vdom.specs.declared.refusal.DomFault.{DomFault}
 use Rattle.rt_vdom.specs.declared.refusal.DomFault.TheVariants as refusals
 
-module _ {K : Types} (app : Application K) (limits : causes.Limits) (from : replay.Machine K) where
-  -- a call that began here broke off, for want of memory or at its sink: the sink took the edits of the units that were finished, and
-  -- a part of those of the one that was cut
-  pub record BrokeOff (before after : Option (List Edit)) (what : Fault) : Type 0 where
-    pub wrote : List Edit
-    pub told : after ≡ grown before wrote
-    pub short : Short app limits (PartOf what) from (map edit_of wrote)
+-- a call that processes events writes nothing
+abbrev pub SilentBy : Until → List Edit → Type 0
+SilentBy Events wrote = wrote ≡ []
+SilentBy until wrote = Unit {0}
 
-  -- so a build broke off: no entry but the build begins a unit
-  pub record BuildBroke (before after : Option (List Edit)) (what : Fault) : Type 0 where
-    pub broke : BrokeOff before after what
-    pub alone : OpensFirst ((broke.short).log ++ (broke.short).unit)
-
-module _ {K : Types} (app : Application K) (limits : causes.Limits) (w : model.State K) where
-  -- so a call broke off: it had begun no unit where it ends
-  pub record CallBrokeOff (until : Until) (before after : Option (List Edit)) (what : Fault) : Type 0 where
-    pub broke : BrokeOff app limits (resting (aside_state app w Looked)) before after what
-    pub unended : UnendedBy app w until ((broke.short).log ++ (broke.short).unit)
+-- and shows nothing new
+abbrev pub StillBy : {K : Types} → Until → model.State K → model.State K → Type 0
+StillBy Events w v = view v ≡ view w
+StillBy until w v = Unit {0}
 
 module _ {P C Q V H T E L : Type 0} (meaning : P → Application (types C Q V H T E L)) where
   -- the build ended: its log is accepted, its edits make what shows of an empty document, and the dom stands for where it ended
@@ -75,7 +66,7 @@ module _ {P C Q V H T E L : Type 0} (meaning : P → Application (types C Q V H 
   BuildStopped app limits props firsts provided before after what =
       let from = replay.start_with (meaning app) props firsts provided [] in
       ((fault : model.Fault) → fault_of what ≡ Some fault → CutFrom (meaning app) (limits_of limits) from before after fault)
-      × (fault_of what ≡ None → BuildBroke (meaning app) (limits_of limits) from before after what)
+      × (fault_of what ≡ None → BrokeAlone (meaning app) (limits_of limits) from before after (PartOf what))
 
   -- a dom that isn't built yet is built, whatever its root provides and wherever its numbers begin; elements have none below 1
   abbrev pub Builds :
@@ -115,6 +106,8 @@ module _ {P C Q V H T E L : Type 0} (meaning : P → Application (types C Q V H 
     pub last : replay.Machine (types C Q V H T E L)
     pub ran : RanBy (meaning d.app) (limits_of d.limits) w until (map entry_of report.log) (map edit_of wrote) last
     pub holds : HoldsBy d.app d.limits props whole w until (map entry_of report.log) (map edit_of wrote) last
+    pub silent : SilentBy until wrote
+    pub still : StillBy until w (left_by until last.state)
     -- after whatever edits carried what was drawn, each number that its edits carry is that of a hidden node that is shown again, or one
     -- that no edit carried before
     pub carries :
@@ -140,6 +133,7 @@ module _ {P C Q V H T E L : Type 0} (meaning : P → Application (types C Q V H 
     pub told : after ≡ grown before wrote
     pub log : List replay.Entry
     pub stopped : StoppedBy (meaning d.app) (limits_of d.limits) w until log (map edit_of wrote) fault
+    pub silent : SilentBy until wrote
     pub comes_to : ComesBy d.app d.limits props whole w until log fault
     pub spent : (units : ℕ) → fault ≡ model.OutOfTurns units → Spent props whole w log wrote d
 
@@ -150,7 +144,7 @@ module _ {P C Q V H T E L : Type 0} (meaning : P → Application (types C Q V H 
   RunsAs until props whole w before after new (Ok report) = Went until props whole w before after new report
   RunsAs until props whole w before after new (Err (refusals.Run what)) =
       ((fault : model.Fault) → fault_of what ≡ Some fault → Stopped until props whole w before after new fault)
-      × (fault_of what ≡ None → CallBrokeOff (meaning new.app) (limits_of new.limits) w until before after what)
+      × (fault_of what ≡ None → CallBroke (meaning new.app) (limits_of new.limits) w until before after (PartOf what))
   RunsAs until props whole w before after new (Err other) = Unit {0}
 
   -- a call that takes unit after unit, of a dom that stands for a state

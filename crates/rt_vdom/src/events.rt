@@ -1,7 +1,7 @@
 //! Events.
 
 ghost use Rattle.std.specs.Prelude.{◌≡◌, IfErr};
-ghost use Rattle.rt_vdom.specs.Calls.{CausesAt, FailsOn, Keeps, Ran, WantsBuilt};
+ghost use Rattle.rt_vdom.specs.Calls.{CausesAt, FailsOn, Keeps, RanNoUnit, WantsBuilt};
 ghost use Rattle.rt_vdom.specs.Handles.{Handles};
 
 use crate::dom::{Stage, VirtualDom};
@@ -23,7 +23,7 @@ impl<A: App> VirtualDom<A> {
     ) -> Result<Event<A::Payload>, DomFault>
         ensures handles { Handles (λ app. A.meaning app) name.now event element.0
             self.old self.new result }
-        ensures refused { WantsBuilt Ran self.old self.new result }
+        ensures refused { WantsBuilt RanNoUnit self.old self.new result }
         ensures owned { Keeps self.old self.new }
         ensures fails { FailsOn self.new result }
         ensures caused { IfErr result (λ fault. CausesAt self.old.limits 0 0 fault) }
@@ -47,7 +47,7 @@ impl<A: App> VirtualDom<A> {
     ) -> Result<Event<A::Payload>, DomFault>
         ensures handles { Handles (λ app. A.meaning app) name.now event element.0
             self.old self.new result }
-        ensures refused { IfErr result (λ fault. Ran fault) }
+        ensures refused { IfErr result (λ fault. RanNoUnit fault) }
         ensures owned { Keeps self.old self.new }
         ensures fails { self.old.stage ≡ Stage.Built → FailsOn self.new result }
         ensures caused { IfErr result (λ fault. CausesAt self.old.limits 0 0 fault) }

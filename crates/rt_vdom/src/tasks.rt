@@ -4,7 +4,7 @@ ghost use Rattle.rt_model.specs.Lists.{at};
 ghost use Rattle.rt_model.specs.Commands.{activated, end, post};
 ghost use Rattle.rt_model.specs.Next.{is_active};
 ghost use Rattle.rt_model.specs.State.{Woken};
-ghost use Rattle.rt_vdom.specs.Calls.{CausesAt, Does, FailsOn, Keeps, LeavesAll, PollsNow, Ran};
+ghost use Rattle.rt_vdom.specs.Calls.{CausesAt, Does, FailsOn, Keeps, LeavesAll, PollsNow, RanNoUnit};
 ghost use Rattle.rt_vdom.specs.Calls.{WantsBuilt, WantsMemory, WantsNothing, WantsTask, spawned_by, task_spawned, told_by};
 ghost use Rattle.rt_vdom.specs.Doms.{StateIn};
 
@@ -75,7 +75,7 @@ pub trait TaskCalls {
     /// Polls the task at once, where it is live and active. No look follows.
     fn poll_now<A: App>(&self, dom: &mut VirtualDom<A>) -> Result<Poll<()>, DomFault>
         ensures polled { PollsNow (λ app. A.meaning app) (number self.now) dom.old dom.new result }
-        ensures refused { WantsBuilt Ran dom.old dom.new result }
+        ensures refused { WantsBuilt RanNoUnit dom.old dom.new result }
         ensures owned { Keeps dom.old dom.new }
         ensures fails { FailsOn dom.new result }
         ensures caused { IfErr result (λ fault. CausesAt dom.old.limits 0 0 fault) };
@@ -292,7 +292,7 @@ impl<A: App> VirtualDom<A> {
     /// Polls a task where it is live and active. No look follows.
     fn poll_task_now(&mut self, task: Task) -> Result<Poll<()>, DomFault>
         ensures polled { PollsNow (λ app. A.meaning app) task.0 self.old self.new result }
-        ensures refused { WantsBuilt Ran self.old self.new result }
+        ensures refused { WantsBuilt RanNoUnit self.old self.new result }
         ensures owned { Keeps self.old self.new }
         ensures fails { FailsOn self.new result }
         ensures caused { IfErr result (λ fault. CausesAt self.old.limits 0 0 fault) }
@@ -307,7 +307,7 @@ impl<A: App> VirtualDom<A> {
     /// Polls a task where it is live and active: a paused one is pending, one that isn't live is ready.
     fn poll_at_once(&mut self, task: Task) -> Result<Poll<()>, DomFault>
         ensures polled { PollsNow (λ app. A.meaning app) task.0 self.old self.new result }
-        ensures refused { IfErr result (λ fault. Ran fault) }
+        ensures refused { IfErr result (λ fault. RanNoUnit fault) }
         ensures owned { Keeps self.old self.new }
         ensures fails { self.old.stage ≡ Stage.Built → FailsOn self.new result }
         ensures caused { IfErr result (λ fault. CausesAt self.old.limits 0 0 fault) }

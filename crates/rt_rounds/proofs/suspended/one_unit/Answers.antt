@@ -6,6 +6,7 @@ use Rattle.rt_model.specs.Asides.{resting}
 use Rattle.rt_reports.specs.Seen.{entry_of, limits_of}
 use Rattle.rt_machine.specs.Keeps.{TurnKeeps}
 use Rattle.rt_machine.specs.Machines.{noted}
+use Rattle.rt_machine.specs.Short.{PartBy}
 use Rattle.rt_machine.specs.Stands.{TurnsAs, counting}
 use Rattle.rt_machine.proofs.Breaking.{in_after}
 use Rattle.rt_machine.proofs.Sinks.{took-more, took-ends, ends-low, run-after}
@@ -145,7 +146,7 @@ returns-in_default-clause-breaks g c =
     let t =
     subst (λ o. TurnsAs app limits (counting r c.turn.new.calls) [] before now begun c.turn.new.self (Ok o)) c.in_default.is
     (c.in_ok-written.ensures.turns r [] stands) in
-    subst (λ o. BrokeAlone app limits (resting w) before o wanting) (sym t.0) (broke_nothing app limits props w before wanting ([], refl))
+    subst (λ o. BrokeAlone app limits (resting w) before o (PartBy wanting)) (sym t.0) (broke_nothing app limits props w before wanting ([], refl))
 
 pub returns-in_err-more-clause-breaks : goal.returns-in_err-more-clause-breaks
 returns-in_err-more-clause-breaks g c =

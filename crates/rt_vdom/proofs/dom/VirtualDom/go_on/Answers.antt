@@ -8,6 +8,7 @@ use Rattle.rt_vdom.specs.Calls.{PartIn}
 use Rattle.rt_doms.proofs.Carried.{spent_carry_anew}
 use Rattle.rt_vdom.proofs.Carried.{carries_by}
 use Rattle.rt_vdom.proofs.Ran.{call_broken_as, holds_by, leads_by, comes_by, spent_by, rests_in}
+use Rattle.rt_vdom.proofs.Stilled.{silent_by, still_by, stopped_silent_by}
 use Rattle.rt_vdom.proofs.Answered.{runs_err}
 use Rattle.rt_vdom.proofs.dom.VirtualDom.go_on.Goals as goal
 
@@ -19,6 +20,7 @@ returns-in-Ok-clause-runs g c =
     let until = until_of c.args.until in
     let ran = c.in-Ok.ensures.runs props whole w (rests_in (λ app. g.A.App.meaning app) props whole w d s) s.led in
     let holds = holds_by (λ app. g.A.App.meaning app) d.app lawful d.limits props whole w s.led until (map entry_of (c.in-Ok.report).log) (map edit_of ran.wrote) ran.last ran.ran in
+    let silent = silent_by (g.A.App.meaning d.app) (limits_of d.limits) w until (map entry_of (c.in-Ok.report).log) ran.wrote ran.last ran.ran in
     record {
       wrote = ran.wrote;
       told = ran.told;
@@ -26,6 +28,8 @@ returns-in-Ok-clause-runs g c =
       last = ran.last;
       ran = ran.ran;
       holds = holds;
+      silent = silent;
+      still = still_by (λ app. g.A.App.meaning app) d.app d.limits props whole w until (map entry_of (c.in-Ok.report).log) ran.wrote ran.last silent holds;
       carries = carries_by (g.A.App.meaning d.app) lawful (limits_of d.limits) props whole w s.led until (map entry_of (c.in-Ok.report).log) (map edit_of ran.wrote) ran.last ran.ran;
       enabled = ran.enabled;
       stands =
@@ -59,6 +63,7 @@ returns-in-Err-clause-runs g c =
       told = far.told;
       log = far.log;
       stopped = far.stopped;
+      silent = stopped_silent_by (g.A.App.meaning d.app) (limits_of d.limits) w until far.log far.wrote fault far.stopped;
       comes_to = comes_by (λ app. g.A.App.meaning app) d.app lawful d.limits props whole w s.led until far.log (map edit_of far.wrote) fault far.stopped;
       spent =
           λ units out.

@@ -3,6 +3,7 @@ use Rattle.std.proofs.Common.{◌≡◌, [], sym, ap, ◌∙◌, Ok}
 use Rattle.rt_doms.proofs.Doms.{handles_lead}
 use Rattle.rt_reports.specs.Seen.{limits_of}
 use Rattle.rt_model.specs.View.{view}
+use Rattle.rt_vdom.proofs.Failed.{no_unit}
 use Rattle.rt_vdom.proofs.Ran.{rests_in, one_document, cut_of}
 use Rattle.rt_vdom.proofs.Answered.{handles_err}
 use Rattle.rt_vdom.proofs.dom.VirtualDom.hear.Goals as goal
@@ -37,6 +38,9 @@ returns-in-Err-clause-handles g c =
     (cut_of (g.A.App.meaning d.app) w c.args.name.now e.payload c.args.element.0 e.propagates e.prevented c.handle.new.calls c.handle.new.machine c.in-Err.stop fault
     (c.in-Err.ensures.hears w (rests_in (λ app. g.A.App.meaning app) props whole w d s)) (sym c.ended.ensures.of ∙ why))
     )
+
+pub returns-in-Err-clause-refused : goal.returns-in-Err-clause-refused
+returns-in-Err-clause-refused g c = no_unit c.in-Err.stop c.ended.result c.ended.ensures.ran c.ended.ensures.of
 
 pub returns-in-Err-clause-fails : goal.returns-in-Err-clause-fails
 returns-in-Err-clause-fails g c = λ built. c.ended.ensures.fails built

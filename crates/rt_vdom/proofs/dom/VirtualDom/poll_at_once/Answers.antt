@@ -4,6 +4,7 @@ use Rattle.rt_doms.proofs.Leading.{asides_lead}
 use Rattle.rt_reports.specs.Seen.{limits_of}
 use Rattle.rt_vdom.specs.Calls.{told_by}
 use Rattle.rt_vdom.specs.Doms.{StateIn}
+use Rattle.rt_vdom.proofs.Failed.{no_unit}
 use Rattle.rt_vdom.proofs.Polled.{polls_none, polls_one, polls_now_err, polled_is, ready_gone, gone_idle, ready_paused, cut_now}
 use Rattle.rt_vdom.proofs.dom.VirtualDom.poll_at_once.Goals as goal
 
@@ -49,6 +50,9 @@ returns-in-Err-clause-polled g c =
           ∙ cut_now _ _ c.in-Err.stop fault came.1 (sym c.ended.ensures.of ∙ why),
     )
     )
+
+pub returns-in-Err-clause-refused : goal.returns-in-Err-clause-refused
+returns-in-Err-clause-refused g c = no_unit c.in-Err.stop c.ended.result c.ended.ensures.ran c.ended.ensures.of
 
 pub returns-in-Err-clause-fails : goal.returns-in-Err-clause-fails
 returns-in-Err-clause-fails g c = λ built. c.ended.ensures.fails built
