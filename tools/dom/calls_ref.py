@@ -7,7 +7,7 @@ sys.setrecursionlimit(100000)
 from jsonread import read_json
 from form import check_form
 from script import Script
-from engine import Limits, VirtualDom, Fault, DomFault, Event
+from engine import Limits, VirtualDom, Fault, DomFault, SessionFault, Event, session
 from tree import Mutations, NoOpMutations, FailingMutations
 from printing import edit_line
 
@@ -121,7 +121,7 @@ def do(dom, src, ws, out):
     elif k == "events": ran(lambda: dom.process_events())
     elif k == "settle": ran(lambda: dom.settle(sink))
     elif k == "failing":
-        m = FailingMutations([n]); ran((lambda: dom.rebuild(m)) if ws[2] == "rebuild" else (lambda: dom.settle(m)), m)
+        m = FailingMutations([n]); ran({"rebuild": lambda: dom.rebuild(m), "render": lambda: dom.render_immediate(m)}.get(ws[2], lambda: dom.settle(m)), m)
     elif k == "susp":
         try: r = dom.render_suspense_immediate(sink)
         except DomFault as e:
@@ -174,7 +174,22 @@ def start(src, ws):
         firsts = dict(zip(("tasks", "cells", "contexts", "elements", "errors"), map(int, ws[4:9])))
     return VirtualDom(Script(src), () if how in ("new", "pre") else src.props, limits, NoOpMutations(), firsts=firsts, tracked=True)
 
+def sessions(text):
+    """Sessions with the inputs of one source, over sinks that fail at these edits: what each took, its fault, how many reports were finished."""
+    lines = text.split("\n")
+    ws, out = lines[0].split(" "), []
+    for call in ws[3:]:
+        src, sink = check_form(read_json(lines[1].encode())), FailingMutations([int(call)])
+        fault = None
+        try: reports = session(Script(src), src.props, src.inputs, sink, Limits(units=int(ws[1]), height=int(ws[2])), True)
+        except SessionFault as e: fault, reports = e.fault, e.reports
+        out.extend(edit_line(e) for e in sink.edits)
+        if fault is not None: out.append(fault_line(fault))
+        out.append(f"reports {len(reports)}")
+    return "".join(x + "\n" for x in out)
+
 def reference(text):
+    if text.startswith("session "): return sessions(text)
     lines = text.split("\n")
     out = []
     try:

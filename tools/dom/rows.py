@@ -7,7 +7,7 @@ def src(n):
     s=dict(s); s.pop('inputs',None); s.pop('posts',None)
     return json.dumps(s,ensure_ascii=False,separators=(',',':'))
 C={}
-C['row27']=(src('7'),"limits 10000 128 props","render\nrebuild\nrebuild\nwrite 1 i0\nfailing 1 settle\nrender\nrebuild\n")
+C['row27']=(src('7'),"limits 10000 128 props","render\nrebuild\nrebuild\nwrite 1 i0\nfailing 1 render\nrender\nrebuild\n")
 C['row28']=(src('14'),"limits 10000 128 props","inplace\nsettle\npause 1\nwake 1\nsettle\nquery\nresume 1\nsettle\nquery\npollnow 1\ncancel 1\nspawn 99 plain 0 i0\nclose\n")
 C['row29']=(src('14'),"limits 10000 128 props","inplace\nsusp\nquery\nwake 1\nsusp\nquery\nfreeze 4\nmark 5\nsusp\nquery\npollwork 1\nmark 3\npollwork 1\nsettle\npollsusp 1\nquery\n")
 C['row32']=(src('10'),"limits 10000 128 from 18446744073709551615 1 1 1 1","rebuild\nsettle\n")
@@ -38,6 +38,12 @@ C['r15_4']=(json.dumps(old,ensure_ascii=False,separators=(',',':')),"limits 1000
 C['places_a']=(src('11'),"limits 10000 128 props","place 3\nrebuild\nplace 3 9\n")
 C['places_b']=(src('7'),"limits 10000 128 props","rebuild\nsettle\nwrite 1 i0\nsettle\nwrite 1 i2\nsettle\nplace 12 2\n")
 C['places_c']=(src('14'),"limits 10000 128 props","inplace\nplace 1 2 3 4 5 6\nsettle\nplace 1 2 3 4 5 6\nwake 1\nsettle\nplace 1 2 3 4 5 6\n")
+# sessions with a row's inputs, over sinks that fail at each edit of the table
+def whole(n):
+    s=rows[n]['source']
+    return json.dumps(json.loads(s) if isinstance(s,str) else s,ensure_ascii=False,separators=(',',':'))
+for name,edits in (('3',3),('7',5),('12',4),('14',3)):
+    C['session'+name]=("session 10000 128 "+" ".join(str(k) for k in range(1,edits+1)),whole(name),"")
 exp={}
 for k,v in C.items():
     t="\n".join(v); open(sys.argv[1]+'/cases/'+k,'w').write(t)

@@ -66,10 +66,10 @@ fn fails(
     words: &[&str],
 ) -> Result<(), OutOfMemory> {
     let mut sink = FailingMutations::new(alloc, List::from_slice(alloc, &[number(words, 1)])?);
-    let done = if word(words, 2) == "rebuild" {
-        dom.rebuild(&mut sink)
-    } else {
-        dom.settle(&mut sink)
+    let done = match word(words, 2) {
+        "rebuild" => dom.rebuild(&mut sink),
+        "render" => dom.render_immediate(&mut sink),
+        _ => dom.settle(&mut sink),
     };
     put_edits(alloc, out, sink.edits())?;
     match done {

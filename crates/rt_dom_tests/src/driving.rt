@@ -1,6 +1,7 @@
 //! Programs whose dom is driven by calls.
 
 use crate::calling::call;
+use crate::sessions::put_sessions;
 use crate::telling::put_fault;
 use crate::words::{number, small, value_of, word, words_of};
 use rt_calls::Firsts;
@@ -105,7 +106,7 @@ fn drive_one(alloc: Global, text: &str) -> Result<String, OutOfMemory> {
     Ok(out)
 }
 
-/// Programs one after another, each ended by a line of four signs.
+/// Programs one after another, each ended by a line of four signs: calls on a dom, or sessions.
 pub(crate) fn drive(alloc: Global, bytes: &[u8]) -> Result<String, OutOfMemory> {
     let mut out = String::new(alloc);
     let Ok(text) = str::from_utf8(bytes) else {
@@ -113,8 +114,10 @@ pub(crate) fn drive(alloc: Global, bytes: &[u8]) -> Result<String, OutOfMemory> 
     };
     for program in text.split("====\n") {
         if !program.is_empty() {
-            let told = drive_one(alloc, program)?;
-            out.push_str(told.as_str())?;
+            match program.strip_prefix("session ") {
+                Some(text) => put_sessions(alloc, &mut out, text)?,
+                None => out.push_str(drive_one(alloc, program)?.as_str())?,
+            }
             out.push_str("====\n")?;
         }
     }

@@ -4,6 +4,7 @@
 mod asked;
 mod calling;
 mod driving;
+mod sessions;
 mod telling;
 mod words;
 
