@@ -1,5 +1,10 @@
 pub mod Walks
 pub mod Stands
 pub mod Backs
+pub mod Agreed
+pub mod Placed
 pub mod Keyed
 pub mod Hits
+pub mod Trails
+pub mod Firsts
+pub mod Sided

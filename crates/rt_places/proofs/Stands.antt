@@ -1,6 +1,6 @@
 -- What stands in a tree, part by part.
 use Rattle.std.proofs.Common.{ℕ, zero, suc, ◌+◌, List, [], ◌∷◌, ◌++◌, ◌≡◌, ◌≢◌, refl, sym, ap, ◌∙◌, map}
-use Rattle.std.specs.Prelude.{Option, Some, None, slice_get}
+use Rattle.std.specs.Prelude.{Some, None, slice_get}
 use Rattle.rt_nodes.specs.declared.vnode.DynamicNode.{DynamicNode}
 use Rattle.rt_nodes.specs.declared.vnode.DynamicNode.TheVariants as values
 use Rattle.rt_nodes.specs.declared.vnode.VComponent.{VComponent}
@@ -16,8 +16,8 @@ use Rattle.rt_places.specs.declared.place.Step.{Step}
 use Rattle.rt_places.specs.declared.piece.Piece.{Piece}
 use Rattle.rt_places.specs.declared.piece.Piece.TheVariants as pieces
 use Rattle.rt_places.specs.declared.spot.Spot.{Spot}
-use Rattle.rt_places.specs.Places.{at_path, step_of, place_of, spot_of}
-use Rattle.rt_places.specs.Pieces.{Met, piece_of, all_met, row_met}
+use Rattle.rt_places.specs.Places.{at_path, step_of, spot_of}
+use Rattle.rt_places.specs.Pieces.{piece_of, row_met}
 use Rattle.rt_places.specs.Spots.{all_met_spots, tree_spots, value_spots, items_spots, piece_spots, pieces_spots}
 use Rattle.rt_places.proofs.Walks.{nil-right, row_is, spots_by_pieces}
 
@@ -70,13 +70,13 @@ module _ {P C Q V H T E L : Type 0} where
   unfolding piece_spots
   piece_Text above tree path = refl
 
-  slot_there : (vs : List (DynamicNode P C Q V H T E L)) (k : ℕ) (value : DynamicNode P C Q V H T E L) (place : Place)
+  pub slot_there : (vs : List (DynamicNode P C Q V H T E L)) (k : ℕ) (value : DynamicNode P C Q V H T E L) (place : Place)
       → slice_get vs k ≡ Some value → slots_spots (slots_from (map slot_of vs)) k place ≡ slot_spots (slot_of value) place
   slot_there [] k value place h = cc
   slot_there (v ∷ vs) zero value place h = ap (λ x. slot_spots (slot_of x) place) (let e : v ≡ value = cc in e)
   slot_there (v ∷ vs) (suc k) value place h = slot_there vs k value place h
 
-  slot_absent : (vs : List (DynamicNode P C Q V H T E L)) (k : ℕ) (place : Place) → slice_get vs k ≡ None → slots_spots (slots_from (map slot_of vs)) k place ≡ []
+  pub slot_absent : (vs : List (DynamicNode P C Q V H T E L)) (k : ℕ) (place : Place) → slice_get vs k ≡ None → slots_spots (slots_from (map slot_of vs)) k place ≡ []
   slot_absent [] k place h = refl
   slot_absent (v ∷ vs) zero place h = cc
   slot_absent (v ∷ vs) (suc k) place h = slot_absent vs k place h

@@ -1,6 +1,10 @@
 pub mod Places
 pub mod Pieces
 pub mod Spots
+pub mod Drawn
 pub mod Keys
 pub mod PlaceKeys
-pub mod Numbers
+pub mod Indexed
+pub mod Trails
+pub mod Apart
+pub mod Sides

@@ -4,8 +4,7 @@ use Rattle.rt_places.specs.declared.place.Kind.{Kind}
 use Rattle.rt_places.specs.declared.place.Kind.TheVariants as kinds
 use Rattle.rt_places.specs.declared.place.Step.{Step}
 use Rattle.rt_places.specs.declared.place.Step.TheVariants as steps
-use Rattle.rt_places.specs.declared.side.Numbered.{Numbered}
-use Rattle.rt_places.specs.declared.side.Child.{Child}
+use Rattle.rt_places.specs.declared.nodes.NodeAt.{NodeAt}
 
 -- a key that another number went into
 abbrev pub mixed : ℕ → ℕ → ℕ
@@ -38,10 +37,10 @@ kind_key kinds.EmptyFragment = 5
 abbrev pub place_key : List Step → Kind → ℕ
 place_key place kind = steps_key place (kind_key kind)
 
--- the key of a number
-abbrev pub key_in : Numbered → ℕ
-key_in n = place_key n.place n.kind
+-- the key of a node
+abbrev pub node_key : NodeAt → ℕ
+node_key n = place_key n.place n.kind
 
--- the key of a child scope
-abbrev pub seat_key : Child → ℕ
-seat_key c = steps_key c.place 6
+-- the key of a component
+abbrev pub seat_key : List Step → ℕ
+seat_key place = steps_key place 6

@@ -1,5 +1,5 @@
 -- Places, sides and spots of code as those of the model.
-use Rattle.std.specs.Prelude.{ℕ, List, ◌++◌, ◌∷◌, [], map, Option, Some, None}
+use Rattle.std.specs.Prelude.{ℕ, List, ◌++◌, ◌∷◌, [], map, slice_get, Option, Some, None}
 use Rattle.rt_nodes.specs.declared.vnode.VNode.{VNode}
 use Rattle.rt_model.specs.OneLog.{types}
 use Rattle.rt_model.specs.Tree as model
@@ -12,8 +12,7 @@ use Rattle.rt_places.specs.declared.place.Step.{Step}
 use Rattle.rt_places.specs.declared.place.Step.TheVariants as steps
 use Rattle.rt_places.specs.declared.side.SideName.{SideName}
 use Rattle.rt_places.specs.declared.side.SideName.TheVariants as sides
-use Rattle.rt_places.specs.declared.side.Numbered.{Numbered}
-use Rattle.rt_places.specs.declared.side.Child.{Child}
+use Rattle.rt_places.specs.declared.nodes.NodeAt.{NodeAt}
 use Rattle.rt_places.specs.declared.side.Side.{Side}
 use Rattle.rt_places.specs.declared.spot.Spot.{Spot}
 use Rattle.rt_places.specs.declared.spot.Spot.TheVariants as spots
@@ -45,13 +44,19 @@ side_name_of sides.Main = state.MainSide
 side_name_of sides.Children = state.ChildrenSide
 side_name_of sides.Fallback = state.FallbackSide
 
--- the number of a place
-abbrev pub number_of : Numbered → Place × model.Kind × ℕ
-number_of n = (place_of n.place, kind_of n.kind, n.number)
+-- a node with its place
+abbrev pub node_of : NodeAt → Place × model.Kind
+node_of n = (place_of n.place, kind_of n.kind)
 
--- the child scope at a place
-abbrev pub child_of : Child → Place × ℕ
-child_of c = (place_of c.place, c.scope)
+-- the numbers under indices of nodes, with their places; those past the end have none
+abbrev pub placed : List (Place × model.Kind) → List (ℕ × ℕ) → List (Place × model.Kind × ℕ)
+placed nodes [] = []
+placed nodes (e ∷ es) = elim (slice_get nodes e.0) [ None ↦ placed nodes es | Some q ↦ (q.0, q.1, e.1) ∷ placed nodes es ]
+
+-- the child scopes under indices of components, with their places; those past the end have none
+abbrev pub seated : List Place → List (ℕ × ℕ) → List (Place × ℕ)
+seated seats [] = []
+seated seats (e ∷ es) = elim (slice_get seats e.0) [ None ↦ seated seats es | Some p ↦ (p, e.1) ∷ seated seats es ]
 
 module _ {P C Q V H T E L : Type 0} where
   -- a kept output
@@ -61,7 +66,12 @@ module _ {P C Q V H T E L : Type 0} where
 
   -- what a scope keeps of one side
   abbrev pub side_of : Side P C Q V H T E L → state.Side (types C Q V H T E L)
-  side_of side = record { output = output_of side.output; numbers = map number_of side.numbers; children = map child_of side.children }
+  side_of side =
+      record {
+        output = output_of side.output;
+        numbers = placed (map node_of side.nodes) side.numbers;
+        children = seated (map place_of side.seats) side.children;
+      }
 
   -- what stands at a place
   abbrev pub spot_of : Spot P C Q V H T E L → model.Spot (types C Q V H T E L)

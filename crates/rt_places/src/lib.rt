@@ -1,19 +1,24 @@
 //! The places of a scope's tree, what stands at each, and what a scope keeps of it.
 #![tactic(auto)]
 
-mod children;
+mod drawn;
 mod keys;
-mod numbers;
+mod levels;
+mod nodes;
 mod piece;
 mod place;
 mod place_keys;
+mod seats;
 mod side;
 mod spot;
+mod trail;
 
-pub use children::Children;
-pub use keys::Keys;
-pub use numbers::Numbers;
+pub use drawn::Drawn;
+pub use levels::{LEVELS, down};
+pub use nodes::{NodeAt, Nodes};
 pub use piece::{Piece, path_below, pieces_of};
 pub use place::{Kind, Place, Step, is_same_kind, is_same_place, place_inside, place_of_item};
-pub use side::{Child, Numbered, Side, SideName};
+pub use seats::Seats;
+pub use side::{Side, SideName};
 pub use spot::{Spot, spots};
+pub use trail::{Path, Trail, is_on, place_on, stands_at, steps_to};

@@ -2,10 +2,15 @@
 
 ghost use Rattle.std.specs.Prelude.{◌≡◌};
 ghost use Rattle.rt_places.specs.PlaceKeys.{kind_key, mixed, path_key, place_key, step_key, steps_key};
+ghost use Rattle.rt_places.specs.Trails.{path_of, steps_of};
 
 use crate::place::{Kind, Step};
+use crate::trail::{Path, Trail};
 
 const LOW: u64 = 4294967296;
+
+/// From what the keys of components begin.
+pub(crate) const SEAT: u64 = 6;
 
 /// The key of a place at which a node of a kind stands.
 pub(crate) fn place_key(place: &[Step], kind: Kind) -> u64
@@ -23,6 +28,37 @@ pub(crate) fn steps_key(steps: &[Step], first: u64) -> u64
         key = step_key(step, key);
     }
     key
+}
+
+/// The key of where a walk stands, at a node of a kind.
+pub(crate) fn trail_key(trail: &Trail<'_>, kind: Kind) -> u64
+    ensures { result ≡ place_key (steps_of trail.now) kind }
+{
+    steps_key_on(trail, kind_key(kind))
+}
+
+/// The key of the steps to where a walk stands, from another key on.
+#[tactic(auto, using(crate::proofs::Trails::trails))]
+pub(crate) fn steps_key_on(trail: &Trail<'_>, first: u64) -> u64
+    ensures { result ≡ steps_key (steps_of trail.now) first }
+{
+    match trail {
+        Trail::Root => first,
+        Trail::Inside(above, _, path) => path_key_on(path, steps_key_on(above, first)),
+        Trail::Item(above, position) => mixed(steps_key_on(above, first), *position),
+    }
+}
+
+// The key of a path, from another key on.
+#[tactic(auto, using(crate::proofs::Trails::trails))]
+fn path_key_on(path: &Path<'_>, key: u64) -> u64
+    ensures { result ≡ path_key (path_of path.now) key }
+{
+    match path {
+        Path::Top => key,
+        Path::Below(up, index) => mixed(path_key_on(up, key), *index),
+        Path::Whole(whole) => path_key(whole, key),
+    }
 }
 
 fn kind_key(kind: Kind) -> u64

@@ -1,0 +1,45 @@
+-- Where each is the first one at its place, no place is that of two.
+use Rattle.std.proofs.Common.{ℕ, zero, suc, ◌+◌, ◌<◌, ◌≤◌, List, [], ◌∷◌, ◌≡◌, length, sym, subst, ◌∙◌, arith, inl, inr}
+use Rattle.std.specs.Prelude.{slice_get, Some}
+use Rattle.std.proofs.lemmas.Bool.{cases_lt}
+use Rattle.rt_places.specs.declared.nodes.NodeAt.{NodeAt}
+use Rattle.rt_places.specs.declared.place.Step.{Step}
+use Rattle.rt_places.specs.Apart.{Apart}
+use Rattle.rt_places.specs.Indexed.{IsFirstNodes, IsFirstSeats, node_index, seat_index}
+use Rattle.rt_places.specs.Places.{node_of, place_of}
+use Rattle.rt_places.proofs.Hits.{firsts_apart, first_seats_apart}
+
+-- one more of them
+pub up_to : (P : ℕ → Type 0) (n : ℕ) → ((i : ℕ) → i < n → P i) → P n → (i : ℕ) → i < n + 1 → P i
+up_to P n before own i low =
+    elim (cases_lt i n) [
+      | inl less ↦ before i less
+      | inr past ↦ subst (λ m. P m) (let e : n ≡ i = omega (arith, low, past) in e) own
+    ]
+
+-- past the end stands nothing
+past_end : {A : Type 0} (xs : List A) (i : ℕ) (x : A) → slice_get xs i ≡ Some x → i < length xs
+past_end [] i x h = cc h
+past_end (y ∷ xs) zero x h = omega arith
+past_end (y ∷ xs) (suc i) x h = let more = past_end xs i x h in omega (arith, more)
+
+-- the node at an index is the first one at its place
+pub first_node : (nodes : List NodeAt) (i : ℕ) (x : NodeAt) → slice_get nodes i ≡ Some x → node_index nodes (node_of x).0 (node_of x).1 ≡ Some i → IsFirstNodes nodes i
+first_node nodes i x here found y there =
+    let both : Some x ≡ Some y = sym here ∙ there in
+    let same : x ≡ y = cc both in
+    subst (λ z. node_index nodes (node_of z).0 (node_of z).1 ≡ Some i) same found
+
+pub first_seat : (seats : List (List Step)) (i : ℕ) (x : List Step) → slice_get seats i ≡ Some x → seat_index seats (place_of x) ≡ Some i → IsFirstSeats seats i
+first_seat seats i x here found y there =
+    let both : Some x ≡ Some y = sym here ∙ there in
+    let same : x ≡ y = cc both in
+    subst (λ z. seat_index seats (place_of z) ≡ Some i) same found
+
+pub all_nodes_apart : (nodes : List NodeAt) (n : ℕ) → length nodes ≤ n → ((i : ℕ) → i < n → IsFirstNodes nodes i) → Apart nodes
+all_nodes_apart nodes n past first =
+    firsts_apart nodes (λ i x here. first i (let low : i < length nodes = past_end nodes i x here in let e : i < n = omega (arith, low, past) in e) x here)
+
+pub all_seats_apart : (seats : List (List Step)) (n : ℕ) → length seats ≤ n → ((i : ℕ) → i < n → IsFirstSeats seats i) → Apart seats
+all_seats_apart seats n past first =
+    first_seats_apart seats (λ i x here. first i (let low : i < length seats = past_end seats i x here in let e : i < n = omega (arith, low, past) in e) x here)
