@@ -58,6 +58,26 @@ module _ {A B U X : Type 0} where
   table_changed r R f k h old new n absent changed step law =
       on_ok r (by_found r R f k h old new n (at old n) refl absent changed step law) (λ is. is ∙ ap (λ o. changed_in (each f old) n h o) (sym (at-each f old n)))
 
+  by_revised : (r : Result U X) (R : A → A → Type 0) (f : A → B) (h : B → B) (old new : List (ℕ × A)) (n : ℕ) (found : Option A) → at old n ≡ found
+      → (at old n ≡ None → new ≡ old)
+      → ((x : A) → at old n ≡ Some x → (y : A) × R x y × (new ≡ put old n y))
+      → ((x y : A) → R x y → OnOk r (f y ≡ h (f x)))
+      → OnOk r (each f new ≡ changed_in (each f old) n h (option_map f found))
+  by_revised (Ok u) R f h old new n None stood absent changed step = ap (each f) (absent stood)
+  by_revised (Ok u) R f h old new n (Some x) stood absent changed step =
+      let made = changed x stood in
+      ap (each f) made.2 ∙ put-each f old n made.0 ∙ ap (λ b. put (each f old) n b) (step x made.0 made.1)
+  by_revised (Err e) R f h old new n found stood absent changed step = tt
+
+  -- the same by a closure of which it is known what its work is in the model
+  pub table_revised : (r : Result U X) (R : A → A → Type 0) (f : A → B) (h : B → B) (old new : List (ℕ × A)) (n : ℕ)
+      → (at old n ≡ None → new ≡ old)
+      → ((x : A) → at old n ≡ Some x → (y : A) × R x y × (new ≡ put old n y))
+      → ((x y : A) → R x y → OnOk r (f y ≡ h (f x)))
+      → OnOk r (each f new ≡ changed_in (each f old) n h (at (each f old) n))
+  table_revised r R f h old new n absent changed step =
+      on_ok r (by_revised r R f h old new n (at old n) refl absent changed step) (λ is. is ∙ ap (λ o. changed_in (each f old) n h o) (sym (at-each f old n)))
+
 module _ {K : tree.Types} where
   change_is : (w : model.State K) (s : ℕ) (h : model.Scope K → model.Scope K) (found : Option (model.Scope K))
       → record w { scopes = changed_in w.scopes s h found } ≡ changed_scope w s h found
@@ -100,6 +120,20 @@ module _ {P C Q V H T E L U X : Type 0} where
       → OnOk r ((g : Unkept (types C Q V H T E L)) → record (state_of g d) { scopes = each scope_of new } ≡ change (state_of g d) s h)
   scope_changed r R d new s k h absent changed step law =
       on_ok r (table_changed r R scope_of k h (d.rows).table new s absent changed step law)
+      (λ is g.
+      let w : model.State (types C Q V H T E L) = state_of g d in
+      ap (λ (es : List (ℕ × model.Scope (types C Q V H T E L))). let v : model.State (types C Q V H T E L) = record w { scopes = es } in v) is
+      ∙ change_is w s h (at w.scopes s))
+
+  -- the same by what it is in the model
+  pub scope_revised : (r : Result U X) (R : Scope P C Q V H T E L → Scope P C Q V H T E L → Type 0) (d : State P C Q V H T E L) (new : List (ℕ × Scope P C Q V H T E L)) (s : ℕ)
+      (h : model.Scope (types C Q V H T E L) → model.Scope (types C Q V H T E L))
+      → (at (d.rows).table s ≡ None → new ≡ (d.rows).table)
+      → ((x : Scope P C Q V H T E L) → at (d.rows).table s ≡ Some x → (y : Scope P C Q V H T E L) × R x y × (new ≡ put (d.rows).table s y))
+      → ((x y : Scope P C Q V H T E L) → R x y → OnOk r (scope_of y ≡ h (scope_of x)))
+      → OnOk r ((g : Unkept (types C Q V H T E L)) → record (state_of g d) { scopes = each scope_of new } ≡ change (state_of g d) s h)
+  scope_revised r R d new s h absent changed step =
+      on_ok r (table_revised r R scope_of h (d.rows).table new s absent changed step)
       (λ is g.
       let w : model.State (types C Q V H T E L) = state_of g d in
       ap (λ (es : List (ℕ × model.Scope (types C Q V H T E L))). let v : model.State (types C Q V H T E L) = record w { scopes = es } in v) is

@@ -1,32 +1,17 @@
--- One more number or child on a side, as the model has it; a number that is drawn.
-use Rattle.std.proofs.Common.{◌≡◌, ℕ, ◌+◌, Bool, true, false, [], ◌∷◌, ◌++◌, refl, ap, sym, ◌∙◌}
-use Rattle.std.specs.Prelude.{if◌then◌else◌}
-use Rattle.std.proofs.lemmas.List.{map-append}
-use Rattle.rt_places.specs.declared.side.SideName.{SideName}
-use Rattle.rt_places.specs.declared.side.SideName.TheVariants.{Main, Children, Fallback}
-use Rattle.rt_places.specs.declared.side.Numbered.{Numbered}
-use Rattle.rt_places.specs.declared.side.Child.{Child}
-use Rattle.rt_places.specs.Places.{number_of, child_of, side_name_of, side_of}
+-- A number that is drawn.
+use Rattle.std.proofs.Common.{◌≡◌, ℕ, ◌+◌, Bool, true, false, [], ap, sym, ◌∙◌}
+use Rattle.std.specs.Prelude.{Result, Ok, Err, OnErr, OnOk, if◌then◌else◌}
+use Rattle.rt_model.specs.OneLog.{types}
 use Rattle.rt_model.specs.Tree.{Types, Place, Kind}
 use Rattle.rt_model.specs.World as world
 use Rattle.rt_model.specs.State as model
 use Rattle.rt_model.specs.State.{change}
 use Rattle.rt_model.specs.Run.{with_next}
 use Rattle.rt_model.specs.Replay.{numbered, draw_number}
-use Rattle.rt_calls.specs.Kept.{scope_of}
-use Rattle.rt_calls.specs.declared.rest.Scope.{Scope}
-use Rattle.rt_state.specs.Sides.{with_number, with_child, more_number, more_child}
-
-module _ {P C Q V H T E L : Type 0} where
-  pub number-is : (x : Scope P C Q V H T E L) (side : SideName) (n : Numbered) → scope_of (with_number x side n) ≡ more_number (side_name_of side) (number_of n) (scope_of x)
-  number-is x Main n = λ i. record (scope_of x) { main_side = record (side_of (x.rest).main_side) { numbers = map-append number_of ((x.rest).main_side).numbers (n ∷ []) i } }
-  number-is x Children n = λ i. record (scope_of x) { children_side = record (side_of (x.rest).children_side) { numbers = map-append number_of ((x.rest).children_side).numbers (n ∷ []) i } }
-  number-is x Fallback n = λ i. record (scope_of x) { fallback_side = record (side_of (x.rest).fallback_side) { numbers = map-append number_of ((x.rest).fallback_side).numbers (n ∷ []) i } }
-
-  pub child-is : (x : Scope P C Q V H T E L) (side : SideName) (c : Child) → scope_of (with_child x side c) ≡ more_child (side_name_of side) (child_of c) (scope_of x)
-  child-is x Main c = λ i. record (scope_of x) { main_side = record (side_of (x.rest).main_side) { children = map-append child_of ((x.rest).main_side).children (c ∷ []) i } }
-  child-is x Children c = λ i. record (scope_of x) { children_side = record (side_of (x.rest).children_side) { children = map-append child_of ((x.rest).children_side).children (c ∷ []) i } }
-  child-is x Fallback c = λ i. record (scope_of x) { fallback_side = record (side_of (x.rest).fallback_side) { children = map-append child_of ((x.rest).fallback_side).children (c ∷ []) i } }
+use Rattle.rt_places.specs.declared.side.Side.{Side}
+use Rattle.rt_places.specs.Places.{side_of}
+use Rattle.rt_places.specs.Sides.{and_child}
+use Rattle.rt_state.specs.Sides.{more_number}
 
 module _ {K : Types} (w : model.State K) (s : ℕ) (side : model.SideName) (p : Place) (k : Kind) where
   abbrev drawn_by : Bool → model.Outcome K
@@ -41,3 +26,10 @@ module _ {K : Types} (w : model.State K) (s : ℕ) (side : model.SideName) (p : 
       ap drawn_by more
       ∙ ap (λ u. model.Done u [])
       (sym (made ∙ ap (λ (n : ℕ). change (with_next w (record (w.next) { elements = n })) s (λ x. more_number side (p, k, (w.next).elements) x)) is))
+
+module _ {P C Q V H T E L U X : Type 0} where
+  -- a child leaves the numbers of its side, as does one that is refused
+  pub seat_stays : (r : Result U X) (old new : Side P C Q V H T E L) (child : Place × ℕ) → OnOk r (side_of new ≡ and_child (side_of old) child) → OnErr r (new ≡ old)
+      → (side_of new).numbers ≡ (side_of old).numbers
+  seat_stays (Ok u) old new child seated same = ap (λ (a : model.Side (types C Q V H T E L)). a.numbers) seated
+  seat_stays (Err e) old new child seated same = ap (λ (a : Side P C Q V H T E L). (side_of a).numbers) same

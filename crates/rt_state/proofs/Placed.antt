@@ -1,7 +1,7 @@
 -- The places of what is drawn, as scopes change, come and go.
 use Rattle.std.proofs.Common.{◌≡◌, ℕ, zero, suc, ◌<◌, Bool, true, false, List, [], ◌∷◌, ◌++◌, ◌&&◌, ◌||◌, length, get_or, map, nat_eq, refl, sym, ap, subst, ◌∙◌, arith}
 use Rattle.std.specs.Coded.{Coded, Coded-set, code_by, coded×, coded_ℕ, coded_bool, coded_list, coded_option}
-use Rattle.std.specs.Prelude.{Option, Some, None, Result, Ok, Err, OnOk, option_map, is_some, not, slice_set, if◌then◌else◌}
+use Rattle.std.specs.Prelude.{Option, Some, None, Result, Ok, Err, OnOk, option_map, is_some, not, slice_get, slice_set, if◌then◌else◌}
 use Rattle.rt_model.specs.Lists.{at, has, put, without}
 use Rattle.rt_model.specs.OneLog.{types}
 use Rattle.rt_model.specs.Queries.{Standing}
@@ -21,16 +21,15 @@ use Rattle.rt_named.proofs.Cut.{at_without_all, has_joined, joined_numbers, part
 use Rattle.rt_named.proofs.More.{Joined, drawn_on, placed_more, standings_joined}
 use Rattle.rt_named.proofs.Stays.{placed_same, sides_stay, standings_put}
 use Rattle.rt_named.proofs.Went.{went_has}
-use Rattle.rt_places.specs.declared.side.Numbered.{Numbered}
+use Rattle.rt_places.specs.declared.nodes.NodeAt.{NodeAt}
 use Rattle.rt_places.specs.declared.side.Side.{Side}
 use Rattle.rt_places.specs.declared.side.SideName.{SideName}
 use Rattle.rt_places.specs.Places as code
-use Rattle.rt_places.specs.Places.{number_of, place_of, side_name_of}
+use Rattle.rt_places.specs.Places.{node_of, placed, side_name_of}
 use Rattle.rt_table.specs.Found.{IsTaken}
-use Rattle.rt_state.specs.Drawn.{drawn_for, numbers_in}
-use Rattle.rt_state.specs.Sides.{side_put, with_number}
+use Rattle.rt_state.specs.Drawn.{drawn_for, numbers_at, numbers_in}
+use Rattle.rt_state.specs.Sides.{more_number, side_put}
 use Rattle.rt_state.proofs.Each.{append-each, at-each, put-each}
-use Rattle.rt_state.proofs.OneMore.{number-is}
 use Rattle.rt_state.proofs.Put.{put_is}
 
 -- a place from its parts
@@ -47,10 +46,25 @@ named_code =
 pub one_place : (a b : Option Named) (p q : a ≡ b) → p ≡ q
 one_place a b p q = Coded-set (coded_option named_code) a b p q
 
+-- what stands under an index of a list that is put through a change
+get_mapped : {A B : Type 0} (f : A → B) (xs : List A) (i : ℕ) → slice_get (map f xs) i ≡ option_map f (slice_get xs i)
+get_mapped f [] i = refl
+get_mapped f (x ∷ xs) zero = refl
+get_mapped f (x ∷ xs) (suc i) = get_mapped f xs i
+
 -- the numbers of what is drawn, in the words of the definitions
-pub numbers_are : (drawn : List Numbered) → numbers_drawn (map number_of drawn) ≡ numbers_in drawn
-numbers_are [] = refl
-numbers_are (n ∷ ns) = ap (λ (ms : List ℕ). n.number ∷ ms) (numbers_are ns)
+pub numbers_are : (nodes : List NodeAt) (drawn : List (ℕ × ℕ)) → numbers_drawn (placed (map node_of nodes) drawn) ≡ numbers_at nodes drawn
+numbers_are nodes [] = refl
+numbers_are nodes (e ∷ es) =
+    ap (λ (o : Option (tree.Place × tree.Kind)). numbers_drawn (elim o as (λ _. List (tree.Place × tree.Kind × ℕ)) [ None ↦ placed (map node_of nodes) es | Some q ↦ (q.0, q.1, e.1) ∷ placed (map node_of nodes) es ]))
+    (get_mapped node_of nodes e.0)
+    ∙ by (slice_get nodes e.0) (numbers_are nodes es)
+  where
+    by : (o : Option NodeAt) → numbers_drawn (placed (map node_of nodes) es) ≡ numbers_at nodes es
+        → numbers_drawn (elim (option_map node_of o) as (λ _. List (tree.Place × tree.Kind × ℕ)) [ None ↦ placed (map node_of nodes) es | Some q ↦ (q.0, q.1, e.1) ∷ placed (map node_of nodes) es ])
+        ≡ (elim o as (λ _. List ℕ) [ None ↦ numbers_at nodes es | Some q ↦ e.1 ∷ numbers_at nodes es ])
+    by None h = h
+    by (Some a) h = ap (λ (ns : List ℕ). e.1 ∷ ns) h
 
 module _ {K : tree.Types} where
   -- a number joins a side
@@ -184,17 +198,18 @@ module _ {P C Q V H T E L : Type 0} where
 
   -- another side of a scope in the table
   pub placed_put : (R : Scope P C Q V H T E L → Scope P C Q V H T E L → Type 0) (old new : List (ℕ × Scope P C Q V H T E L)) (s : ℕ) (x : Scope P C Q V H T E L) (name : SideName) (side : Side P C Q V H T E L) (was : Side P C Q V H T E L)
-      (seen stay : List Numbered) (places left : List (ℕ × Place))
+      (stay : List (ℕ × ℕ)) (places left : List (ℕ × Place))
       → Some x ≡ at old s
       → ((y : Scope P C Q V H T E L) → at old s ≡ Some y → (z : Scope P C Q V H T E L) × R y z × (new ≡ put old s z))
       → ((y z : Scope P C Q V H T E L) → R y z → z ≡ side_put name side y)
-      → ((y : Scope P C Q V H T E L) → at old s ≡ Some y → IsPicked (map number_of side.numbers) (model.side_of (scope_of y) (side_name_of name)).numbers)
-      → code.side_of was ≡ model.side_of (scope_of x) (side_name_of name) → seen ≡ was.numbers → stay ≡ side.numbers
-      → left ≡ without_all places (went (numbers_in seen) (numbers_in stay))
+      → code.side_of was ≡ model.side_of (scope_of x) (side_name_of name) → stay ≡ side.numbers
+      → left ≡ without_all places (went (numbers_at was.nodes was.numbers) (numbers_in stay))
+      → ((y : Scope P C Q V H T E L) → at old s ≡ Some y → IsPicked (code.side_of side).numbers (model.side_of (scope_of y) (side_name_of name)).numbers)
+      → numbers_at side.nodes side.numbers ≡ numbers_in side.numbers
       → IsPlaced (each scope_of old) places → IsPlaced (each scope_of new) left
-  placed_put R old new s x name side was seen stay places left live changed step few stood seen_is stay_is gone h =
+  placed_put R old new s x name side was stay places left live changed step stood stay_is gone few known h =
       let made = changed x (sym live) in
-      placed_side (each scope_of old) (each scope_of new) places left s (scope_of x) (side_name_of name) (code.side_of side) (numbers_in seen) (numbers_in stay)
+      placed_side (each scope_of old) (each scope_of new) places left s (scope_of x) (side_name_of name) (code.side_of side) (numbers_at was.nodes was.numbers) (numbers_in stay)
       (at-each scope_of old s ∙ ap (λ (f : Option (Scope P C Q V H T E L)). option_map scope_of f) (sym live))
       (
       ap (λ (es : List (ℕ × Scope P C Q V H T E L)). each scope_of es) made.2
@@ -202,41 +217,33 @@ module _ {P C Q V H T E L : Type 0} where
       ∙ ap (λ (y : model.Scope (types C Q V H T E L)). put (each scope_of old) s y) (ap scope_of (step x made.0 made.1) ∙ put_is name side x)
       )
       (few x (sym live))
-      (
-      sym (numbers_are seen)
-      ∙ ap (λ (ns : List Numbered). numbers_drawn (map number_of ns)) seen_is
-      ∙ ap (λ (a : model.Side (types C Q V H T E L)). numbers_drawn a.numbers) stood
-      )
-      (sym (numbers_are stay) ∙ ap (λ (ns : List Numbered). numbers_drawn (map number_of ns)) stay_is)
+      (sym (numbers_are was.nodes was.numbers) ∙ ap (λ (a : model.Side (types C Q V H T E L)). numbers_drawn a.numbers) stood)
+      (ap (λ (es : List (ℕ × ℕ)). numbers_in es) stay_is ∙ sym known ∙ sym (numbers_are side.nodes side.numbers))
       gone h
 
   -- a number joins a side of a scope in the table
-  pub placed_numbered : (old new : List (ℕ × Scope P C Q V H T E L)) (s : ℕ) (side : SideName) (n : Numbered) (p : Place) (places left : List (ℕ × Place))
-      → is_some (at old s) ≡ true → ((x : Scope P C Q V H T E L) → at old s ≡ Some x → new ≡ put old s (with_number x side n))
-      → at places n.number ≡ None → named_in p ≡ named_of (s, side_name_of side, place_of n.place) → left ≡ places ++ (n.number, p) ∷ []
+  pub placed_numbered : (old new : List (ℕ × Scope P C Q V H T E L)) (s : ℕ) (side : SideName) (e : tree.Place × tree.Kind × ℕ) (p : Place) (places left : List (ℕ × Place))
+      → is_some (at old s) ≡ true
+      → ((x : Scope P C Q V H T E L) → at old s ≡ Some x → each scope_of new ≡ put (each scope_of old) s (more_number (side_name_of side) e (scope_of x)))
+      → at places e.2 ≡ None → named_in p ≡ named_of (s, side_name_of side, e.0) → left ≡ places ++ (e.2, p) ∷ []
       → IsPlaced (each scope_of old) places → IsPlaced (each scope_of new) left
-  placed_numbered old new s side n p places left live made free names more h = by (at old s) refl live
+  placed_numbered old new s side e p places left live made free names more h = by (at old s) refl live
     where
       by : (o : Option (Scope P C Q V H T E L)) → at old s ≡ o → is_some o ≡ true → IsPlaced (each scope_of new) left
-      by None e q = absurd (cc q)
-      by (Some x) e q =
+      by None here q = absurd (cc q)
+      by (Some x) here q =
           subst (λ (ps : List (ℕ × Place)). IsPlaced (each scope_of new) ps) (sym more)
           (
-          placed_drawn (each scope_of old) (each scope_of new) places s (scope_of x) (side_name_of side) (number_of n) p
-          (at-each scope_of old s ∙ ap (λ (f : Option (Scope P C Q V H T E L)). option_map scope_of f) e)
-          (
-          ap (λ (es : List (ℕ × Scope P C Q V H T E L)). each scope_of es) (made x e)
-          ∙ put-each scope_of old s (with_number x side n)
-          ∙ ap (λ (y : model.Scope (types C Q V H T E L)). put (each scope_of old) s y) (number-is x side n)
-          )
-          free names h
+          placed_drawn (each scope_of old) (each scope_of new) places s (scope_of x) (side_name_of side) e p
+          (at-each scope_of old s ∙ ap (λ (f : Option (Scope P C Q V H T E L)). option_map scope_of f) here)
+          (made x here) free names h
           )
 
   -- a row of a scope goes, with the places of its three sides
   pub placed_taken : (old new : List (ℕ × Scope P C Q V H T E L)) (s : ℕ) (x : Scope P C Q V H T E L) (places one two three : List (ℕ × Place)) → IsTaken old new s x
-      → one ≡ without_all places (went (numbers_in ((x.rest).main_side).numbers) [])
-      → two ≡ without_all one (went (numbers_in ((x.rest).children_side).numbers) [])
-      → three ≡ without_all two (went (numbers_in ((x.rest).fallback_side).numbers) [])
+      → one ≡ without_all places (went (numbers_at ((x.rest).main_side).nodes ((x.rest).main_side).numbers) [])
+      → two ≡ without_all one (went (numbers_at ((x.rest).children_side).nodes ((x.rest).children_side).numbers) [])
+      → three ≡ without_all two (went (numbers_at ((x.rest).fallback_side).nodes ((x.rest).fallback_side).numbers) [])
       → IsPlaced (each scope_of old) places → IsPlaced (each scope_of new) three
   placed_taken old new s x places one two three taken first second third h =
       placed_cut (each scope_of old) (each scope_of new) (standings (each scope_of taken.front)) (scope_standings s (scope_of x)) (standings (each scope_of taken.back)) [] places three h
@@ -261,13 +268,13 @@ module _ {P C Q V H T E L : Type 0} where
       )
     where
       main : List ℕ
-      main = numbers_in ((x.rest).main_side).numbers
+      main = numbers_at ((x.rest).main_side).nodes ((x.rest).main_side).numbers
 
       children : List ℕ
-      children = numbers_in ((x.rest).children_side).numbers
+      children = numbers_at ((x.rest).children_side).nodes ((x.rest).children_side).numbers
 
       fallback : List ℕ
-      fallback = numbers_in ((x.rest).fallback_side).numbers
+      fallback = numbers_at ((x.rest).fallback_side).nodes ((x.rest).fallback_side).numbers
 
       went_all : (ns : List ℕ) → went ns [] ≡ ns
       went_all [] = refl
@@ -290,18 +297,18 @@ module _ {P C Q V H T E L : Type 0} where
       all_has n =
           ap (λ (ns : List ℕ). has ns n)
           (
-          joined_numbers (on MainSide ((x.rest).main_side).numbers) (on ChildrenSide ((x.rest).children_side).numbers ++ on FallbackSide ((x.rest).fallback_side).numbers)
-          ∙ (λ i. numbers_on MainSide ((x.rest).main_side).numbers i ++ joined_numbers (on ChildrenSide ((x.rest).children_side).numbers) (on FallbackSide ((x.rest).fallback_side).numbers) i)
-          ∙ (λ i. main ++ (numbers_on ChildrenSide ((x.rest).children_side).numbers i ++ numbers_on FallbackSide ((x.rest).fallback_side).numbers i))
+          joined_numbers (on MainSide (x.rest).main_side) (on ChildrenSide (x.rest).children_side ++ on FallbackSide (x.rest).fallback_side)
+          ∙ (λ i. numbers_on MainSide (x.rest).main_side i ++ joined_numbers (on ChildrenSide (x.rest).children_side) (on FallbackSide (x.rest).fallback_side) i)
+          ∙ (λ i. main ++ (numbers_on ChildrenSide (x.rest).children_side i ++ numbers_on FallbackSide (x.rest).fallback_side i))
           )
           ∙ has_joined main (children ++ fallback) n
           ∙ ap (λ (b : Bool). has main n || b) (has_joined children fallback n)
         where
-          on : model.SideName → List Numbered → List (ℕ × Standing)
-          on name ns = side_standings s name (map number_of ns)
+          on : model.SideName → Side P C Q V H T E L → List (ℕ × Standing)
+          on name a = side_standings s name (code.side_of a).numbers
 
-          numbers_on : (name : model.SideName) (ns : List Numbered) → numbers_of (on name ns) ≡ numbers_in ns
-          numbers_on name ns = side_numbers s name (map number_of ns) ∙ numbers_are ns
+          numbers_on : (name : model.SideName) (a : Side P C Q V H T E L) → numbers_of (on name a) ≡ numbers_at a.nodes a.numbers
+          numbers_on name a = side_numbers s name (code.side_of a).numbers ∙ numbers_are a.nodes a.numbers
 
 -- what was put is taken back
 pub taken_back : {A : Type 0} (es : List (ℕ × A)) (n : ℕ) (a : A) → at es n ≡ None → without (es ++ (n, a) ∷ []) n ≡ es
@@ -313,11 +320,10 @@ taken_back {A = A} (e ∷ es) n a none = by (nat_eq e.0 n) none (λ h. taken_bac
     by true q rest = absurd (cc q)
     by false q rest = ap (λ (fs : List (ℕ × A)). e ∷ fs) (rest q)
 
-module _ {A U X : Type 0} where
-  -- a change that was done, by what it does
-  pub put_done : (r : Result U X) (R : A → A → Type 0) (k : A → A) (old new : List (ℕ × A)) (n : ℕ)
-      → ((x : A) → at old n ≡ Some x → (y : A) × R x y × (new ≡ put old n y))
-      → ((x y : A) → R x y → OnOk r (y ≡ k x))
-      → OnOk r ((x : A) → at old n ≡ Some x → new ≡ put old n (k x))
-  put_done (Ok u) R k old new n changed step = λ x live. let made = changed x live in made.2 ∙ ap (λ (y : A). put old n y) (step x made.0 made.1)
-  put_done (Err e) R k old new n changed step = tt
+-- a change that was done, by what it does
+pub put_told : {A B U X : Type 0} (r : Result U X) (R : A → A → Type 0) (f : A → B) (h : B → B) (old new : List (ℕ × A)) (n : ℕ)
+    → ((x : A) → at old n ≡ Some x → (y : A) × R x y × (new ≡ put old n y))
+    → ((x y : A) → R x y → OnOk r (f y ≡ h (f x)))
+    → OnOk r ((x : A) → at old n ≡ Some x → each f new ≡ put (each f old) n (h (f x)))
+put_told (Ok u) R f h old new n changed step = λ x live. let made = changed x live in ap (each f) made.2 ∙ put-each f old n made.0 ∙ ap (λ b. put (each f old) n b) (step x made.0 made.1)
+put_told (Err e) R f h old new n changed step = tt

@@ -96,6 +96,11 @@ module _ (P C Q V H T E L : Type 0) where
     pub model : state.TaskRow (types C Q V H T E L) → state.TaskRow (types C Q V H T E L)
     pub same : (x : TaskRow P C Q V H T E L) → task_of (code x) ≡ model (task_of x)
 
+module _ (C Q V H T E L : Type 0) where
+  -- what a change of all that is kept of a scope is in the model
+  abbrev pub ScopeRevision : Type 0
+  ScopeRevision = state.Scope (types C Q V H T E L) → state.Scope (types C Q V H T E L)
+
 module _ {K : tree.Types} where
   -- a task that was found is changed
   abbrev pub changed_task : state.State K → ℕ → (state.TaskRow K → state.TaskRow K) → Option (state.TaskRow K) → state.State K

@@ -126,8 +126,10 @@ impl<P: Parts> State<P> {
         let Some(parent) = found.row.parent else {
             return true;
         };
-        let side_shows = self.shows_side(parent.0, found.rest.below);
-        side_shows & self.shown_from(steps - 1, parent.0)
+        if !self.shows_side(parent.0, found.rest.below) {
+            return false;
+        }
+        self.shown_from(steps - 1, parent.0)
     }
 
     /// Whether a live scope shows this side.

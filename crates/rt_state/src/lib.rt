@@ -8,6 +8,7 @@ mod climbs;
 mod commands;
 mod errors;
 mod held;
+mod joining;
 mod looks;
 mod marking;
 mod mounting;

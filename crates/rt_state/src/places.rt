@@ -1,5 +1,5 @@
 //! Where the numbers of the document stand.
-ghost use Rattle.std.specs.Prelude.{◌≡◌, ◌<◌, Some, true, drop, length, map, option_map};
+ghost use Rattle.std.specs.Prelude.{◌≡◌, ◌<◌, ◌∷◌, ℕ, List, Some, true, drop, is_some, length, option_map, slice_get};
 ghost use Rattle.std.specs.Option.{option_copied};
 ghost use Rattle.rt_model.specs.Lists.{at, without};
 ghost use Rattle.rt_model.specs.Queries.{node_place};
@@ -8,8 +8,8 @@ ghost use Rattle.rt_model.specs.State.{change, with_side};
 ghost use Rattle.rt_calls.specs.Kept.{each, scope_of};
 ghost use Rattle.rt_named.specs.Named.{named_in, named_of};
 ghost use Rattle.rt_named.specs.Standings.{IsPicked, IsPlaced, starts, went, without_all};
-ghost use Rattle.rt_places.specs.Places.{number_of, side_name_of, side_of};
-ghost use Rattle.rt_state.specs.Drawn.{numbers_in};
+ghost use Rattle.rt_places.specs.Places.{side_name_of, side_of};
+ghost use Rattle.rt_state.specs.Drawn.{numbers_at, numbers_in};
 ghost use Rattle.rt_state.specs.Mirror.{state_of};
 ghost use Rattle.rt_state.specs.Sides.{side_put};
 
@@ -17,7 +17,7 @@ use crate::scopes::{put_side, side_of};
 use crate::state::State;
 use rt_calls::Scope;
 use rt_parts::Parts;
-use rt_places::{Numbered, Side, SideName};
+use rt_places::{NodeAt, Side, SideName};
 use rt_plan::Place;
 use rt_table::Table;
 use rt_values::OutOfMemory;
@@ -33,11 +33,12 @@ impl<P: Parts> State<P> {
     }
 
     /// Puts another side in the place of one of a live scope. What is drawn for it was drawn for that
-    /// one. It takes no memory.
+    /// one, and stands at nodes that it knows. It takes no memory.
     pub fn put_side(&mut self, scope: u64, name: SideName, side: Side<P>)
         requires fewer { (x : Scope P P.Component P.Props P.Value P.Handler P.TaskState P.Effect P.Payload)
-            → at self.old.rows.table scope ≡ Some x → IsPicked (map number_of side.numbers)
+            → at self.old.rows.table scope ≡ Some x → IsPicked (side_of side).numbers
             (model.side_of (scope_of x) (side_name_of name)).numbers }
+        requires known { numbers_at side.nodes side.numbers ≡ numbers_in side.numbers }
         ensures put { (g : _) → state_of g self.new ≡ change (state_of g self.old) scope
             (λ x. with_side x (side_name_of name) (side_of side)) }
     {
@@ -46,7 +47,7 @@ impl<P: Parts> State<P> {
         };
         forget(
             &mut self.places,
-            side_of(found, name).numbers.as_slice(),
+            side_of(found, name),
             side.numbers.as_slice(),
         );
         let _done = self.rows.table.change(
@@ -72,34 +73,77 @@ pub(crate) fn remove_rows<P: Parts>(
         → IsPlaced (each scope_of rows.new) places.new }
 {
     while let Some(row) = rows.take_first(scope) {
-        forget(places, row.rest.main_side.numbers.as_slice(), &[]);
-        forget(places, row.rest.children_side.numbers.as_slice(), &[]);
-        forget(places, row.rest.fallback_side.numbers.as_slice(), &[]);
+        forget(places, &row.rest.main_side, &[]);
+        forget(places, &row.rest.children_side, &[]);
+        forget(places, &row.rest.fallback_side, &[]);
     }
 }
 
-/// Takes the places of these out, but for those that stay, which are some of them in the same order.
-fn forget(places: &mut Table<Place>, drawn: &[Numbered], stay: &[Numbered])
-    ensures { places.new
-        ≡ without_all places.old (went (numbers_in drawn.now) (numbers_in stay.now)) }
+/// Takes the places of what is drawn for a side out, but for those that stay, which are some of them in
+/// the same order.
+fn forget<P: Parts>(places: &mut Table<Place>, side: &Side<P>, stay: &[(u64, u64)])
+    ensures { places.new ≡ without_all places.old
+        (went (numbers_at side.now.nodes side.now.numbers) (numbers_in stay.now)) }
+{
+    let nodes = side.nodes.as_slice();
+    let drawn = side.numbers.as_slice();
+    forget_drawn(places, nodes, drawn, stay);
+}
+
+/// The same of what is drawn for these nodes.
+fn forget_drawn(
+    places: &mut Table<Place>,
+    nodes: &[NodeAt],
+    drawn: &[(u64, u64)],
+    stay: &[(u64, u64)],
+)
+    ensures { places.new ≡ without_all places.old
+        (went (numbers_at nodes.now drawn.now) (numbers_in stay.now)) }
 {
     let mut next = 0;
-    for numbered in drawn {
-        if stays(stay, next, numbered.number) {
-            next += 1;
-        } else {
-            places.remove(numbered.number);
-        }
+    for pair in drawn {
+        next = forget_pair(places, nodes, pair, stay, next);
     }
+}
+
+/// Takes the place of one of them out, but where it is the next one that stays. The answer is which one
+/// that is after it.
+fn forget_pair(
+    places: &mut Table<Place>,
+    nodes: &[NodeAt],
+    pair: &(u64, u64),
+    stay: &[(u64, u64)],
+    next: usize,
+) -> usize
+    ensures { (rest : List (ℕ × ℕ)) → without_all places.new
+        (went (numbers_at nodes.now rest) (numbers_in (drop result stay.now)))
+        ≡ without_all places.old
+        (went (numbers_at nodes.now (pair.now ∷ rest)) (numbers_in (drop next stay.now))) }
+{
+    if !is_known(nodes, pair.0) {
+        return next;
+    }
+    if stays(stay, next, pair.1) {
+        return next + 1;
+    }
+    places.remove(pair.1);
+    next
+}
+
+/// Whether a side knows a node under an index.
+fn is_known(nodes: &[NodeAt], index: u64) -> bool
+    ensures { result ≡ is_some (slice_get nodes.now index) }
+{
+    nodes.get(index as usize).is_some()
 }
 
 /// Whether the next one that stays has this number.
-fn stays(stay: &[Numbered], next: usize, number: u64) -> bool
+fn stays(stay: &[(u64, u64)], next: usize, number: u64) -> bool
     ensures is { result ≡ starts (numbers_in (drop next stay.now)) number }
     ensures within { result ≡ true → next < length stay.now }
 {
     if next < stay.len() {
-        number == stay[next].number
+        number == stay[next].1
     } else {
         false
     }

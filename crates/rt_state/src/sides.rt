@@ -1,6 +1,6 @@
 //! What changes on the sides of scopes: numbers, children, the side that shows.
-ghost use Rattle.std.specs.Prelude.{◌≡◌, ℕ, true, ◌++◌, ◌∷◌, [], OnOk, IfOk, IfErr, OnErr, Ok, Err, Some, None, map};
-ghost use Rattle.rt_model.specs.Lists.{at, drop_number as drop_from, put, without};
+ghost use Rattle.std.specs.Prelude.{◌≡◌, ℕ, true, ◌++◌, ◌∷◌, [], OnOk, IfOk, IfErr, Ok, Err, Some, None, map};
+ghost use Rattle.rt_model.specs.Lists.{at, drop_number as drop_from, without};
 ghost use Rattle.rt_model.specs.World.{Scopes, at_end};
 ghost use Rattle.rt_model.specs.State as model;
 ghost use Rattle.rt_model.specs.State.{change, effects_of};
@@ -8,15 +8,17 @@ ghost use Rattle.rt_model.specs.State.{Done, Cut, IdsExhausted};
 ghost use Rattle.rt_model.specs.Replay.{draw_number};
 ghost use Rattle.rt_state.specs.Effects.{callbacks_of};
 ghost use Rattle.rt_state.specs.Names.{fault_of};
-ghost use Rattle.rt_state.specs.Sides.{with_number, with_child, more_number, more_child};
+ghost use Rattle.rt_state.specs.Sides.{more_child, more_number};
 ghost use Rattle.rt_calls.specs.Calls.{source_of, newest_first};
 ghost use Rattle.rt_mirror.specs.Sealed.{component_of};
-ghost use Rattle.rt_places.specs.Places.{kind_of, number_of, place_of, side_name_of};
+ghost use Rattle.rt_calls.specs.Kept.{scope_of};
+ghost use Rattle.rt_places.specs.Places.{kind_of, place_of, side_name_of};
 ghost use Rattle.rt_state.specs.Made.{IsMade};
 ghost use Rattle.rt_state.specs.Drawn.{drawn_for};
 ghost use Rattle.rt_state.specs.Mirror.{state_of, forgets};
 
 use crate::held::next_number;
+use crate::joining::{push_child, put_number};
 use crate::names::{Fault, Stop};
 use crate::numbers::drop_number;
 use crate::scopes::new_scope;
@@ -27,8 +29,7 @@ use rt_cells::Source;
 use rt_named::name_place;
 use rt_nodes::VComponent;
 use rt_parts::Parts;
-use rt_places::{Child, Kind, Numbered, Place, Side, SideName};
-use rt_table::Table;
+use rt_places::{Kind, Place, SideName};
 use rt_values::{List, OutOfMemory, Part};
 use std::alloc::Global;
 
@@ -56,16 +57,7 @@ impl<P: Parts> State<P> {
             }));
         };
         self.next.elements = next;
-        self.add_number(
-            alloc,
-            scope,
-            side,
-            Numbered {
-                place,
-                kind,
-                number,
-            },
-        )?;
+        self.add_number(alloc, scope, side, place, kind, number)?;
         Ok(())
     }
 
@@ -76,22 +68,23 @@ impl<P: Parts> State<P> {
         alloc: Global,
         scope: u64,
         side: SideName,
-        numbered: Numbered,
+        place: Place,
+        kind: Kind,
+        number: u64,
     ) -> Result<(), OutOfMemory>
         ensures { OnOk result ((g : _) → state_of g self.new
             ≡ change (state_of g self.old) scope
-            (λ x. more_number (side_name_of side) (number_of numbered) x)) }
+            (λ x. more_number (side_name_of side) (place_of place, kind_of kind, number) x)) }
     {
         if !self.is_live(scope) {
             return Ok(());
         }
-        let number = numbered.number;
         if self.places.get(number).is_some() {
             return Err(OutOfMemory);
         }
-        let place = name_place(alloc, scope, side, numbered.place.as_slice())?;
-        self.places.push(number, place)?;
-        match put_number(&mut self.rows.table, scope, side, numbered) {
+        let named = name_place(alloc, scope, side, place.as_slice())?;
+        self.places.push(number, named)?;
+        match put_number(&mut self.rows.table, scope, side, place, kind, number) {
             Ok(()) => Ok(()),
             Err(OutOfMemory) => {
                 self.places.remove(number);
@@ -151,22 +144,13 @@ impl<P: Parts> State<P> {
             ≡ change (state_of g self.old) scope
             (λ x. more_child (side_name_of side) (place_of place, child) x)) }
     {
-        self.change_scope(
+        self.revise_scope(
             scope,
             |found: &mut Scope<P>| -> Result<(), OutOfMemory>
-                ensures changed { OnOk result (found.new
-                    ≡ with_child found.old side (record { place = place; scope = child })) }
+                ensures seated { OnOk result (scope_of found.new
+                    ≡ more_child (side_name_of side) (place_of place, child) (scope_of found.old)) }
                 ensures stay { drawn_for found.new ≡ drawn_for found.old }
-            {
-                push_child(
-                    found,
-                    side,
-                    Child {
-                        place,
-                        scope: child,
-                    },
-                )
-            },
+            { push_child(found, side, &place, child) },
         )
     }
 
@@ -372,58 +356,6 @@ impl<P: Parts> State<P> {
                 Ok(())
             },
         )
-    }
-}
-
-/// Puts a number after those of a scope's side, where the scope is in the table.
-fn put_number<P: Parts>(
-    rows: &mut Table<Scope<P>>,
-    scope: u64,
-    side: SideName,
-    number: Numbered,
-) -> Result<(), OutOfMemory>
-    ensures put { OnOk result ((x : Scope P P.Component P.Props P.Value P.Handler P.TaskState P.Effect P.Payload)
-        → at rows.old scope ≡ Some x → rows.new ≡ put rows.old scope (with_number x side number)) }
-    ensures err { OnErr result (rows.new ≡ rows.old) }
-{
-    rows.change(
-        scope,
-        |found: &mut Scope<P>| -> Result<(), OutOfMemory>
-            ensures pushed { OnOk result (found.new ≡ with_number found.old side number) }
-            ensures err { OnErr result (found.new ≡ found.old) }
-        { push_number(found, side, number) },
-    )
-}
-
-/// Puts a number after those of a side.
-fn push_number<P: Parts>(
-    scope: &mut Scope<P>,
-    side: SideName,
-    number: Numbered,
-) -> Result<(), OutOfMemory>
-    ensures pushed { OnOk result (scope.new ≡ with_number scope.old side number) }
-    ensures err { OnErr result (scope.new ≡ scope.old) }
-{
-    match side {
-        SideName::Main => scope.rest.main_side.numbers.push(number),
-        SideName::Children => scope.rest.children_side.numbers.push(number),
-        SideName::Fallback => scope.rest.fallback_side.numbers.push(number),
-    }
-}
-
-/// Puts a child after those of a side.
-fn push_child<P: Parts>(
-    scope: &mut Scope<P>,
-    side: SideName,
-    child: Child,
-) -> Result<(), OutOfMemory>
-    ensures pushed { OnOk result (scope.new ≡ with_child scope.old side child) }
-    ensures stay { drawn_for scope.new ≡ drawn_for scope.old }
-{
-    match side {
-        SideName::Main => scope.rest.main_side.children.push(child),
-        SideName::Children => scope.rest.children_side.children.push(child),
-        SideName::Fallback => scope.rest.fallback_side.children.push(child),
     }
 }
 

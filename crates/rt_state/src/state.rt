@@ -81,7 +81,7 @@ pub struct State<P: Parts> {
 
 impl<P: Parts> State<P> {
     ghost use Rattle.rt_state.specs.Starts.{IsEmpty};
-    ghost use Rattle.rt_state.specs.Mirror.{ScopeChange, at_first, scopes_of, state_of};
+    ghost use Rattle.rt_state.specs.Mirror.{ScopeChange, ScopeRevision, at_first, scopes_of, state_of};
     ghost use Rattle.rt_state.specs.Drawn.{bare, drawn_for};
 
     /// Nothing is kept. The counters begin at these numbers.
@@ -191,6 +191,24 @@ impl<P: Parts> State<P> {
             → ((x y : Scope P P.Component P.Props P.Value P.Handler P.TaskState P.Effect P.Payload)
             → FnOnceReturnsAtMut F.FnOnce apply x result y → OnOk result (y ≡ k.code x))
             → OnOk result ((g : _) → state_of g self.new ≡ change (state_of g self.old) scope k.model) }
+    {
+        self.rows.table.change(scope, apply)
+    }
+
+    /// Changes what is kept of a scope, where it is live, by what that is in the model.
+    pub(crate) fn revise_scope<F: FnOnce(&mut Scope<P>) -> Result<(), OutOfMemory>>(
+        &mut self,
+        scope: u64,
+        apply: F,
+    ) -> Result<(), OutOfMemory>
+        requires callable { F.IsAlwaysCallable apply }
+        requires stay { (x y : Scope P P.Component P.Props P.Value P.Handler P.TaskState P.Effect P.Payload) (done : _)
+            → FnOnceReturnsAtMut F.FnOnce apply x done y → drawn_for y ≡ drawn_for x }
+        ensures { (revised : ScopeRevision P.Component P.Props P.Value P.Handler P.TaskState P.Effect P.Payload)
+            → ((x y : Scope P P.Component P.Props P.Value P.Handler P.TaskState P.Effect P.Payload)
+            → FnOnceReturnsAtMut F.FnOnce apply x result y → OnOk result (scope_of y ≡ revised (scope_of x)))
+            → OnOk result ((g : _) → state_of g self.new
+            ≡ change (state_of g self.old) scope revised) }
     {
         self.rows.table.change(scope, apply)
     }

@@ -1,19 +1,12 @@
-use Rattle.std.proofs.Common.{refl, sym, ◌∙◌}
-use Rattle.rt_state.proofs.Forgets.{all_gone, one_goes, one_stays}
+-- The walk over what is drawn, in the words of a side.
+use Rattle.std.proofs.Common.{ℕ, List, ap, ◌∙◌}
+use Rattle.rt_named.specs.Standings.{went, without_all}
+use Rattle.rt_places.specs.declared.nodes.NodeAt.{NodeAt}
+use Rattle.rt_state.specs.Drawn.{numbers_at, numbers_in}
 use Rattle.rt_state.proofs.places.forget.Goals as goal
-use Rattle.rt_state.proofs.places.forget.Goals.{then-stays, else-stays}
-
-pub loop-numbered-init : goal.loop-numbered-init
-loop-numbered-init c = refl
-
-pub loop-numbered-preserved : goal.loop-numbered-preserved
-loop-numbered-preserved c =
-    elim c.if-stays.branch [
-      | then-stays w ↦ rw (w.places-is, w.next-is) (one_stays c.loop-numbered.places c.args.drawn.now c.args.stay.now c.loop-numbered.numbered-index c.loop-numbered.next c.numbered-item.result c.loop-numbered-test.true
-          c.numbered-item.is (c.stays.ensures.within w.if-stays.true) (sym c.stays.ensures.is ∙ w.if-stays.true) ∙ c.loop-numbered.invariant)
-      | else-stays w ↦ rw (w.places-is, w.next-is) (one_goes c.loop-numbered.places w.remove.new.self c.args.drawn.now c.args.stay.now c.loop-numbered.numbered-index c.loop-numbered.next c.numbered-item.result
-          c.loop-numbered-test.true c.numbered-item.is (sym c.stays.ensures.is ∙ w.if-stays.false) w.remove.ensures.others ∙ c.loop-numbered.invariant)
-    ]
 
 pub returns : goal.returns
-returns c = sym (all_gone c.loop-numbered.places c.args.drawn.now c.args.stay.now c.loop-numbered.numbered-index c.loop-numbered.next c.loop-numbered-test.false) ∙ c.loop-numbered.invariant
+returns g c =
+    c.forget_drawn.ensures
+    ∙ ap (λ (ns : List NodeAt). without_all c.args.places.now (went (numbers_at ns c.as_slice-drawn.result.now) (numbers_in c.args.stay.now))) c.as_slice-nodes.ensures.items
+    ∙ ap (λ (es : List (ℕ × ℕ)). without_all c.args.places.now (went (numbers_at c.args.side.now.nodes es) (numbers_in c.args.stay.now))) c.as_slice-drawn.ensures.pairs

@@ -1,8 +1,6 @@
-use Rattle.std.proofs.Common.{[], refl, ap, sym, ◌∙◌}
+use Rattle.std.proofs.Common.{refl, sym, ◌∙◌}
 use Rattle.rt_table.proofs.Rows.{without-absent}
 use Rattle.rt_table.proofs.Taken.{shorter_taken, without_taken}
-use Rattle.rt_named.specs.Standings.{went, without_all}
-use Rattle.rt_state.specs.Drawn.{numbers_in}
 use Rattle.rt_state.proofs.Placed.{placed_taken}
 use Rattle.rt_state.proofs.places.remove_rows.Goals as goal
 
@@ -15,10 +13,7 @@ loop-row-preserved g c =
       rows = without_taken c.loop-row.rows c.take_first.new.self c.args.scope c.in-Some.row c.in-Some.ensures.within ∙ c.loop-row.invariant.rows;
       placed = λ h.
           placed_taken c.loop-row.rows c.take_first.new.self c.args.scope c.in-Some.row c.loop-row.places c.forget.new.places c.forget-in-Some.new.places c.forget-in-Some-2.new.places c.in-Some.ensures.within
-          (c.forget.ensures ∙ ap (λ ns. without_all c.loop-row.places (went (numbers_in ns) [])) c.as_slice.ensures.items)
-          (c.forget-in-Some.ensures ∙ ap (λ ns. without_all c.forget.new.places (went (numbers_in ns) [])) c.as_slice-in-Some.ensures.items)
-          (c.forget-in-Some-2.ensures ∙ ap (λ ns. without_all c.forget-in-Some.new.places (went (numbers_in ns) [])) c.as_slice-in-Some-2.ensures.items)
-          (c.loop-row.invariant.placed h);
+          c.forget.ensures c.forget-in-Some.ensures c.forget-in-Some-2.ensures (c.loop-row.invariant.placed h);
     }
 
 pub loop-row-smaller : goal.loop-row-smaller

@@ -29,9 +29,9 @@ pub invariant_of-self-2-clause-placed : goal.invariant_of-self-2-clause-placed
 invariant_of-self-2-clause-placed g c =
     ∥∥₁_map c.args.self.now.placed
     (
-    placed_put _ (c.args.self.now.rows).table c.change-done.new.self c.args.scope c.in-Some.found.now c.args.name c.args.side c.side_of.result.now c.as_slice.result.now c.as_slice-2.result.now c.args.self.now.places c.forget.new.places
+    placed_put _ (c.args.self.now.rows).table c.change-done.new.self c.args.scope c.in-Some.found.now c.args.name c.args.side c.side_of.result.now c.as_slice.result.now c.args.self.now.places c.forget.new.places
     c.in-Some.ensures.value c.change-done.ensures.changed
-    (λ x y ret. search rules) c.requires.fewer c.side_of.ensures c.as_slice.ensures.items c.as_slice-2.ensures.items c.forget.ensures
+    (λ x y ret. search rules) c.side_of.ensures c.as_slice.ensures.pairs c.forget.ensures c.requires.fewer c.requires.known
     )
 
 pub returns : goal.returns
