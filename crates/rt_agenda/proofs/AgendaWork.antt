@@ -8,13 +8,14 @@ use Rattle.rt_model.specs.State.{SideName, Item, Draw, Row, Feed, Make, Drop}
 use Rattle.rt_model.specs.Run.{child_at, serves}
 use Rattle.rt_model.proofs.Maps.{pick_true, pick_false}
 use Rattle.rt_model.proofs.Places.{Distinct}
+use Rattle.rt_work.specs.Events.{Event, stays, goes, comes, fed, left, made}
+use Rattle.rt_work.proofs.Flats.{flat, old_in, new_in}
+use Rattle.rt_work.proofs.Branches.{AllIn}
+use Rattle.rt_work.proofs.Agreed.{IsAgreed}
 use Rattle.rt_agenda.specs.Served.{children_at}
 use Rattle.rt_agenda.specs.Work.{draw_number, feed_child, make_child, remove_child, work_of}
-use Rattle.rt_agenda.proofs.Agreed.{IsAgreed}
-use Rattle.rt_agenda.proofs.Branches.{AllIn}
 use Rattle.rt_agenda.proofs.Counts.{forget}
 use Rattle.rt_agenda.proofs.Drops.{IsElsewhere, one-more, none_at}
-use Rattle.rt_agenda.proofs.Events.{flat, Event, stays, goes, comes, fed, left, made, old_in, new_in}
 use Rattle.rt_agenda.proofs.KeptChildren.{child_behind, child_here}
 use Rattle.rt_agenda.proofs.MachineWork.{work_after}
 

@@ -16,6 +16,11 @@ use Rattle.rt_model.specs.State.{SideName}
 use Rattle.rt_model.specs.Run.{serves}
 use Rattle.rt_model.proofs.Places.{Distinct, spots_distinct}
 use Rattle.rt_mirror.specs.Mirror.{tree_of}
+use Rattle.rt_work.specs.Events.{Event, come}
+use Rattle.rt_work.proofs.Flats.{flat, old_in, new_in}
+use Rattle.rt_work.proofs.EventSpots.{come-old, come-new}
+use Rattle.rt_work.proofs.Branches.{AllIn}
+use Rattle.rt_work.proofs.Agreed.{IsAgreed}
 use Rattle.rt_agenda.specs.Answered.{AreAnswered, numbers_drawn, scopes_made, wanted_in}
 use Rattle.rt_agenda.specs.Built.{IsBuilt}
 use Rattle.rt_agenda.specs.Deeds.{Deed}
@@ -23,13 +28,9 @@ use Rattle.rt_agenda.specs.Kept.{element_numbers, scope_numbers, drawn_at, made_
 use Rattle.rt_agenda.specs.Plans.{deeds}
 use Rattle.rt_agenda.specs.Served.{is_served, children_at, left_scopes}
 use Rattle.rt_agenda.specs.Work.{work_of, remove_child}
-use Rattle.rt_agenda.proofs.Agreed.{IsAgreed}
 use Rattle.rt_agenda.proofs.AgendaWork.{agreed-work}
-use Rattle.rt_agenda.proofs.Branches.{AllIn}
 use Rattle.rt_agenda.proofs.Counts.{forget, come-deeds}
 use Rattle.rt_agenda.proofs.Drops.{built-served}
-use Rattle.rt_agenda.proofs.Events.{flat, Event, old_in, new_in, come}
-use Rattle.rt_agenda.proofs.EventSpots.{come-old, come-new}
 use Rattle.rt_agenda.proofs.KeptChildren.{events-children, agreed-made, fed_of}
 use Rattle.rt_agenda.proofs.KeptNumbers.{events-numbers, agreed-drawn, kept_of}
 use Rattle.rt_agenda.proofs.Machine.{numbers_after, scopes_after, map-numbers, map-scopes, block-numbers, block-children}

@@ -2,9 +2,10 @@
 use Rattle.std.proofs.Common.{suc, List, [], ◌∷◌, ◌≡◌, length, map, refl, ap, ◌∙◌}
 use Rattle.rt_model.specs.Lists.{kept_by}
 use Rattle.rt_model.specs.Tree.{Types, Spot, node_at, component_at}
+use Rattle.rt_work.specs.Events.{Event, stays, goes, comes, fed, left, made, gone, come}
+use Rattle.rt_work.proofs.Flats.{flat, old_in, new_in}
 use Rattle.rt_agenda.specs.Deeds.{Deed, keeps, loses, draws, feeds, leaves, makes, takes_number, takes_scope, gives_number, gives_scope}
 use Rattle.rt_agenda.specs.Taken.{is_node, is_component, IsTakenOnce}
-use Rattle.rt_agenda.proofs.Events.{flat, Event, stays, goes, comes, fed, left, made, old_in, new_in, gone, come}
 use Rattle.rt_agenda.proofs.Visits.{spot_deed}
 
 module _ {K : Types} where

@@ -9,12 +9,13 @@ use Rattle.rt_model.specs.Run.{child_at, serves, drop_at, drops_of}
 use Rattle.rt_model.proofs.Maps.{pick_true, pick_false}
 use Rattle.rt_model.proofs.Among.{Among}
 use Rattle.rt_model.proofs.Places.{place_of, Distinct}
+use Rattle.rt_work.specs.Events.{Event, stays, goes, comes, fed, left, made}
+use Rattle.rt_work.proofs.Flats.{flat, old_in}
+use Rattle.rt_work.proofs.Branches.{AllIn, among_either}
+use Rattle.rt_work.proofs.Agreed.{IsAgreed, all-among}
 use Rattle.rt_agenda.specs.Deeds.{draws, makes}
 use Rattle.rt_agenda.specs.Served.{is_served, all_asked, children_at, left_scopes}
-use Rattle.rt_agenda.proofs.Agreed.{IsAgreed, all-among}
-use Rattle.rt_agenda.proofs.Branches.{AllIn, among_either}
 use Rattle.rt_agenda.proofs.Counts.{forget}
-use Rattle.rt_agenda.proofs.Events.{flat, Event, stays, goes, comes, fed, left, made, old_in}
 use Rattle.rt_agenda.proofs.KeptChildren.{child_behind, child_here}
 use Rattle.rt_agenda.proofs.Visits.{spot_deed}
 

@@ -18,7 +18,7 @@ use Rattle.rt_mirror.specs.Mirror.{template_of, attribute_of, slots_from, trees_
 use Rattle.rt_mirror.specs.ByParts.{slot_of}
 use Rattle.rt_mirror.proofs.TreeOut.{tree-out}
 use Rattle.rt_agenda.proofs.Cases.{by-value, slot-Text, slot-Placeholder, slot-Component, slot-Fragment}
-use Rattle.rt_agenda.proofs.EventSpots.{IsFull, AreFull, HasFull, ItemsFull}
+use Rattle.rt_agenda.proofs.Pairings.{IsFull, AreFull, HasFull, ItemsFull}
 
 module _ {P C Q V H T E L : Type 0} where
   -- the test of a tree by its parts

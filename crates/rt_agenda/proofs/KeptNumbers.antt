@@ -10,11 +10,12 @@ use Rattle.rt_model.proofs.Among.{Among, place_same, kind_same}
 use Rattle.rt_model.proofs.SamePlaces.{same_place-true}
 use Rattle.rt_model.proofs.Conjunctions.{and-right}
 use Rattle.rt_model.proofs.Places.{place_of, Distinct}
+use Rattle.rt_work.specs.Events.{Event, stays, goes, comes, fed, left, made}
+use Rattle.rt_work.proofs.Flats.{flat, old_in, new_in}
+use Rattle.rt_work.proofs.Branches.{AllIn, among_either}
+use Rattle.rt_work.proofs.Agreed.{IsAgreed, all-among}
 use Rattle.rt_agenda.specs.Kept.{numbers_at, drawn_at, numbers_for}
-use Rattle.rt_agenda.proofs.Agreed.{IsAgreed, all-among}
-use Rattle.rt_agenda.proofs.Branches.{AllIn, among_either}
 use Rattle.rt_agenda.proofs.Counts.{forget}
-use Rattle.rt_agenda.proofs.Events.{flat, Event, stays, goes, comes, fed, left, made, old_in, new_in}
 use Rattle.rt_agenda.proofs.Machine.{numbers_after}
 
 -- numbers by their places and kinds

@@ -16,10 +16,7 @@ pub mod ApartLemmas
 pub mod CountedLemmas
 pub mod LastLemmas
 pub mod RootLemmas
-mod Events
-mod EventSpots
-mod Branches
-mod Matched
+mod Pairings
 mod Cases
 mod Visits
 mod PlanWalks

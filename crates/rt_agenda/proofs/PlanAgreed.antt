@@ -13,16 +13,16 @@ use Rattle.rt_model.specs.World.{Application}
 use Rattle.rt_model.proofs.Maps.{by_test}
 use Rattle.rt_model.proofs.Places.{Distinct, spots_distinct}
 use Rattle.rt_mirror.specs.Mirror.{tree_of}
+use Rattle.rt_work.specs.Events.{Event}
+use Rattle.rt_work.proofs.Flats.{flat, old_in, new_in}
+use Rattle.rt_work.proofs.Branches.{AllIn}
+use Rattle.rt_work.proofs.Agreed.{IsAgreed, all-agreed}
 use Rattle.rt_agenda.specs.Plans.{deeds}
 use Rattle.rt_agenda.specs.Deeds.{component_of}
-use Rattle.rt_agenda.proofs.Agreed.{IsAgreed, all-agreed}
+use Rattle.rt_agenda.proofs.Pairings.{pairing, pairing-old, pairing-new, pairing-matched}
 use Rattle.rt_agenda.proofs.Alikeness.{mirrors-alike, application-alike}
-use Rattle.rt_agenda.proofs.Branches.{AllIn}
 use Rattle.rt_agenda.proofs.Counts.{forget}
-use Rattle.rt_agenda.proofs.Events.{flat, Event, old_in, new_in, pairing}
-use Rattle.rt_agenda.proofs.EventSpots.{pairing-old, pairing-new}
 use Rattle.rt_agenda.proofs.Fullness.{fits-full}
-use Rattle.rt_agenda.proofs.Matched.{pairing-matched}
 use Rattle.rt_agenda.proofs.PlanEvents.{pair-serves}
 use Rattle.rt_agenda.proofs.PlanWalks.{deeds-said}
 

@@ -27,11 +27,13 @@ use Rattle.rt_mirror.specs.Mirror.{nodes_of, template_of, attribute_of, slots_fr
 use Rattle.rt_mirror.specs.ByParts.{slot_of}
 use Rattle.rt_mirror.proofs.TreeOut.{tree-out}
 use Rattle.std.proofs.lemmas.Bool.Decides.{nat_tests}
+use Rattle.rt_work.specs.Events.{Event, stays, fed, left, made, walk, gone, come, changed}
+use Rattle.rt_work.proofs.Flats.{flat, flat-append, walk-flat}
+use Rattle.rt_work.proofs.EventSpots.{template-true}
+use Rattle.rt_work.proofs.Matched.{template-same}
 use Rattle.rt_agenda.specs.Deeds.{Deed, keeps, loses, draws, leaves, makes, component_of}
 use Rattle.rt_agenda.specs.Plans.{deeds_of}
-use Rattle.rt_agenda.proofs.Events.{flat, flat-append, Event, stays, fed, left, made, walk, walk-flat, gone, come, changed, pairing, both_slots, pair_slots, pair_items}
-use Rattle.rt_agenda.proofs.EventSpots.{template-true}
-use Rattle.rt_agenda.proofs.Matched.{template-same}
+use Rattle.rt_agenda.proofs.Pairings.{pairing, both_slots, pair_slots, pair_items}
 use Rattle.rt_agenda.proofs.Cases.{by-value, slot-Text, slot-Placeholder, slot-Component, slot-Fragment, templates-same}
 use Rattle.rt_agenda.proofs.Visits.{visit, walk-visit, spot_deed, items-serve, slot-serves}
 use Rattle.rt_agenda.proofs.PlanWalks.{nodes-visit, value_lost, tree_lost, items_lost, Spotted, Counted, value_made, tree_made, items_made_of, lost-walk, made-walk, lost-spots, made-spots}

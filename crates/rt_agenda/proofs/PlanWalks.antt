@@ -20,9 +20,9 @@ use Rattle.rt_plan.proofs.Walks.{said, said-append, visit_node, visit_nodes, los
 use Rattle.rt_model.specs.OneLog.{types}
 use Rattle.rt_model.specs.Tree.{TemplateNodes, no_nodes, element_node, text_node, slot_node, Place, spots}
 use Rattle.rt_mirror.specs.Mirror.{nodes_of, tree_of}
+use Rattle.rt_work.proofs.Flats.{flat}
 use Rattle.rt_agenda.specs.Deeds.{Deed, loses, draws, leaves, makes}
 use Rattle.rt_agenda.specs.Plans.{deeds_of, deeds}
-use Rattle.rt_agenda.proofs.Events.{flat}
 use Rattle.rt_agenda.proofs.Cases.{none-row, element-row, text-row, slot-row}
 use Rattle.rt_agenda.proofs.Visits.{visit, at_value, spot_deed, IsWalk, tree-serves}
 

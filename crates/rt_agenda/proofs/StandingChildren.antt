@@ -11,13 +11,13 @@ use Rattle.rt_model.proofs.Among.{Among, place_same}
 use Rattle.rt_model.proofs.Maps.{by_test, pick_true, pick_false}
 use Rattle.rt_model.proofs.SamePlaces.{same_place-true}
 use Rattle.rt_model.proofs.Places.{Distinct}
+use Rattle.rt_work.proofs.Agreed.{component-found}
 use Rattle.rt_agenda.specs.Deeds.{Deed, keeps, loses, draws, feeds, leaves, makes}
 use Rattle.rt_agenda.specs.Kept.{made_at, children_for, scope_numbers}
 use Rattle.rt_agenda.specs.Served.{is_served, all_asked, children_at}
 use Rattle.rt_agenda.specs.Standing.{children_found, ChildrenStand}
 use Rattle.rt_agenda.specs.Taken.{is_component}
 use Rattle.rt_agenda.specs.Work.{draw_number, feed_child, make_child, work_of}
-use Rattle.rt_agenda.proofs.Agreed.{component-found}
 use Rattle.rt_agenda.proofs.KeptChildren.{Scopes}
 
 -- the numbers of scopes are as many as they

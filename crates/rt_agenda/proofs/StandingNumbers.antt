@@ -12,8 +12,8 @@ use Rattle.rt_model.proofs.Among.{Among}
 use Rattle.rt_model.proofs.Maps.{by_test, pick_true, pick_false}
 use Rattle.rt_model.proofs.SamePlaces.{same_place-true, same_kind-true}
 use Rattle.rt_model.proofs.Conjunctions.{and-left, and-right}
+use Rattle.rt_work.proofs.Branches.{AllIn, among_either}
 use Rattle.rt_agenda.specs.Kept.{numbers_at, drawn_at, numbers_for}
-use Rattle.rt_agenda.proofs.Branches.{AllIn, among_either}
 use Rattle.rt_agenda.proofs.KeptNumbers.{Entries}
 
 -- what is so of all in a list, in the two ways of saying it

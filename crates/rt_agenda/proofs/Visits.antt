@@ -10,8 +10,9 @@ use Rattle.rt_model.specs.Tree.{Types, TemplateNodes, no_nodes, element_node, te
 use Rattle.rt_mirror.specs.Mirror.{nodes_of, template_of, attribute_of, slots_from, trees_from, tree_of}
 use Rattle.rt_mirror.specs.ByParts.{slot_of}
 use Rattle.rt_mirror.proofs.TreeOut.{tree-out}
+use Rattle.rt_work.specs.Events.{walk}
+use Rattle.rt_work.proofs.Flats.{flat, flat-append, walk-flat, spots-walk}
 use Rattle.rt_agenda.specs.Deeds.{Deed, component_of}
-use Rattle.rt_agenda.proofs.Events.{flat, flat-append, walk, walk-flat, spots-walk}
 use Rattle.rt_agenda.proofs.Cases.{by-value, slot-Text, slot-Placeholder, slot-Component, slot-Fragment}
 
 -- a walk through a template that gives the same for each node of its own

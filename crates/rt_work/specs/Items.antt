@@ -1,5 +1,5 @@
 -- Open work of code as that of the model.
-use Rattle.std.specs.Prelude.{ℕ, List, map}
+use Rattle.std.specs.Prelude.{List, map}
 use Rattle.rt_model.specs.OneLog.{types}
 use Rattle.rt_model.specs.State as state
 use Rattle.rt_mirror.specs.Sealed.{component_of}

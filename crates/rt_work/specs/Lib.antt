@@ -1,4 +1,8 @@
 pub mod Items
 pub mod Found
-pub mod Agenda
-pub mod Order
+pub mod Events
+pub mod After
+pub mod Grounds
+pub mod Pairs
+pub mod Patches
+pub mod Goes

@@ -5,13 +5,13 @@ use Rattle.rt_model.specs.Run.{serves}
 use Rattle.rt_model.specs.Tree.{spots}
 use Rattle.rt_model.proofs.Places.{spots_distinct}
 use Rattle.rt_mirror.specs.Mirror.{tree_of}
+use Rattle.rt_work.proofs.Agreed.{component-found}
 use Rattle.rt_agenda.specs.Answered.{numbers_drawn, wanted_in}
 use Rattle.rt_agenda.specs.Kept.{element_numbers, scope_numbers}
 use Rattle.rt_agenda.specs.Plans.{deeds}
 use Rattle.rt_agenda.specs.Served.{left_scopes}
 use Rattle.rt_agenda.specs.Work.{remove_child, work_of}
 use Rattle.rt_agenda.proofs.standing.work_goes_on.Goals as goal
-use Rattle.rt_agenda.proofs.Agreed.{component-found}
 use Rattle.rt_agenda.proofs.AgendaWork.{work-drops}
 use Rattle.rt_agenda.proofs.PlanServed.{plan-left, plan-work}
 use Rattle.rt_agenda.proofs.StandingChildren.{length-scopes, stand-count, side-drops, side-work}

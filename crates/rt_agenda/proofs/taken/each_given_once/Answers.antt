@@ -2,10 +2,10 @@ use Rattle.std.proofs.Common.{[], ◌∙◌}
 use Rattle.rt_plan.specs.Making.{make_tree}
 use Rattle.rt_model.specs.Tree.{spots}
 use Rattle.rt_mirror.specs.Mirror.{tree_of}
+use Rattle.rt_work.specs.Events.{come}
+use Rattle.rt_work.proofs.EventSpots.{come-old, come-new}
 use Rattle.rt_agenda.specs.Plans.{deeds}
 use Rattle.rt_agenda.proofs.taken.each_given_once.Goals as goal
-use Rattle.rt_agenda.proofs.Events.{come}
-use Rattle.rt_agenda.proofs.EventSpots.{come-old, come-new}
 use Rattle.rt_agenda.proofs.PlanWalks.{deeds-said, made-spots}
 use Rattle.rt_agenda.proofs.Counts.{events-taken, come-deeds}
 use Rattle.std.proofs.Common.{map}

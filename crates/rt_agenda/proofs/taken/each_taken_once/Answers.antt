@@ -6,8 +6,7 @@ use Rattle.rt_agenda.specs.Plans.{deeds}
 use Rattle.rt_agenda.proofs.taken.each_taken_once.Goals as goal
 use Rattle.rt_agenda.proofs.Alikeness.{alike_by, mirrors-alike}
 use Rattle.rt_agenda.proofs.Counts.{events-taken}
-use Rattle.rt_agenda.proofs.Events.{pairing}
-use Rattle.rt_agenda.proofs.EventSpots.{pairing-old, pairing-new}
+use Rattle.rt_agenda.proofs.Pairings.{pairing, pairing-old, pairing-new}
 use Rattle.rt_agenda.proofs.Fullness.{fits-full}
 use Rattle.rt_agenda.proofs.PlanEvents.{pair-serves}
 use Rattle.rt_agenda.proofs.PlanWalks.{deeds-said}

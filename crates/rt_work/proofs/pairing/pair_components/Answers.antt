@@ -1,0 +1,48 @@
+-- The same component is fed; another one goes, and the new one comes.
+use Rattle.std.proofs.Common.{◌∙◌, [], ◌∷◌, ap, sym}
+use Rattle.std.proofs.lemmas.Result.{on_ok_weaker}
+use Rattle.rt_mirror.specs.Sealed.{component_of}
+use Rattle.rt_places.specs.Trails.{place_on}
+use Rattle.rt_work.specs.After.{after}
+use Rattle.rt_work.specs.Events.{fed}
+use Rattle.rt_work.specs.Grounds.{component_turns, ground_of, out_of}
+use Rattle.rt_work.specs.declared.patched.Turn.TheVariants as turns
+use Rattle.rt_work.proofs.PairRules.{component_changes, component_stays}
+use Rattle.rt_work.proofs.Turns.{then_after}
+use Rattle.rt_work.proofs.Leading.{leads_by}
+use Rattle.rt_work.proofs.pairing.pair_components.Goals as goal
+
+pub returns-then-is_same_component-clause-pairs : goal.returns-then-is_same_component-clause-pairs
+returns-then-is_same_component-clause-pairs g c =
+    on_ok_weaker c.feed.result
+    (
+    λ h app tests.
+    h ∙ ap (λ es. after (ground_of c.args.ground.now) es (out_of c.args.out.now))
+    (sym (component_stays app c.args.was.now c.args.next.now (place_on c.args.trail.now) (sym (c.is_same_component.ensures app tests) ∙ c.if-is_same_component.true)))
+    )
+    c.feed.ensures
+
+pub returns-clause-pairs : goal.returns-clause-pairs
+returns-clause-pairs g c =
+    let ground = ground_of c.args.ground.now in
+    let place = place_on c.args.trail.now in
+    on_ok_weaker c.turn_component-2.result
+    (
+    λ h app tests.
+    then_after ground (component_turns turns.Goes place (component_of c.args.was.now) ∷ []) (component_turns turns.Comes place (component_of c.args.next.now) ∷ []) (out_of c.args.out.now) (out_of c.turn_component.new.self) _ c.in_ok-turn_component.ensures h
+    ∙ ap (λ es. after ground es (out_of c.args.out.now))
+    (sym (component_changes app c.args.was.now c.args.next.now place (sym (c.is_same_component.ensures app tests) ∙ c.if-is_same_component.false)))
+    )
+    c.turn_component-2.ensures
+
+pub returns-then-is_same_component-clause-leads : goal.returns-then-is_same_component-clause-leads
+returns-then-is_same_component-clause-leads g c = on_ok_weaker c.feed.result (leads_by c.args.ground.now (fed (place_on c.args.trail.now) (component_of c.args.was.now) (component_of c.args.next.now) ∷ []) c.args.out.now c.feed.new.self) c.feed.ensures
+
+pub returns-clause-leads : goal.returns-clause-leads
+returns-clause-leads g c =
+    on_ok_weaker c.turn_component-2.result (
+    λ h led.
+    leads_by c.args.ground.now (component_turns turns.Comes (place_on c.args.trail.now) (component_of c.args.next.now) ∷ []) c.turn_component.new.self c.turn_component-2.new.self h
+    (leads_by c.args.ground.now (component_turns turns.Goes (place_on c.args.trail.now) (component_of c.args.was.now) ∷ []) c.args.out.now c.turn_component.new.self c.in_ok-turn_component.ensures led)
+    )
+    c.turn_component-2.ensures
