@@ -1,5 +1,5 @@
 -- Texts are compared as the definitions compare them; an entry takes its place as they say.
-use Rattle.std.proofs.Common.{ℕ, zero, suc, ◌<◌, ◌≤◌, Bool, true, false, ◌&&◌, ◌||◌, List, [], ◌∷◌, ◌≡◌, refl, sym, ap, ◌∙◌, subst, length, get_or, arith}
+use Rattle.std.proofs.Common.{ℕ, zero, suc, ◌<◌, ◌≤◌, Bool, true, false, ◌||◌, List, [], ◌∷◌, ◌≡◌, refl, sym, ap, ◌∙◌, subst, length, get_or, arith}
 use Rattle.std.specs.Prelude.{Option, slice_set, if◌then◌else◌}
 use Rattle.std.specs.List.{insert}
 use Rattle.std.specs.declared.cmp.Ordering.{Ordering}
@@ -7,10 +7,10 @@ use Rattle.std.specs.Ordering.{nat_cmp, is_lt}
 use Rattle.std.specs.Cmp.Lexicographic.{slice_cmp}
 use Rattle.std.proofs.lemmas.Cmp.{same_from_slice_cmp}
 use Rattle.std.proofs.lemmas.Bool.Decides.{nat_tests}
+use Rattle.rt_model.specs.Laws.{Tests}
 use Rattle.rt_model.specs.Lists.{same_numbers, earlier_text, same_option}
 use Rattle.rt_model.proofs.Maps.{pick_true, pick_false, by_test}
 use Rattle.rt_model.proofs.SameTrees.{numbers, option_tests}
-use Rattle.rt_work.proofs.Components.{tested}
 use Rattle.rt_edits.specs.declared.doc_node.DocAttr.{DocAttr}
 use Rattle.rt_model.specs.Document.{with_attribute, with_listener}
 use Rattle.rt_mirror.specs.Mirror.{doc_attribute_of}
@@ -21,6 +21,15 @@ pub earlier-is : (a b : List ℕ) (o : Ordering) → o ≡ slice_cmp nat_cmp a b
 earlier-is = same_from_slice_cmp nat_cmp is_lt earlier_text refl (λ _ _. refl) (λ _ _. refl) (λ x y xs ys o h. grind (arith, nat_tests))
 
 pub ruleset orders = (earlier-is)
+
+-- an answer that says whether two values are equal is that of any test that decides it
+tested : {A : Type 0} (same : A → A → Bool) → Tests A same → (answer : Bool) (x y : A) → (answer ≡ true → x ≡ y) → (x ≡ y → answer ≡ true) → answer ≡ same x y
+tested same tests true x y sound whole = sym (tests.1 x) ∙ ap (λ z. same x z) (sound refl)
+tested same tests false x y sound whole = by (same x y) refl
+  where
+    by : (b : Bool) → b ≡ same x y → false ≡ b
+    by false is = refl
+    by true is = whole (tests.0 x y (sym is))
 
 pub text-tested : (answer : Bool) (x y : List ℕ) → (answer ≡ true → x ≡ y) → (x ≡ y → answer ≡ true) → answer ≡ same_numbers x y
 text-tested = tested same_numbers numbers

@@ -11,7 +11,7 @@ use Rattle.rt_edits.specs.declared.edit.Edit.{Edit}
 use Rattle.rt_nodes.specs.declared.vnode.VNode.{VNode}
 use Rattle.rt_model.specs.Lists.{Text}
 use Rattle.rt_model.specs.Tree as model
-use Rattle.rt_model.specs.Tree.{TemplateAttribute, TemplateNodes, no_nodes, element_node, text_node, slot_node, Template, Place, place_in, an_element}
+use Rattle.rt_model.specs.Tree.{TemplateAttribute, TemplateNodes, no_nodes, element_node, text_node, slot_node, Template, Place, Kind, place_in, an_element}
 use Rattle.rt_model.specs.Heard.{number_at}
 use Rattle.rt_model.specs.Document as doc
 use Rattle.rt_model.specs.Caused as caused
@@ -20,42 +20,41 @@ use Rattle.rt_mirror.specs.Mirror.{attribute_in, attribute_of}
 use Rattle.rt_mirror.specs.Sealed.{nodes_of, template_of}
 use Rattle.rt_places.specs.declared.piece.Piece.{Piece}
 use Rattle.rt_places.specs.declared.piece.Piece.TheVariants as pieces
-use Rattle.rt_places.specs.declared.side.Numbered.{Numbered}
-use Rattle.rt_places.specs.Places.{at_path, number_of}
+use Rattle.rt_places.specs.Places.{at_path}
 use Rattle.rt_places.specs.Pieces.{Met, met_element, met_text, met_slot, all_met, piece_of, row_met}
+use Rattle.rt_places.proofs.Trails.{on_Inside, path_Whole}
 use Rattle.rt_places.proofs.Walks.{row_is}
-use Rattle.rt_work.specs.Found.{number_in}
 use Rattle.rt_attributes.specs.declared.given.Entries.{Entries}
 use Rattle.rt_attributes.specs.declared.given.Pass.{Pass}
 use Rattle.rt_attributes.specs.declared.given.Pass.TheVariants as passes
-use Rattle.rt_attributes.specs.Given.{edits_of, pass_of, written_at, entry_written, entries_written, element_written, elements_written, passes_written, AreWritten, entries_of, elements_met, template_elements, piece_elements, pieces_elements}
+use Rattle.rt_attributes.specs.Given.{edits_of, pass_of, entry_written, entries_written, element_written, elements_written, AreWritten, block_written, entries_of, elements_met, template_elements, piece_elements, pieces_elements}
 use Rattle.rt_attributes.proofs.Contents.{slot_given}
 use Rattle.rt_attributes.proofs.Slots.{left_is, come_is, nil-right, edits-append}
 
-pub element_Element : (numbers : List Numbered) (above : Place) (template : CodeTemplate) (path : List ℕ) (attrs : List CodeEntry)
-    → piece_elements numbers above template (pieces.Element path attrs) ≡ (number_in numbers (at_path (template_of template) above path) an_element, map attribute_in attrs) ∷ []
+pub element_Element : (numbers : List (Place × Kind × ℕ)) (above : Place) (template : CodeTemplate) (path : List ℕ) (attrs : List CodeEntry)
+    → piece_elements numbers above template (pieces.Element path attrs) ≡ (number_at numbers (at_path (template_of template) above path) an_element, map attribute_in attrs) ∷ []
 unfolding piece_elements
 element_Element numbers above template path attrs = refl
 
-pub element_Text : (numbers : List Numbered) (above : Place) (template : CodeTemplate) (path : List ℕ) → piece_elements numbers above template (pieces.Text path) ≡ []
+pub element_Text : (numbers : List (Place × Kind × ℕ)) (above : Place) (template : CodeTemplate) (path : List ℕ) → piece_elements numbers above template (pieces.Text path) ≡ []
 unfolding piece_elements
 element_Text numbers above template path = refl
 
-pub element_Slot : (numbers : List Numbered) (above : Place) (template : CodeTemplate) (id : ℕ) (path : List ℕ) → piece_elements numbers above template (pieces.Slot id path) ≡ []
+pub element_Slot : (numbers : List (Place × Kind × ℕ)) (above : Place) (template : CodeTemplate) (id : ℕ) (path : List ℕ) → piece_elements numbers above template (pieces.Slot id path) ≡ []
 unfolding piece_elements
 element_Slot numbers above template id path = refl
 
-elements_are : (numbers : List Numbered) (above : Place) (template : CodeTemplate) (ps : List Piece)
+elements_are : (numbers : List (Place × Kind × ℕ)) (above : Place) (template : CodeTemplate) (ps : List Piece)
     → pieces_elements numbers above template ps ≡ elements_met numbers above (template_of template) (map piece_of ps)
 unfolding piece_elements
 elements_are numbers above template [] = refl
 elements_are numbers above template (pieces.Element path attrs ∷ ps) =
-    ap (λ es. (number_in numbers (at_path (template_of template) above path) an_element, map attribute_in attrs) ∷ es) (elements_are numbers above template ps)
+    ap (λ es. (number_at numbers (at_path (template_of template) above path) an_element, map attribute_in attrs) ∷ es) (elements_are numbers above template ps)
 elements_are numbers above template (pieces.Text path ∷ ps) = elements_are numbers above template ps
 elements_are numbers above template (pieces.Slot id path ∷ ps) = elements_are numbers above template ps
 
 -- a template's elements are those of its pieces, however they were found
-pub elements_out : (numbers : List Numbered) (above : Place) (template : CodeTemplate) (ps : List Piece)
+pub elements_out : (numbers : List (Place × Kind × ℕ)) (above : Place) (template : CodeTemplate) (ps : List Piece)
     → map piece_of ps ≡ row_met [] 0 template.roots → pieces_elements numbers above template ps ≡ template_elements numbers above template
 unfolding template_elements
 elements_out numbers above template ps h =
@@ -65,7 +64,21 @@ pub elements-append : (a b : List Entries) → map entries_of (a ++ b) ≡ map e
 elements-append [] b = refl
 elements-append (x ∷ a) b = ap (λ es. entries_of x ∷ es) (elements-append a b)
 
-pub ruleset elements = (elements_out, element_Element, element_Text, element_Slot, elements-append, nil-right)
+-- one more element
+pub element_more : (numbers : List (Place × Kind × ℕ)) (above place : Place) (template : CodeTemplate) (path : List ℕ) (attrs more : List CodeEntry) (piece : Piece) (n : ℕ)
+    → n ≡ number_at numbers place an_element → place ≡ at_path (template_of template) above path → more ≡ attrs → piece ≡ pieces.Element path attrs
+    → (old new : List Entries) → new ≡ old ++ record { number = n; entries = more } ∷ []
+    → map entries_of new ≡ map entries_of old ++ piece_elements numbers above template piece
+element_more numbers above place template path attrs more piece n numbered there same is old new added =
+    let own : (n, map attribute_in more) ∷ [] ≡ piece_elements numbers above template piece =
+    (λ i. (numbered i, map attribute_in (same i)) ∷ [])
+    ∙ ap (λ (q : Place). (number_at numbers q an_element, map attribute_in attrs) ∷ []) there
+    ∙ sym (ap (λ (x : Piece). piece_elements numbers above template x) is ∙ element_Element numbers above template path attrs) in
+    ap (λ (es : List Entries). map entries_of es) added
+    ∙ elements-append old (record { number = n; entries = more } ∷ [])
+    ∙ ap (λ (es : List (ℕ × List TemplateAttribute)). map entries_of old ++ es) own
+
+pub ruleset elements = (elements_out, element_Element, element_Text, element_Slot, elements-append, nil-right, on_Inside, path_Whole)
 
 module _ {P C Q V H T E L : Type 0} where
   pub written_Static : (pass : Pass) (new old : List (List (Attribute P C Q V H T E L))) (number : ℕ) (name : Text) (namespace : Option Text) (value : Text)
@@ -95,24 +108,38 @@ over-append : (of : ℕ → ℕ → List doc.Edit) (a b : List (ℕ × List Temp
 over-append of [] b = refl
 over-append of (e ∷ a) b = ap (λ xs. element_pass of e.0 e.1 ++ xs) (over-append of a b) ∙ sym (append_assoc (element_pass of e.0 e.1) (over of a) (over of b))
 
-elements-joined : (numbers : List Numbered) (above : Place) (whole : Template) (a b : List Met)
+elements-joined : (numbers : List (Place × Kind × ℕ)) (above : Place) (whole : Template) (a b : List Met)
     → elements_met numbers above whole (a ++ b) ≡ elements_met numbers above whole a ++ elements_met numbers above whole b
 elements-joined numbers above whole [] b = refl
 elements-joined numbers above whole (met_element path attributes ∷ a) b =
-    ap (λ es. (number_in numbers (at_path whole above path) an_element, attributes) ∷ es) (elements-joined numbers above whole a b)
+    ap (λ es. (number_at numbers (at_path whole above path) an_element, attributes) ∷ es) (elements-joined numbers above whole a b)
 elements-joined numbers above whole (met_text path ∷ a) b = elements-joined numbers above whole a b
 elements-joined numbers above whole (met_slot k path ∷ a) b = elements-joined numbers above whole a b
 
-pass_by_elements : (numbers : List Numbered) (above : Place) (whole : Template) (of : ℕ → ℕ → List doc.Edit) (up : List ℕ) (i : ℕ) (ns : TemplateNodes)
-    → attribute_pass of (λ u j. number_in numbers (place_in whole above u j) an_element) up i ns ≡ over of (elements_met numbers above whole (all_met up i ns))
+pass_by_elements : (numbers : List (Place × Kind × ℕ)) (above : Place) (whole : Template) (of : ℕ → ℕ → List doc.Edit) (up : List ℕ) (i : ℕ) (ns : TemplateNodes)
+    → attribute_pass of (λ u j. number_at numbers (place_in whole above u j) an_element) up i ns ≡ over of (elements_met numbers above whole (all_met up i ns))
 pass_by_elements numbers above whole of up i no_nodes = refl
 pass_by_elements numbers above whole of up i (element_node tag namespace attributes children rest) =
-    ap (λ xs. element_pass of (number_in numbers (place_in whole above up i) an_element) attributes ++ xs)
+    ap (λ xs. element_pass of (number_at numbers (place_in whole above up i) an_element) attributes ++ xs)
     ((λ k. pass_by_elements numbers above whole of (up ++ i ∷ []) 0 children k ++ pass_by_elements numbers above whole of up (i + 1) rest k) ∙
     sym (over-append of (elements_met numbers above whole (all_met (up ++ i ∷ []) 0 children)) (elements_met numbers above whole (all_met up (i + 1) rest))) ∙
     ap (λ es. over of es) (sym (elements-joined numbers above whole (all_met (up ++ i ∷ []) 0 children) (all_met up (i + 1) rest))))
 pass_by_elements numbers above whole of up i (text_node text rest) = pass_by_elements numbers above whole of up (i + 1) rest
 pass_by_elements numbers above whole of up i (slot_node k rest) = pass_by_elements numbers above whole of up (i + 1) rest
+
+-- a pass over slots that give nothing writes nothing
+
+no_entries : (n : ℕ) (es : List TemplateAttribute) → element_pass (λ k m. []) n es ≡ []
+no_entries n [] = refl
+no_entries n (model.fixed name namespace value ∷ es) = no_entries n es
+no_entries n (model.from_slot k ∷ es) = no_entries n es
+
+no_pass : (number : List ℕ → ℕ → ℕ) (up : List ℕ) (i : ℕ) (ns : TemplateNodes) → attribute_pass (λ k m. []) number up i ns ≡ []
+no_pass number up i no_nodes = refl
+no_pass number up i (element_node tag namespace attributes children rest) =
+    (λ k. no_entries (number up i) attributes k ++ (no_pass number (up ++ i ∷ []) 0 children k ++ no_pass number up (i + 1) rest k))
+no_pass number up i (text_node text rest) = no_pass number up (i + 1) rest
+no_pass number up i (slot_node k rest) = no_pass number up (i + 1) rest
 
 module _ {P C Q V H T E L : Type 0} where
   -- what a pass writes of a slot with a number, at the mirror
@@ -139,18 +166,34 @@ module _ {P C Q V H T E L : Type 0} where
   over-elements pass new old [] = refl
   over-elements pass new old (e ∷ es) = (λ i. entries_are pass new old e.number e.entries i ++ over-elements pass new old es i)
 
-  one_pass : (pass : Pass) (numbers : List Numbered) (above : Place) (new old : VNode P C Q V H T E L) (es : List Entries)
+  one_pass : (pass : Pass) (numbers : List (Place × Kind × ℕ)) (above : Place) (new old : VNode P C Q V H T E L) (es : List Entries)
       → map entries_of es ≡ template_elements numbers above new.template
       → elements_written pass new.dynamic_attrs old.dynamic_attrs es
-      ≡ attribute_pass (λ k m. slot_pass pass new.dynamic_attrs old.dynamic_attrs k m) (λ u j. number_in numbers (place_in (template_of new.template) above u j) an_element) [] 0 (nodes_of new.template.roots)
+      ≡ attribute_pass (λ k m. slot_pass pass new.dynamic_attrs old.dynamic_attrs k m) (λ u j. number_at numbers (place_in (template_of new.template) above u j) an_element) [] 0 (nodes_of new.template.roots)
   unfolding template_elements
   one_pass pass numbers above new old es h =
       let of : ℕ → ℕ → List doc.Edit = λ k m. slot_pass pass new.dynamic_attrs old.dynamic_attrs k m in
       over-elements pass new.dynamic_attrs old.dynamic_attrs es ∙ ap (λ xs. over of xs) h ∙
       sym (pass_by_elements numbers above (template_of new.template) of [] 0 (nodes_of new.template.roots))
 
-  -- the edits of a matched block are those of the definitions
-  pub are_written : (edits : List Edit) (numbers : List Numbered) (above : Place) (new old : VNode P C Q V H T E L) → AreWritten edits numbers above new old
-      → edits_of edits ≡ caused.attributes_written (map number_of numbers) above (template_of new.template) (map (map attribute_of) new.dynamic_attrs) (map (map attribute_of) old.dynamic_attrs)
+  pub block_out : (numbers : List (Place × Kind × ℕ)) (above : Place) (new old : VNode P C Q V H T E L) → block_written numbers above new old
+      ≡ caused.attributes_written numbers above (template_of new.template) (map (map attribute_of) new.dynamic_attrs) (map (map attribute_of) old.dynamic_attrs)
+  unfolding block_written
+  block_out numbers above new old = refl
+
+  -- the edits of the two passes are those of a matched block
+  pub are_written : (edits : List Edit) (numbers : List (Place × Kind × ℕ)) (above : Place) (new old : VNode P C Q V H T E L) → AreWritten edits numbers above new old
+      → edits_of edits ≡ block_written numbers above new old
+  unfolding block_written
   are_written edits numbers above new old h =
       h.written ∙ (λ i. one_pass passes.Left numbers above new old h.elements h.are i ++ one_pass passes.Come numbers above new old h.elements h.are i)
+
+  -- where no attribute slot gives anything nothing is written
+  pub none_written : (numbers : List (Place × Kind × ℕ)) (above : Place) (new old : VNode P C Q V H T E L) → new.dynamic_attrs ≡ [] → old.dynamic_attrs ≡ []
+      → block_written numbers above new old ≡ []
+  unfolding block_written
+  none_written numbers above new old g h =
+      let number : List ℕ → ℕ → ℕ = λ u j. number_at numbers (place_in (template_of new.template) above u j) an_element in
+      let nodes : TemplateNodes = nodes_of new.template.roots in
+      (λ i. caused.attributes_written numbers above (template_of new.template) (map (map attribute_of) (g i)) (map (map attribute_of) (h i)))
+      ∙ (λ i. no_pass number [] 0 nodes i ++ no_pass number [] 0 nodes i)

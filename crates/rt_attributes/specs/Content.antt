@@ -1,6 +1,5 @@
 -- The attributes and the listeners of an element, slot by slot.
-use Rattle.std.specs.Prelude.{ℕ, List, [], ◌∷◌, map}
-use Rattle.std.specs.List.{slice_index_or}
+use Rattle.std.specs.Prelude.{List, [], ◌∷◌, map}
 use Rattle.rt_parts.specs.declared.attribute.Attribute.{Attribute}
 use Rattle.rt_parts.specs.declared.template.TemplateAttribute.{TemplateAttribute}
 use Rattle.rt_edits.specs.declared.doc_node.DocAttr.{DocAttr}

@@ -9,16 +9,15 @@ use Rattle.rt_parts.specs.declared.template.TemplateAttribute.{TemplateAttribute
 use Rattle.rt_edits.specs.declared.edit.Edit.{Edit}
 use Rattle.rt_nodes.specs.declared.vnode.VNode.{VNode}
 use Rattle.rt_model.specs.Lists.{Text, same_numbers, same_option}
-use Rattle.rt_model.specs.Tree.{TemplateAttribute, fixed, from_slot, Template, Place, an_element}
+use Rattle.rt_model.specs.Tree.{TemplateAttribute, fixed, from_slot, Template, Place, Kind, an_element}
+use Rattle.rt_model.specs.Heard.{number_at}
 use Rattle.rt_model.specs.Document as doc
-use Rattle.rt_model.specs.Caused.{is_key, text_if, listens, one_left, one_come}
+use Rattle.rt_model.specs.Caused.{is_key, text_if, listens, one_left, one_come, attributes_written}
 use Rattle.rt_mirror.specs.Mirror.{attribute_in, attribute_of, value_of, edit_of}
 use Rattle.rt_mirror.specs.Sealed.{nodes_of, template_of}
 use Rattle.rt_places.specs.declared.piece.Piece.{Piece}
-use Rattle.rt_places.specs.declared.side.Numbered.{Numbered}
 use Rattle.rt_places.specs.Places.{at_path}
 use Rattle.rt_places.specs.Pieces.{Met, met_element, met_text, met_slot, all_met, piece_of}
-use Rattle.rt_work.specs.Found.{number_in}
 use Rattle.rt_attributes.specs.declared.given.Entries.{Entries}
 use Rattle.rt_attributes.specs.declared.given.Pass.{Pass}
 use Rattle.rt_attributes.specs.declared.given.Pass.TheVariants as passes
@@ -37,23 +36,23 @@ abbrev pub entries_of : Entries → ℕ × List TemplateAttribute
 entries_of element = (element.number, map attribute_in element.entries)
 
 -- the elements among what is met, each with its number
-abbrev pub elements_met : List Numbered → Place → Template → List Met → List (ℕ × List TemplateAttribute)
+abbrev pub elements_met : List (Place × Kind × ℕ) → Place → Template → List Met → List (ℕ × List TemplateAttribute)
 elements_met numbers above whole [] = []
 elements_met numbers above whole (met_element path attributes ∷ ms) =
-    (number_in numbers (at_path whole above path) an_element, attributes) ∷ elements_met numbers above whole ms
+    (number_at numbers (at_path whole above path) an_element, attributes) ∷ elements_met numbers above whole ms
 elements_met numbers above whole (met_text path ∷ ms) = elements_met numbers above whole ms
 elements_met numbers above whole (met_slot k path ∷ ms) = elements_met numbers above whole ms
 
 -- the elements of a template
-unfoldable pub template_elements : List Numbered → Place → CodeTemplate → List (ℕ × List TemplateAttribute)
+unfoldable pub template_elements : List (Place × Kind × ℕ) → Place → CodeTemplate → List (ℕ × List TemplateAttribute)
 template_elements numbers above template = elements_met numbers above (template_of template) (all_met [] 0 (nodes_of template.roots))
 
 -- the element that a piece is, if it is one
-unfoldable pub piece_elements : List Numbered → Place → CodeTemplate → Piece → List (ℕ × List TemplateAttribute)
+unfoldable pub piece_elements : List (Place × Kind × ℕ) → Place → CodeTemplate → Piece → List (ℕ × List TemplateAttribute)
 piece_elements numbers above template piece = elements_met numbers above (template_of template) (piece_of piece ∷ [])
 
 -- the elements among pieces
-abbrev pub pieces_elements : List Numbered → Place → CodeTemplate → List Piece → List (ℕ × List TemplateAttribute)
+abbrev pub pieces_elements : List (Place × Kind × ℕ) → Place → CodeTemplate → List Piece → List (ℕ × List TemplateAttribute)
 pieces_elements numbers above template [] = []
 pieces_elements numbers above template (piece ∷ pieces) = piece_elements numbers above template piece
     ++ pieces_elements numbers above template pieces
@@ -145,8 +144,15 @@ module _ {P C Q V H T E L : Type 0} where
       → List doc.Edit
   passes_written new old elements = elements_written passes.Left new old elements ++ elements_written passes.Come new old elements
 
+  -- what the attribute slots of a matched block write
+  unfoldable pub block_written : List (Place × Kind × ℕ) → Place → VNode P C Q V H T E L → VNode P C Q V H T E L → List doc.Edit
+  block_written numbers above new old =
+      attributes_written numbers above (template_of new.template) (map (map attribute_of) new.dynamic_attrs)
+      (map (map attribute_of) old.dynamic_attrs)
+
   -- edits are those of a matched block
-  pub record AreWritten (edits : List Edit) (numbers : List Numbered) (above : Place) (new old : VNode P C Q V H T E L) : Type 0 where
+  pub record AreWritten (edits : List Edit) (numbers : List (Place × Kind × ℕ)) (above : Place)
+      (new old : VNode P C Q V H T E L) : Type 0 where
     -- its elements, however they were found
     pub elements : List Entries
     pub are : map entries_of elements ≡ template_elements numbers above new.template

@@ -1,5 +1,5 @@
 -- Where an entry belongs among others, by tests against it of each of them.
-use Rattle.std.specs.Prelude.{ℕ, suc, Bool, ◌||◌, List, [], ◌∷◌, Option, if◌then◌else◌}
+use Rattle.std.specs.Prelude.{ℕ, suc, Bool, ◌||◌, List, [], ◌∷◌, if◌then◌else◌}
 use Rattle.rt_edits.specs.declared.doc_node.DocAttr.{DocAttr}
 use Rattle.rt_model.specs.Lists.{Text, same_numbers, earlier_text}
 use Rattle.rt_model.specs.Document.{same_key, earlier_key}

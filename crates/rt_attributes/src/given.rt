@@ -1,17 +1,17 @@
 //! What the attribute slots of a matched block write.
 
 ghost use Rattle.std.specs.Prelude.{◌≡◌, ◌++◌, map, IfOk, OnOk};
-ghost use Rattle.rt_places.specs.Places.{place_of};
-ghost use Rattle.rt_attributes.specs.Given.{AreWritten, edits_of, element_written, elements_written, entries_of, entry_written, pass_of, piece_elements, template_elements};
+ghost use Rattle.rt_places.specs.Places.{side_of};
+ghost use Rattle.rt_places.specs.Trails.{place_on};
+ghost use Rattle.rt_attributes.specs.Given.{AreWritten, block_written, edits_of, element_written, elements_written, entries_of, entry_written, pass_of, piece_elements, template_elements};
 
 use crate::content::attributes_in;
 use crate::slot::{come, left};
 use rt_edits::Edit;
 use rt_nodes::VNode;
 use rt_parts::{Attribute, Parts, Template, TemplateAttribute};
-use rt_places::{Kind, Numbers, Piece, Place, pieces_of, place_inside};
+use rt_places::{Kind, Path, Piece, Side, Trail, pieces_of};
 use rt_values::{List, OutOfMemory, Shared};
-use rt_work::number_at;
 use std::alloc::Global;
 
 /// One of the two passes over the slots of a block.
@@ -34,15 +34,32 @@ pub(crate) struct Entries {
 /// first what is no longer there, then what is new or differs.
 pub fn attributes_written<P: Parts>(
     alloc: Global,
-    numbers: &Numbers,
-    above: &Place,
+    side: &Side<P>,
+    above: &Trail<'_>,
     new: &VNode<P>,
     old: &VNode<P>,
 ) -> Result<List<Edit>, OutOfMemory>
     ensures { IfOk result (λ edits.
-        AreWritten edits numbers.now (place_of above.now) new.now old.now) }
+        edits_of edits ≡ block_written (side_of side.now).numbers (place_on above.now) new.now old.now) }
 {
-    let elements = elements_in(alloc, numbers, above, &new.template)?;
+    if new.dynamic_attrs.is_empty() && old.dynamic_attrs.is_empty() {
+        return Ok(List::new(alloc));
+    }
+    passes_written(alloc, side, above, new, old)
+}
+
+// The same by the two passes.
+fn passes_written<P: Parts>(
+    alloc: Global,
+    side: &Side<P>,
+    above: &Trail<'_>,
+    new: &VNode<P>,
+    old: &VNode<P>,
+) -> Result<List<Edit>, OutOfMemory>
+    ensures { IfOk result (λ edits.
+        AreWritten edits (side_of side.now).numbers (place_on above.now) new.now old.now) }
+{
+    let elements = elements_in(alloc, side, above, &new.template)?;
     let mut edits = List::new(alloc);
     let given = new.dynamic_attrs.as_slice();
     let former = old.dynamic_attrs.as_slice();
@@ -67,39 +84,40 @@ pub fn attributes_written<P: Parts>(
 
 // The elements of a template, depth first, each with its number.
 #[tactic(auto, using(crate::proofs::Passes::elements))]
-fn elements_in(
+fn elements_in<P: Parts>(
     alloc: Global,
-    numbers: &Numbers,
-    above: &Place,
+    side: &Side<P>,
+    above: &Trail<'_>,
     template: &Template,
 ) -> Result<List<Entries>, OutOfMemory>
     ensures { IfOk result (λ elements. map entries_of elements
-        ≡ template_elements numbers.now (place_of above.now) template.now) }
+        ≡ template_elements (side_of side.now).numbers (place_on above.now) template.now) }
 {
     let pieces = pieces_of(alloc, &template.roots)?;
     let mut elements = List::new(alloc);
     for piece in pieces.as_slice() {
-        add_element(alloc, numbers, above, template, piece, &mut elements)?;
+        add_element(alloc, side, above, template, piece, &mut elements)?;
     }
     Ok(elements)
 }
 
 #[tactic(auto, using(crate::proofs::Passes::elements))]
-fn add_element(
+fn add_element<P: Parts>(
     alloc: Global,
-    numbers: &Numbers,
-    above: &Place,
+    side: &Side<P>,
+    above: &Trail<'_>,
     template: &Template,
     piece: &Piece,
     elements: &mut List<Entries>,
 ) -> Result<(), OutOfMemory>
     ensures { OnOk result (map entries_of elements.new ≡ map entries_of elements.old
-        ++ piece_elements numbers.now (place_of above.now) template.now piece.now) }
+        ++ piece_elements (side_of side.now).numbers (place_on above.now) template.now piece.now) }
 {
     match piece {
         Piece::Element { path, attrs } => {
-            let place = place_inside(alloc, above, template, path)?;
-            let number = number_at(numbers, place.as_slice(), Kind::Element);
+            let path = Path::Whole(path.as_slice());
+            let place = Trail::Inside(&*above, template, &path);
+            let number = side.number_on(&place, Kind::Element);
             let entries = attrs.share()?;
             elements.push(Entries { number, entries })
         }

@@ -4,7 +4,6 @@ use Rattle.std.specs.Prelude.{Option, Some, None, option_map}
 use Rattle.rt_model.specs.OneLog.{types}
 use Rattle.rt_model.specs.Lists.{at}
 use Rattle.rt_model.specs.Tree as model
-use Rattle.rt_model.specs.Tree.{Place}
 use Rattle.rt_model.specs.State as state
 use Rattle.rt_model.specs.Document.{Forest, Empty}
 use Rattle.rt_model.specs.View as views
@@ -14,7 +13,7 @@ use Rattle.rt_model.specs.Heard.{Climb, find_side}
 use Rattle.rt_places.specs.declared.side.Side.{Side}
 use Rattle.rt_places.specs.declared.side.SideName.{SideName}
 use Rattle.rt_places.specs.declared.side.SideName.TheVariants as names
-use Rattle.rt_places.specs.Places.{side_of, side_name_of}
+use Rattle.rt_places.specs.Places.{side_name_of, side_of}
 use Rattle.rt_shown.specs.declared.look.Look.{Look}
 use Rattle.rt_shown.specs.declared.look.Stood.{Stood}
 use Rattle.rt_shown.specs.Look.{Sight, sight_of, sight_in, ShowsScopes, look_at, look_shown, side_stood}

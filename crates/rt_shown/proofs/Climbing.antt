@@ -24,8 +24,9 @@ use Rattle.rt_mirror.specs.Sealed.{node_before, nodes_of, template_of, tree_of, 
 use Rattle.rt_mirror.proofs.SealedNodes.{below, before_out, before_Element, before_Text, before_Dynamic}
 use Rattle.rt_mirror.proofs.SealedTrees.{tree_out, slot_Text, slot_Placeholder, slot_Component, slot_Fragment}
 use Rattle.rt_places.specs.declared.side.Side.{Side}
-use Rattle.rt_places.specs.Places.{at_path, number_of, side_of, output_of}
-use Rattle.rt_work.specs.Found.{number_in, child_in}
+use Rattle.rt_places.specs.Places.{at_path, output_of, side_of}
+use Rattle.rt_places.proofs.Trails.{on_Root, on_Inside, on_Item, path_Top, path_Below}
+use Rattle.rt_places.specs.Sides.{number_in, child_in}
 use Rattle.rt_attributes.proofs.Contents.{slot_given}
 use Rattle.rt_shown.specs.declared.look.Look.{Look}
 use Rattle.rt_shown.specs.Look.{look_shown}
@@ -96,23 +97,23 @@ module _ {P C Q V H T E L : Type 0} where
   side_some look number n side tree some =
       ap (λ (o : Option (VNode P C Q V H T E L)). elim (output_of o) as (λ x. Option (Climb (types C Q V H T E L))) [ None ↦ None | Some t ↦ find_tree (side_of side) number (λ u. climb_within look number n u) [] t ]) some
 
-  pub child_none : (look : Look P C Q V H T E L) (number n : ℕ) (side : Side P C Q V H T E L) (place : Place) → child_in side.children place ≡ None → child_climb look number n side place ≡ None
+  pub child_none : (look : Look P C Q V H T E L) (number n : ℕ) (side : Side P C Q V H T E L) (place : Place) → child_in side place ≡ None → child_climb look number n side place ≡ None
   unfolding child_climb
   child_none look number n side place none = ap (λ o. find_child (λ t. climb_within look number n t) o) none
 
-  pub child_some : (look : Look P C Q V H T E L) (number n : ℕ) (side : Side P C Q V H T E L) (place : Place) (t : ℕ) → child_in side.children place ≡ Some t → child_climb look number n side place ≡ scope_climb look number n t
+  pub child_some : (look : Look P C Q V H T E L) (number n : ℕ) (side : Side P C Q V H T E L) (place : Place) (t : ℕ) → child_in side place ≡ Some t → child_climb look number n side place ≡ scope_climb look number n t
   unfolding child_climb scope_climb
   child_some look number n side place t some = ap (λ o. find_child (λ u. climb_within look number n u) o) some
 
   -- what stands in slots
 
   pub value_Text : (look : Look P C Q V H T E L) (number n : ℕ) (side : Side P C Q V H T E L) (text : List ℕ) (place : Place)
-      → value_climb look number n side (values.Text text) place ≡ leaf_climb number (number_in side.numbers place a_text)
+      → value_climb look number n side (values.Text text) place ≡ leaf_climb number (number_in side place a_text)
   unfolding value_climb
   value_Text look number n side text place = ap (λ v. find_slot (side_of side) number (λ t. climb_within look number n t) v place) (slot_Text P text)
 
   pub value_Placeholder : (look : Look P C Q V H T E L) (number n : ℕ) (side : Side P C Q V H T E L) (place : Place)
-      → value_climb look number n side values.Placeholder place ≡ leaf_climb number (number_in side.numbers place a_placeholder)
+      → value_climb look number n side values.Placeholder place ≡ leaf_climb number (number_in side place a_placeholder)
   unfolding value_climb
   value_Placeholder look number n side place = ap (λ v. find_slot (side_of side) number (λ t. climb_within look number n t) v place) (slot_Placeholder P)
 
@@ -122,7 +123,7 @@ module _ {P C Q V H T E L : Type 0} where
   value_Component look number n side c place = ap (λ v. find_slot (side_of side) number (λ t. climb_within look number n t) v place) (slot_Component c)
 
   pub value_none : (look : Look P C Q V H T E L) (number n : ℕ) (side : Side P C Q V H T E L) (trees : List (VNode P C Q V H T E L)) (place : Place) → trees ≡ []
-      → value_climb look number n side (values.Fragment trees) place ≡ leaf_climb number (number_in side.numbers place an_empty_fragment)
+      → value_climb look number n side (values.Fragment trees) place ≡ leaf_climb number (number_in side place an_empty_fragment)
   unfolding value_climb
   value_none look number n side trees place none =
       ap (λ v. find_slot (side_of side) number (λ t. climb_within look number n t) v place) (slot_Fragment trees) ∙
@@ -149,14 +150,14 @@ module _ {P C Q V H T E L : Type 0} where
 
   abbrev nodes_in : Look P C Q V H T E L → ℕ → ℕ → Side P C Q V H T E L → VNode P C Q V H T E L → Place → List ℕ → ℕ → TemplateNodes → Option (Climb (types C Q V H T E L))
   nodes_in look number n side tree above up i ns =
-      find_nodes (map number_of side.numbers) number (template_of tree.template) above (slots_of tree.dynamic_attrs) (λ k place. slot_in look number n side tree k place) up i ns
+      find_nodes (side_of side).numbers number (template_of tree.template) above (slots_of tree.dynamic_attrs) (λ k place. slot_in look number n side tree k place) up i ns
 
   first_found : (look : Look P C Q V H T E L) (number n : ℕ) (side : Side P C Q V H T E L) (tree : VNode P C Q V H T E L) (above : Place) (up : List ℕ) (i : ℕ) (node : TemplateNode) (rest : TemplateNodes)
       → nodes_in look number n side tree above up i (node_before node rest) ≡ first_of (node_climb look number n side tree above up i node) (nodes_in look number n side tree above up (i + 1) rest)
   unfolding node_climb
   first_found look number n side tree above up i node rest =
       ap (λ ns. nodes_in look number n side tree above up i ns) (before_out node rest) ∙
-      level_found (map number_of side.numbers) number (template_of tree.template) above (slots_of tree.dynamic_attrs) (λ k place. slot_in look number n side tree k place) (below (out-TemplateNode node)) up i rest ∙
+      level_found (side_of side).numbers number (template_of tree.template) above (slots_of tree.dynamic_attrs) (λ k place. slot_in look number n side tree k place) (below (out-TemplateNode node)) up i rest ∙
       ap (λ ns. first_of (nodes_in look number n side tree above up i ns) (nodes_in look number n side tree above up (i + 1) rest)) (sym (before_out node no_nodes))
 
   row_is : (look : Look P C Q V H T E L) (number n : ℕ) (side : Side P C Q V H T E L) (tree : VNode P C Q V H T E L) (above : Place) (up : List ℕ) (i : ℕ) (row : List TemplateNode)
@@ -175,22 +176,22 @@ module _ {P C Q V H T E L : Type 0} where
   pub node_Element : (look : Look P C Q V H T E L) (number n : ℕ) (side : Side P C Q V H T E L) (tree : VNode P C Q V H T E L) (above : Place) (up : List ℕ) (i : ℕ)
       (tag : List ℕ) (namespace : Option (List ℕ)) (attrs : List TemplateAttribute) (children : List TemplateNode)
       → node_climb look number n side tree above up i (nodes.Element tag namespace attrs children)
-      ≡ (if nat_eq (number_in side.numbers (at_path (template_of tree.template) above (up ++ i ∷ [])) an_element) number
+      ≡ (if nat_eq (number_in side (at_path (template_of tree.template) above (up ++ i ∷ [])) an_element) number
       then Some (entries_slots tree.dynamic_attrs attrs ∷ [])
       else below_element (entries_slots tree.dynamic_attrs attrs) (row_climb look number n side tree above (up ++ i ∷ []) 0 children))
   unfolding node_climb
   node_Element look number n side tree above up i tag namespace attrs children =
-      let here : ℕ = number_in side.numbers (at_path (template_of tree.template) above (up ++ i ∷ [])) an_element in
+      let here : ℕ = number_in side (at_path (template_of tree.template) above (up ++ i ∷ [])) an_element in
       ap (λ ns. nodes_in look number n side tree above up i ns) (before_Element tag namespace attrs children no_nodes) ∙
       or-none (if nat_eq here number then Some (slots_on (slots_of tree.dynamic_attrs) (map attribute_in attrs) ∷ []) else below_element (slots_on (slots_of tree.dynamic_attrs) (map attribute_in attrs)) (nodes_in look number n side tree above (up ++ i ∷ []) 0 (nodes_of children))) ∙
       (λ k. if nat_eq here number then Some (sym (slots_are tree.dynamic_attrs attrs) k ∷ []) else below_element (sym (slots_are tree.dynamic_attrs attrs) k) (sym (row_is look number n side tree above (up ++ i ∷ []) 0 children) k))
 
   pub node_Text : (look : Look P C Q V H T E L) (number n : ℕ) (side : Side P C Q V H T E L) (tree : VNode P C Q V H T E L) (above : Place) (up : List ℕ) (i : ℕ) (text : List ℕ)
-      → node_climb look number n side tree above up i (nodes.Text text) ≡ leaf_climb number (number_in side.numbers (at_path (template_of tree.template) above (up ++ i ∷ [])) a_static_text)
+      → node_climb look number n side tree above up i (nodes.Text text) ≡ leaf_climb number (number_in side (at_path (template_of tree.template) above (up ++ i ∷ [])) a_static_text)
   unfolding node_climb
   node_Text look number n side tree above up i text =
       ap (λ ns. nodes_in look number n side tree above up i ns) (before_Text text no_nodes) ∙
-      or-none (leaf_climb number (number_in side.numbers (at_path (template_of tree.template) above (up ++ i ∷ [])) a_static_text))
+      or-none (leaf_climb number (number_in side (at_path (template_of tree.template) above (up ++ i ∷ [])) a_static_text))
 
   slot_there : (look : Look P C Q V H T E L) (number n : ℕ) (side : Side P C Q V H T E L) (vs : List (DynamicNode P C Q V H T E L)) (k : ℕ) (value : DynamicNode P C Q V H T E L) (place : Place)
       → slice_get vs k ≡ Some value
@@ -222,4 +223,4 @@ module _ {P C Q V H T E L : Type 0} where
       ap (λ ns. nodes_in look number n side tree above up i ns) (before_Dynamic id no_nodes) ∙ or-none (slot_in look number n side tree id place) ∙
       slot_absent look number n side tree.dynamic_nodes id place h
 
-pub ruleset climbing = (slots_Static, slots_Dynamic, scope_out, scope_none, scope_some, side_none, side_some, child_none, child_some, value_Text, value_Placeholder, value_Component, value_none, value_some, tree_row, node_Element, node_Text, node_Slot, node_no_Slot)
+pub ruleset climbing = (slots_Static, slots_Dynamic, scope_out, scope_none, scope_some, side_none, side_some, child_none, child_some, value_Text, value_Placeholder, value_Component, value_none, value_some, tree_row, node_Element, node_Text, node_Slot, node_no_Slot, on_Root, on_Inside, on_Item, path_Top, path_Below)

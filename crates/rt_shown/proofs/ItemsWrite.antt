@@ -1,5 +1,5 @@
 -- What the items of a fragment write, one after another.
-use Rattle.std.proofs.Common.{ℕ, zero, suc, Bool, false, ◌+◌, ◌-◌, ◌<◌, ◌≤◌, ◌||◌, List, [], ◌∷◌, ◌++◌, ◌≡◌, ◌≢◌, refl, sym, ap, ◌∙◌, map, length, get_or, take, drop, arith}
+use Rattle.std.proofs.Common.{ℕ, zero, suc, Bool, true, false, ◌+◌, ◌-◌, ◌<◌, ◌≤◌, ◌||◌, List, [], ◌∷◌, ◌++◌, ◌≡◌, ◌≢◌, refl, sym, ap, ◌∙◌, map, length, get_or, take, drop, arith}
 use Rattle.std.specs.Prelude.{Option, None, Some, is_some, if◌then◌else◌}
 use Rattle.std.specs.Borrow.{Bor}
 use Rattle.std.proofs.lemmas.Bool.{true≢false}
@@ -28,12 +28,23 @@ use Rattle.rt_shown.proofs.OneByOne.{next_drop, take-more, length-taken}
 use Rattle.rt_shown.proofs.Parted.{then_then}
 
 -- one more item isn't the refused place, nor does it hold it
-pub around_more : (place at_item : Place) (i end : ℕ) (stop : Option Place) (whole : Bool)
-    → i < end → around_from place i stop (end - i) ≡ whole → at_item ≡ place ++ item i ∷ [] → caused.is_around at_item stop ≡ false
+pub around_more : (place at_item : Place) (i end : ℕ) (stop : Option Place) (answer whole : Bool)
+    → i < end → around_from place i stop (end - i) ≡ whole → answer ≡ caused.is_around at_item stop → at_item ≡ place ++ item i ∷ [] → answer ≡ false
     → around_from place (i + 1) stop (end - (i + 1)) ≡ whole
-around_more place at_item i end stop whole low so_far at_place apart =
+around_more place at_item i end stop answer whole low so_far one at_place apart =
     let e : end - i ≡ suc (end - (i + 1)) = omega arith in
-    sym (ap (λ b. b || around_from place (i + 1) stop (end - (i + 1))) (ap (λ p. caused.is_around p stop) (sym at_place) ∙ apart)) ∙
+    let here : caused.is_around (place ++ item i ∷ []) stop ≡ false = sym (one ∙ ap (λ p. caused.is_around p stop) at_place) ∙ apart in
+    sym (ap (λ b. b || around_from place (i + 1) stop (end - (i + 1))) here) ∙
+    sym (ap (λ n. around_from place i stop n) e) ∙ so_far
+
+-- an item that is the place or holds it is among them
+pub around_here : (place at_item : Place) (i end : ℕ) (stop : Option Place) (answer whole : Bool)
+    → i < end → around_from place i stop (end - i) ≡ whole → answer ≡ caused.is_around at_item stop → at_item ≡ place ++ item i ∷ [] → answer ≡ true
+    → true ≡ whole
+around_here place at_item i end stop answer whole low so_far one at_place around =
+    let e : end - i ≡ suc (end - (i + 1)) = omega arith in
+    let here : caused.is_around (place ++ item i ∷ []) stop ≡ true = sym (one ∙ ap (λ p. caused.is_around p stop) at_place) ∙ around in
+    sym (ap (λ b. b || around_from place (i + 1) stop (end - (i + 1))) here) ∙
     sym (ap (λ n. around_from place i stop n) e) ∙ so_far
 
 -- nothing is around no place
@@ -64,19 +75,20 @@ module _ {P C Q V H T E L : Type 0} where
       ap (λ n. last_among shown place 0 0 (take n new)) (let e : suc i ≡ i + 1 = omega arith in e)
 
   -- from behind: an item that shows a node has the last one
-  pub last_here : (shown : Shown P C Q V H T E L) (place : Place) (new : List (VNode P C Q V H T E L)) (i : ℕ) (y : VNode P C Q V H T E L) (row : List DocNode)
-      → i < length new → y ≡ get_or new i y → forest_of row ≡ tree_in shown y (place ++ item i ∷ []) → row ≢ []
+  pub last_here : (shown : Shown P C Q V H T E L) (place at_item : Place) (new : List (VNode P C Q V H T E L)) (i : ℕ) (y : VNode P C Q V H T E L) (row : List DocNode)
+      → i < length new → y ≡ get_or new i y → forest_of row ≡ tree_in shown y at_item → at_item ≡ place ++ item i ∷ [] → row ≢ []
       → caused.last_of 0 (forest_of row) ≡ last_among shown place 0 0 (take (i + 1) new)
-  last_here shown place new i y [] low is seen some = absurd (some refl)
-  last_here shown place new i y (x ∷ xs) low is seen some =
-      ap (λ f. caused.last_of (last_among shown place 0 0 (take i new)) f) seen ∙ last_next shown place new i y low is
+  last_here shown place at_item new i y [] low is seen at_place some = absurd (some refl)
+  last_here shown place at_item new i y (x ∷ xs) low is seen at_place some =
+      ap (λ f. caused.last_of (last_among shown place 0 0 (take i new)) f) (seen ∙ ap (λ p. tree_in shown y p) at_place) ∙ last_next shown place new i y low is
 
   -- an item that shows none leaves it to those before it
-  pub last_passed : (shown : Shown P C Q V H T E L) (place : Place) (new : List (VNode P C Q V H T E L)) (i : ℕ) (y : VNode P C Q V H T E L) (row : List DocNode)
-      → i < length new → y ≡ get_or new i y → forest_of row ≡ tree_in shown y (place ++ item i ∷ []) → row ≡ []
+  pub last_passed : (shown : Shown P C Q V H T E L) (place at_item : Place) (new : List (VNode P C Q V H T E L)) (i : ℕ) (y : VNode P C Q V H T E L) (row : List DocNode)
+      → i < length new → y ≡ get_or new i y → forest_of row ≡ tree_in shown y at_item → at_item ≡ place ++ item i ∷ [] → row ≡ []
       → last_among shown place 0 0 (take (i + 1) new) ≡ last_among shown place 0 0 (take i new)
-  last_passed shown place new i y row low is seen none =
-      sym (last_next shown place new i y low is) ∙ ap (λ f. caused.last_of (last_among shown place 0 0 (take i new)) f) (sym seen ∙ ap forest_of none)
+  last_passed shown place at_item new i y row low is seen at_place none =
+      let there : forest_of row ≡ tree_in shown y (place ++ item i ∷ []) = seen ∙ ap (λ p. tree_in shown y p) at_place in
+      sym (last_next shown place new i y low is) ∙ ap (λ f. caused.last_of (last_among shown place 0 0 (take i new)) f) (sym there ∙ ap forest_of none)
 
 module _ {P C Q V H T E L : Type 0} (app : Application (types C Q V H T E L)) where
   -- items
@@ -114,15 +126,16 @@ module _ {P C Q V H T E L : Type 0} (app : Application (types C Q V H T E L)) wh
   -- one after another
 
   -- one more pair is written
-  pub items_more : (b : Sides P C Q V H T E L) (place : Place) (new old : List (VNode P C Q V H T E L)) (i : ℕ) (y x : VNode P C Q V H T E L) (before this after whole : Written)
+  pub items_more : (b : Sides P C Q V H T E L) (place at_item : Place) (new old : List (VNode P C Q V H T E L)) (i : ℕ) (y x : VNode P C Q V H T E L) (before this after whole : Written)
       → i < length new → i < length old → y ≡ get_or new i y → x ≡ get_or old i x
       → then_on before (items_writes app b place i (last_among b.new.now place 0 0 (take i new)) (drop i new) (drop i old)) ≡ whole
-      → this ≡ tree_writes app b (place ++ item i ∷ []) y x
+      → this ≡ tree_writes app b at_item y x
+      → at_item ≡ place ++ item i ∷ []
       → after ≡ then_on before this
       → then_on after (items_writes app b place (i + 1) (last_among b.new.now place 0 0 (take (i + 1) new)) (drop (i + 1) new) (drop (i + 1) old)) ≡ whole
-  items_more b place new old i y x before this after whole low under is was so_far one more =
+  items_more b place at_item new old i y x before this after whole low under is was so_far one at_place more =
       let rest : Written = items_writes app b place (i + 1) (last_among b.new.now place 0 0 (take (i + 1) new)) (drop (i + 1) new) (drop (i + 1) old) in
-      ap (λ w. then_on w rest) (more ∙ ap (λ w. then_on before w) one) ∙
+      ap (λ w. then_on w rest) (more ∙ ap (λ w. then_on before w) (one ∙ ap (λ p. tree_writes app b p y x) at_place)) ∙
       then_then before (tree_writes app b (place ++ item i ∷ []) y x) rest ∙
       ap (λ n. then_on before (then_on (tree_writes app b (place ++ item i ∷ []) y x) (items_writes app b place (i + 1) n (drop (i + 1) new) (drop (i + 1) old)))) (sym (last_next b.new.now place new i y low is)) ∙
       ap (λ w. then_on before w) (sym (items_step b place i (last_among b.new.now place 0 0 (take i new)) y x (drop (i + 1) new) (drop (i + 1) old))) ∙

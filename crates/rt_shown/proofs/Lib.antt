@@ -19,3 +19,6 @@ pub mod Untouched
 pub mod Members
 pub mod Touches
 pub mod Claimed
+pub mod RowsWrite
+pub mod Children
+pub mod Walked

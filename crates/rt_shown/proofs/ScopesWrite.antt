@@ -3,6 +3,10 @@ use Rattle.std.proofs.Common.{ℕ, zero, suc, ◌+◌, ◌-◌, Bool, true, fals
 use Rattle.std.specs.Prelude.{Option, Some, None, slice_get, if◌then◌else◌, is_some}
 use Rattle.rt_parts.specs.declared.template.Template.{Template as CodeTemplate}
 use Rattle.rt_parts.specs.declared.template.TemplateAttribute.{TemplateAttribute}
+use Rattle.rt_parts.specs.declared.template.TemplateNode.{TemplateNode}
+use Rattle.rt_parts.specs.declared.template.TemplateNode.TheVariants as nodes
+use Rattle.rt_parts.specs.declared.template.TemplateNode.TheOpen.{TemplateNode-F}
+use Rattle.rt_parts.specs.declared.template.TemplateNode.TheViews.{out-TemplateNode}
 use Rattle.rt_edits.specs.declared.edit.Edit.{Edit}
 use Rattle.rt_nodes.specs.declared.vnode.VNode.{VNode}
 use Rattle.rt_nodes.specs.declared.vnode.DynamicNode.{DynamicNode}
@@ -11,35 +15,30 @@ use Rattle.rt_model.specs.OneLog.{types}
 use Rattle.rt_model.specs.Lists.{at}
 use Rattle.rt_model.specs.World.{Application}
 use Rattle.rt_model.specs.Tree as model
-use Rattle.rt_model.specs.Tree.{TemplateNodes, no_nodes, element_node, text_node, slot_node, Place, same_template, place_in, placeholder_slot}
+use Rattle.rt_model.specs.Tree.{TemplateNodes, no_nodes, Place, same_template, place_in, placeholder_slot}
 use Rattle.rt_model.specs.State as state
 use Rattle.rt_model.specs.View.{tree_view}
 use Rattle.rt_model.proofs.SamePlaces.{template-true}
 use Rattle.rt_model.proofs.Among.{template_same}
 use Rattle.rt_model.specs.Caused as caused
 use Rattle.rt_model.specs.Caused.{Written, writes, halts, then_on, replaced_by, slot_pass}
-use Rattle.rt_mirror.specs.Mirror.{attribute_of, edit_of, slots_from}
-use Rattle.rt_mirror.specs.Sealed.{nodes_of, slot_of, template_of}
+use Rattle.rt_mirror.specs.Mirror.{all_before, attribute_of, before_step, edit_of, slots_from}
+use Rattle.rt_mirror.specs.Sealed.{node_before, nodes_of, slot_of, template_of}
 use Rattle.rt_mirror.proofs.SealedTrees.{tree_out, slot_Placeholder}
-use Rattle.rt_mirror.proofs.SealedNodes.{template-apart}
-use Rattle.rt_places.specs.declared.piece.Piece.{Piece}
-use Rattle.rt_places.specs.declared.piece.Piece.TheVariants as pieces
+use Rattle.rt_mirror.proofs.SealedNodes.{below, before_out, before_Element, before_Text, before_Dynamic, template-apart}
 use Rattle.rt_places.specs.declared.side.Side.{Side}
-use Rattle.rt_places.specs.declared.side.Numbered.{Numbered}
 use Rattle.rt_places.specs.declared.side.SideName.{SideName}
-use Rattle.rt_places.specs.Places.{at_path, number_of, output_of, side_of, side_name_of}
-use Rattle.rt_places.specs.Pieces.{Met, all_met, piece_of, row_met}
-use Rattle.rt_places.proofs.Walks.{row_is}
-use Rattle.rt_attributes.specs.Given.{AreWritten}
-use Rattle.rt_attributes.proofs.Passes.{are_written}
+use Rattle.rt_places.specs.Places.{at_path, output_of, side_name_of, side_of}
+use Rattle.rt_attributes.specs.Given.{block_written}
+use Rattle.rt_attributes.proofs.Passes.{block_out}
 use Rattle.rt_shown.specs.declared.sides.Sides.{Sides}
 use Rattle.rt_shown.specs.declared.sides.Unit.{Unit as CodeUnit}
 use Rattle.rt_shown.specs.Look.{look_is_shown, look_side, look_shows}
 use Rattle.rt_shown.specs.Seen.{scope_seen, seen_within, tree_seen}
 use Rattle.rt_shown.specs.Ways.{place_found, way_of}
 use Rattle.rt_shown.specs.Touched.{is_touched}
-use Rattle.rt_shown.specs.Units.{Passes, both_of, shown_writes, side_writes, unit_within, unit_writes, scope_writes, name_writes, output_writes, tree_writes, slot_writes, met_writes, piece_writes, pieces_writes, tree_replaces}
-use Rattle.rt_shown.proofs.Parted.{then_then}
+use Rattle.rt_shown.specs.Units.{Passes, both_of, shown_writes, side_writes, unit_within, unit_writes, scope_writes, name_writes, output_writes, tree_writes, slot_writes, node_writes, row_writes, tree_replaces}
+use Rattle.rt_shown.proofs.Parted.{then_nothing}
 
 pub template_tested : (u v : CodeTemplate) → u ≡ v → same_template (template_of u) (template_of v) ≡ true
 template_tested u v h = ap (λ w. same_template (template_of u) (template_of w)) (sym h) ∙ template_same (template_of u)
@@ -166,17 +165,6 @@ module _ {P C Q V H T E L : Type 0} (app : Application (types C Q V H T E L)) wh
   unfolding output_writes tree_writes
   output_both b new old is was = (λ k. caused.outputs_written app (both_of app b) (output_of (is k)) (output_of (was k)))
 
-  -- pieces of a template
-
-  pub piece_Element : (b : Sides P C Q V H T E L) (above : Place) (new old : VNode P C Q V H T E L) (path : List ℕ) (attrs : List TemplateAttribute)
-      → piece_writes app b above new old (pieces.Element path attrs) ≡ writes []
-  unfolding piece_writes
-  piece_Element b above new old path attrs = refl
-
-  pub piece_Text : (b : Sides P C Q V H T E L) (above : Place) (new old : VNode P C Q V H T E L) (path : List ℕ) → piece_writes app b above new old (pieces.Text path) ≡ writes []
-  unfolding piece_writes
-  piece_Text b above new old path = refl
-
   abbrev slots_in : Sides P C Q V H T E L → List (DynamicNode P C Q V H T E L) → List (DynamicNode P C Q V H T E L) → ℕ → Place → Written
   slots_in b new old k place = caused.slots_written app (both_of app b) (slots_from (map slot_of new)) (slots_from (map slot_of old)) k place
 
@@ -206,55 +194,71 @@ module _ {P C Q V H T E L : Type 0} (app : Application (types C Q V H T E L)) wh
   slot_gone b (v ∷ new) [] (suc k) place h = slot_gone b new [] k place h
   slot_gone b (v ∷ new) (u ∷ old) (suc k) place h = slot_gone b new old k place h
 
-  pub piece_both : (b : Sides P C Q V H T E L) (above : Place) (new old : VNode P C Q V H T E L) (id : ℕ) (path : List ℕ) (value was : DynamicNode P C Q V H T E L)
+  -- nodes of a template
+
+  -- one level of a template before others: what it writes, then what they write
+  level_writes : (b : Sides P C Q V H T E L) (above : Place) (new old : VNode P C Q V H T E L) (y : TemplateNode-F (TemplateNodes → TemplateNodes)) (up : List ℕ) (i : ℕ) (rest : TemplateNodes)
+      → slot_pass (λ k place. slots_in b new.dynamic_nodes old.dynamic_nodes k place) (place_in (template_of new.template) above) up i (before_step y rest)
+      ≡ then_on (slot_pass (λ k place. slots_in b new.dynamic_nodes old.dynamic_nodes k place) (place_in (template_of new.template) above) up i (before_step y no_nodes))
+      (slot_pass (λ k place. slots_in b new.dynamic_nodes old.dynamic_nodes k place) (place_in (template_of new.template) above) up (i + 1) rest)
+  level_writes b above new old (TemplateNode-F.Element tag namespace attrs children) up i rest =
+      let pass : List ℕ → ℕ → TemplateNodes → Written = λ u m ns. slot_pass (λ k place. slots_in b new.dynamic_nodes old.dynamic_nodes k place) (place_in (template_of new.template) above) u m ns in
+      ap (λ w. then_on w (pass up (i + 1) rest)) (sym (then_nothing (pass (up ++ i ∷ []) 0 (all_before children no_nodes))))
+  level_writes b above new old (TemplateNode-F.Text text) up i rest = refl
+  level_writes b above new old (TemplateNode-F.Dynamic id) up i rest =
+      let pass : List ℕ → ℕ → TemplateNodes → Written = λ u m ns. slot_pass (λ k place. slots_in b new.dynamic_nodes old.dynamic_nodes k place) (place_in (template_of new.template) above) u m ns in
+      ap (λ w. then_on w (pass up (i + 1) rest)) (sym (then_nothing (slots_in b new.dynamic_nodes old.dynamic_nodes id (place_in (template_of new.template) above up i))))
+
+  first_writes : (b : Sides P C Q V H T E L) (above : Place) (new old : VNode P C Q V H T E L) (up : List ℕ) (i : ℕ) (node : TemplateNode) (rest : TemplateNodes)
+      → slot_pass (λ k place. slots_in b new.dynamic_nodes old.dynamic_nodes k place) (place_in (template_of new.template) above) up i (node_before node rest)
+      ≡ then_on (node_writes app b above new old up i node) (slot_pass (λ k place. slots_in b new.dynamic_nodes old.dynamic_nodes k place) (place_in (template_of new.template) above) up (i + 1) rest)
+  unfolding node_writes
+  first_writes b above new old up i node rest =
+      let pass : List ℕ → ℕ → TemplateNodes → Written = λ u m ns. slot_pass (λ k place. slots_in b new.dynamic_nodes old.dynamic_nodes k place) (place_in (template_of new.template) above) u m ns in
+      ap (λ ns. pass up i ns) (before_out node rest) ∙ level_writes b above new old (below (out-TemplateNode node)) up i rest ∙
+      ap (λ ns. then_on (pass up i ns) (pass up (i + 1) rest)) (sym (before_out node no_nodes))
+
+  pub row_pass : (b : Sides P C Q V H T E L) (above : Place) (new old : VNode P C Q V H T E L) (up : List ℕ) (i : ℕ) (row : List TemplateNode)
+      → row_writes app b above new old up i row ≡ slot_pass (λ k place. slots_in b new.dynamic_nodes old.dynamic_nodes k place) (place_in (template_of new.template) above) up i (nodes_of row)
+  row_pass b above new old up i [] = refl
+  row_pass b above new old up i (node ∷ row) =
+      ap (λ w. then_on (node_writes app b above new old up i node) w) (row_pass b above new old up (i + 1) row) ∙ sym (first_writes b above new old up i node (nodes_of row))
+
+  pub node_Element : (b : Sides P C Q V H T E L) (above : Place) (new old : VNode P C Q V H T E L) (up : List ℕ) (i : ℕ) (tag : List ℕ) (namespace : Option (List ℕ)) (attrs : List TemplateAttribute) (children : List TemplateNode)
+      → node_writes app b above new old up i (nodes.Element tag namespace attrs children) ≡ row_writes app b above new old (up ++ i ∷ []) 0 children
+  unfolding node_writes
+  node_Element b above new old up i tag namespace attrs children =
+      let pass : List ℕ → ℕ → TemplateNodes → Written = λ u m ns. slot_pass (λ k place. slots_in b new.dynamic_nodes old.dynamic_nodes k place) (place_in (template_of new.template) above) u m ns in
+      ap (λ ns. pass up i ns) (before_Element tag namespace attrs children no_nodes) ∙ then_nothing (pass (up ++ i ∷ []) 0 (nodes_of children)) ∙ sym (row_pass b above new old (up ++ i ∷ []) 0 children)
+
+  pub node_Text : (b : Sides P C Q V H T E L) (above : Place) (new old : VNode P C Q V H T E L) (up : List ℕ) (i : ℕ) (text : List ℕ) → node_writes app b above new old up i (nodes.Text text) ≡ writes []
+  unfolding node_writes
+  node_Text b above new old up i text =
+      ap (λ ns. slot_pass (λ k place. slots_in b new.dynamic_nodes old.dynamic_nodes k place) (place_in (template_of new.template) above) up i ns) (before_Text text no_nodes)
+
+  node_Dynamic : (b : Sides P C Q V H T E L) (above : Place) (new old : VNode P C Q V H T E L) (up : List ℕ) (i id : ℕ)
+      → node_writes app b above new old up i (nodes.Dynamic id) ≡ slots_in b new.dynamic_nodes old.dynamic_nodes id (at_path (template_of new.template) above (up ++ i ∷ []))
+  unfolding node_writes
+  node_Dynamic b above new old up i id =
+      ap (λ ns. slot_pass (λ k place. slots_in b new.dynamic_nodes old.dynamic_nodes k place) (place_in (template_of new.template) above) up i ns) (before_Dynamic id no_nodes)
+      ∙ then_nothing (slots_in b new.dynamic_nodes old.dynamic_nodes id (at_path (template_of new.template) above (up ++ i ∷ [])))
+
+  pub node_both : (b : Sides P C Q V H T E L) (above : Place) (new old : VNode P C Q V H T E L) (up : List ℕ) (i id : ℕ) (value was : DynamicNode P C Q V H T E L)
       → slice_get new.dynamic_nodes id ≡ Some value → slice_get old.dynamic_nodes id ≡ Some was
-      → piece_writes app b above new old (pieces.Slot id path) ≡ slot_writes app b (at_path (template_of new.template) above path) value was
-  unfolding piece_writes
-  piece_both b above new old id path value was h g = slot_both b new.dynamic_nodes old.dynamic_nodes id value was (at_path (template_of new.template) above path) h g
+      → node_writes app b above new old up i (nodes.Dynamic id) ≡ slot_writes app b (at_path (template_of new.template) above (up ++ i ∷ [])) value was
+  node_both b above new old up i id value was h g =
+      node_Dynamic b above new old up i id ∙ slot_both b new.dynamic_nodes old.dynamic_nodes id value was (at_path (template_of new.template) above (up ++ i ∷ [])) h g
 
-  pub piece_new : (b : Sides P C Q V H T E L) (above : Place) (new old : VNode P C Q V H T E L) (id : ℕ) (path : List ℕ) (value : DynamicNode P C Q V H T E L)
+  pub node_new : (b : Sides P C Q V H T E L) (above : Place) (new old : VNode P C Q V H T E L) (up : List ℕ) (i id : ℕ) (value : DynamicNode P C Q V H T E L)
       → slice_get new.dynamic_nodes id ≡ Some value → slice_get old.dynamic_nodes id ≡ None
-      → piece_writes app b above new old (pieces.Slot id path) ≡ slot_writes app b (at_path (template_of new.template) above path) value values.Placeholder
-  unfolding piece_writes
-  piece_new b above new old id path value h g = slot_new b new.dynamic_nodes old.dynamic_nodes id value (at_path (template_of new.template) above path) h g
+      → node_writes app b above new old up i (nodes.Dynamic id) ≡ slot_writes app b (at_path (template_of new.template) above (up ++ i ∷ [])) value values.Placeholder
+  node_new b above new old up i id value h g =
+      node_Dynamic b above new old up i id ∙ slot_new b new.dynamic_nodes old.dynamic_nodes id value (at_path (template_of new.template) above (up ++ i ∷ [])) h g
 
-  pub piece_gone : (b : Sides P C Q V H T E L) (above : Place) (new old : VNode P C Q V H T E L) (id : ℕ) (path : List ℕ)
-      → slice_get new.dynamic_nodes id ≡ None → piece_writes app b above new old (pieces.Slot id path) ≡ writes []
-  unfolding piece_writes
-  piece_gone b above new old id path h = slot_gone b new.dynamic_nodes old.dynamic_nodes id (at_path (template_of new.template) above path) h
-
-  -- trees
-
-  abbrev all_met_writes : Sides P C Q V H T E L → Place → VNode P C Q V H T E L → VNode P C Q V H T E L → List Met → Written
-  all_met_writes b above new old [] = writes []
-  all_met_writes b above new old (m ∷ ms) = then_on (met_writes app b above new old m) (all_met_writes b above new old ms)
-
-  met_parted : (b : Sides P C Q V H T E L) (above : Place) (new old : VNode P C Q V H T E L) (ms ns : List Met)
-      → all_met_writes b above new old (ms ++ ns) ≡ then_on (all_met_writes b above new old ms) (all_met_writes b above new old ns)
-  met_parted b above new old [] ns = nothing_then (all_met_writes b above new old ns)
-    where
-      nothing_then : (w : Written) → w ≡ then_on (writes []) w
-      nothing_then w = refl
-  met_parted b above new old (m ∷ ms) ns =
-      ap (λ w. then_on (met_writes app b above new old m) w) (met_parted b above new old ms ns) ∙
-      sym (then_then (met_writes app b above new old m) (all_met_writes b above new old ms) (all_met_writes b above new old ns))
-
-  -- a pass through a template's slots is one over what is met in it
-  pass_by_met : (b : Sides P C Q V H T E L) (above : Place) (new old : VNode P C Q V H T E L) (up : List ℕ) (i : ℕ) (ns : TemplateNodes)
-      → slot_pass (λ k place. slots_in b new.dynamic_nodes old.dynamic_nodes k place) (place_in (template_of new.template) above) up i ns
-      ≡ all_met_writes b above new old (all_met up i ns)
-  pass_by_met b above new old up i no_nodes = refl
-  pass_by_met b above new old up i (element_node tag namespace attributes children rest) =
-      (λ k. then_on (pass_by_met b above new old (up ++ i ∷ []) 0 children k) (pass_by_met b above new old up (i + 1) rest k)) ∙
-      sym (met_parted b above new old (all_met (up ++ i ∷ []) 0 children) (all_met up (i + 1) rest))
-  pass_by_met b above new old up i (text_node text rest) = pass_by_met b above new old up (i + 1) rest
-  pass_by_met b above new old up i (slot_node k rest) =
-      ap (λ w. then_on (slots_in b new.dynamic_nodes old.dynamic_nodes k (place_in (template_of new.template) above up i)) w) (pass_by_met b above new old up (i + 1) rest)
-
-  pieces_are : (b : Sides P C Q V H T E L) (above : Place) (new old : VNode P C Q V H T E L) (ps : List Piece) → pieces_writes app b above new old ps ≡ all_met_writes b above new old (map piece_of ps)
-  unfolding piece_writes
-  pieces_are b above new old [] = refl
-  pieces_are b above new old (p ∷ ps) = ap (λ w. then_on (met_writes app b above new old (piece_of p)) w) (pieces_are b above new old ps)
+  pub node_gone : (b : Sides P C Q V H T E L) (above : Place) (new old : VNode P C Q V H T E L) (up : List ℕ) (i id : ℕ)
+      → slice_get new.dynamic_nodes id ≡ None → node_writes app b above new old up i (nodes.Dynamic id) ≡ writes []
+  node_gone b above new old up i id h =
+      node_Dynamic b above new old up i id ∙ slot_gone b new.dynamic_nodes old.dynamic_nodes id (at_path (template_of new.template) above (up ++ i ∷ [])) h
 
   -- a tree by its parts
   abbrev parts_of : VNode P C Q V H T E L → model.Tree (types C Q V H T E L)
@@ -263,7 +267,7 @@ module _ {P C Q V H T E L : Type 0} (app : Application (types C Q V H T E L)) wh
   abbrev matched_writes : Sides P C Q V H T E L → Place → VNode P C Q V H T E L → VNode P C Q V H T E L → Written
   matched_writes b above new old =
       then_on
-      (writes (caused.attributes_written (map number_of ((b.old.now).side.now).numbers) above (template_of new.template) (map (map attribute_of) new.dynamic_attrs) (map (map attribute_of) old.dynamic_attrs)))
+      (writes (caused.attributes_written (side_of (b.old.now).side.now).numbers above (template_of new.template) (map (map attribute_of) new.dynamic_attrs) (map (map attribute_of) old.dynamic_attrs)))
       (slot_pass (λ k place. slots_in b new.dynamic_nodes old.dynamic_nodes k place) (place_in (template_of new.template) above) [] 0 (nodes_of new.template.roots))
 
   abbrev unmatched_writes : Sides P C Q V H T E L → Place → model.Tree (types C Q V H T E L) → model.Tree (types C Q V H T E L) → Written
@@ -280,19 +284,14 @@ module _ {P C Q V H T E L : Type 0} (app : Application (types C Q V H T E L)) wh
   tree_parts b above new old = (λ k. caused.tree_written app (both_of app b) above (tree_out new k) (tree_out old k))
 
   -- a matched tree writes its attributes, then its slots
-  pub tree_matched : (b : Sides P C Q V H T E L) (above : Place) (new old : VNode P C Q V H T E L) (ps : List Piece) (numbers : List Numbered) (edits : List Edit)
+  pub tree_matched : (b : Sides P C Q V H T E L) (above : Place) (new old : VNode P C Q V H T E L) (edits : List Edit)
       → new.template ≡ old.template
-      → map piece_of ps ≡ row_met [] 0 new.template.roots
-      → numbers ≡ ((b.old.now).side.now).numbers
-      → AreWritten edits numbers above new old
-      → then_on (writes (map edit_of edits)) (pieces_writes app b above new old ps) ≡ tree_writes app b above new old
-  tree_matched b above new old ps numbers edits same met are attributes =
-      let slots : pieces_writes app b above new old ps ≡ slot_pass (λ k place. slots_in b new.dynamic_nodes old.dynamic_nodes k place) (place_in (template_of new.template) above) [] 0 (nodes_of new.template.roots) =
-      pieces_are b above new old ps ∙ ap (λ ms. all_met_writes b above new old ms) (met ∙ row_is [] 0 new.template.roots) ∙ sym (pass_by_met b above new old [] 0 (nodes_of new.template.roots)) in
-      let first : map edit_of edits ≡ caused.attributes_written (map number_of ((b.old.now).side.now).numbers) above (template_of new.template) (map (map attribute_of) new.dynamic_attrs) (map (map attribute_of) old.dynamic_attrs) =
-      are_written edits numbers above new old attributes ∙
-      ap (λ ns. caused.attributes_written (map number_of ns) above (template_of new.template) (map (map attribute_of) new.dynamic_attrs) (map (map attribute_of) old.dynamic_attrs)) are in
-      (λ k. then_on (writes (first k)) (slots k)) ∙
+      → map edit_of edits ≡ block_written (side_of (b.old.now).side.now).numbers above new old
+      → then_on (writes (map edit_of edits)) (row_writes app b above new old [] 0 new.template.roots) ≡ tree_writes app b above new old
+  tree_matched b above new old edits same attributes =
+      let first : map edit_of edits ≡ caused.attributes_written (side_of (b.old.now).side.now).numbers above (template_of new.template) (map (map attribute_of) new.dynamic_attrs) (map (map attribute_of) old.dynamic_attrs) =
+      attributes ∙ block_out (side_of (b.old.now).side.now).numbers above new old in
+      (λ k. then_on (writes (first k)) (row_pass b above new old [] 0 new.template.roots k)) ∙
       sym (ap (λ c. if c then matched_writes b above new old else unmatched_writes b above (parts_of new) (parts_of old)) (template_tested new.template old.template same)) ∙
       sym (tree_parts b above new old)
 

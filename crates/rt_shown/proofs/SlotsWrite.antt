@@ -21,7 +21,7 @@ use Rattle.rt_mirror.specs.Mirror.{trees_from}
 use Rattle.rt_mirror.specs.Sealed.{tree_of, slot_of, component_of}
 use Rattle.rt_mirror.proofs.SealedTrees.{slot_Text, slot_Placeholder, slot_Component, slot_Fragment}
 use Rattle.rt_places.specs.Places.{side_of}
-use Rattle.rt_work.specs.Found.{child_in, number_in}
+use Rattle.rt_places.specs.Sides.{child_in, number_in}
 use Rattle.rt_shown.specs.declared.sides.Sides.{Sides}
 use Rattle.rt_shown.specs.Seen.{value_seen}
 use Rattle.rt_shown.specs.Ways.{place_found, way_of}
@@ -47,7 +47,7 @@ module _ {P C Q V H T E L : Type 0} (app : Application (types C Q V H T E L)) wh
       ap (λ c. if c then writes [] else writes (doc.SetNodeText (number_at (side_of (b.old.now).side.now).numbers place a_text) text ∷ [])) (ap (λ xs. same_numbers was xs) (sym same) ∙ numbers_same was)
 
   pub text_other : (b : Sides P C Q V H T E L) (place : Place) (text was : List ℕ) → (was ≡ text → ⊥)
-      → slot_writes app b place (values.Text text) (values.Text was) ≡ writes (doc.SetNodeText (number_in ((b.old.now).side.now).numbers place a_text) text ∷ [])
+      → slot_writes app b place (values.Text text) (values.Text was) ≡ writes (doc.SetNodeText (number_in (b.old.now).side.now place a_text) text ∷ [])
   unfolding slot_writes
   text_other b place text was other =
       (λ k. values_writes b place (slot_Text P text k) (slot_Text P was k)) ∙
@@ -148,31 +148,31 @@ module _ {P C Q V H T E L : Type 0} (app : Application (types C Q V H T E L)) wh
 
   -- a child scope
 
-  pub child_none : (b : Sides P C Q V H T E L) (place : Place) → child_in ((b.old.now).side.now).children place ≡ None → child_writes app b place ≡ writes []
+  pub child_none : (b : Sides P C Q V H T E L) (place : Place) → child_in (b.old.now).side.now place ≡ None → child_writes app b place ≡ writes []
   unfolding child_writes
   child_none b place none = ap (λ o. caused.child_written app (both_of app b) place o) none
 
-  pub child_case : (b : Sides P C Q V H T E L) (place : Place) (t : ℕ) → child_in ((b.old.now).side.now).children place ≡ Some t
+  pub child_case : (b : Sides P C Q V H T E L) (place : Place) (t : ℕ) → child_in (b.old.now).side.now place ≡ Some t
       → child_writes app b place ≡ (if is_place place (place_found b.stop) && not (is_some (at (way_of (b.unit.now).way.now) t)) then halts else unit_writes app b.unit.now b.depth t)
   unfolding child_writes unit_writes
   child_case b place t some = ap (λ o. caused.child_written app (both_of app b) place o) some
 
   child_by : (b : Sides P C Q V H T E L) (place : Place) (t : ℕ) (here on : Bool)
-      → child_in ((b.old.now).side.now).children place ≡ Some t → is_place place (place_found b.stop) ≡ here → is_some (at (way_of (b.unit.now).way.now) t) ≡ on
+      → child_in (b.old.now).side.now place ≡ Some t → is_place place (place_found b.stop) ≡ here → is_some (at (way_of (b.unit.now).way.now) t) ≡ on
       → child_writes app b place ≡ (if here && not on then halts else unit_writes app b.unit.now b.depth t)
   child_by b place t here on some is is_on = child_case b place t some ∙ (λ k. if is k && not (is_on k) then halts else unit_writes app b.unit.now b.depth t)
 
   -- it was to be fed and was refused
-  pub child_halts : (b : Sides P C Q V H T E L) (place : Place) (t : ℕ) → child_in ((b.old.now).side.now).children place ≡ Some t
+  pub child_halts : (b : Sides P C Q V H T E L) (place : Place) (t : ℕ) → child_in (b.old.now).side.now place ≡ Some t
       → is_place place (place_found b.stop) ≡ true → is_some (at (way_of (b.unit.now).way.now) t) ≡ false → child_writes app b place ≡ halts
   child_halts b place t some here off = child_by b place t true false some here off
 
   -- it is on the way
-  pub child_on_way : (b : Sides P C Q V H T E L) (place : Place) (t : ℕ) → child_in ((b.old.now).side.now).children place ≡ Some t
+  pub child_on_way : (b : Sides P C Q V H T E L) (place : Place) (t : ℕ) → child_in (b.old.now).side.now place ≡ Some t
       → is_place place (place_found b.stop) ≡ true → is_some (at (way_of (b.unit.now).way.now) t) ≡ true → child_writes app b place ≡ unit_writes app b.unit.now b.depth t
   child_on_way b place t some here on = child_by b place t true true some here on
 
   -- it stands elsewhere
-  pub child_elsewhere : (b : Sides P C Q V H T E L) (place : Place) (t : ℕ) → child_in ((b.old.now).side.now).children place ≡ Some t
+  pub child_elsewhere : (b : Sides P C Q V H T E L) (place : Place) (t : ℕ) → child_in (b.old.now).side.now place ≡ Some t
       → is_place place (place_found b.stop) ≡ false → child_writes app b place ≡ unit_writes app b.unit.now b.depth t
   child_elsewhere b place t some away = child_by b place t false (is_some (at (way_of (b.unit.now).way.now) t)) some away refl

@@ -13,7 +13,7 @@ use Rattle.rt_model.specs.Caused as caused
 use Rattle.rt_model.specs.Caused.{Way, Written, writes, halts, then_on, replaced_by}
 use Rattle.rt_places.specs.declared.side.SideName.{SideName}
 use Rattle.rt_places.specs.declared.side.SideName.TheVariants as names
-use Rattle.rt_places.specs.Places.{side_name_of, place_of}
+use Rattle.rt_places.specs.Places.{place_of, side_name_of}
 use Rattle.rt_work.specs.declared.item.Item.{Item}
 use Rattle.rt_work.specs.declared.item.Item.TheVariants as items
 use Rattle.rt_work.specs.Items.{item_of}

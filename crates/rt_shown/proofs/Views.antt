@@ -23,8 +23,9 @@ use Rattle.rt_mirror.specs.Sealed.{node_before, nodes_of, template_of, tree_of, 
 use Rattle.rt_mirror.proofs.SealedNodes.{below, before_out, before_Element, before_Text, before_Dynamic}
 use Rattle.rt_mirror.proofs.SealedTrees.{tree_out, slot_Text, slot_Placeholder, slot_Component, slot_Fragment}
 use Rattle.rt_places.specs.declared.side.Side.{Side}
-use Rattle.rt_places.specs.Places.{at_path, number_of, side_of, output_of}
-use Rattle.rt_work.specs.Found.{number_in, child_in}
+use Rattle.rt_places.specs.Places.{at_path, output_of, side_of}
+use Rattle.rt_places.proofs.Trails.{on_Root, on_Inside, on_Item, path_Top, path_Below}
+use Rattle.rt_places.specs.Sides.{number_in, child_in}
 use Rattle.rt_attributes.specs.Content.{with_entries, with_all_listeners}
 use Rattle.rt_attributes.proofs.Contents.{entries_are, listeners_are}
 use Rattle.rt_shown.specs.declared.look.Look.{Look}
@@ -70,23 +71,23 @@ module _ {P C Q V H T E L : Type 0} where
   unfolding side_seen tree_seen
   side_some look n side tree some = ap (λ (o : Option (VNode P C Q V H T E L)). elim (output_of o) as (λ x. Forest) [ None ↦ Empty | Some t ↦ tree_view (side_of side) (λ u. seen_within look n u) [] t ]) some
 
-  pub child_none : (look : Look P C Q V H T E L) (n : ℕ) (side : Side P C Q V H T E L) (place : Place) → child_in side.children place ≡ None → child_seen look n side place ≡ Empty
+  pub child_none : (look : Look P C Q V H T E L) (n : ℕ) (side : Side P C Q V H T E L) (place : Place) → child_in side place ≡ None → child_seen look n side place ≡ Empty
   unfolding child_seen
   child_none look n side place none = ap (λ o. child_view (λ t. seen_within look n t) o) none
 
-  pub child_some : (look : Look P C Q V H T E L) (n : ℕ) (side : Side P C Q V H T E L) (place : Place) (t : ℕ) → child_in side.children place ≡ Some t → child_seen look n side place ≡ scope_seen look n t
+  pub child_some : (look : Look P C Q V H T E L) (n : ℕ) (side : Side P C Q V H T E L) (place : Place) (t : ℕ) → child_in side place ≡ Some t → child_seen look n side place ≡ scope_seen look n t
   unfolding child_seen scope_seen
   child_some look n side place t some = ap (λ o. child_view (λ u. seen_within look n u) o) some
 
   -- what stands in slots
 
   pub value_Text : (look : Look P C Q V H T E L) (n : ℕ) (side : Side P C Q V H T E L) (text : List ℕ) (place : Place)
-      → value_seen look n side (values.Text text) place ≡ Node (number_in side.numbers place a_text) (DocText text) Empty Empty
+      → value_seen look n side (values.Text text) place ≡ Node (number_in side place a_text) (DocText text) Empty Empty
   unfolding value_seen
   value_Text look n side text place = ap (λ v. slot_view (side_of side) (λ t. seen_within look n t) v place) (slot_Text P text)
 
   pub value_Placeholder : (look : Look P C Q V H T E L) (n : ℕ) (side : Side P C Q V H T E L) (place : Place)
-      → value_seen look n side values.Placeholder place ≡ Node (number_in side.numbers place a_placeholder) DocPlaceholder Empty Empty
+      → value_seen look n side values.Placeholder place ≡ Node (number_in side place a_placeholder) DocPlaceholder Empty Empty
   unfolding value_seen
   value_Placeholder look n side place = ap (λ v. slot_view (side_of side) (λ t. seen_within look n t) v place) (slot_Placeholder P)
 
@@ -96,7 +97,7 @@ module _ {P C Q V H T E L : Type 0} where
   value_Component look n side c place = ap (λ v. slot_view (side_of side) (λ t. seen_within look n t) v place) (slot_Component c)
 
   pub value_none : (look : Look P C Q V H T E L) (n : ℕ) (side : Side P C Q V H T E L) (trees : List (VNode P C Q V H T E L)) (place : Place) → trees ≡ []
-      → value_seen look n side (values.Fragment trees) place ≡ Node (number_in side.numbers place an_empty_fragment) DocPlaceholder Empty Empty
+      → value_seen look n side (values.Fragment trees) place ≡ Node (number_in side place an_empty_fragment) DocPlaceholder Empty Empty
   unfolding value_seen
   value_none look n side trees place none =
       ap (λ v. slot_view (side_of side) (λ t. seen_within look n t) v place) (slot_Fragment trees) ∙
@@ -128,14 +129,14 @@ module _ {P C Q V H T E L : Type 0} where
 
   abbrev nodes_in : Look P C Q V H T E L → ℕ → Side P C Q V H T E L → VNode P C Q V H T E L → Place → List ℕ → ℕ → TemplateNodes → Forest
   nodes_in look n side tree above up i ns =
-      nodes_view (map number_of side.numbers) (template_of tree.template) above (given_of tree) (λ k place. slot_in look n side tree k place) up i ns
+      nodes_view (side_of side).numbers (template_of tree.template) above (given_of tree) (λ k place. slot_in look n side tree k place) up i ns
 
   first_seen : (look : Look P C Q V H T E L) (n : ℕ) (side : Side P C Q V H T E L) (tree : VNode P C Q V H T E L) (above : Place) (up : List ℕ) (i : ℕ) (node : TemplateNode) (rest : TemplateNodes)
       → nodes_in look n side tree above up i (node_before node rest) ≡ join_rows (node_seen look n side tree above up i node) (nodes_in look n side tree above up (i + 1) rest)
   unfolding node_seen
   first_seen look n side tree above up i node rest =
       ap (λ ns. nodes_in look n side tree above up i ns) (before_out node rest) ∙
-      level_seen (map number_of side.numbers) (template_of tree.template) above (given_of tree) (λ k place. slot_in look n side tree k place) (below (out-TemplateNode node)) up i rest ∙
+      level_seen (side_of side).numbers (template_of tree.template) above (given_of tree) (λ k place. slot_in look n side tree k place) (below (out-TemplateNode node)) up i rest ∙
       ap (λ ns. join_rows (nodes_in look n side tree above up i ns) (nodes_in look n side tree above up (i + 1) rest)) (sym (before_out node no_nodes))
 
   row_is : (look : Look P C Q V H T E L) (n : ℕ) (side : Side P C Q V H T E L) (tree : VNode P C Q V H T E L) (above : Place) (up : List ℕ) (i : ℕ) (row : List TemplateNode)
@@ -154,19 +155,19 @@ module _ {P C Q V H T E L : Type 0} where
   pub node_Element : (look : Look P C Q V H T E L) (n : ℕ) (side : Side P C Q V H T E L) (tree : VNode P C Q V H T E L) (above : Place) (up : List ℕ) (i : ℕ)
       (tag : List ℕ) (namespace : Option (List ℕ)) (attrs : List TemplateAttribute) (children : List TemplateNode)
       → node_seen look n side tree above up i (nodes.Element tag namespace attrs children)
-      ≡ Node (number_in side.numbers (at_path (template_of tree.template) above (up ++ i ∷ [])) an_element)
+      ≡ Node (number_in side (at_path (template_of tree.template) above (up ++ i ∷ [])) an_element)
       (DocElement tag namespace (with_entries tree.dynamic_attrs [] attrs) (with_all_listeners tree.dynamic_attrs [] attrs))
       (row_seen look n side tree above (up ++ i ∷ []) 0 children) Empty
   unfolding node_seen
   node_Element look n side tree above up i tag namespace attrs children =
       ap (λ ns. nodes_in look n side tree above up i ns) (before_Element tag namespace attrs children no_nodes) ∙
-      (λ k. Node (number_in side.numbers (at_path (template_of tree.template) above (up ++ i ∷ [])) an_element)
+      (λ k. Node (number_in side (at_path (template_of tree.template) above (up ++ i ∷ [])) an_element)
       (DocElement tag namespace (sym (entries_are tree.dynamic_attrs [] attrs) k) (sym (listeners_are tree.dynamic_attrs [] attrs) k))
       (sym (row_is look n side tree above (up ++ i ∷ []) 0 children) k) Empty)
 
   pub node_Text : (look : Look P C Q V H T E L) (n : ℕ) (side : Side P C Q V H T E L) (tree : VNode P C Q V H T E L) (above : Place) (up : List ℕ) (i : ℕ) (text : List ℕ)
       → node_seen look n side tree above up i (nodes.Text text)
-      ≡ Node (number_in side.numbers (at_path (template_of tree.template) above (up ++ i ∷ [])) a_static_text) (DocText text) Empty Empty
+      ≡ Node (number_in side (at_path (template_of tree.template) above (up ++ i ∷ [])) a_static_text) (DocText text) Empty Empty
   unfolding node_seen
   node_Text look n side tree above up i text = ap (λ ns. nodes_in look n side tree above up i ns) (before_Text text no_nodes)
 
@@ -247,4 +248,4 @@ module _ {P C Q V H T E L : Type 0} where
   items_done look n side first place trees i all whole end so_far =
       sym (join-empty (forest_of all)) ∙ ap (λ ts. join_rows (forest_of all) (items_seen look n side first i place ts)) (sym (drop_of_length-le trees end)) ∙ so_far
 
-pub ruleset views = (scope_out, scope_none, scope_some, side_none, side_some, child_none, child_some, value_Text, value_Placeholder, value_Component, value_none, value_some, tree_row, node_Element, node_Text, node_Slot, node_no_Slot, below_Element, below_Text, below_Placeholder, content_Element, content_Text, content_Placeholder, forest-append, join-empty, join-join)
+pub ruleset views = (scope_out, scope_none, scope_some, side_none, side_some, child_none, child_some, value_Text, value_Placeholder, value_Component, value_none, value_some, tree_row, node_Element, node_Text, node_Slot, node_no_Slot, below_Element, below_Text, below_Placeholder, content_Element, content_Text, content_Placeholder, forest-append, join-empty, join-join, on_Root, on_Inside, on_Item, path_Top, path_Below)

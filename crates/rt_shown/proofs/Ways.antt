@@ -1,13 +1,15 @@
 -- The way up, step by step; a front of a place.
 use Rattle.std.proofs.Common.{ℕ, zero, suc, ◌-◌, ◌<◌, ◌≤◌, Bool, true, false, ◌&&◌, List, [], ◌∷◌, ◌++◌, ◌≡◌, ◌≢◌, refl, sym, ap, ◌∙◌, length, take, arith}
 use Rattle.std.specs.Prelude.{Option, Some, None, if◌then◌else◌}
+use Rattle.std.specs.List.{slice_range}
+use Rattle.std.proofs.lemmas.Slice.{between_from_start}
 use Rattle.std.proofs.lemmas.List.{append_assoc}
 use Rattle.rt_model.specs.Tree.{Place, same_place, same_step}
 use Rattle.rt_model.specs.State as state
 use Rattle.rt_model.specs.Caused as caused
 use Rattle.rt_model.specs.Caused.{Way}
 use Rattle.rt_places.specs.declared.place.Step.{Step}
-use Rattle.rt_places.specs.Places.{step_of, place_of}
+use Rattle.rt_places.specs.Places.{place_of, step_of}
 use Rattle.rt_shown.specs.declared.look.Look.{Look}
 use Rattle.rt_shown.specs.declared.way.Stop.{Stop}
 use Rattle.rt_shown.specs.Look.{look_parent}
@@ -87,5 +89,13 @@ pub front_within : (p q : List Step) → length p ≤ length q → caused.is_fro
 front_within p q low =
     front-take (place_of p) (place_of q) (rw (length-place p, length-place q) low) ∙
     ap (λ n. same_place (place_of p) (take n (place_of q))) (length-place p) ∙ ap (λ r. same_place (place_of p) r) (sym (take-place (length p) q))
+
+-- what the front with as many steps says
+pub front_by : (p q part : List Step) (count : ℕ) (answer : Bool) → answer ≡ same_place (place_of p) (place_of part) → part ≡ slice_range q 0 count → count ≡ length p
+    → length p ≤ length q → answer ≡ caused.is_front (place_of p) (place_of q)
+front_by p q part count answer said is as_long low =
+    said
+    ∙ ap (λ r. same_place (place_of p) (place_of r)) (is ∙ between_from_start q count ∙ ap (λ n. take n q) as_long)
+    ∙ sym (front_within p q low)
 
 pub ruleset ways = (way-append, nil-right, on_side, above_zero, above_none, above_some, front_long, front_within)

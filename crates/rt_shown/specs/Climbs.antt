@@ -13,8 +13,9 @@ use Rattle.rt_model.specs.Heard.{Climb, slots_on, find_nodes, find_child, find_t
 use Rattle.rt_mirror.specs.Mirror.{attribute_in, attribute_of, slots_from}
 use Rattle.rt_mirror.specs.Sealed.{node_before, template_of, tree_of, slot_of}
 use Rattle.rt_places.specs.declared.side.Side.{Side}
-use Rattle.rt_places.specs.Places.{number_of, place_of, side_of}
-use Rattle.rt_work.specs.Found.{child_in}
+use Rattle.rt_places.specs.Places.{side_of}
+use Rattle.rt_places.specs.Trails.{place_on}
+use Rattle.rt_places.specs.Sides.{child_in}
 use Rattle.rt_shown.specs.declared.look.Look.{Look}
 use Rattle.rt_shown.specs.declared.showing.Shown.{Shown}
 use Rattle.rt_shown.specs.declared.showing.Standing.{Standing}
@@ -65,7 +66,7 @@ module _ {P C Q V H T E L : Type 0} where
 
   -- the climb below the child scope at a place
   unfoldable pub child_climb : Look P C Q V H T E L → ℕ → ℕ → Side P C Q V H T E L → Place → Option (Climb (types C Q V H T E L))
-  child_climb look number n side place = find_child (λ t. climb_within look number n t) (child_in side.children place)
+  child_climb look number n side place = find_child (λ t. climb_within look number n t) (child_in side place)
 
   -- the climb in a tree
   unfoldable pub tree_climb : Look P C Q V H T E L → ℕ → ℕ → Side P C Q V H T E L → VNode P C Q V H T E L → Place
@@ -88,7 +89,7 @@ module _ {P C Q V H T E L : Type 0} where
   unfoldable pub node_climb : Look P C Q V H T E L → ℕ → ℕ → Side P C Q V H T E L → VNode P C Q V H T E L → Place → List ℕ → ℕ
       → TemplateNode → Option (Climb (types C Q V H T E L))
   node_climb look number n side tree above up i node =
-      find_nodes (map number_of side.numbers) number (template_of tree.template) above (slots_of tree.dynamic_attrs)
+      find_nodes (side_of side).numbers number (template_of tree.template) above (slots_of tree.dynamic_attrs)
       (λ k place. find_slots (side_of side) number (λ t. climb_within look number n t) (slots_from (map slot_of tree.dynamic_nodes)) k
       place)
       up i (node_before node no_nodes)
@@ -116,10 +117,10 @@ module _ {P C Q V H T E L : Type 0} where
   abbrev pub node_climb_in : Standing P C Q V H T E L → ℕ → List ℕ → ℕ → TemplateNode → Option (Climb (types C Q V H T E L))
   node_climb_in standing number up i node =
       node_climb (standing.shown.now).look.now number (standing.shown.now).depth (standing.shown.now).side.now standing.tree.now
-      (place_of standing.above.now) up i node
+      (place_on standing.above.now) up i node
 
   -- in a row of nodes of it
   abbrev pub row_climb_in : Standing P C Q V H T E L → ℕ → List ℕ → ℕ → List TemplateNode → Option (Climb (types C Q V H T E L))
   row_climb_in standing number up i nodes =
       row_climb (standing.shown.now).look.now number (standing.shown.now).depth (standing.shown.now).side.now standing.tree.now
-      (place_of standing.above.now) up i nodes
+      (place_on standing.above.now) up i nodes

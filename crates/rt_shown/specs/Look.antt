@@ -13,6 +13,7 @@ use Rattle.rt_calls.specs.Calls.{number_of}
 use Rattle.rt_calls.specs.declared.rest.Scope.{Scope}
 use Rattle.rt_shown.specs.declared.look.Look.{Look}
 use Rattle.rt_shown.specs.declared.look.Stood.{Stood}
+use Rattle.rt_shown.specs.declared.look.Rung.{Rung}
 
 -- whether this side shows
 abbrev pub is_showing : Option SideName → SideName → Bool
@@ -63,6 +64,15 @@ module _ {P C Q V H T E L : Type 0} where
   -- what a look shows of a scope
   abbrev pub look_at : Look P C Q V H T E L → ℕ → Option (Stood P C Q V H T E L)
   look_at look s = seen_in (at (stood_in look) s) (at (look.rows.now).table s)
+
+  -- where a scope stands, and which side it shows
+  abbrev pub rung_of : Stood P C Q V H T E L → Rung
+  rung_of x = record { parent = x.parent; height = x.height; below = x.below; shows = x.shows }
+
+  -- the same of one that is shown
+  abbrev pub rung_in : Option (Stood P C Q V H T E L) → Option Rung
+  rung_in None = None
+  rung_in (Some x) = Some (rung_of x)
 
   -- whether a scope is live
   abbrev pub look_live : Look P C Q V H T E L → ℕ → Bool

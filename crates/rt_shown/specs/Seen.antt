@@ -9,8 +9,9 @@ use Rattle.rt_model.specs.View.{child_view, nodes_view, tree_view, slots_view, s
 use Rattle.rt_mirror.specs.Mirror.{attribute_of, slots_from}
 use Rattle.rt_mirror.specs.Sealed.{node_before, template_of, tree_of, slot_of}
 use Rattle.rt_places.specs.declared.side.Side.{Side}
-use Rattle.rt_places.specs.Places.{number_of, place_of, side_of}
-use Rattle.rt_work.specs.Found.{child_in}
+use Rattle.rt_places.specs.Places.{side_of}
+use Rattle.rt_places.specs.Trails.{place_on}
+use Rattle.rt_places.specs.Sides.{child_in}
 use Rattle.rt_shown.specs.declared.look.Look.{Look}
 use Rattle.rt_shown.specs.declared.showing.Shown.{Shown}
 use Rattle.rt_shown.specs.declared.showing.Standing.{Standing}
@@ -37,7 +38,7 @@ module _ {P C Q V H T E L : Type 0} where
 
   -- what the child scope at a place of a side shows
   unfoldable pub child_seen : Look P C Q V H T E L → ℕ → Side P C Q V H T E L → Place → Forest
-  child_seen look n side place = child_view (λ t. seen_within look n t) (child_in side.children place)
+  child_seen look n side place = child_view (λ t. seen_within look n t) (child_in side place)
 
   -- what a tree of a side shows
   unfoldable pub tree_seen : Look P C Q V H T E L → ℕ → Side P C Q V H T E L → VNode P C Q V H T E L → Place → Forest
@@ -57,7 +58,7 @@ module _ {P C Q V H T E L : Type 0} where
   unfoldable pub node_seen : Look P C Q V H T E L → ℕ → Side P C Q V H T E L → VNode P C Q V H T E L → Place → List ℕ → ℕ → TemplateNode
       → Forest
   node_seen look n side tree above up i node =
-      nodes_view (map number_of side.numbers) (template_of tree.template) above (map (map attribute_of) tree.dynamic_attrs)
+      nodes_view (side_of side).numbers (template_of tree.template) above (map (map attribute_of) tree.dynamic_attrs)
       (λ k place. slots_view (side_of side) (λ t. seen_within look n t) (slots_from (map slot_of tree.dynamic_nodes)) k place)
       up i (node_before node no_nodes)
 
@@ -84,10 +85,10 @@ module _ {P C Q V H T E L : Type 0} where
   abbrev pub node_in : Standing P C Q V H T E L → List ℕ → ℕ → TemplateNode → Forest
   node_in standing up i node =
       node_seen (standing.shown.now).look.now (standing.shown.now).depth (standing.shown.now).side.now standing.tree.now
-      (place_of standing.above.now) up i node
+      (place_on standing.above.now) up i node
 
   -- a row of nodes of it
   abbrev pub row_in : Standing P C Q V H T E L → List ℕ → ℕ → List TemplateNode → Forest
   row_in standing up i nodes =
       row_seen (standing.shown.now).look.now (standing.shown.now).depth (standing.shown.now).side.now standing.tree.now
-      (place_of standing.above.now) up i nodes
+      (place_on standing.above.now) up i nodes

@@ -2,25 +2,24 @@
 use Rattle.std.specs.Prelude.{ℕ, zero, suc, ◌+◌, Bool, false, ◌&&◌, ◌||◌, length, take, drop, List, [], ◌∷◌, ◌++◌, map, Option, Some, if◌then◌else◌, is_some, ◌≡◌}
 use Rattle.std.specs.Borrow.{Bor}
 use Rattle.rt_edits.specs.declared.edit.Edit.{Edit}
+use Rattle.rt_parts.specs.declared.template.TemplateNode.{TemplateNode}
 use Rattle.rt_nodes.specs.declared.vnode.VNode.{VNode}
 use Rattle.rt_nodes.specs.declared.vnode.DynamicNode.{DynamicNode}
 use Rattle.rt_model.specs.OneLog.{types}
 use Rattle.rt_model.specs.Lists.{at}
 use Rattle.rt_model.specs.World.{Application}
 use Rattle.rt_model.specs.Laws.{Tests}
-use Rattle.rt_model.specs.Tree.{Place, item}
+use Rattle.rt_model.specs.Tree.{Place, item, no_nodes, place_in}
 use Rattle.rt_model.specs.State as state
 use Rattle.rt_model.specs.Document.{InsertNodesAfter}
 use Rattle.rt_model.specs.Caused as caused
-use Rattle.rt_model.specs.Caused.{Way, Written, writes, halts, then_on, replaced_by, built_whole, is_around, last_of}
+use Rattle.rt_model.specs.Caused.{Way, Written, writes, halts, then_on, replaced_by, built_whole, is_around, last_of, slot_pass}
 use Rattle.rt_mirror.specs.Mirror.{edit_of, slots_from, trees_from}
-use Rattle.rt_mirror.specs.Sealed.{tree_of, slot_of, template_of}
-use Rattle.rt_places.specs.declared.piece.Piece.{Piece}
+use Rattle.rt_mirror.specs.Sealed.{node_before, tree_of, slot_of, template_of}
 use Rattle.rt_places.specs.declared.side.Side.{Side}
 use Rattle.rt_places.specs.declared.side.SideName.{SideName}
-use Rattle.rt_places.specs.Places.{at_path, output_of, side_of, side_name_of}
-use Rattle.rt_places.specs.Pieces.{Met, met_element, met_text, met_slot, piece_of}
-use Rattle.rt_work.specs.Found.{child_in}
+use Rattle.rt_places.specs.Places.{output_of, side_name_of, side_of}
+use Rattle.rt_places.specs.Sides.{child_in}
 use Rattle.rt_shown.specs.declared.look.Look.{Look}
 use Rattle.rt_shown.specs.declared.edited.Edited.{Edited}
 use Rattle.rt_shown.specs.declared.sides.Sides.{Sides}
@@ -157,7 +156,7 @@ module _ {P C Q V H T E L : Type 0} where
 
     -- what a child scope writes
     unfoldable pub child_writes : Sides P C Q V H T E L → Place → Written
-    child_writes b place = caused.child_written app (both_of b) place (child_in ((b.old.now).side.now).children place)
+    child_writes b place = caused.child_written app (both_of b) place (child_in (b.old.now).side.now place)
 
     -- what the items of a fragment write, from a position on, where the last node before them has a number
     unfoldable pub items_writes : Sides P C Q V H T E L → Place → ℕ → ℕ → List (VNode P C Q V H T E L) → List (VNode P C Q V H T E L)
@@ -165,34 +164,33 @@ module _ {P C Q V H T E L : Type 0} where
     items_writes b place i last new old =
         caused.items_written app (both_of b) place i last (trees_from (map tree_of new)) (trees_from (map tree_of old))
 
-    -- what is met in a tree's template writes
-    abbrev pub met_writes : Sides P C Q V H T E L → Place → VNode P C Q V H T E L → VNode P C Q V H T E L → Met → Written
-    met_writes b above new old (met_element path attributes) = writes []
-    met_writes b above new old (met_text path) = writes []
-    met_writes b above new old (met_slot k path) =
-        caused.slots_written app (both_of b) (slots_from (map slot_of new.dynamic_nodes)) (slots_from (map slot_of old.dynamic_nodes)) k
-        (at_path (template_of new.template) above path)
+    -- what a node of a tree's template writes
+    unfoldable pub node_writes : Sides P C Q V H T E L → Place → VNode P C Q V H T E L → VNode P C Q V H T E L → List ℕ → ℕ
+        → TemplateNode → Written
+    node_writes b above new old up i node =
+        slot_pass
+        (λ k place. caused.slots_written app (both_of b) (slots_from (map slot_of new.dynamic_nodes))
+        (slots_from (map slot_of old.dynamic_nodes)) k place)
+        (place_in (template_of new.template) above) up i (node_before node no_nodes)
 
-    -- what a piece of a tree's template writes
-    unfoldable pub piece_writes : Sides P C Q V H T E L → Place → VNode P C Q V H T E L → VNode P C Q V H T E L → Piece → Written
-    piece_writes b above new old piece = met_writes b above new old (piece_of piece)
-
-    -- what pieces write, one after another
-    abbrev pub pieces_writes : Sides P C Q V H T E L → Place → VNode P C Q V H T E L → VNode P C Q V H T E L → List Piece → Written
-    pieces_writes b above new old [] = writes []
-    pieces_writes b above new old (piece ∷ pieces) = then_on (piece_writes b above new old piece) (pieces_writes b above new old pieces)
+    -- what a row of nodes writes, one after another
+    abbrev pub row_writes : Sides P C Q V H T E L → Place → VNode P C Q V H T E L → VNode P C Q V H T E L → List ℕ → ℕ
+        → List TemplateNode → Written
+    row_writes b above new old up i [] = writes []
+    row_writes b above new old up i (node ∷ nodes) =
+        then_on (node_writes b above new old up i node) (row_writes b above new old up (i + 1) nodes)
 
   -- what was written is this, whatever the application
   abbrev pub Writes : CodeUnit P C Q V H T E L → Edited → (Application (types C Q V H T E L) → Written) → Type 0
   Writes unit written what =
       (app : Application (types C Q V H T E L)) → Tests C app.same_component → Passes app unit → edited_of written ≡ what app
 
-  -- the pieces so far, with what those that are left write, whatever the application
-  abbrev pub PiecesLeft : Written → Sides P C Q V H T E L → Place → VNode P C Q V H T E L → VNode P C Q V H T E L → List Piece → List Piece
-      → Type 0
-  PiecesLeft written b above new old left pieces =
+  -- the nodes so far, with what those that are left write, whatever the application
+  abbrev pub RowLeft : Written → Sides P C Q V H T E L → Place → VNode P C Q V H T E L → VNode P C Q V H T E L → List ℕ → ℕ
+      → List TemplateNode → List TemplateNode → Type 0
+  RowLeft written b above new old up i left nodes =
       (app : Application (types C Q V H T E L)) → Tests C app.same_component → Passes app b.unit.now
-      → then_on written (pieces_writes app b above new old left) ≡ pieces_writes app b above new old pieces
+      → then_on written (row_writes app b above new old up i left) ≡ row_writes app b above new old up 0 nodes
 
   -- the items so far, with what those that are left write, whatever the application
   abbrev pub ItemsLeft : Written → Sides P C Q V H T E L → Place → ℕ → List (VNode P C Q V H T E L) → List (VNode P C Q V H T E L) → Type 0

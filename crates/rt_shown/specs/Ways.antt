@@ -7,7 +7,7 @@ use Rattle.rt_model.specs.Caused.{Way, place_of_child}
 use Rattle.rt_places.specs.declared.place.Step.{Step}
 use Rattle.rt_places.specs.declared.side.Side.{Side}
 use Rattle.rt_places.specs.declared.side.SideName.{SideName}
-use Rattle.rt_places.specs.Places.{child_of, place_of, side_name_of}
+use Rattle.rt_places.specs.Places.{place_of, side_name_of, side_of}
 use Rattle.rt_work.specs.declared.item.Item.{Item}
 use Rattle.rt_work.specs.declared.item.Item.TheVariants as items
 use Rattle.rt_shown.specs.declared.look.Look.{Look}
@@ -31,7 +31,7 @@ module _ {P C Q V H T E L : Type 0} where
   -- where a child scope stands on a side, if there is one
   abbrev pub place_on_side : Option (Side P C Q V H T E L) → ℕ → Option Place
   place_on_side None s = None
-  place_on_side (Some side) s = place_of_child (map child_of side.children) s
+  place_on_side (Some side) s = place_of_child (side_of side).children s
 
   -- where a scope stands on this side of its parent
   abbrev pub place_over : Look P C Q V H T E L → ℕ → Option SideName → ℕ → Option Place

@@ -3,19 +3,18 @@
 
 ghost use Rattle.std.specs.Prelude.{◌≡◌, ◌++◌, ◌∷◌, [], Some, None, IfOk, OnOk, nat_eq};
 ghost use Rattle.rt_model.specs.Heard.{below_element, leaf_climb};
-ghost use Rattle.rt_places.specs.Places.{kind_of, place_of};
-ghost use Rattle.rt_work.specs.Found.{number_in};
+ghost use Rattle.rt_places.specs.Places.{kind_of};
+ghost use Rattle.rt_places.specs.Trails.{path_of, place_on};
+ghost use Rattle.rt_places.specs.Sides.{number_in};
 ghost use Rattle.rt_shown.specs.Climbs.{child_climb, climb_found, climb_of, entries_slots, entry_slots, items_climb_in, node_climb_in, row_climb_in, scope_climb, side_climb, slots_of, tree_climb_in, value_climb_in};
 
-use crate::levels::{LEVELS, down};
 use crate::look::Look;
 use crate::showing::{Shown, Standing};
 use rt_attributes::attributes_in;
 use rt_nodes::{DynamicNode, VNode};
 use rt_parts::{Attribute, Parts, TemplateAttribute, TemplateNode};
-use rt_places::{Kind, Place, path_below, place_inside, place_of_item};
+use rt_places::{Kind, LEVELS, Path, Trail, down};
 use rt_values::{List, OutOfMemory, Part, Shared};
-use rt_work::{child_at, number_at};
 use std::alloc::Global;
 
 /// The attribute slots of one element.
@@ -81,7 +80,7 @@ fn find_side<P: Parts>(
 {
     let levels = down(levels)?;
     match &shown.side.output {
-        Some(tree) => find_tree(alloc, shown, number, tree, &Shared::empty(), levels),
+        Some(tree) => find_tree(alloc, shown, number, tree, &Trail::Root, levels),
         None => Ok(None),
     }
 }
@@ -93,23 +92,23 @@ fn find_tree<P: Parts>(
     shown: &Shown<'_, P>,
     number: u64,
     tree: &VNode<P>,
-    above: &Place,
+    above: &Trail<'_>,
     levels: u64,
 ) -> Result<Option<Climb<P>>, OutOfMemory>
     ensures { IfOk result (λ found. climb_found found
-        ≡ tree_climb_in shown.now number tree.now (place_of above.now)) }
+        ≡ tree_climb_in shown.now number tree.now (place_on above.now)) }
 {
     let levels = down(levels)?;
     let standing = Standing {
         shown: &*shown,
         tree,
-        above,
+        above: &*above,
     };
     find_nodes(
         alloc,
         &standing,
         number,
-        &[],
+        &Path::Top,
         tree.template.roots.as_slice(),
         levels,
     )
@@ -121,12 +120,12 @@ fn find_nodes<P: Parts>(
     alloc: Global,
     standing: &Standing<'_, P>,
     number: u64,
-    up: &[u64],
+    up: &Path<'_>,
     nodes: &[TemplateNode],
     levels: u64,
 ) -> Result<Option<Climb<P>>, OutOfMemory>
     ensures { IfOk result (λ found. climb_found found
-        ≡ row_climb_in standing.now number up.now 0 nodes.now) }
+        ≡ row_climb_in standing.now number (path_of up.now) 0 nodes.now) }
 {
     let levels = down(levels)?;
     for index in 0..nodes.len() {
@@ -144,17 +143,17 @@ fn find_node<P: Parts>(
     alloc: Global,
     standing: &Standing<'_, P>,
     number: u64,
-    up: &[u64],
+    up: &Path<'_>,
     index: u64,
     node: &TemplateNode,
     levels: u64,
 ) -> Result<Option<Climb<P>>, OutOfMemory>
     ensures { IfOk result (λ found. climb_found found
-        ≡ node_climb_in standing.now number up.now index node.now) }
+        ≡ node_climb_in standing.now number (path_of up.now) index node.now) }
 {
     let levels = down(levels)?;
-    let path = path_below(alloc, up, index)?;
-    let place = place_inside(alloc, standing.above, &standing.tree.template, &path)?;
+    let path = Path::Below(&*up, index);
+    let place = Trail::Inside(&*standing.above, &standing.tree.template, &path);
     match node {
         TemplateNode::Element {
             attrs,
@@ -166,7 +165,7 @@ fn find_node<P: Parts>(
                 return Ok(Some(alone(alloc, slots)?));
             }
             let nodes = children.as_slice();
-            let found = find_nodes(alloc, standing, number, path.as_slice(), nodes, levels)?;
+            let found = find_nodes(alloc, standing, number, &path, nodes, levels)?;
             below_element(slots, found)
         }
         TemplateNode::Text { .. } => {
@@ -186,11 +185,11 @@ fn find_slot<P: Parts>(
     shown: &Shown<'_, P>,
     number: u64,
     value: &DynamicNode<P>,
-    place: &Place,
+    place: &Trail<'_>,
     levels: u64,
 ) -> Result<Option<Climb<P>>, OutOfMemory>
     ensures { IfOk result (λ found. climb_found found
-        ≡ value_climb_in shown.now number value.now (place_of place.now)) }
+        ≡ value_climb_in shown.now number value.now (place_on place.now)) }
 {
     let levels = down(levels)?;
     match value {
@@ -212,15 +211,15 @@ fn find_child<P: Parts>(
     alloc: Global,
     shown: &Shown<'_, P>,
     number: u64,
-    place: &Place,
+    place: &Trail<'_>,
     levels: u64,
 ) -> Result<Option<Climb<P>>, OutOfMemory>
     ensures { IfOk result (λ found. climb_found found
         ≡ child_climb shown.now.look.now number shown.now.depth shown.now.side.now
-        (place_of place.now)) }
+        (place_on place.now)) }
 {
     let levels = down(levels)?;
-    match child_at(&shown.side.children, place.as_slice()) {
+    match shown.side.child_on(place) {
         Some(child) => find_within(alloc, shown.look, number, shown.depth, child, levels),
         None => Ok(None),
     }
@@ -232,16 +231,16 @@ fn find_items<P: Parts>(
     alloc: Global,
     shown: &Shown<'_, P>,
     number: u64,
-    place: &Place,
+    place: &Trail<'_>,
     trees: &[VNode<P>],
     levels: u64,
 ) -> Result<Option<Climb<P>>, OutOfMemory>
     ensures { IfOk result (λ found. climb_found found
-        ≡ items_climb_in shown.now number (place_of place.now) trees.now) }
+        ≡ items_climb_in shown.now number (place_on place.now) trees.now) }
 {
     let levels = down(levels)?;
     for position in 0..trees.len() {
-        let above = place_of_item(alloc, place, position as u64)?;
+        let above = Trail::Item(&*place, position as u64);
         if let Some(climb) = find_tree(alloc, shown, number, &trees[position], &above, levels)? {
             return Ok(Some(climb));
         }
@@ -250,11 +249,11 @@ fn find_items<P: Parts>(
 }
 
 // Whether the node of a kind at a place has this number.
-fn is_numbered<P: Parts>(shown: &Shown<'_, P>, place: &Place, kind: Kind, number: u64) -> bool
+fn is_numbered<P: Parts>(shown: &Shown<'_, P>, place: &Trail<'_>, kind: Kind, number: u64) -> bool
     ensures { result
-        ≡ nat_eq (number_in shown.now.side.now.numbers (place_of place.now) (kind_of kind)) number }
+        ≡ nat_eq (number_in shown.now.side.now (place_on place.now) (kind_of kind)) number }
 {
-    number_at(&shown.side.numbers, place.as_slice(), kind) == number
+    shown.side.number_on(place, kind) == number
 }
 
 // A text or placeholder has no slots of its own.
@@ -262,13 +261,13 @@ fn is_numbered<P: Parts>(shown: &Shown<'_, P>, place: &Place, kind: Kind, number
 fn leaf_climb<P: Parts>(
     alloc: Global,
     shown: &Shown<'_, P>,
-    place: &Place,
+    place: &Trail<'_>,
     kind: Kind,
     number: u64,
 ) -> Result<Option<Climb<P>>, OutOfMemory>
     ensures { IfOk result (λ found. climb_found found
         ≡ leaf_climb number
-        (number_in shown.now.side.now.numbers (place_of place.now) (kind_of kind))) }
+        (number_in shown.now.side.now (place_on place.now) (kind_of kind))) }
 {
     if is_numbered(shown, place, kind, number) {
         Ok(Some(alone(alloc, List::new(alloc))?))

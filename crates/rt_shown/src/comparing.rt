@@ -1,31 +1,31 @@
 //! What a unit writes, side by side, tree by tree and slot by slot.
 
-ghost use Rattle.std.specs.Prelude.{◌≡◌, ◌&&◌, IfOk};
+ghost use Rattle.std.specs.Prelude.{◌≡◌, IfOk};
 ghost use Rattle.rt_nodes.specs.declared.vnode.DynamicNode.TheVariants as values;
-ghost use Rattle.rt_places.specs.Places.{place_of};
-ghost use Rattle.rt_shown.specs.Look.{look_is_shown};
-ghost use Rattle.rt_shown.specs.Units.{Writes, child_writes, items_writes, name_writes, output_writes, piece_writes, pieces_writes, scope_writes, slot_writes, tree_writes, unit_writes};
+ghost use Rattle.rt_places.specs.Trails.{path_of, place_on};
+ghost use Rattle.rt_shown.specs.Units.{Writes, child_writes, items_writes, name_writes, node_writes, output_writes, row_writes, scope_writes, slot_writes, tree_writes, unit_writes};
 
 use crate::edited::{Edited, halts, nothing, then_on, then_stop, writes};
 use crate::inserting::items_inserted;
-use crate::levels::{LEVELS, down};
 use crate::look::{Look, is_same_side};
 use crate::showing::items_view;
-use crate::sides::{Sides, Unit, removals, scope_replaced, shown_in, slot_replaced, tree_replaced};
+use crate::sides::{
+    Sides, Unit, is_shown_in_both, removals, scope_replaced, shown_in, slot_replaced, tree_replaced,
+};
 use crate::slots::{no_items_written, placeholder_written, text_written};
 use crate::touching::is_touched;
 use crate::way::{is_on_way, is_place, stop_on};
 use rt_attributes::attributes_written;
 use rt_nodes::{DynamicNode, VComponent, VNode};
-use rt_parts::Parts;
-use rt_places::{Piece, Place, SideName, pieces_of, place_inside, place_of_item};
+use rt_parts::{Parts, TemplateNode};
+use rt_places::{LEVELS, Path, SideName, Trail, down};
 use rt_values::{List, OutOfMemory, Part, Shared};
-use rt_work::{child_at, is_same_component};
+use rt_work::is_same_component;
 use std::alloc::Global;
 
 /// What a scope writes, at most `depth` scopes deep. A scope that isn't shown both before and after
-/// writes nothing, nor does one that the unit left as it was with all below it. After what a scope on
-/// the way to the refusal wrote nothing more is written.
+/// writes nothing, nor does one that the unit left as it was with all below it. After what a scope
+/// on the way to the refusal wrote nothing more is written.
 #[cycle(written)]
 #[tactic(auto, using(crate::proofs::Writings::writings))]
 pub(crate) fn written_within<P: Parts>(
@@ -51,14 +51,6 @@ pub(crate) fn written_within<P: Parts>(
         return then_stop(alloc, written, stops);
     }
     then_stop(alloc, nothing(alloc), stops)
-}
-
-// Whether a scope is shown both before and after.
-fn is_shown_in_both<P: Parts>(unit: &Unit<'_, P>, scope: u64) -> bool
-    ensures { result
-        ≡ (look_is_shown unit.now.before.now scope && look_is_shown unit.now.after.now scope) }
-{
-    unit.before.is_shown(scope) && unit.after.is_shown(scope)
 }
 
 // The side that shows in both states, or one side in place of the other.
@@ -136,13 +128,13 @@ fn outputs_written<P: Parts>(
         (λ app. output_writes app sides.now)) }
 {
     let levels = down(levels)?;
-    match &sides.new.side.output {
-        Some(new) => match &sides.old.side.output {
-            Some(old) => tree_written(alloc, sides, &Shared::empty(), new, old, levels),
-            None => Ok(nothing(alloc)),
-        },
-        None => Ok(nothing(alloc)),
-    }
+    let Some(new) = &sides.new.side.output else {
+        return Ok(nothing(alloc));
+    };
+    let Some(old) = &sides.old.side.output else {
+        return Ok(nothing(alloc));
+    };
+    tree_written(alloc, sides, &Trail::Root, new, old, levels)
 }
 
 // What a matched tree writes: its attributes, then its slots. An unmatched one is replaced.
@@ -151,87 +143,91 @@ fn outputs_written<P: Parts>(
 fn tree_written<P: Parts>(
     alloc: Global,
     sides: &Sides<'_, P>,
-    above: &Place,
+    above: &Trail<'_>,
     new: &VNode<P>,
     old: &VNode<P>,
     levels: u64,
 ) -> Result<Edited, OutOfMemory>
     ensures { IfOk result (λ written. Writes sides.now.unit.now written
-        (λ app. tree_writes app sides.now (place_of above.now) new.now old.now)) }
+        (λ app. tree_writes app sides.now (place_on above.now) new.now old.now)) }
 {
     let levels = down(levels)?;
     if !new.template.same(&old.template) {
         return tree_replaced(alloc, sides, above, new, old);
     }
-    let pieces = pieces_of(alloc, &new.template.roots)?;
-    let slots = pieces_written(alloc, sides, above, new, old, pieces.as_slice(), levels)?;
-    let numbers = &sides.old.side.numbers;
+    let nodes = new.template.roots.as_slice();
+    let slots = nodes_written(alloc, sides, above, &Path::Top, nodes, new, old, levels)?;
     then_on(
-        writes(attributes_written(alloc, numbers, above, new, old)?),
+        writes(attributes_written(alloc, sides.old.side, above, new, old)?),
         slots,
     )
 }
 
-// What the pieces of a matched tree's template write, one after another.
+// What these nodes of a matched tree's template write, one after another.
 #[cycle(written)]
 #[tactic(auto, using(crate::proofs::Writings::writings))]
-fn pieces_written<P: Parts>(
+fn nodes_written<P: Parts>(
     alloc: Global,
     sides: &Sides<'_, P>,
-    above: &Place,
+    above: &Trail<'_>,
+    up: &Path<'_>,
+    nodes: &[TemplateNode],
     new: &VNode<P>,
     old: &VNode<P>,
-    pieces: &[Piece],
     levels: u64,
 ) -> Result<Edited, OutOfMemory>
     ensures { IfOk result (λ written. Writes sides.now.unit.now written
-        (λ app. pieces_writes app sides.now (place_of above.now) new.now old.now pieces.now)) }
+        (λ app. row_writes app sides.now (place_on above.now) new.now old.now
+        (path_of up.now) 0 nodes.now)) }
 {
     let levels = down(levels)?;
     let mut written = nothing(alloc);
-    for piece in pieces {
+    for index in 0..nodes.len() {
         if written.stopped {
             return Ok(written);
         }
-        let more = piece_written(alloc, sides, above, new, old, piece, levels)?;
+        let node = &nodes[index];
+        let position = index as u64;
+        let more = node_written(alloc, sides, above, up, position, node, new, old, levels)?;
         written = then_on(written, more)?;
     }
     Ok(written)
 }
 
-// What a piece of a matched tree's template writes.
+// What a node of a matched tree's template writes.
 #[cycle(written)]
 #[tactic(auto, using(crate::proofs::Writings::writings))]
-fn piece_written<P: Parts>(
+fn node_written<P: Parts>(
     alloc: Global,
     sides: &Sides<'_, P>,
-    above: &Place,
+    above: &Trail<'_>,
+    up: &Path<'_>,
+    index: u64,
+    node: &TemplateNode,
     new: &VNode<P>,
     old: &VNode<P>,
-    piece: &Piece,
     levels: u64,
 ) -> Result<Edited, OutOfMemory>
     ensures { IfOk result (λ written. Writes sides.now.unit.now written
-        (λ app. piece_writes app sides.now (place_of above.now) new.now old.now piece.now)) }
+        (λ app. node_writes app sides.now (place_on above.now) new.now old.now
+        (path_of up.now) index node.now)) }
 {
     let levels = down(levels)?;
-    match piece {
-        Piece::Element { .. } => Ok(nothing(alloc)),
-        Piece::Text { .. } => Ok(nothing(alloc)),
-        Piece::Slot { id, path } => {
-            let place = place_inside(alloc, above, &new.template, path)?;
+    let path = Path::Below(&*up, index);
+    match node {
+        TemplateNode::Element { children, .. } => {
+            let nodes = children.as_slice();
+            nodes_written(alloc, sides, above, &path, nodes, new, old, levels)
+        }
+        TemplateNode::Text { .. } => Ok(nothing(alloc)),
+        TemplateNode::Dynamic { id } => {
+            let place = Trail::Inside(&*above, &new.template, &path);
             match new.dynamic_nodes.get(*id as usize) {
                 Some(value) => match old.dynamic_nodes.get(*id as usize) {
                     Some(was) => slot_written(alloc, sides, &place, value, was, levels),
                     None => {
-                        slot_written(
-                            alloc,
-                            sides,
-                            &place,
-                            value,
-                            &DynamicNode::Placeholder,
-                            levels,
-                        )
+                        let gone = DynamicNode::Placeholder;
+                        slot_written(alloc, sides, &place, value, &gone, levels)
                     }
                 },
                 None => Ok(nothing(alloc)),
@@ -246,13 +242,13 @@ fn piece_written<P: Parts>(
 fn slot_written<P: Parts>(
     alloc: Global,
     sides: &Sides<'_, P>,
-    place: &Place,
+    place: &Trail<'_>,
     new: &DynamicNode<P>,
     old: &DynamicNode<P>,
     levels: u64,
 ) -> Result<Edited, OutOfMemory>
     ensures { IfOk result (λ written. Writes sides.now.unit.now written
-        (λ app. slot_writes app sides.now (place_of place.now) new.now old.now)) }
+        (λ app. slot_writes app sides.now (place_on place.now) new.now old.now)) }
 {
     let levels = down(levels)?;
     match new {
@@ -273,7 +269,7 @@ fn slot_written<P: Parts>(
 fn component_written<P: Parts>(
     alloc: Global,
     sides: &Sides<'_, P>,
-    place: &Place,
+    place: &Trail<'_>,
     component: &VComponent<P>,
     new: &DynamicNode<P>,
     old: &DynamicNode<P>,
@@ -281,7 +277,7 @@ fn component_written<P: Parts>(
 ) -> Result<Edited, OutOfMemory>
     requires is { new.now ≡ values.Component component.now }
     ensures { IfOk result (λ written. Writes sides.now.unit.now written
-        (λ app. slot_writes app sides.now (place_of place.now) new.now old.now)) }
+        (λ app. slot_writes app sides.now (place_on place.now) new.now old.now)) }
 {
     let levels = down(levels)?;
     match old {
@@ -304,7 +300,7 @@ fn component_written<P: Parts>(
 fn fragment_written<P: Parts>(
     alloc: Global,
     sides: &Sides<'_, P>,
-    place: &Place,
+    place: &Trail<'_>,
     trees: &Shared<VNode<P>>,
     new: &DynamicNode<P>,
     old: &DynamicNode<P>,
@@ -312,7 +308,7 @@ fn fragment_written<P: Parts>(
 ) -> Result<Edited, OutOfMemory>
     requires is { new.now ≡ values.Fragment trees.now }
     ensures { IfOk result (λ written. Writes sides.now.unit.now written
-        (λ app. slot_writes app sides.now (place_of place.now) new.now old.now)) }
+        (λ app. slot_writes app sides.now (place_on place.now) new.now old.now)) }
 {
     let levels = down(levels)?;
     match old {
@@ -344,14 +340,14 @@ fn fragment_written<P: Parts>(
 fn child_written<P: Parts>(
     alloc: Global,
     sides: &Sides<'_, P>,
-    place: &Place,
+    place: &Trail<'_>,
     levels: u64,
 ) -> Result<Edited, OutOfMemory>
     ensures { IfOk result (λ written. Writes sides.now.unit.now written
-        (λ app. child_writes app sides.now (place_of place.now))) }
+        (λ app. child_writes app sides.now (place_on place.now))) }
 {
     let levels = down(levels)?;
-    match child_at(&sides.old.side.children, place.as_slice()) {
+    match sides.old.side.child_on(place) {
         Some(child) => {
             if is_place(place, sides.stop) && !is_on_way(sides.unit.way, child) {
                 return Ok(halts(alloc));
@@ -369,13 +365,13 @@ fn child_written<P: Parts>(
 fn items_written<P: Parts>(
     alloc: Global,
     sides: &Sides<'_, P>,
-    place: &Place,
+    place: &Trail<'_>,
     new: &[VNode<P>],
     old: &[VNode<P>],
     levels: u64,
 ) -> Result<Edited, OutOfMemory>
     ensures { IfOk result (λ written. Writes sides.now.unit.now written
-        (λ app. items_writes app sides.now (place_of place.now) 0 0 new.now old.now)) }
+        (λ app. items_writes app sides.now (place_on place.now) 0 0 new.now old.now)) }
 {
     let levels = down(levels)?;
     let mut written = nothing(alloc);
@@ -387,7 +383,7 @@ fn items_written<P: Parts>(
             let rest = items_inserted(alloc, sides, place, new, position)?;
             return then_on(written, rest);
         }
-        let above = place_of_item(alloc, place, position as u64)?;
+        let above = Trail::Item(&*place, position as u64);
         let item = tree_written(alloc, sides, &above, &new[position], &old[position], levels)?;
         written = then_on(written, item)?;
     }

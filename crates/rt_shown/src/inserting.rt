@@ -3,20 +3,19 @@
 ghost use Rattle.std.specs.Prelude.{◌≡◌, ◌-◌, ◌≤◌, length, take, drop, IfOk};
 ghost use Rattle.rt_model.specs.Caused as caused;
 ghost use Rattle.rt_mirror.specs.Mirror.{forest_of};
-ghost use Rattle.rt_places.specs.Places.{place_of};
+ghost use Rattle.rt_places.specs.Trails.{place_on};
 ghost use Rattle.rt_shown.specs.Units.{around_from, items_inserts, last_among};
 ghost use Rattle.rt_shown.specs.Ways.{place_found};
 ghost use Rattle.rt_shown.specs.Written.{edited_of};
 
 use crate::edited::{Edited, halts, one_edit};
-use crate::levels::LEVELS;
 use crate::showing::{items_view, tree_view};
 use crate::sides::Sides;
 use crate::way::is_around;
 use rt_edits::{DocNode, Edit};
 use rt_nodes::VNode;
 use rt_parts::Parts;
-use rt_places::{Place, place_of_item};
+use rt_places::{LEVELS, Place, Trail};
 use rt_values::{ElementId, OutOfMemory};
 use std::alloc::Global;
 
@@ -25,17 +24,17 @@ use std::alloc::Global;
 pub(crate) fn items_inserted<P: Parts>(
     alloc: Global,
     sides: &Sides<'_, P>,
-    place: &Place,
+    place: &Trail<'_>,
     new: &[VNode<P>],
     position: usize,
 ) -> Result<Edited, OutOfMemory>
     requires within { position ≤ length new.now }
     ensures { IfOk result (λ written. edited_of written
-        ≡ items_inserts sides.now (place_of place.now) position
-        (last_among sides.now.new.now (place_of place.now) 0 0 (take position new.now))
+        ≡ items_inserts sides.now (place_on place.now) position
+        (last_among sides.now.new.now (place_on place.now) 0 0 (take position new.now))
         (drop position new.now)) }
 {
-    if any_around(alloc, place, position as u64, sides.stop, new.len() as u64)? {
+    if any_around(place, position as u64, sides.stop, new.len() as u64)? {
         return Ok(halts(alloc));
     }
     let last = last_before(alloc, sides, place, &new[..position])?;
@@ -58,21 +57,21 @@ pub(crate) fn items_inserted<P: Parts>(
 
 // Whether one of the items from a position on is the refused place or holds it.
 fn any_around(
-    alloc: Global,
-    place: &Place,
+    place: &Trail<'_>,
     first: u64,
     stop: Option<&Place>,
     end: u64,
 ) -> Result<bool, OutOfMemory>
     ensures { IfOk result (λ answer. answer
-        ≡ around_from (place_of place.now) first (place_found stop.entry) (end - first)) }
+        ≡ around_from (place_on place.now) first (place_found stop.entry) (end - first)) }
 {
     if stop.is_none() {
         return Ok(false);
     }
     for position in first..end {
-        let item = place_of_item(alloc, place, position)?;
-        if is_around(&item, stop) {
+        let item = Trail::Item(&*place, position);
+        let around = is_around(&item, stop)?;
+        if around {
             return Ok(true);
         }
     }
@@ -84,15 +83,15 @@ fn any_around(
 fn last_before<P: Parts>(
     alloc: Global,
     sides: &Sides<'_, P>,
-    place: &Place,
+    place: &Trail<'_>,
     trees: &[VNode<P>],
 ) -> Result<u64, OutOfMemory>
     ensures { IfOk result (λ last. last
-        ≡ last_among sides.now.new.now (place_of place.now) 0 0 trees.now) }
+        ≡ last_among sides.now.new.now (place_on place.now) 0 0 trees.now) }
 {
     for back in 0..trees.len() {
         let position = trees.len() - 1 - back;
-        let above = place_of_item(alloc, place, position as u64)?;
+        let above = Trail::Item(&*place, position as u64);
         let row = tree_view(alloc, sides.new, &trees[position], &above, LEVELS)?;
         if !row.is_empty() {
             return Ok(last_of(0, row.as_slice()));

@@ -7,7 +7,6 @@ mod comparing;
 mod edited;
 mod hearing;
 mod inserting;
-mod levels;
 mod look;
 mod scope_set;
 mod showing;

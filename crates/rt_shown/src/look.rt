@@ -6,7 +6,7 @@ ghost use Rattle.rt_model.specs.Lists.{at};
 ghost use Rattle.rt_model.specs.State.{same_side};
 ghost use Rattle.rt_places.specs.Places.{side_name_of};
 ghost use Rattle.rt_calls.specs.Calls.{number_of};
-ghost use Rattle.rt_shown.specs.Look.{is_showing, look_at, look_below, look_height, look_is_shown, look_live, look_parent, look_shown, look_shows, look_side, seen_in, stood_in, shown_on, shown_steps, side_standing, side_stood};
+ghost use Rattle.rt_shown.specs.Look.{is_showing, look_at, look_below, look_is_shown, look_parent, look_shown, look_shows, look_side, rung_in, rung_of, seen_in, shown_on, side_standing, side_stood, standing, stood_in};
 ghost use Rattle.rt_shown.specs.Stands.{ShowsRows, ShowsStood};
 
 use rt_calls::{Rows, Scope};
@@ -26,6 +26,16 @@ pub struct Stood<P: Parts> {
     pub main_side: Side<P>,
     pub children_side: Side<P>,
     pub fallback_side: Side<P>,
+}
+
+/// Where a scope stands, and which side it shows.
+#[derive(Clone, Copy)]
+struct Rung {
+    parent: Option<u64>,
+    height: u64,
+    /// The side of the parent that it was made on.
+    below: SideName,
+    shows: Option<SideName>,
 }
 
 /// The scopes, each as it stood where that is kept, else as it stands.
@@ -89,17 +99,6 @@ impl<'a, P: Parts> Look<'a, P> {
         self.rows.table.get(scope)
     }
 
-    /// Whether a scope is live.
-    pub(crate) fn is_live(&self, scope: u64) -> bool
-        ensures { result ≡ look_live self.now scope }
-    {
-        match self.kept(scope) {
-            Some(Some(_)) => true,
-            Some(None) => false,
-            None => self.present(scope).is_some(),
-        }
-    }
-
     /// The parent of a live scope.
     pub(crate) fn parent(&self, scope: u64) -> Option<u64>
         ensures { result ≡ look_parent self.now scope }
@@ -108,20 +107,6 @@ impl<'a, P: Parts> Look<'a, P> {
             Some(Some(stood)) => stood.parent,
             Some(None) => None,
             None => parent_of(self.present(scope)?.row.parent),
-        }
-    }
-
-    /// The height of a live scope, 0 of another one.
-    pub(crate) fn height(&self, scope: u64) -> u64
-        ensures { result ≡ look_height self.now scope }
-    {
-        match self.kept(scope) {
-            Some(Some(stood)) => stood.height,
-            Some(None) => 0,
-            None => match self.present(scope) {
-                Some(found) => found.rest.height,
-                None => 0,
-            },
         }
     }
 
@@ -169,40 +154,71 @@ impl<'a, P: Parts> Look<'a, P> {
         }
     }
 
+    /// Where a live scope stands, and which side it shows.
+    fn rung(&self, scope: u64) -> Option<Rung>
+        ensures { result ≡ rung_in (look_at self.now scope) }
+    {
+        match self.kept(scope) {
+            Some(Some(stood)) => Some(rung_stood(stood)),
+            Some(None) => None,
+            None => Some(rung_now(self.present(scope)?)),
+        }
+    }
+
     /// Whether each scope above shows the side that the way to the scope is below.
     pub(crate) fn is_shown(&self, scope: u64) -> bool
         ensures { result ≡ look_is_shown self.now scope }
     {
-        self.is_live(scope) && self.is_shown_from(self.height(scope), scope)
-    }
-
-    /// Whether each scope above does, at most so many steps up.
-    #[cycle(shown)]
-    #[tactic(auto, using(crate::proofs::Looks::looks))]
-    fn is_shown_from(&self, steps: u64, scope: u64) -> bool
-        ensures { result ≡ shown_steps self.now steps scope }
-    {
-        if steps == 0 {
+        let Some(rung) = self.rung(scope) else {
+            return false;
+        };
+        if rung.height == 0 {
             return true;
         }
-        match self.below(scope) {
-            Some(below) => self.is_shown_on(steps - 1, below, self.parent(scope)),
-            None => false,
-        }
+        self.is_shown_on(rung.height - 1, rung.below, rung.parent)
     }
 
     /// Whether the parent shows the side, and each scope above it does, at most so many steps up.
-    #[cycle(shown)]
-    #[tactic(auto, using(crate::proofs::Looks::looks))]
     fn is_shown_on(&self, steps: u64, below: SideName, parent: Option<u64>) -> bool
         ensures { result ≡ shown_on self.now steps below parent }
     {
-        match parent {
-            Some(parent) => {
-                is_side(self.shows(parent), below) && self.is_shown_from(steps, parent)
-            }
-            None => true,
+        let Some(parent) = parent else {
+            return true;
+        };
+        let Some(rung) = self.rung(parent) else {
+            return false;
+        };
+        if !is_side(rung.shows, below) {
+            return false;
         }
+        if steps == 0 {
+            return true;
+        }
+        self.is_shown_on(steps - 1, rung.below, rung.parent)
+    }
+}
+
+/// Where a scope stood.
+fn rung_stood<P: Parts>(stood: &Stood<P>) -> Rung
+    ensures { result ≡ rung_of stood.now }
+{
+    Rung {
+        parent: stood.parent,
+        height: stood.height,
+        below: stood.below,
+        shows: stood.shows,
+    }
+}
+
+/// Where a scope stands.
+fn rung_now<P: Parts>(scope: &Scope<P>) -> Rung
+    ensures { result ≡ rung_of (standing scope.now) }
+{
+    Rung {
+        parent: parent_of(scope.row.parent),
+        height: scope.rest.height,
+        below: scope.rest.below,
+        shows: scope.rest.shows,
     }
 }
 

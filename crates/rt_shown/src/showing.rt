@@ -4,20 +4,19 @@ ghost use Rattle.std.specs.Prelude.{◌≡◌, ◌+◌, [], IfOk};
 ghost use Rattle.rt_model.specs.Document.{DocElement, Empty, Node};
 ghost use Rattle.rt_attributes.specs.Content.{with_all_listeners, with_entries};
 ghost use Rattle.rt_mirror.specs.Mirror.{content_of, forest_below, forest_of};
-ghost use Rattle.rt_places.specs.Places.{kind_of, place_of};
-ghost use Rattle.rt_work.specs.Found.{number_in};
+ghost use Rattle.rt_places.specs.Places.{kind_of};
+ghost use Rattle.rt_places.specs.Trails.{path_of, place_on};
+ghost use Rattle.rt_places.specs.Sides.{number_in};
 ghost use Rattle.rt_shown.specs.Means.{IsView};
 ghost use Rattle.rt_shown.specs.Seen.{child_seen, items_in, node_in, row_in, scope_seen, side_seen, tree_in, value_in};
 
-use crate::levels::{LEVELS, down};
 use crate::look::Look;
 use rt_attributes::{element_attributes, element_listeners};
 use rt_edits::{DocKind, DocNode};
 use rt_nodes::{DynamicNode, VNode};
 use rt_parts::{Attribute, Parts, TemplateAttribute, TemplateNode};
-use rt_places::{Kind, Place, Side, path_below, place_inside, place_of_item};
-use rt_values::{ElementId, List, OutOfMemory, Part, Shared, Text, both};
-use rt_work::{child_at, number_at};
+use rt_places::{Kind, LEVELS, Path, Side, Trail, down};
+use rt_values::{ElementId, List, OutOfMemory, Part, Text, both};
 use std::alloc::Global;
 
 /// A side whose tree is shown, with the scopes that its components show.
@@ -34,7 +33,7 @@ pub(crate) struct Shown<'a, P: Parts> {
 pub(crate) struct Standing<'a, P: Parts> {
     pub shown: &'a Shown<'a, P>,
     pub tree: &'a VNode<P>,
-    pub above: &'a Place,
+    pub above: &'a Trail<'a>,
 }
 
 /// The document that shows.
@@ -108,7 +107,7 @@ fn side_view<P: Parts>(
 {
     let levels = down(levels)?;
     match &shown.side.output {
-        Some(tree) => tree_view(alloc, shown, tree, &Shared::empty(), levels),
+        Some(tree) => tree_view(alloc, shown, tree, &Trail::Root, levels),
         None => Ok(List::new(alloc)),
     }
 }
@@ -120,21 +119,21 @@ pub(crate) fn tree_view<P: Parts>(
     alloc: Global,
     shown: &Shown<'_, P>,
     tree: &VNode<P>,
-    above: &Place,
+    above: &Trail<'_>,
     levels: u64,
 ) -> Result<List<DocNode>, OutOfMemory>
-    ensures { IfOk result (λ row. forest_of row ≡ tree_in shown.now tree.now (place_of above.now)) }
+    ensures { IfOk result (λ row. forest_of row ≡ tree_in shown.now tree.now (place_on above.now)) }
 {
     let levels = down(levels)?;
     let standing = Standing {
         shown: &*shown,
         tree,
-        above,
+        above: &*above,
     };
     nodes_view(
         alloc,
         &standing,
-        &[],
+        &Path::Top,
         tree.template.roots.as_slice(),
         levels,
     )
@@ -146,11 +145,12 @@ pub(crate) fn tree_view<P: Parts>(
 fn nodes_view<P: Parts>(
     alloc: Global,
     standing: &Standing<'_, P>,
-    up: &[u64],
+    up: &Path<'_>,
     nodes: &[TemplateNode],
     levels: u64,
 ) -> Result<List<DocNode>, OutOfMemory>
-    ensures { IfOk result (λ row. forest_of row ≡ row_in standing.now up.now 0 nodes.now) }
+    ensures { IfOk result (λ row. forest_of row
+        ≡ row_in standing.now (path_of up.now) 0 nodes.now) }
 {
     let levels = down(levels)?;
     let mut row = List::new(alloc);
@@ -166,16 +166,17 @@ fn nodes_view<P: Parts>(
 fn node_view<P: Parts>(
     alloc: Global,
     standing: &Standing<'_, P>,
-    up: &[u64],
+    up: &Path<'_>,
     index: u64,
     node: &TemplateNode,
     levels: u64,
 ) -> Result<List<DocNode>, OutOfMemory>
-    ensures { IfOk result (λ row. forest_of row ≡ node_in standing.now up.now index node.now) }
+    ensures { IfOk result (λ row. forest_of row
+        ≡ node_in standing.now (path_of up.now) index node.now) }
 {
     let levels = down(levels)?;
-    let path = path_below(alloc, up, index)?;
-    let place = place_inside(alloc, standing.above, &standing.tree.template, &path)?;
+    let path = Path::Below(&*up, index);
+    let place = Trail::Inside(&*standing.above, &standing.tree.template, &path);
     match node {
         TemplateNode::Element {
             tag,
@@ -184,7 +185,7 @@ fn node_view<P: Parts>(
             children,
         } => {
             let nodes = children.as_slice();
-            let below = nodes_view(alloc, standing, path.as_slice(), nodes, levels)?;
+            let below = nodes_view(alloc, standing, &path, nodes, levels)?;
             let given = standing.tree.dynamic_attrs.as_slice();
             let kind = element(alloc, given, tag, namespace, attrs.as_slice(), below)?;
             numbered(alloc, standing.shown.side, &place, Kind::Element, kind)
@@ -236,11 +237,11 @@ pub(crate) fn slot_view<P: Parts>(
     alloc: Global,
     shown: &Shown<'_, P>,
     value: &DynamicNode<P>,
-    place: &Place,
+    place: &Trail<'_>,
     levels: u64,
 ) -> Result<List<DocNode>, OutOfMemory>
     ensures { IfOk result (λ row. forest_of row
-        ≡ value_in shown.now value.now (place_of place.now)) }
+        ≡ value_in shown.now value.now (place_on place.now)) }
 {
     let levels = down(levels)?;
     match value {
@@ -279,14 +280,14 @@ pub(crate) fn slot_view<P: Parts>(
 fn child_view<P: Parts>(
     alloc: Global,
     shown: &Shown<'_, P>,
-    place: &Place,
+    place: &Trail<'_>,
     levels: u64,
 ) -> Result<List<DocNode>, OutOfMemory>
     ensures { IfOk result (λ row. forest_of row
-        ≡ child_seen shown.now.look.now shown.now.depth shown.now.side.now (place_of place.now)) }
+        ≡ child_seen shown.now.look.now shown.now.depth shown.now.side.now (place_on place.now)) }
 {
     let levels = down(levels)?;
-    match child_at(&shown.side.children, place.as_slice()) {
+    match shown.side.child_on(place) {
         Some(child) => view_within(alloc, shown.look, shown.depth, child, levels),
         None => Ok(List::new(alloc)),
     }
@@ -299,18 +300,18 @@ pub(crate) fn items_view<P: Parts>(
     alloc: Global,
     shown: &Shown<'_, P>,
     first: u64,
-    place: &Place,
+    place: &Trail<'_>,
     trees: &[VNode<P>],
     levels: u64,
 ) -> Result<List<DocNode>, OutOfMemory>
     ensures { IfOk result (λ row. forest_of row
-        ≡ items_in shown.now first (place_of place.now) trees.now) }
+        ≡ items_in shown.now first (place_on place.now) trees.now) }
 {
     let levels = down(levels)?;
     let mut row = List::new(alloc);
     for index in 0..trees.len() {
         let position = position_after(first, index as u64)?;
-        let above = place_of_item(alloc, place, position)?;
+        let above = Trail::Item(&*place, position);
         row.append(tree_view(alloc, shown, &trees[index], &above, levels)?)?;
     }
     Ok(row)
@@ -331,15 +332,15 @@ fn position_after(first: u64, index: u64) -> Result<u64, OutOfMemory>
 fn numbered<P: Parts>(
     alloc: Global,
     side: &Side<P>,
-    place: &Place,
+    place: &Trail<'_>,
     kind: Kind,
     content: DocKind,
 ) -> Result<List<DocNode>, OutOfMemory>
     ensures { IfOk result (λ row. forest_of row
-        ≡ Node (number_in side.now.numbers (place_of place.now) (kind_of kind))
+        ≡ Node (number_in side.now (place_on place.now) (kind_of kind))
         (content_of content) (forest_below content) Empty) }
 {
-    let number = number_at(&side.numbers, place.as_slice(), kind);
+    let number = side.number_on(place, kind);
     let mut row = List::new(alloc);
     row.push(DocNode {
         id: ElementId(number),

@@ -1,17 +1,17 @@
 //! A side of a scope before and after a unit, and nodes that give way to others.
 
-ghost use Rattle.std.specs.Prelude.{◌≡◌, map, IfOk};
+ghost use Rattle.std.specs.Prelude.{◌≡◌, ◌&&◌, map, IfOk};
 ghost use Rattle.rt_model.specs.Document.{Forest};
 ghost use Rattle.rt_model.specs.Caused as caused;
 ghost use Rattle.rt_mirror.specs.Mirror.{edit_of, forest_of};
-ghost use Rattle.rt_places.specs.Places.{place_of};
+ghost use Rattle.rt_places.specs.Trails.{place_on};
+ghost use Rattle.rt_shown.specs.Look.{look_is_shown};
 ghost use Rattle.rt_shown.specs.Seen.{scope_seen};
 ghost use Rattle.rt_shown.specs.Units.{slot_replaces, tree_replaces};
 ghost use Rattle.rt_shown.specs.Ways.{place_found};
 ghost use Rattle.rt_shown.specs.Written.{edited_of};
 
 use crate::edited::{Edited, halts, writes};
-use crate::levels::LEVELS;
 use crate::look::Look;
 use crate::scope_set::ScopeSet;
 use crate::showing::{Shown, scope_view, slot_view, tree_view};
@@ -19,7 +19,7 @@ use crate::way::{Stop, is_around};
 use rt_edits::{DocNode, Edit};
 use rt_nodes::{DynamicNode, VNode};
 use rt_parts::Parts;
-use rt_places::{Place, Side};
+use rt_places::{LEVELS, Place, Side, Trail};
 use rt_values::{List, OutOfMemory, both};
 use std::alloc::Global;
 
@@ -43,6 +43,14 @@ pub(crate) struct Sides<'a, P: Parts> {
     pub stop: Option<&'a Place>,
     /// How many scopes deep its components may go.
     pub depth: u64,
+}
+
+/// Whether a scope is shown both before and after.
+pub(crate) fn is_shown_in_both<P: Parts>(unit: &Unit<'_, P>, scope: u64) -> bool
+    ensures { result
+        ≡ (look_is_shown unit.now.before.now scope && look_is_shown unit.now.after.now scope) }
+{
+    unit.before.is_shown(scope) && unit.after.is_shown(scope)
 }
 
 /// A side with all that its components show.
@@ -77,12 +85,12 @@ pub(crate) fn scope_replaced<P: Parts>(
 pub(crate) fn tree_replaced<P: Parts>(
     alloc: Global,
     sides: &Sides<'_, P>,
-    above: &Place,
+    above: &Trail<'_>,
     new: &VNode<P>,
     old: &VNode<P>,
 ) -> Result<Edited, OutOfMemory>
     ensures { IfOk result (λ written. edited_of written
-        ≡ tree_replaces sides.now (place_of above.now) new.now old.now) }
+        ≡ tree_replaces sides.now (place_on above.now) new.now old.now) }
 {
     let old = tree_view(alloc, sides.old, old, above, LEVELS);
     let new = tree_view(alloc, sides.new, new, above, LEVELS);
@@ -93,12 +101,12 @@ pub(crate) fn tree_replaced<P: Parts>(
 pub(crate) fn slot_replaced<P: Parts>(
     alloc: Global,
     sides: &Sides<'_, P>,
-    place: &Place,
+    place: &Trail<'_>,
     new: &DynamicNode<P>,
     old: &DynamicNode<P>,
 ) -> Result<Edited, OutOfMemory>
     ensures { IfOk result (λ written. edited_of written
-        ≡ slot_replaces sides.now (place_of place.now) new.now old.now) }
+        ≡ slot_replaces sides.now (place_on place.now) new.now old.now) }
 {
     let old = slot_view(alloc, sides.old, old, place, LEVELS);
     let new = slot_view(alloc, sides.new, new, place, LEVELS);
@@ -109,16 +117,17 @@ pub(crate) fn slot_replaced<P: Parts>(
 fn give_way(
     alloc: Global,
     stop: Option<&Place>,
-    place: &Place,
+    place: &Trail<'_>,
     old: Result<List<DocNode>, OutOfMemory>,
     new: Result<List<DocNode>, OutOfMemory>,
 ) -> Result<Edited, OutOfMemory>
     ensures { (f g : Forest) →
         IfOk old (λ row. forest_of row ≡ f) → IfOk new (λ row. forest_of row ≡ g) →
         IfOk result (λ written. edited_of written ≡ caused.built_whole (place_found stop.entry)
-        (place_of place.now) (caused.replaced_by f g)) }
+        (place_on place.now) (caused.replaced_by f g)) }
 {
-    if is_around(place, stop) {
+    let around = is_around(place, stop)?;
+    if around {
         return Ok(halts(alloc));
     }
     replaces(alloc, old, new)

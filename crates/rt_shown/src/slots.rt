@@ -2,7 +2,7 @@
 
 ghost use Rattle.std.specs.Prelude.{◌≡◌, [], IfOk};
 ghost use Rattle.rt_nodes.specs.declared.vnode.DynamicNode.TheVariants as values;
-ghost use Rattle.rt_places.specs.Places.{place_of};
+ghost use Rattle.rt_places.specs.Trails.{place_on};
 ghost use Rattle.rt_shown.specs.Units.{Writes, slot_writes};
 
 use crate::edited::{Edited, nothing, one_edit};
@@ -10,9 +10,8 @@ use crate::sides::{Sides, slot_replaced};
 use rt_edits::Edit;
 use rt_nodes::{DynamicNode, VNode};
 use rt_parts::Parts;
-use rt_places::{Kind, Place};
+use rt_places::{Kind, Trail};
 use rt_values::{ElementId, List, OutOfMemory, Part, Shared, Text};
-use rt_work::number_at;
 use std::alloc::Global;
 
 /// What a text writes in a slot.
@@ -20,22 +19,21 @@ use std::alloc::Global;
 pub(crate) fn text_written<P: Parts>(
     alloc: Global,
     sides: &Sides<'_, P>,
-    place: &Place,
+    place: &Trail<'_>,
     text: &Text,
     new: &DynamicNode<P>,
     old: &DynamicNode<P>,
 ) -> Result<Edited, OutOfMemory>
     requires is { new.now ≡ values.Text text.now }
     ensures { IfOk result (λ written. Writes sides.now.unit.now written
-        (λ app. slot_writes app sides.now (place_of place.now) new.now old.now)) }
+        (λ app. slot_writes app sides.now (place_on place.now) new.now old.now)) }
 {
     match old {
         DynamicNode::Text(was) => {
             if was.same(text) {
                 return Ok(nothing(alloc));
             }
-            let numbers = &sides.old.side.numbers;
-            let number = number_at(numbers, place.as_slice(), Kind::Text);
+            let number = sides.old.side.number_on(place, Kind::Text);
             one_edit(
                 alloc,
                 Edit::SetNodeText {
@@ -55,13 +53,13 @@ pub(crate) fn text_written<P: Parts>(
 pub(crate) fn placeholder_written<P: Parts>(
     alloc: Global,
     sides: &Sides<'_, P>,
-    place: &Place,
+    place: &Trail<'_>,
     new: &DynamicNode<P>,
     old: &DynamicNode<P>,
 ) -> Result<Edited, OutOfMemory>
     requires is { new.now ≡ values.Placeholder }
     ensures { IfOk result (λ written. Writes sides.now.unit.now written
-        (λ app. slot_writes app sides.now (place_of place.now) new.now old.now)) }
+        (λ app. slot_writes app sides.now (place_on place.now) new.now old.now)) }
 {
     match old {
         DynamicNode::Placeholder => Ok(nothing(alloc)),
@@ -76,7 +74,7 @@ pub(crate) fn placeholder_written<P: Parts>(
 pub(crate) fn no_items_written<P: Parts>(
     alloc: Global,
     sides: &Sides<'_, P>,
-    place: &Place,
+    place: &Trail<'_>,
     were: &Shared<VNode<P>>,
     new: &DynamicNode<P>,
     old: &DynamicNode<P>,
@@ -84,7 +82,7 @@ pub(crate) fn no_items_written<P: Parts>(
     requires is { new.now ≡ values.Fragment [] }
     requires was { old.now ≡ values.Fragment were.now }
     ensures { IfOk result (λ written. Writes sides.now.unit.now written
-        (λ app. slot_writes app sides.now (place_of place.now) new.now old.now)) }
+        (λ app. slot_writes app sides.now (place_on place.now) new.now old.now)) }
 {
     if were.is_empty() {
         return Ok(nothing(alloc));

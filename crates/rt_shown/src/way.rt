@@ -1,14 +1,15 @@
 //! The way from a scope whose work was refused up to the root.
 
-ghost use Rattle.std.specs.Prelude.{◌≡◌, ◌++◌, Some, map, is_some, option_map, IfOk, OnOk};
+ghost use Rattle.std.specs.Prelude.{◌≡◌, ◌++◌, ◌∷◌, [], Some, length, map, is_some, option_map, IfOk, OnOk};
 ghost use Rattle.rt_model.specs.Lists.{at};
 ghost use Rattle.rt_model.specs.Caused as caused;
-ghost use Rattle.rt_places.specs.Places.{child_of, place_of, side_name_of};
+ghost use Rattle.rt_places.specs.Places.{place_of, seated, side_name_of, side_of};
+ghost use Rattle.rt_places.specs.Trails.{place_on, steps_of};
 ghost use Rattle.rt_shown.specs.Ways.{look_way, look_way_up, place_found, place_over, stop_of, stop_over, way_above, way_of};
 
 use crate::look::{Look, is_side};
 use rt_parts::Parts;
-use rt_places::{Child, Place, SideName, Step, is_same_place};
+use rt_places::{Place, Side, SideName, Step, Trail, stands_at, steps_to};
 use rt_values::{List, OutOfMemory, Part};
 use rt_work::Item;
 use std::alloc::Global;
@@ -84,14 +85,13 @@ fn way_up<P: Parts>(
 {
     let mut way = List::new(alloc);
     way.push(Stop { scope, side, place })?;
-    add_above(alloc, look, look.scopes(), scope, &mut way)?;
+    add_above(look, look.scopes(), scope, &mut way)?;
     Ok(way)
 }
 
 // The scopes above one, at most so many steps up.
 #[tactic(auto, using(crate::proofs::Ways::ways))]
 fn add_above<P: Parts>(
-    alloc: Global,
     look: &Look<'_, P>,
     steps: u64,
     child: u64,
@@ -104,24 +104,19 @@ fn add_above<P: Parts>(
     }
     match look.parent(child) {
         Some(parent) => {
-            way.push(stop_above(alloc, look, parent, child)?)?;
-            add_above(alloc, look, steps - 1, parent, way)
+            way.push(stop_above(look, parent, child)?)?;
+            add_above(look, steps - 1, parent, way)
         }
         None => Ok(()),
     }
 }
 
 // The parent on the way, with the place where its child stands.
-fn stop_above<P: Parts>(
-    alloc: Global,
-    look: &Look<'_, P>,
-    parent: u64,
-    child: u64,
-) -> Result<Stop, OutOfMemory>
+fn stop_above<P: Parts>(look: &Look<'_, P>, parent: u64, child: u64) -> Result<Stop, OutOfMemory>
     ensures { IfOk result (λ stop. stop_of stop ≡ stop_over look.now parent child) }
 {
     let side = look.below(child);
-    let place = place_above(alloc, look, parent, side, child)?;
+    let place = place_above(look, parent, side, child)?;
     Ok(Stop {
         scope: parent,
         side,
@@ -131,7 +126,6 @@ fn stop_above<P: Parts>(
 
 // Where a child stands on the side of its parent that it was made on.
 fn place_above<P: Parts>(
-    alloc: Global,
     look: &Look<'_, P>,
     parent: u64,
     side: Option<SideName>,
@@ -142,7 +136,7 @@ fn place_above<P: Parts>(
 {
     match side {
         Some(name) => match look.side(parent, name) {
-            Some(side) => place_of_child(alloc, side.children.as_slice(), child),
+            Some(side) => place_of_child(side, child),
             None => Ok(None),
         },
         None => Ok(None),
@@ -150,20 +144,28 @@ fn place_above<P: Parts>(
 }
 
 // The place of a child scope.
-fn place_of_child(
-    alloc: Global,
-    children: &[Child],
-    scope: u64,
-) -> Result<Option<Place>, OutOfMemory>
+fn place_of_child<P: Parts>(side: &Side<P>, scope: u64) -> Result<Option<Place>, OutOfMemory>
     ensures { IfOk result (λ place. option_map place_of place
-        ≡ caused.place_of_child (map child_of children.now) scope) }
+        ≡ caused.place_of_child (side_of side.now).children scope) }
 {
-    for child in children {
-        if child.scope == scope {
-            return Ok(Some(child.place.copy(alloc)?));
+    for pair in side.children.as_slice() {
+        if let Some(place) = place_under(side, pair.0, pair.1, scope) {
+            return Ok(Some(place.share()?));
         }
     }
     Ok(None)
+}
+
+// The place under an index of a component, where its child is this scope.
+fn place_under<P: Parts>(side: &Side<P>, index: u64, child: u64, scope: u64) -> Option<&Place>
+    ensures { place_found result ≡ caused.place_of_child
+        (seated (map place_of side.now.seats) ((index, child) ∷ [])) scope }
+{
+    if child == scope {
+        side.seats.place_of(index)
+    } else {
+        None
+    }
 }
 
 /// Whether a scope is on the way.
@@ -185,7 +187,7 @@ pub(crate) fn stop_on(way: &[Stop], scope: u64, side: SideName) -> Option<&Place
 {
     for stop in way {
         if stop.scope == scope {
-            return place_on(stop, side);
+            return stop_place(stop, side);
         }
     }
     None
@@ -193,7 +195,7 @@ pub(crate) fn stop_on(way: &[Stop], scope: u64, side: SideName) -> Option<&Place
 
 // The place of a stop, where it is on this side.
 #[tactic(auto, using(crate::proofs::Ways::ways))]
-fn place_on(stop: &Stop, side: SideName) -> Option<&Place>
+fn stop_place(stop: &Stop, side: SideName) -> Option<&Place>
     ensures { place_found result ≡ caused.stop_on (side_name_of side) (Some (stop_of stop.now).1) }
 {
     if is_side(stop.side, side) {
@@ -204,32 +206,37 @@ fn place_on(stop: &Stop, side: SideName) -> Option<&Place>
 }
 
 /// Whether the refused place, if there is one, is this one.
-pub(crate) fn is_place(place: &Place, stop: Option<&Place>) -> bool
-    ensures { result ≡ caused.is_place (place_of place.now) (place_found stop.entry) }
+pub(crate) fn is_place(place: &Trail<'_>, stop: Option<&Place>) -> bool
+    ensures { result ≡ caused.is_place (place_on place.now) (place_found stop.entry) }
 {
     match stop {
-        Some(stop) => is_same_place(place.as_slice(), stop.as_slice()),
+        Some(stop) => stands_at(place, stop.as_slice()),
         None => false,
     }
 }
 
 /// Whether the refused place, if there is one, is this one or within it.
-pub(crate) fn is_around(place: &Place, stop: Option<&Place>) -> bool
-    ensures { result ≡ caused.is_around (place_of place.now) (place_found stop.entry) }
+pub(crate) fn is_around(place: &Trail<'_>, stop: Option<&Place>) -> Result<bool, OutOfMemory>
+    ensures { IfOk result (λ answer. answer
+        ≡ caused.is_around (place_on place.now) (place_found stop.entry)) }
 {
     match stop {
-        Some(stop) => is_front(place.as_slice(), stop.as_slice()),
-        None => false,
+        Some(stop) => {
+            let count = steps_to(place)?;
+            Ok(is_front(place, count, stop.as_slice()))
+        }
+        None => Ok(false),
     }
 }
 
-// Whether the first place is the other one or stands around it.
+// Whether the place with so many steps is the other one or stands around it.
 #[tactic(auto, using(crate::proofs::Ways::ways))]
-fn is_front(place: &[Step], other: &[Step]) -> bool
-    ensures { result ≡ caused.is_front (place_of place.now) (place_of other.now) }
+fn is_front(place: &Trail<'_>, count: usize, other: &[Step]) -> bool
+    requires { count ≡ length (steps_of place.now) }
+    ensures { result ≡ caused.is_front (place_on place.now) (place_of other.now) }
 {
-    if place.len() > other.len() {
+    if count > other.len() {
         return false;
     }
-    is_same_place(place, &other[..place.len()])
+    stands_at(place, &other[..count])
 }

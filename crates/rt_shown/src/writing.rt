@@ -9,7 +9,6 @@ ghost use Rattle.rt_shown.specs.Ways.{way_of};
 
 use crate::comparing::written_within;
 use crate::edited::Edited;
-use crate::levels::LEVELS;
 use crate::look::{Look, Stood};
 use crate::scope_set::ScopeSet;
 use crate::showing::view;
@@ -19,6 +18,7 @@ use crate::way::{Stop, way_to};
 use rt_calls::Rows;
 use rt_edits::Edit;
 use rt_parts::Parts;
+use rt_places::LEVELS;
 use rt_table::Table;
 use rt_values::{ElementId, List, OutOfMemory};
 use rt_work::Item;

@@ -1,5 +1,5 @@
 -- An attribute takes its place.
-use Rattle.std.proofs.Common.{◌≡◌, ◌<◌, ◌≤◌, length, get_or, true, false, rules, arith, sym, ap, ◌∙◌}
+use Rattle.std.proofs.Common.{◌≡◌, ◌<◌, ◌≤◌, length, true, false, rules, arith, sym, ap, ◌∙◌}
 use Rattle.rt_attributes.specs.Content.{attributes_of}
 use Rattle.rt_attributes.specs.Order.{attribute_place, has_key}
 use Rattle.rt_attributes.proofs.Orders.{attribute-there, attribute-new, attribute-within}

@@ -1,5 +1,5 @@
 -- A listener takes its place.
-use Rattle.std.proofs.Common.{◌≡◌, ◌<◌, ◌≤◌, length, get_or, true, false, rules, arith, sym, ap, ◌∙◌}
+use Rattle.std.proofs.Common.{◌≡◌, ◌<◌, ◌≤◌, length, true, false, rules, arith, sym, ap, ◌∙◌}
 use Rattle.rt_model.specs.Lists.{same_numbers}
 use Rattle.rt_attributes.specs.Order.{listener_place}
 use Rattle.rt_attributes.proofs.Orders.{listener-there, listener-new, listener-within}

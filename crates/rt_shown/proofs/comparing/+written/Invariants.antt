@@ -1,17 +1,17 @@
 -- What was written so far, and what is left, are what the whole writes; each call is one level further down.
 use Rattle.std.proofs.Common.{◌≤◌, length, drop}
-use Rattle.rt_places.specs.Places.{place_of}
-use Rattle.rt_shown.specs.Units.{PiecesLeft, ItemsLeft}
+use Rattle.rt_places.specs.Trails.{path_of, place_on}
+use Rattle.rt_shown.specs.Units.{ItemsLeft, RowLeft}
 use Rattle.rt_shown.specs.Written.{edited_of}
 use Rattle.rt_shown.proofs.comparing.+written.Given as goal
 
-abbrev pub invariant-pieces_written-loop-piece : goal.invariant-pieces_written-loop-piece
-invariant-pieces_written-loop-piece g l = PiecesLeft (edited_of l.written) l.sides (place_of l.above) l.new l.old (drop l.piece-index l.pieces) l.pieces
+abbrev pub invariant-nodes_written-loop-index : goal.invariant-nodes_written-loop-index
+invariant-nodes_written-loop-index g l = RowLeft (edited_of l.written) l.sides (place_on l.above) l.new l.old (path_of l.up) l.index (drop l.index l.nodes) l.nodes
 
 abbrev pub invariant-items_written-loop-position : goal.invariant-items_written-loop-position
 invariant-items_written-loop-position g l = record {
   within : l.position ≤ length l.old;
-  left : ItemsLeft (edited_of l.written) l.sides (place_of l.place) l.position l.new l.old;
+  left : ItemsLeft (edited_of l.written) l.sides (place_on l.place) l.position l.new l.old;
 }
 
 abbrev pub decreases-written_within : goal.decreases-written_within
@@ -29,11 +29,11 @@ decreases-outputs_written g l = l.levels
 abbrev pub decreases-tree_written : goal.decreases-tree_written
 decreases-tree_written g l = l.levels
 
-abbrev pub decreases-pieces_written : goal.decreases-pieces_written
-decreases-pieces_written g l = l.levels
+abbrev pub decreases-nodes_written : goal.decreases-nodes_written
+decreases-nodes_written g l = l.levels
 
-abbrev pub decreases-piece_written : goal.decreases-piece_written
-decreases-piece_written g l = l.levels
+abbrev pub decreases-node_written : goal.decreases-node_written
+decreases-node_written g l = l.levels
 
 abbrev pub decreases-slot_written : goal.decreases-slot_written
 decreases-slot_written g l = l.levels

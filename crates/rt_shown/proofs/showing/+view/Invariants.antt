@@ -2,18 +2,18 @@
 use Rattle.std.proofs.Common.{◌≡◌, drop}
 use Rattle.rt_model.specs.Document.{join_rows}
 use Rattle.rt_mirror.specs.Mirror.{forest_of}
-use Rattle.rt_places.specs.Places.{place_of}
+use Rattle.rt_places.specs.Trails.{path_of, place_on}
 use Rattle.rt_shown.specs.Seen.{items_seen, row_in}
 use Rattle.rt_shown.proofs.showing.+view.Given as goal
 
 abbrev pub invariant-nodes_view-loop-index : goal.invariant-nodes_view-loop-index
 invariant-nodes_view-loop-index g l =
-    join_rows (forest_of l.row) (row_in l.standing l.up l.index (drop l.index l.nodes)) ≡ row_in l.standing l.up 0 l.nodes
+    join_rows (forest_of l.row) (row_in l.standing (path_of l.up) l.index (drop l.index l.nodes)) ≡ row_in l.standing (path_of l.up) 0 l.nodes
 
 abbrev pub invariant-items_view-loop-index : goal.invariant-items_view-loop-index
 invariant-items_view-loop-index g l =
-    join_rows (forest_of l.row) (items_seen l.shown.look.now l.shown.depth l.shown.side.now l.first l.index (place_of l.place) (drop l.index l.trees)) ≡
-    items_seen l.shown.look.now l.shown.depth l.shown.side.now l.first 0 (place_of l.place) l.trees
+    join_rows (forest_of l.row) (items_seen l.shown.look.now l.shown.depth l.shown.side.now l.first l.index (place_on l.place) (drop l.index l.trees)) ≡
+    items_seen l.shown.look.now l.shown.depth l.shown.side.now l.first 0 (place_on l.place) l.trees
 
 abbrev pub decreases-view_within : goal.decreases-view_within
 decreases-view_within g l = l.levels
