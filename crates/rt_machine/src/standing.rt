@@ -33,6 +33,8 @@ fn copy_side<P: Parts>(alloc: Global, side: &Side<P>) -> Result<Side<P>, OutOfMe
     };
     Ok(Side {
         output,
+        nodes: side.nodes.share()?,
+        seats: side.seats.share()?,
         numbers: side.numbers.copy(alloc)?,
         children: side.children.copy(alloc)?,
     })

@@ -1,6 +1,7 @@
 pub mod Spots
 pub mod Nexts
 pub mod Agendas
+pub mod KeptLess
 pub mod Counted
 pub mod Onward
 pub mod Turns

@@ -1,15 +1,17 @@
 -- The child scopes at spots, one spot at a time; the way down to the scope that a removal takes first.
-use Rattle.std.proofs.Common.{ℕ, suc, true, false, List, [], ◌∷◌, ◌++◌, ◌≡◌, ◌+◌, ◌-◌, ◌<◌, ◌≤◌, length, refl, sym, ap, ◌∙◌, map, arith}
+use Rattle.std.proofs.Common.{ℕ, zero, suc, true, false, get_or, drop, append_assoc, List, [], ◌∷◌, ◌++◌, ◌≡◌, ◌+◌, ◌-◌, ◌<◌, ◌≤◌, length, refl, sym, ap, ◌∙◌, map, append-nil, arith}
 use Rattle.std.specs.Prelude.{Option, Some, None, if◌then◌else◌}
 use Rattle.std.specs.List.{slice_get}
+use Rattle.std.proofs.Math.ListN.{drop_of_length-le}
 use Rattle.rt_nodes.specs.declared.vnode.VComponent.{VComponent}
+use Rattle.rt_nodes.specs.declared.vnode.VNode.{VNode}
 use Rattle.rt_model.specs.OneLog.{types}
 use Rattle.rt_model.specs.Lists.{at}
 use Rattle.rt_model.specs.Tree as model
 use Rattle.rt_model.specs.Tree.{Place}
 use Rattle.rt_model.specs.State as state
 use Rattle.rt_model.specs.State.{is_live}
-use Rattle.rt_model.specs.Run.{child_at}
+use Rattle.rt_model.specs.Run.{child_at, spots_of}
 use Rattle.rt_model.specs.Boundary.{live_child, children_among, side_scopes}
 use Rattle.rt_model.specs.Removal.{children_below, first_leaf}
 use Rattle.rt_model.specs.Replay.{fed_child}
@@ -17,14 +19,33 @@ use Rattle.rt_places.specs.declared.spot.Spot.{Spot}
 use Rattle.rt_places.specs.declared.spot.Spot.TheVariants as spots
 use Rattle.rt_places.specs.declared.place.Kind as kinds
 use Rattle.rt_places.specs.declared.place.Step as steps
-use Rattle.rt_places.specs.declared.side.Child.{Child}
 use Rattle.rt_places.specs.declared.side.Side.{Side}
-use Rattle.rt_places.specs.Places.{place_of, child_of, spot_of, side_of}
-use Rattle.rt_work.specs.Found.{child_in, output_spots}
-use Rattle.rt_work.proofs.Founds.{output_is}
-use Rattle.rt_work.proofs.Agendas.{nil-right}
+use Rattle.rt_places.specs.Places.{output_of, place_of, spot_of, side_of}
+use Rattle.rt_places.specs.Sides.{child_in}
+use Rattle.rt_places.specs.Spots.{tree_spots}
 use Rattle.rt_calls.specs.Kept.{each}
 use Rattle.rt_scopes.specs.Sides.{child_here, children_at, fallback_scopes_in}
+
+next_suc : {A : Type 0} (xs : List A) (i : ℕ) (x : A) → i < length xs → x ≡ get_or xs i x → drop i xs ≡ x ∷ drop (suc i) xs
+next_suc [] i x low is = absurd (omega (arith, low))
+next_suc (y ∷ xs) zero x low is = ap (λ z. z ∷ xs) (sym is)
+next_suc (y ∷ xs) (suc i) x low is = next_suc xs i x (omega (arith, low)) is
+
+-- one more item
+pub one_more : {A B : Type 0} (given : List A → List B) (xs : List A) (i : ℕ) (x : A) (before after this whole : List B)
+    → i < length xs → x ≡ get_or xs i x
+    → given (x ∷ drop (i + 1) xs) ≡ this ++ given (drop (i + 1) xs)
+    → before ++ given (drop i xs) ≡ whole → after ≡ before ++ this → after ++ given (drop (i + 1) xs) ≡ whole
+one_more given xs i x before after this whole low is gives so_far one =
+    let next : drop i xs ≡ x ∷ drop (i + 1) xs = next_suc xs i x low is ∙ ap (λ n. x ∷ drop n xs) (let e : suc i ≡ i + 1 = omega arith in e) in
+    ap (λ ys. ys ++ given (drop (i + 1) xs)) one ∙ append_assoc before this (given (drop (i + 1) xs))
+    ∙ ap (λ ys. before ++ ys) (sym gives ∙ ap given (sym next)) ∙ so_far
+
+-- all items are done
+pub all_done : {A B : Type 0} (given : List A → List B) (xs : List A) (i : ℕ) (all whole : List B)
+    → length xs ≤ i → given [] ≡ [] → all ++ given (drop i xs) ≡ whole → all ≡ whole
+all_done given xs i all whole end none so_far =
+    sym (append-nil all) ∙ ap (λ ys. all ++ ys) (sym none ∙ ap given (sym (drop_of_length-le xs end))) ∙ so_far
 
 -- as many values as before
 pub length-each : {A B : Type 0} (f : A → B) (es : List (ℕ × A)) → length (each f es) ≡ length es
@@ -52,11 +73,11 @@ module _ {K : model.Types} where
   pub gone_passes : (w : state.State K) (s : ℕ) (o : Option ℕ) (before : List ℕ)
       → o ≡ Some s → is_live w s ≡ false → before ≡ before ++ live_child w o
   gone_passes w s o before there gone =
-      sym (nil-right before) ∙ ap (λ b. before ++ (if b then s ∷ [] else [])) (sym gone) ∙ ap (λ p. before ++ live_child w p) (sym there)
+      sym (append-nil before) ∙ ap (λ b. before ++ (if b then s ∷ [] else [])) (sym gone) ∙ ap (λ p. before ++ live_child w p) (sym there)
 
   -- where there is none, none joins
   pub none_joins : (w : state.State K) (o : Option ℕ) (before : List ℕ) → o ≡ None → before ≡ before ++ live_child w o
-  none_joins w o before none = sym (nil-right before) ∙ ap (λ p. before ++ live_child w p) (sym none)
+  none_joins w o before none = sym (append-nil before) ∙ ap (λ p. before ++ live_child w p) (sym none)
 
   -- the children of all sides
   pub none_below : (w : state.State K) (s : ℕ) (found : List ℕ) → at w.scopes s ≡ None → found ≡ [] → found ≡ children_below w (at w.scopes s)
@@ -118,38 +139,46 @@ module _ {K : model.Types} where
 module _ {P C Q V H T E L : Type 0} where
   -- the child at a place of a side
   pub fed_found : (w : state.State (types C Q V H T E L)) (s : ℕ) (name : state.SideName) (p : Place) (x : state.Scope (types C Q V H T E L)) (side : Side P C Q V H T E L)
-      → at w.scopes s ≡ Some x → side_of side ≡ state.side_of x name → child_in side.children p ≡ fed_child w s name p
+      → at w.scopes s ≡ Some x → side_of side ≡ state.side_of x name → child_in side p ≡ fed_child w s name p
   fed_found w s name p x side found is =
       ap (λ (a : state.Side (types C Q V H T E L)). child_at a.children p) is
       ∙ ap (λ (o : Option (state.Scope (types C Q V H T E L))). elim o as (λ _. Option ℕ) [ None ↦ None | Some y ↦ child_at (state.side_of y name).children p ]) (sym found)
 
   -- no child scope stands at a node
-  pub node_has_none : (w : state.State (types C Q V H T E L)) (children : List Child) (spot : Spot P C Q V H T E L) (own : List steps.Step) (kind : kinds.Kind)
-      → spot ≡ spots.Node own kind → child_here w children spot ≡ []
+  pub node_has_none : (w : state.State (types C Q V H T E L)) (side : Side P C Q V H T E L) (spot : Spot P C Q V H T E L) (own : List steps.Step) (kind : kinds.Kind)
+      → spot ≡ spots.Node own kind → child_here w side spot ≡ []
   unfolding child_here
-  node_has_none w children spot own kind is = ap (λ (x : Spot P C Q V H T E L). children_among w (map child_of children) (spot_of x ∷ [])) is
+  node_has_none w side spot own kind is = ap (λ (x : Spot P C Q V H T E L). children_among w (side_of side).children (spot_of x ∷ [])) is
 
   -- at a component its child does
-  pub component_has : (w : state.State (types C Q V H T E L)) (children : List Child) (spot : Spot P C Q V H T E L) (own : List steps.Step) (c : VComponent P C Q V H T E L)
-      → spot ≡ spots.Component own c → child_here w children spot ≡ live_child w (child_in children (place_of own))
+  pub component_has : (w : state.State (types C Q V H T E L)) (side : Side P C Q V H T E L) (spot : Spot P C Q V H T E L) (own : List steps.Step) (c : VComponent P C Q V H T E L)
+      → spot ≡ spots.Component own c → child_here w side spot ≡ live_child w (child_in side (place_of own))
   unfolding child_here
-  component_has w children spot own c is =
-      ap (λ (x : Spot P C Q V H T E L). children_among w (map child_of children) (spot_of x ∷ [])) is
-      ∙ nil-right (live_child w (child_at (map child_of children) (place_of own)))
+  component_has w side spot own c is =
+      ap (λ (x : Spot P C Q V H T E L). children_among w (side_of side).children (spot_of x ∷ [])) is
+      ∙ append-nil (live_child w (child_in side (place_of own)))
 
   -- the definitions find the same
-  pub children_are : (w : state.State (types C Q V H T E L)) (children : List Child) (xs : List (Spot P C Q V H T E L))
-      → children_at w children xs ≡ children_among w (map child_of children) (map spot_of xs)
+  pub children_are : (w : state.State (types C Q V H T E L)) (side : Side P C Q V H T E L) (xs : List (Spot P C Q V H T E L))
+      → children_at w side xs ≡ children_among w (side_of side).children (map spot_of xs)
   unfolding child_here
-  children_are w children [] = refl
-  children_are w children (spots.Node own kind ∷ xs) = children_are w children xs
-  children_are w children (spots.Component own c ∷ xs) =
-      ap (λ ys. (live_child w (child_at (map child_of children) (place_of own)) ++ []) ++ ys) (children_are w children xs)
-      ∙ ap (λ zs. zs ++ children_among w (map child_of children) (map spot_of xs)) (nil-right (live_child w (child_at (map child_of children) (place_of own))))
+  children_are w side [] = refl
+  children_are w side (spots.Node own kind ∷ xs) = children_are w side xs
+  children_are w side (spots.Component own c ∷ xs) =
+      ap (λ ys. (live_child w (child_in side (place_of own)) ++ []) ++ ys) (children_are w side xs)
+      ∙ ap (λ zs. zs ++ children_among w (side_of side).children (map spot_of xs)) (append-nil (live_child w (child_in side (place_of own))))
+
+  -- the spots of a tree that is kept
+  output_is : (o : Option (VNode P C Q V H T E L)) (tree : VNode P C Q V H T E L) → o ≡ Some tree → tree_spots [] tree ≡ spots_of (output_of o)
+  unfolding tree_spots
+  output_is o tree some = ap (λ (p : Option (VNode P C Q V H T E L)). spots_of (output_of p)) (sym some)
 
   -- those of a side
-  pub side_is : (w : state.State (types C Q V H T E L)) (side : Side P C Q V H T E L) (found : List (Spot P C Q V H T E L)) → map spot_of found ≡ output_spots side.output
-      → children_at w side.children found ≡ side_scopes w (side_of side)
-  side_is w side found is =
-      children_are w side.children found
-      ∙ ap (children_among w (map child_of side.children)) (is ∙ output_is side.output)
+  pub side_is : (w : state.State (types C Q V H T E L)) (side : Side P C Q V H T E L) (tree : VNode P C Q V H T E L) (found : List (Spot P C Q V H T E L)) → side.output ≡ Some tree
+      → map spot_of found ≡ tree_spots [] tree → children_at w side found ≡ side_scopes w (side_of side)
+  side_is w side tree found some is =
+      children_are w side found ∙ ap (children_among w (side_of side).children) (is ∙ output_is side.output tree some)
+
+  -- a side without a tree has none
+  pub side_none : (w : state.State (types C Q V H T E L)) (side : Side P C Q V H T E L) → side.output ≡ None → [] ≡ side_scopes w (side_of side)
+  side_none w side none = ap (λ (o : Option (VNode P C Q V H T E L)). children_among w (side_of side).children (spots_of (output_of o))) (sym none)

@@ -1,23 +1,24 @@
 //! A tree becomes the output of a side, and what that leads to.
-ghost use Rattle.std.specs.Prelude.{◌≡◌, ◌++◌, IfOk, map};
+ghost use Rattle.std.specs.Prelude.{◌≡◌, ◌++◌, IfOk};
 ghost use Rattle.rt_model.specs.OneLog.{types};
 ghost use Rattle.rt_model.specs.World.{Application};
 ghost use Rattle.rt_model.specs.Laws.{Tests};
 ghost use Rattle.rt_model.specs.State.{Done};
 ghost use Rattle.rt_model.specs.Run.{start_agenda as agenda_started};
 ghost use Rattle.rt_mirror.specs.Sealed.{tree_of};
-ghost use Rattle.rt_places.specs.Places.{number_of, side_name_of};
+ghost use Rattle.rt_places.specs.Places.{side_name_of, side_of as side_in};
 ghost use Rattle.rt_named.specs.Standings.{IsPicked};
 ghost use Rattle.rt_work.specs.Items.{work_of};
+ghost use Rattle.rt_state.specs.Drawn.{numbers_at, numbers_in};
 ghost use Rattle.rt_state.specs.Mirror.{state_of};
 ghost use Rattle.rt_scopes.specs.Agendas.{Patches};
 
 use rt_nodes::VNode;
 use rt_parts::Parts;
-use rt_places::{Side, SideName, spots};
+use rt_places::{Nodes, Seats, Side, SideName};
 use rt_state::{State, side_of};
 use rt_values::{List, OutOfMemory};
-use rt_work::{Item, drops_of, kept_children, kept_numbers, serves, spots_of};
+use rt_work::{Item, Patched, walk_both};
 use std::alloc::Global;
 
 /// A tree becomes the kept output of a side of a live scope, which keeps the numbers and children
@@ -38,13 +39,13 @@ pub fn start_agenda<P: Parts>(
     let Some(found) = state.scope(scope) else {
         return Ok(List::new(alloc));
     };
-    let (work, side) = patched(alloc, scope, name, tree, side_of(found, name))?;
+    let (work, side) = patched_side(alloc, scope, name, tree, side_of(found, name))?;
     state.put_side(scope, name, side);
     Ok(work)
 }
 
 /// The agenda of a tree on a side of a scope, and the side with that tree.
-fn patched<P: Parts>(
+fn patched_side<P: Parts>(
     alloc: Global,
     scope: u64,
     name: SideName,
@@ -53,22 +54,40 @@ fn patched<P: Parts>(
 ) -> Result<(List<Item<P>>, Side<P>), OutOfMemory>
     ensures patches { IfOk result (λ pair. Patches scope name tree was.now pair.0 pair.1) }
     ensures fewer { IfOk result (λ pair.
-        IsPicked (map number_of pair.1.numbers) (map number_of was.now.numbers)) }
+        IsPicked (side_in pair.1).numbers (side_in was.now).numbers) }
+    ensures known { IfOk result (λ pair.
+        numbers_at pair.1.nodes pair.1.numbers ≡ numbers_in pair.1.numbers) }
 {
-    let found = spots(alloc, &tree)?;
-    let kept = spots_of(alloc, &was.output)?;
-    let (new, old) = (found.as_slice(), kept.as_slice());
-    let mut work = serves(alloc, scope, name, old, new)?;
-    let drops = drops_of(alloc, scope, name, new, &was.children, old)?;
-    work.append(drops)?;
-    let numbers = kept_numbers(alloc, new, was.numbers.as_slice())?;
-    let children = kept_children(alloc, old, new, was.children.as_slice())?;
-    Ok((
-        work,
-        Side {
-            output: Some(tree),
-            numbers,
-            children,
-        },
-    ))
+    let Patched {
+        work: served,
+        drops,
+        nodes,
+        seats,
+        nodes_to,
+        seats_to,
+    } = walk_both(alloc, scope, name, was, &tree)?;
+    let numbers = was.numbers.moved(alloc, nodes_to.as_slice())?;
+    let children = was.children.moved(alloc, seats_to.as_slice())?;
+    let nodes = Nodes::from_list(alloc, nodes)?;
+    let seats = Seats::from_list(alloc, seats)?;
+    let work = then_dropped(served, drops)?;
+    let side = Side {
+        output: Some(tree),
+        nodes,
+        seats,
+        numbers,
+        children,
+    };
+    Ok((work, side))
+}
+
+/// What is served, and behind it what is dropped.
+fn then_dropped<P: Parts>(
+    mut served: List<Item<P>>,
+    dropped: List<Item<P>>,
+) -> Result<List<Item<P>>, OutOfMemory>
+    ensures { IfOk result (λ all. all ≡ served ++ dropped) }
+{
+    served.append(dropped)?;
+    Ok(served)
 }

@@ -9,12 +9,10 @@ ghost use Rattle.rt_places.specs.Places.{place_of, side_name_of, side_of};
 ghost use Rattle.rt_state.specs.Mirror.{state_of};
 ghost use Rattle.rt_scopes.specs.Sides.{child_here, fallback_scopes_in};
 
-use rt_calls::Scope;
 use rt_parts::Parts;
-use rt_places::{Children, Side, SideName, Spot, Step};
+use rt_places::{Side, SideName, Spot, Step, spots};
 use rt_state::{State, side_of};
 use rt_values::{List, OutOfMemory};
-use rt_work::{child_at, spots_of};
 use std::alloc::Global;
 
 /// The live child scopes of a side, in tree order.
@@ -27,9 +25,12 @@ pub fn side_scopes<P: Parts>(
         scopes ≡ scopes_on (state_of g state.now) (side_of side.now)) }
 {
     let mut scopes = List::new(alloc);
-    let spots = spots_of(alloc, &side.output)?;
+    let Some(tree) = &side.output else {
+        return Ok(scopes);
+    };
+    let spots = spots(alloc, tree)?;
     for spot in spots.as_slice() {
-        add_child(state, &side.children, spot, &mut scopes)?;
+        add_child(state, side, spot, &mut scopes)?;
     }
     Ok(scopes)
 }
@@ -37,17 +38,17 @@ pub fn side_scopes<P: Parts>(
 /// Puts the child scope at a spot after these, where one is live there.
 fn add_child<P: Parts>(
     state: &State<P>,
-    children: &Children,
+    side: &Side<P>,
     spot: &Spot<P>,
     scopes: &mut List<u64>,
 ) -> Result<(), OutOfMemory>
     ensures { OnOk result ((g : _) → scopes.new
-        ≡ scopes.old ++ child_here (state_of g state.now) children.now spot.now) }
+        ≡ scopes.old ++ child_here (state_of g state.now) side.now spot.now) }
 {
     match spot {
         Spot::Node { .. } => Ok(()),
         Spot::Component { place, .. } => {
-            add_live(state, child_at(children, place.as_slice()), scopes)
+            add_live(state, side.child_at(place.as_slice()), scopes)
         }
     }
 }
@@ -124,7 +125,7 @@ pub fn fed_child<P: Parts>(
         ≡ child_fed (state_of g state.now) scope (side_name_of side) (place_of place.now) }
 {
     match state.scope(scope) {
-        Some(found) => child_at(&side_of(found, side).children, place),
+        Some(found) => side_of(found, side).child_at(place),
         None => None,
     }
 }

@@ -8,7 +8,8 @@ use Rattle.rt_work.specs.Items.{work_of}
 use Rattle.rt_calls.specs.Kept.{scope_of}
 use Rattle.rt_state.specs.Mirror.{state_of}
 use Rattle.rt_state.proofs.Each.{found-each}
-use Rattle.rt_scopes.proofs.Agendas.{begins, fewer_on, not_started}
+use Rattle.rt_scopes.proofs.Agendas.{begins, not_started}
+use Rattle.rt_scopes.proofs.KeptLess.{fewer_on}
 use Rattle.rt_scopes.proofs.agenda.start_agenda.Goals as goal
 
 pub returns-in_default : goal.returns-in_default
@@ -24,4 +25,7 @@ returns g c = λ app tests kept.
 
 pub put_side-requires : goal.put_side-requires
 put_side-requires g c =
-    record { fewer = λ x live. fewer_on c.args.name c.in-Some.found.now x c.side_of.result.now (c.in-Some.ensures ∙ live) c.side_of.ensures c.in_ok-work.ensures.fewer }
+    record {
+      fewer = λ x live. fewer_on c.args.name c.in-Some.found.now x c.side_of.result.now (c.in-Some.ensures ∙ live) c.side_of.ensures c.in_ok-work.ensures.fewer;
+      known = c.in_ok-work.ensures.known;
+    }

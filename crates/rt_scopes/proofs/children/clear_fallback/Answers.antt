@@ -1,12 +1,17 @@
 -- A side on which nothing was rendered.
-use Rattle.std.proofs.Common.{ap, [], ◌∙◌}
-use Rattle.rt_model.specs.State as state
+use Rattle.std.proofs.Common.{ap, sym, [], ◌∙◌}
 use Rattle.rt_model.specs.State.{change}
+use Rattle.rt_state.specs.Drawn.{numbers_at, numbers_in}
 use Rattle.rt_state.specs.Mirror.{state_of}
 use Rattle.rt_scopes.proofs.children.clear_fallback.Goals as goal
 
 pub put_side-requires : goal.put_side-requires
-put_side-requires g c = record { fewer = λ x live. record { marks = []; same = ap (λ a. a.numbers) c.empty.ensures } }
+put_side-requires g c =
+    record {
+      fewer = λ x live. record { marks = []; same = ap (λ a. a.numbers) c.empty.ensures.none };
+      known = ap (λ a. numbers_at a.nodes a.numbers) c.empty.ensures.bare ∙ sym (ap (λ a. numbers_in a.numbers) c.empty.ensures.bare);
+    }
 
 pub returns : goal.returns
-returns g c = λ kept. c.put_side.ensures.put kept ∙ ap (λ a. change (state_of kept c.args.state.now) c.args.boundary (λ x. record x { fallback_side = a })) c.empty.ensures
+returns g c = λ kept.
+    c.put_side.ensures.put kept ∙ ap (λ a. change (state_of kept c.args.state.now) c.args.boundary (λ x. record x { fallback_side = a })) c.empty.ensures.none

@@ -7,5 +7,5 @@ use Rattle.rt_scopes.proofs.children.side_scopes.Given as goal
 abbrev pub invariant-loop-spot : goal.invariant-loop-spot
 invariant-loop-spot g l =
     (kept : _)
-    → l.scopes ++ children_at (state_of kept l.state) l.side.children (drop l.spot-index l.spot-items)
-    ≡ children_at (state_of kept l.state) l.side.children l.spot-items
+    → l.scopes ++ children_at (state_of kept l.state) l.side (drop l.spot-index l.spot-items)
+    ≡ children_at (state_of kept l.state) l.side l.spot-items

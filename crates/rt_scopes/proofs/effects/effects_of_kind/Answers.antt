@@ -1,7 +1,7 @@
 -- One more hook.
 use Rattle.std.proofs.Common.{refl}
-use Rattle.rt_work.proofs.Agendas.{one_more, all_done}
 use Rattle.rt_scopes.specs.Hooks.{effect_in, effects_in}
+use Rattle.rt_scopes.proofs.Spots.{all_done, one_more}
 use Rattle.rt_scopes.proofs.effects.effects_of_kind.Goals as goal
 
 pub loop-hook-preserved : goal.loop-hook-preserved

@@ -1,0 +1,94 @@
+-- What is drawn for a side that was patched was drawn for it before, each number at a node that it knows.
+use Rattle.std.proofs.Common.{◌≡◌, ℕ, true, false, List, [], ◌∷◌, map, get_or, refl, sym, ap, subst, ◌∙◌}
+use Rattle.std.specs.Prelude.{Option, Some, None, slice_get}
+use Rattle.rt_model.specs.OneLog.{types}
+use Rattle.rt_model.specs.State as state
+use Rattle.rt_model.specs.Tree.{Place, Kind}
+use Rattle.rt_calls.specs.Kept.{scope_of}
+use Rattle.rt_calls.specs.declared.rest.Scope.{Scope}
+use Rattle.rt_named.specs.Standings.{IsPicked, picked}
+use Rattle.rt_named.proofs.Around.{numbers_drawn}
+use Rattle.rt_places.specs.declared.nodes.NodeAt.{NodeAt}
+use Rattle.rt_places.specs.declared.side.Side.{Side}
+use Rattle.rt_places.specs.declared.side.SideName.{SideName}
+use Rattle.rt_places.specs.Drawn.{moved}
+use Rattle.rt_places.specs.Places.{node_of, placed, side_name_of, side_of}
+use Rattle.rt_places.proofs.Placed.{by_option, placed_none, placed_one}
+use Rattle.rt_work.specs.Goes.{NodesGo}
+use Rattle.rt_state.specs.Drawn.{numbers_at, numbers_in}
+use Rattle.rt_state.proofs.Placed.{numbers_are}
+
+-- a number whose index goes to another one, or nowhere
+moves_to : (to : List (Option ℕ)) (e : ℕ × ℕ) (es : List (ℕ × ℕ)) (o : Option ℕ) → get_or to e.0 None ≡ o
+    → moved to (e ∷ es) ≡ (elim o as (λ _. List (ℕ × ℕ)) [ None ↦ moved to es | Some j ↦ (j, e.1) ∷ moved to es ])
+moves_to to e es o h = ap (λ (p : Option ℕ). elim p as (λ _. List (ℕ × ℕ)) [ None ↦ moved to es | Some j ↦ (j, e.1) ∷ moved to es ]) h
+
+module _ (olds news : List (Place × Kind)) (to : List (Option ℕ)) (go : NodesGo olds news to) where
+  -- what moves was there
+  pub moved_picked : (es : List (ℕ × ℕ)) → IsPicked (placed news (moved to es)) (placed olds es)
+  moved_picked [] = record { marks = []; same = refl }
+  moved_picked (e ∷ es) =
+      let rest = moved_picked es in
+      by_option (get_or to e.0 None)
+      (
+      λ none.
+      let left : placed news (moved to (e ∷ es)) ≡ picked rest.marks (placed olds es) = ap (λ (xs : List (ℕ × ℕ)). placed news xs) (moves_to to e es None none) ∙ rest.same in
+      by_option (slice_get olds e.0)
+      (λ gone. record { marks = rest.marks; same = left ∙ ap (λ (ys : List (Place × Kind × ℕ)). picked rest.marks ys) (sym (placed_none olds e.0 e.1 es gone)) })
+      (λ q is. record { marks = false ∷ rest.marks; same = left ∙ ap (λ (ys : List (Place × Kind × ℕ)). picked (false ∷ rest.marks) ys) (sym (placed_one olds e.0 e.1 es q is)) })
+      )
+      (
+      λ j some.
+      let there = go.stands e.0 j some in
+      record {
+        marks = true ∷ rest.marks;
+        same =
+            ap (λ (xs : List (ℕ × ℕ)). placed news xs) (moves_to to e es (Some j) some)
+            ∙ placed_one news j e.1 (moved to es) there.0 there.2
+            ∙ ap (λ (ys : List (Place × Kind × ℕ)). (there.0.0, there.0.1, e.1) ∷ ys) rest.same
+            ∙ ap (λ (ys : List (Place × Kind × ℕ)). picked (true ∷ rest.marks) ys) (sym (placed_one olds e.0 e.1 es there.0 there.1));
+      }
+      )
+
+  -- each number that moves stands at a node
+  pub moved_known : (es : List (ℕ × ℕ)) → numbers_drawn (placed news (moved to es)) ≡ numbers_in (moved to es)
+  moved_known [] = refl
+  moved_known (e ∷ es) =
+      by_option (get_or to e.0 None)
+      (
+      λ none.
+      ap (λ (xs : List (ℕ × ℕ)). numbers_drawn (placed news xs)) (moves_to to e es None none)
+      ∙ moved_known es
+      ∙ sym (ap (λ (xs : List (ℕ × ℕ)). numbers_in xs) (moves_to to e es None none))
+      )
+      (
+      λ j some.
+      let there = go.stands e.0 j some in
+      ap (λ (xs : List (ℕ × ℕ)). numbers_drawn (placed news xs)) (moves_to to e es (Some j) some)
+      ∙ ap (λ (ns : List (Place × Kind × ℕ)). numbers_drawn ns) (placed_one news j e.1 (moved to es) there.0 there.2)
+      ∙ ap (λ (ns : List ℕ). e.1 ∷ ns) (moved_known es)
+      ∙ sym (ap (λ (xs : List (ℕ × ℕ)). numbers_in xs) (moves_to to e es (Some j) some))
+      )
+
+module _ {P C Q V H T E L : Type 0} where
+  -- the numbers of a side that moved to other nodes
+  pub side_picked : (was : Side P C Q V H T E L) (nodes found : List NodeAt) (numbers : List (ℕ × ℕ)) (to : List (Option ℕ)) → NodesGo (map node_of was.nodes) (map node_of found) to
+      → nodes ≡ found → numbers ≡ moved to was.numbers → IsPicked (placed (map node_of nodes) numbers) (side_of was).numbers
+  side_picked was nodes found numbers to go nodes_are numbers_is =
+      let all = moved_picked (map node_of was.nodes) (map node_of found) to go was.numbers in
+      record { marks = all.marks; same = (λ i. placed (map node_of (nodes_are i)) (numbers_is i)) ∙ all.same }
+
+  pub side_known : (was : Side P C Q V H T E L) (nodes found : List NodeAt) (numbers : List (ℕ × ℕ)) (to : List (Option ℕ)) → NodesGo (map node_of was.nodes) (map node_of found) to
+      → nodes ≡ found → numbers ≡ moved to was.numbers → numbers_at nodes numbers ≡ numbers_in numbers
+  side_known was nodes found numbers to go nodes_are numbers_is =
+      sym (numbers_are nodes numbers)
+      ∙ (λ i. numbers_drawn (placed (map node_of (nodes_are i)) (numbers_is i)))
+      ∙ moved_known (map node_of was.nodes) (map node_of found) to go was.numbers
+      ∙ sym (ap (λ (xs : List (ℕ × ℕ)). numbers_in xs) numbers_is)
+
+  -- the side that was found is that of the scope in the table
+  pub fewer_on : (name : SideName) (found x : Scope P C Q V H T E L) (was : Side P C Q V H T E L) {few : List (Place × Kind × ℕ)} → Some found ≡ Some x
+      → side_of was ≡ state.side_of (scope_of found) (side_name_of name) → IsPicked few (side_of was).numbers → IsPicked few (state.side_of (scope_of x) (side_name_of name)).numbers
+  fewer_on name found x was {few} same is h =
+      let one : found ≡ x = ap (λ (o : Option (Scope P C Q V H T E L)). elim o as (λ _. Scope P C Q V H T E L) [ None ↦ found | Some y ↦ y ]) same in
+      subst (λ (y : Scope P C Q V H T E L). IsPicked few (state.side_of (scope_of y) (side_name_of name)).numbers) one (subst (λ (a : state.Side (types C Q V H T E L)). IsPicked few a.numbers) is h)
