@@ -201,6 +201,7 @@ module _ {P C Q V H T E L : Type 0} (app : Application (types C Q V H T E L)) (l
               edits_are = refl;
               all = sym (append-nil h.wrote);
             };
+        stepped = λ units is. h.stepped;
         spent =
             λ units is. (
               passed_shows app lawful limits props w (map edit_of h.wrote) h.left h.led h.shows,
@@ -257,6 +258,7 @@ module _ {P C Q V H T E L : Type 0} (app : Application (types C Q V H T E L)) (l
                   edits_are = u.edits_are;
                   all = refl;
                 };
+            stepped = λ units out. turns units out;
             spent = λ units out. turns units out;
           }
 

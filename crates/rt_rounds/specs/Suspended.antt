@@ -66,7 +66,7 @@ module _ {C Q V H T E L : Type 0} (app : Application (types C Q V H T E L)) (lim
     pub shows : document_after (map edit_of done) (view w) ≡ Ok (view left)
 
   -- what a sink took of one that came to a fault: the edits of the units that were finished, and those of the one that was cut up to
-  -- where it is refused; where units were spent none was cut
+  -- where it is refused
   pub record TakenUpTo (log : List replay.Entry) (wrote : List Edit) : Type 0 where
     pub earlier : List replay.Entry
     pub unit : List replay.Entry
@@ -118,7 +118,9 @@ module _ {P C Q V H T E L : Type 0} (app : Application (types C Q V H T E L)) (l
     pub goes : renders_within app limits (Some (resting w)) log ≡ Some last
     pub cause : rendering_refusal app limits last ≡ Some fault
     pub taken : TakenUpTo app limits w log wrote
-    -- where units were spent the machine rests, with what is owed
+    -- where units were spent none was cut: unit by unit, with their edits
+    pub stepped : (units : ℕ) → fault ≡ model.OutOfTurns units → Stepped app limits w log (map edit_of wrote) last.state
+    -- and the machine rests, with what is owed
     pub spent : (units : ℕ) → fault ≡ model.OutOfTurns units
         → (document_after (map edit_of wrote) (view w) ≡ Ok (view (rendering_rest last.state)))
         × LedTo app limits props false (rendering_rest last.state)

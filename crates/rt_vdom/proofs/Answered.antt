@@ -197,13 +197,15 @@ module _ {P C Q V H T E L : Type 0} (meaning : P → Application (types C Q V H 
 
   pub polled_from : (props : Q) (w : model.State (types C Q V H T E L)) (drained : Drained) (new : VirtualDom P C Q V H T E L)
       (answer : Poll (Unit {0}))
+      → view (taken_in w drained) ≡ view w
       → PolledFrom meaning props (taken_in w drained) new
       → ((g : Unkept (types C Q V H T E L))
       → answer ≡ answers (sees_none (StateIn g new).seen && suspended_remains (StateIn g new).tasks && drained.emptied))
       → PolledSuspended meaning props w drained answer new
-  polled_from props w drained new answer p waits =
+  polled_from props w drained new answer same p waits =
       record {
         polled = p;
+        shows = p.shows ∙ same;
         answers_as =
             waits p.stands.kept
             ∙ ap (λ (x : model.State (types C Q V H T E L)). answers (sees_none x.seen && suspended_remains x.tasks && drained.emptied))

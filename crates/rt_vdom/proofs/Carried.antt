@@ -16,7 +16,7 @@ use Rattle.rt_doms.specs.Carries.{AllDrawn, CarriesOn}
 use Rattle.rt_doms.proofs.Carried.{asides_draw_none, calls_carry_anew, renders_carry_anew, suspended_carry_anew, still_drawn}
 use Rattle.rt_doms.proofs.Doms.{units_lead}
 use Rattle.rt_rounds.specs.Rounds.{RanBy}
-use Rattle.rt_rounds.specs.Steps.{Step, StepsTold, UnitFrom}
+use Rattle.rt_rounds.specs.Steps.{Step, Stepped, StepsTold, UnitFrom}
 use Rattle.rt_rounds.specs.Suspended.{RendersTo}
 use Rattle.rt_vdom.specs.Carried.{StepsCarry, StepsCarryOn}
 
@@ -52,16 +52,21 @@ module _ {K : Types} (app : Application K) (lawful : IsLawful K app) (limits : L
         subst (λ (es : List document.Edit). AllDrawn v es) (append_assoc before s.edits (joined (map (λ (x : Step K). x.edits) steps))) rest.1,
       )
 
+  -- units of a render while suspended that were finished, and what is passed over after them
+  pub stepped_carry : (w v : model.State K) (log : List replay.Entry) (edits : List document.Edit) → LedTo app limits props false w
+      → (stepped : Stepped app limits w log edits v)
+      → StepsCarryOn app w stepped.steps edits (rendering_rest v)
+  stepped_carry w v log edits led stepped before drawn =
+      let far = steps_carry w v stepped.steps led stepped.told before drawn in
+      let all : AllDrawn v (before ++ edits) =
+      subst (λ (es : List document.Edit). AllDrawn v (before ++ es)) (sym stepped.edits_are) far.1 in
+      (far.0, still_drawn v (rendering_rest v) (before ++ edits) (asides_draw_none app lawful v Passed tt) all)
+
   -- a render while suspended that ended
   pub rendered_carries : (w left : model.State K) (log : List replay.Entry) (edits : List document.Edit) → LedTo app limits props false w
       → (went : RendersTo app limits w log edits left)
       → StepsCarryOn app w ((went.stepped).steps) edits (nothing_resolved left)
   rendered_carries w left log edits led went before drawn =
-      let stepped = went.stepped in
-      let far = steps_carry w (went.last).state stepped.steps led stepped.told before drawn in
-      let all : AllDrawn (went.last).state (before ++ edits) =
-      subst (λ (es : List document.Edit). AllDrawn (went.last).state (before ++ es)) (sym stepped.edits_are) far.1 in
-      let passed : AllDrawn (rendering_rest (went.last).state) (before ++ edits) =
-      still_drawn (went.last).state (rendering_rest (went.last).state) (before ++ edits) (asides_draw_none app lawful (went.last).state Passed tt) all in
-      let there : AllDrawn left (before ++ edits) = subst (λ (x : model.State K). AllDrawn x (before ++ edits)) went.rest passed in
+      let far = stepped_carry w (went.last).state log edits led went.stepped before drawn in
+      let there : AllDrawn left (before ++ edits) = subst (λ (x : model.State K). AllDrawn x (before ++ edits)) went.rest far.1 in
       (far.0, still_drawn left (nothing_resolved left) (before ++ edits) (asides_draw_none app lawful left Answered tt) there)

@@ -11,10 +11,12 @@ use Rattle.rt_model.proofs.Maps.{pick_true, pick_false}
 use Rattle.rt_model.specs.OneLog.{types}
 use Rattle.rt_model.specs.World.{Application}
 use Rattle.rt_model.specs.Laws.{IsLawful, IsNumbered}
+use Rattle.rt_model.specs.View.{view}
 use Rattle.rt_model.specs.State as model
 use Rattle.rt_model.specs.State.{is_live}
 use Rattle.rt_model.specs.Asides.{Aside, PassesNone, Allowed, aside_state}
 use Rattle.rt_doms.specs.Doms.{AsidesLead, LedTo}
+use Rattle.rt_doms.proofs.Muted.{asides_show_nothing}
 use Rattle.rt_reports.specs.Seen.{limits_of}
 use Rattle.rt_state.specs.Mirror.{Unkept, at_first, state_of}
 use Rattle.rt_state.proofs.Each.{some-mapped}
@@ -29,7 +31,7 @@ module _ {P C Q V H T E L : Type 0} where
   with_state d s = record d { machine = record (d.machine) { scopes = record ((d.machine).scopes) { state = s } } }
 
 module _ {P C Q V H T E L : Type 0} (meaning : P → Application (types C Q V H T E L)) where
-  -- the state that it stands for goes on by what a program asked
+  -- the state that it stands for goes on by what a program asked, and nothing new shows
   pub stands_on :
       (a : Aside (types C Q V H T E L)) (change : model.State (types C Q V H T E L) → model.State (types C Q V H T E L))
       (d : VirtualDom P C Q V H T E L) (s : State P C Q V H T E L) (props : Q) (whole : Bool) (w : model.State (types C Q V H T E L))
@@ -40,18 +42,32 @@ module _ {P C Q V H T E L : Type 0} (meaning : P → Application (types C Q V H 
       → change w ≡ aside_state (meaning d.app) w a
       → ((g : Unkept (types C Q V H T E L)) → state_of g s ≡ change (StateIn g d))
       → Stands meaning props whole w d
-      → Stands meaning props whole (change w) (with_state d s)
-  stands_on a change d s props whole w leads passes lawful allowed same is st =
-      record {
-        built = st.built;
-        idle = record { work = st.idle.work; hearing = st.idle.hearing; first = st.idle.first; course = st.idle.course };
-        kept = st.kept;
-        is = is st.kept ∙ ap change st.is;
-        counted = st.counted;
-        led =
-            subst (λ (x : model.State (types C Q V H T E L)). LedTo (meaning d.app) (limits_of d.limits) props whole x) (sym same)
-            (leads lawful w a st.led allowed (inl passes));
-      }
+      → Stands meaning props whole (change w) (with_state d s) × (view (change w) ≡ view w)
+  stands_on a change d s props whole w leads passes lawful allowed same is st = (
+    record {
+      built = st.built;
+      idle = record { work = st.idle.work; hearing = st.idle.hearing; first = st.idle.first; course = st.idle.course };
+      kept = st.kept;
+      is = is st.kept ∙ ap change st.is;
+      counted = st.counted;
+      led =
+          subst (λ (x : model.State (types C Q V H T E L)). LedTo (meaning d.app) (limits_of d.limits) props whole x) (sym same)
+          (leads lawful w a st.led allowed (inl passes));
+    },
+    ap (λ (x : model.State (types C Q V H T E L)). view x) same
+        ∙ asides_show_nothing (meaning d.app) lawful (limits_of d.limits) props whole w a st.led allowed (inl passes),
+  )
+
+  -- where nothing was done, too
+  pub stands_still :
+      (d : VirtualDom P C Q V H T E L) (props : Q) (whole : Bool) (w v : model.State (types C Q V H T E L))
+      → v ≡ w
+      → Stands meaning props whole w d
+      → Stands meaning props whole v d × (view v ≡ view w)
+  stands_still d props whole w v same st = (
+    subst (λ (x : model.State (types C Q V H T E L)). Stands meaning props whole x d) (sym same) st,
+    ap (λ (x : model.State (types C Q V H T E L)). view x) same,
+  )
 
 module _ {K : Types} where
   -- a task that is spawned in a live scope, and in one that isn't

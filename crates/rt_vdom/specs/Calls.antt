@@ -149,15 +149,16 @@ module _ {P C Q V H T E L : Type 0} where
       ((g : Unkept (types C Q V H T E L)) → is_live (StateIn g old) scope ≡ true) × WantsNumber counters.Tasks (NextIn old).tasks fault
 
 module _ {P C Q V H T E L : Type 0} (meaning : P → Application (types C Q V H T E L)) where
-  -- a call that logs no entry: a dom that stands for a state stands for another one after it
+  -- a call that logs no entry: a dom that stands for a state stands for another one after it, in which nothing new shows
   abbrev pub Does :
       {A : Type 0} → (model.State (types C Q V H T E L) → model.State (types C Q V H T E L)) → VirtualDom P C Q V H T E L
       → VirtualDom P C Q V H T E L → Result A DomFault → Type 0
   Does change old new result =
       (props : Q) (whole : Bool) (w : model.State (types C Q V H T E L)) → Stands meaning props whole w old
-      → OnOk result (Stands meaning props whole (change w) new)
+      → OnOk result (Stands meaning props whole (change w) new × (view (change w) ≡ view w))
 
-  -- the root wrapper provides a value of a kind, at whatever stage; a built dom stands for the state after that
+  -- the root wrapper provides a value of a kind, at whatever stage; a built dom stands for the state after that, in which nothing new
+  -- shows
   pub record ProvidesAtRoot (kind : ℕ) (value : V) (old new : VirtualDom P C Q V H T E L) : Type 0 where
     pub state : (g : Unkept (types C Q V H T E L)) → StateIn g new ≡ provide_context (meaning old.app) (StateIn g old) 0 kind value
     pub stage : new.stage ≡ old.stage
@@ -168,6 +169,7 @@ module _ {P C Q V H T E L : Type 0} (meaning : P → Application (types C Q V H 
     pub stands :
         (props : Q) (whole : Bool) (w : model.State (types C Q V H T E L)) → Stands meaning props whole w old
         → Stands meaning props whole (provide_context (meaning old.app) w 0 kind value) new
+        × (view (provide_context (meaning old.app) w 0 kind value) ≡ view w)
 
   -- a task was polled at once, where it is live and active; no look followed. Ready where it isn't live, pending where it is paused,
   -- else as its state answered

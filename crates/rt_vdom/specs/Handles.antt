@@ -113,10 +113,13 @@ module _ {P C Q V H T E L : Type 0} (meaning : P → Application (types C Q V H 
     pub carries : StepsCarryOn (meaning d.app) w ((went.stepped).steps) (map edit_of wrote) (nothing_resolved left)
     pub stands : Stands meaning props false (nothing_resolved left) d
 
-  -- it came to a fault; where units were spent the dom stands for what is left
+  -- it came to a fault; where units were spent its edits carry what those of a render that ended carry, and the dom stands for what is
+  -- left
   pub record RenderCut (props : Q) (w : model.State (types C Q V H T E L)) (before after : Option (List Edit))
       (d : VirtualDom P C Q V H T E L) (fault : model.Fault) : Type 0 where
     pub cut : RenderCutOn (meaning d.app) (limits_of d.limits) w props before after fault d.machine d.calls
+    pub carries : (units : ℕ) (out : fault ≡ model.OutOfTurns units)
+        → StepsCarryOn (meaning d.app) w ((cut.stepped units out).steps) (map edit_of cut.wrote) (rendering_rest (cut.last).state)
     pub stands : (units : ℕ) → fault ≡ model.OutOfTurns units → Stands meaning props false (rendering_rest (cut.last).state) d
 
   -- by what is answered
@@ -168,11 +171,12 @@ module _ {P C Q V H T E L : Type 0} (meaning : P → Application (types C Q V H 
       (props : Q) (whole : Bool) (w : model.State (types C Q V H T E L)) → Stands meaning props whole w old
       → PollsOnAs props w new result
 
-  -- messages were taken in and suspended work polled: pending exactly where no scope is seen then, a suspended task remains, and
-  -- no message was left to drain
+  -- messages were taken in and suspended work polled: nothing new shows; pending exactly where no scope is seen then, a suspended task
+  -- remains, and no message was left to drain
   pub record PolledSuspended (props : Q) (w : model.State (types C Q V H T E L)) (drained : Drained)
       (answer : Poll (Unit {0})) (d : VirtualDom P C Q V H T E L) : Type 0 where
     pub polled : PolledFrom props (taken_in w drained) d
+    pub shows : view polled.left ≡ view w
     pub answers_as :
         answer ≡ answers (sees_none (polled.left).seen && suspended_remains (polled.left).tasks && drained.emptied)
 

@@ -23,15 +23,16 @@ returns-in_err-poll_suspended-in-Built-clause-polls g c =
     λ props whole w s.
     polls_err (λ app. g.A.App.meaning app) props w c.args.drained.now c.poll_suspended.new.self _
     (c.in_err-poll_suspended-in-Built.ensures.polls props whole (taken_in w c.args.drained.now)
-    (c.in_ok-take_messages-in-Built.ensures.taken props whole w s))
+    (c.in_ok-take_messages-in-Built.ensures.taken props whole w s).0)
     )
 
 pub returns-in_ok-poll_suspended-in-Built-clause-polls : goal.returns-in_ok-poll_suspended-in-Built-clause-polls
 returns-in_ok-poll_suspended-in-Built-clause-polls g c =
     λ props whole w s.
     polled_from (λ app. g.A.App.meaning app) props w c.args.drained.now c.poll_suspended.new.self c.waits_suspended.result
+    (c.in_ok-take_messages-in-Built.ensures.taken props whole w s).1
     (c.in_ok-poll_suspended-in-Built.ensures.polls props whole (taken_in w c.args.drained.now)
-    (c.in_ok-take_messages-in-Built.ensures.taken props whole w s))
+    (c.in_ok-take_messages-in-Built.ensures.taken props whole w s).0)
     c.waits_suspended.ensures.waits
 
 pub returns-in_err-poll_suspended-in-Built-clause-fails : goal.returns-in_err-poll_suspended-in-Built-clause-fails

@@ -1,13 +1,13 @@
 -- What a reactive context targets is posted.
-use Rattle.std.proofs.Common.{Some, None, ◌∷◌, [], refl, sym, ap, ◌∙◌, subst}
+use Rattle.std.proofs.Common.{Some, None, ◌∷◌, [], refl, sym, ap, ◌∙◌}
 use Rattle.std.specs.Prelude.{option_map}
 use Rattle.rt_calls.specs.Calls.{target_of}
 use Rattle.rt_model.specs.Asides.{Asked}
 use Rattle.rt_model.specs.Lists.{at}
 use Rattle.rt_model.proofs.Members.{clash}
 use Rattle.rt_vdom.specs.Calls.{context_posted}
-use Rattle.rt_vdom.specs.Doms.{Stands, StateIn}
-use Rattle.rt_vdom.proofs.Standing.{stands_on, context_there, context_gone, context_live, context_dead, asked_target, target_asked, target_draws}
+use Rattle.rt_vdom.specs.Doms.{StateIn}
+use Rattle.rt_vdom.proofs.Standing.{stands_on, stands_still, context_there, context_gone, context_live, context_dead, asked_target, target_asked, target_draws}
 use Rattle.rt_vdom.proofs.dom.VirtualDom.post_context.Goals as goal
 
 pub returns-in-Ok-clause-posted : goal.returns-in-Ok-clause-posted
@@ -31,7 +31,7 @@ returns-in-None-clause-posted g c =
     ap (option_map target_of) (sym c.in-None.is)
     ∙ c.context_target.ensures s.kept
     ∙ ap (λ x. option_map (λ y. y.target) (at x.contexts c.args.context)) s.is in
-    subst (λ x. Stands (λ app. g.A.App.meaning app) props whole x d) (sym (context_gone w c.args.context gone)) s
+    stands_still (λ app. g.A.App.meaning app) d props whole w (context_posted w c.args.context) (context_gone w c.args.context gone) s
 
 pub returns-in-Err-clause-refused : goal.returns-in-Err-clause-refused
 returns-in-Err-clause-refused g c = clash c.in-Err.ensures.ok refl

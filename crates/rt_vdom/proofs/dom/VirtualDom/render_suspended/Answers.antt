@@ -4,7 +4,7 @@ use Rattle.std.specs.Prelude.{Some}
 use Rattle.rt_mirror.specs.Mirror.{edit_of}
 use Rattle.rt_reports.specs.Seen.{limits_of}
 use Rattle.rt_vdom.specs.Calls.{PartIn}
-use Rattle.rt_vdom.proofs.Carried.{rendered_carries}
+use Rattle.rt_vdom.proofs.Carried.{rendered_carries, stepped_carry}
 use Rattle.rt_vdom.proofs.Ran.{any_way, render_broken_as, rests_in}
 use Rattle.rt_vdom.proofs.Answered.{renders_err}
 use Rattle.rt_vdom.proofs.dom.VirtualDom.render_suspended.Goals as goal
@@ -50,6 +50,10 @@ returns-in-Err-clause-renders g c =
     rw c.ended.ensures.others
     (record {
       cut = far;
+      carries =
+          λ units out.
+          stepped_carry (g.A.App.meaning d.app) (g.met.A.App.lawful d.app) (limits_of d.limits) props w (far.last).state far.log
+          (map edit_of far.wrote) (any_way (λ app. g.A.App.meaning app) props whole w d s) (far.stepped units out);
       stands =
           λ units out.
           let p = far.spent units out in

@@ -1,4 +1,4 @@
-use Rattle.std.proofs.Common.{◌≡◌, ◌+◌, ◌∷◌, [], inl, inr, refl, arith, sym, ap, ◌∙◌, true, false, subst}
+use Rattle.std.proofs.Common.{◌≡◌, ◌+◌, ◌∷◌, [], inl, inr, refl, arith, sym, ap, ◌∙◌, true, false}
 use Rattle.std.specs.Prelude.{None}
 use Rattle.rt_model.specs.World.{Spawn}
 use Rattle.rt_model.specs.Run.{with_next}
@@ -7,8 +7,8 @@ use Rattle.rt_model.specs.State.{is_live}
 use Rattle.rt_model.specs.Asides.{Asked}
 use Rattle.rt_scopes.proofs.Nexts.{next_back}
 use Rattle.rt_vdom.specs.Calls.{spawned_by}
-use Rattle.rt_vdom.specs.Doms.{Stands, StateIn}
-use Rattle.rt_vdom.proofs.Standing.{stands_on, spawned_is, spawned_not, task_is, task_not}
+use Rattle.rt_vdom.specs.Doms.{StateIn}
+use Rattle.rt_vdom.proofs.Standing.{stands_on, stands_still, spawned_is, spawned_not, task_is, task_not}
 use Rattle.rt_vdom.proofs.dom.VirtualDom.spawn_in.Goals as goal
 
 -- of a live scope: the next number is drawn, and the task is spawned
@@ -37,7 +37,8 @@ pub returns-then-not-is_live-clause-spawned : goal.returns-then-not-is_live-clau
 returns-then-not-is_live-clause-spawned g c = λ props whole w s.
     let d = c.args.self.now in
     let gone : is_live w c.args.scope ≡ false = ap (λ x. is_live x c.args.scope) (sym s.is) ∙ sym (c.is_live.ensures s.kept) ∙ c.if-not-is_live.true in
-    subst (λ x. Stands (λ app. g.A.App.meaning app) props whole x d) (sym (spawned_not w c.args.scope c.args.task_state c.args.isomorphic gone)) s
+    stands_still (λ app. g.A.App.meaning app) d props whole w (spawned_by w c.args.scope c.args.task_state c.args.isomorphic)
+    (spawned_not w c.args.scope c.args.task_state c.args.isomorphic gone) s
 
 -- the number of the task
 pub returns-in-Ok-clause-number : goal.returns-in-Ok-clause-number
