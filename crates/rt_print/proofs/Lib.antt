@@ -1,3 +1,4 @@
 pub mod Printed
 pub mod Forests
 pub mod Plain
+pub mod Orders

@@ -1,5 +1,5 @@
 //! A line under way.
-ghost use Rattle.std.specs.Prelude.{◌≡◌, [], ◌++◌, true, OnOk, IfOk, decimal, codes};
+ghost use Rattle.std.specs.Prelude.{◌≡◌, [], ◌∷◌, ◌++◌, true, OnOk, IfOk, decimal, codes};
 ghost use Rattle.json.specs.Print.{escape, quoted};
 ghost use Rattle.rt_language.specs.Lines.{numbered, qualified, line};
 
@@ -52,6 +52,14 @@ impl Line {
         Ok(())
     }
 
+    /// Appends a byte.
+    pub fn byte(&mut self, byte: u8) -> Result<(), OutOfMemory>
+        ensures byte { OnOk result (self.new ≡ self.old ++ byte ∷ []) }
+    {
+        self.bytes.push(byte)?;
+        Ok(())
+    }
+
     /// Appends a number in decimal.
     pub fn decimal(&mut self, number: u64) -> Result<(), OutOfMemory>
         ensures number { OnOk result (self.new ≡ self.old ++ decimal number) }
@@ -65,9 +73,9 @@ impl Line {
         ensures quoted { OnOk result (self.new ≡ self.old ++ quoted text.now) }
     {
         if is_plain(text.as_bytes()) {
-            self.word("\"")?;
+            self.byte(b'"')?;
             self.word(text.as_str())?;
-            self.word("\"")
+            self.byte(b'"')
         } else {
             self.escaped(alloc, text)
         }
@@ -90,7 +98,7 @@ impl Line {
     pub fn numbered(&mut self, number: u64) -> Result<(), OutOfMemory>
         ensures numbered { OnOk result (self.new ≡ self.old ++ numbered number) }
     {
-        self.word("#")?;
+        self.byte(b'#')?;
         self.decimal(number)
     }
 
@@ -100,7 +108,7 @@ impl Line {
     {
         if let Some(namespace) = namespace {
             self.word(namespace.as_str())?;
-            self.word(":")?;
+            self.byte(b':')?;
         }
         self.word(name.as_str())
     }
@@ -110,7 +118,7 @@ impl Line {
         ensures line { IfOk result (λ ended. ended ≡ line self) }
     {
         let Line { mut bytes } = self;
-        bytes.extend_from_slice(b"\n")?;
+        bytes.push(b'\n')?;
         Ok(List::from_vec(bytes))
     }
 }

@@ -19,7 +19,7 @@ pub fn taken_line(alloc: Global, report: u64, message: &Msg) -> Result<List<u8>,
     put_word(&mut line, "taken ", report)?;
     put_word(&mut line, " ", message.poster)?;
     put_word(&mut line, ":", message.seq)?;
-    line.word(" ")?;
+    line.byte(b' ')?;
     put_post(&mut line, message.what)?;
     line.end()
 }

@@ -14,9 +14,9 @@ fn put_attributes(alloc: Global, line: &mut Line, attributes: &[DocAttr]) -> Res
         ≡ line.old ++ spaced (map attribute_text (map doc_attribute_of attributes.now))) }
 {
     for attribute in attributes {
-        line.word(" ")?;
+        line.byte(b' ')?;
         line.name(&attribute.namespace, &attribute.name)?;
-        line.word("=")?;
+        line.byte(b'=')?;
         line.quoted(alloc, &attribute.value)?;
     }
     Ok(())
@@ -47,20 +47,20 @@ fn put_kind(alloc: Global, line: &mut Line, number: u64, kind: &DocKind) -> Resu
             listeners,
             children,
         } => {
-            line.word("(")?;
+            line.byte(b'(')?;
             line.name(namespace, tag)?;
             line.numbered(number)?;
             put_attributes(alloc, line, attrs.as_slice())?;
             put_listeners(line, listeners.as_slice())?;
             put_nodes(alloc, line, children.as_slice())?;
-            line.word(")")
+            line.byte(b')')
         }
         DocKind::Text(text) => {
             line.quoted(alloc, text)?;
             line.numbered(number)
         }
         DocKind::Placeholder => {
-            line.word("_")?;
+            line.byte(b'_')?;
             line.numbered(number)
         }
     }
@@ -76,7 +76,7 @@ pub(crate) fn put_nodes(
     ensures nodes { OnOk result (line.new ≡ line.old ++ spaced (node_texts (forest_of nodes.now))) }
 {
     for node in nodes {
-        line.word(" ")?;
+        line.byte(b' ')?;
         put_kind(alloc, line, node.id.0, &node.kind)?;
     }
     Ok(())

@@ -40,7 +40,7 @@ fn put_log(line: &mut Line, log: &[Entry]) -> Result<(), OutOfMemory>
         ≡ line.old ++ spaced (map entry_text (map entry_of log.now))) }
 {
     for entry in log {
-        line.word(" ")?;
+        line.byte(b' ')?;
         put_entry(line, *entry)?;
     }
     Ok(())

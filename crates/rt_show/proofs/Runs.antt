@@ -32,7 +32,8 @@ use Rattle.rt_show.specs.Asked.{Asked}
 use Rattle.rt_show.specs.Outs.{stop_of}
 use Rattle.rt_show.specs.Ready.{IsMeant, MadeOf}
 use Rattle.rt_show.specs.Words.{usual}
-use Rattle.rt_show.specs.Texts.{run_lines_of}
+use Rattle.rt_print.specs.Taken.{lines_of}
+use Rattle.rt_show.specs.Texts.{report_lines_from, run_lines_of}
 use Rattle.rt_show.specs.Runs.{HasHeadline, HasCome, IsRunText, IsFaultText, IsSummary, IsDoneText, IsEndedText, Prints}
 use Rattle.rt_show.specs.declared.words.Wish.{Wish}
 
@@ -128,6 +129,17 @@ came_to limits said old new edits ended shown fault began tells same came =
 pub run_of : (limits : Limits) (said : Source) (edits : List Edit) (shown : List Report)
     → HasHeadline limits said (Some (map edit_of edits)) (map report_of shown) → IsRunText limits said (run_lines_of edits shown)
 run_of limits said edits shown held = record { edits = map edit_of edits; reports = map report_of shown; headline = held; printed = refl }
+
+-- the same of lines that are those of the edits
+pub printed_of : (limits : Limits) (said : Source) (edits : List Edit) (lines : List (List ℕ)) (shown : List Report) → lines ≡ lines_of edits
+    → HasHeadline limits said (Some (map edit_of edits)) (map report_of shown) → IsRunText limits said (lines ++ report_lines_from 0 shown)
+printed_of limits said edits lines shown same held =
+    subst (λ (ls : List (List ℕ)). IsRunText limits said (ls ++ report_lines_from 0 shown)) (sym same) (run_of limits said edits shown held)
+
+pub printed_end : (limits : Limits) (said : Source) (edits : List Edit) (lines : List (List ℕ)) (shown : List Report) (text : List ℕ) → lines ≡ lines_of edits
+    → IsFaultText limits said (run_lines_of edits shown ++ text ∷ []) → IsFaultText limits said ((lines ++ report_lines_from 0 shown) ++ text ∷ [])
+printed_end limits said edits lines shown text same ended =
+    subst (λ (ls : List (List ℕ)). IsFaultText limits said ((ls ++ report_lines_from 0 shown) ++ text ∷ [])) (sym same) ended
 
 -- a summary is that of reports
 pub summed_up : (rows : ℕ) (source : Source) (reports shown : List Report) (said : List ℕ) → shown ≡ reports

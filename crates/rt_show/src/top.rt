@@ -18,10 +18,10 @@ use crate::reason::{Stop, fault_said};
 use crate::recorded::{judge, read_recorded};
 use crate::summary::summary_line;
 use crate::words::{USUAL, Wish, wish_of};
-use crate::writing::{put_ended_run, put_run};
-use rt_edits::{Mutations, NoOpMutations, WriteMutations};
+use crate::writing::{put_ended_printed, put_printed};
+use rt_edits::{NoOpMutations, WriteMutations};
 use rt_logs::{refusal, too_long, unknown_word};
-use rt_print::fault_line;
+use rt_print::{EditLines, fault_line};
 use rt_script::{Script, inputs_of};
 use rt_script_views::Props;
 use rt_session::{Input, Limits, Report, SessionFault, session};
@@ -141,10 +141,10 @@ fn run<O: Out>(
         props,
         inputs,
     } = prepare(alloc, described)?;
-    let mut sink = Mutations::default_list(alloc);
+    let mut sink = EditLines::new(alloc);
     match run_script(alloc, script, props, inputs, &mut sink, limits) {
         Ok(reports) => {
-            put_run(alloc, sink.edits(), reports.as_slice(), out)?;
+            put_printed(alloc, sink.lines(), reports.as_slice(), out)?;
             Ok(())
         }
         Err(SessionFault { fault, reports }) => {
@@ -152,9 +152,9 @@ fn run<O: Out>(
             let Some(last) = fault_line(alloc, fault)? else {
                 return Err(Stop::OutOfMemory);
             };
-            put_ended_run(
+            put_ended_printed(
                 alloc,
-                sink.edits(),
+                sink.lines(),
                 reports.as_slice(),
                 last.as_slice(),
                 out,

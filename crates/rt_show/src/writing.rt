@@ -7,6 +7,7 @@ use rt_edits::Edit;
 use rt_print::{edit_line, report_line};
 use rt_reports::Report;
 use rt_streams::{Out, OutError};
+use rt_values::List;
 use std::alloc::Global;
 
 /// Puts the line of an edit.
@@ -69,17 +70,43 @@ pub fn put_run<O: Out>(
     put_reports(alloc, reports, out)
 }
 
-/// Puts the lines of edits, those of reports, and one line more.
-pub fn put_ended_run<O: Out>(
+/// Puts lines as they are.
+fn put_lines<O: Out>(lines: &[List<u8>], out: &mut O) -> Result<(), OutError>
+    ensures writes { Writes lines.now
+        (O.puts out.old) (O.puts out.new) (O.faults out.old) (O.faults out.new) result }
+{
+    for line in lines {
+        out.put(line.as_slice())?;
+    }
+    Ok(())
+}
+
+/// Puts the lines that edits have, and then those of reports.
+#[tactic(auto, using(crate::proofs::Puts::writes_first))]
+pub fn put_printed<O: Out>(
     alloc: Global,
-    edits: &[Edit],
+    lines: &[List<u8>],
+    reports: &[Report],
+    out: &mut O,
+) -> Result<(), OutError>
+    ensures writes { Writes (lines.now ++ report_lines_from 0 reports.now)
+        (O.puts out.old) (O.puts out.new) (O.faults out.old) (O.faults out.new) result }
+{
+    put_lines(lines, out)?;
+    put_reports(alloc, reports, out)
+}
+
+/// The same, and one line more.
+pub fn put_ended_printed<O: Out>(
+    alloc: Global,
+    lines: &[List<u8>],
     reports: &[Report],
     line: &[u8],
     out: &mut O,
 ) -> Result<(), OutError>
-    ensures writes { Writes (run_lines_of edits.now reports.now ++ line.now ∷ [])
+    ensures writes { Writes ((lines.now ++ report_lines_from 0 reports.now) ++ line.now ∷ [])
         (O.puts out.old) (O.puts out.new) (O.faults out.old) (O.faults out.new) result }
 {
-    put_run(alloc, edits, reports, out)?;
+    put_printed(alloc, lines, reports, out)?;
     out.put(line)
 }

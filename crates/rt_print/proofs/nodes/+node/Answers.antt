@@ -20,7 +20,7 @@ put_kind-returns-in_ok-quoted-in-Text t c =
     (grind (arith, common_steps))
 
 -- src/nodes.rt:41:1
-pub put_kind-returns-in_ok-word-in-Placeholder : goal.put_kind-returns-in_ok-word-in-Placeholder
-put_kind-returns-in_ok-word-in-Placeholder t c =
+pub put_kind-returns-in_ok-byte-in-Placeholder : goal.put_kind-returns-in_ok-byte-in-Placeholder
+put_kind-returns-in_ok-byte-in-Placeholder t c =
     rw (ap (λ (kind : DocKind). node_text c.args.number (content_of kind) (node_texts (forest_below kind))) c.in-Placeholder.is ∙ shown-Placeholder c.args.number)
     (grind (arith, common_steps))
