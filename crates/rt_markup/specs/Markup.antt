@@ -6,7 +6,7 @@ use Rattle.rt_nodes.specs.declared.vnode.DynamicNode.TheVariants as slots
 use Rattle.rt_nodes.specs.declared.vnode.VComponent.TheVariants.{App}
 use Rattle.rt_parts.specs.declared.attribute.Attribute.{Attribute}
 use Rattle.rt_parts.specs.declared.attribute.AttributeValue.TheVariants.{Listener}
-use Rattle.rt_parts.specs.declared.template.Template.{Template}
+use Rattle.rt_parts.specs.declared.template.TemplateParts.{TemplateParts as Template}
 use Rattle.rt_parts.specs.declared.template.TemplateAttribute.{TemplateAttribute}
 use Rattle.rt_parts.specs.declared.template.TemplateAttribute.TheVariants as attributes
 use Rattle.rt_parts.specs.declared.template.TemplateNode.{TemplateNode}

@@ -6,6 +6,7 @@ use crate::parts::{element, one, path, slot, text, two};
 use rt_nodes::{DynamicNode, VComponent, VNode};
 use rt_parts::{
     Attribute, AttributeValue, ListenerCallback, Parts, Template, TemplateAttribute, TemplateNode,
+    TemplateParts,
 };
 use rt_values::{List, OutOfMemory, ScopeId, Shared, Text, both};
 use std::alloc::Global;
@@ -45,17 +46,12 @@ fn template_of(
     ensures template { IfOk result (λ template.
         template ≡ markup.template roots node_paths attr_paths) }
 {
-    let roots = Shared::from_list(alloc, roots);
-    let paths = both(
-        Shared::from_list(alloc, node_paths),
-        Shared::from_list(alloc, attr_paths),
-    );
-    let (roots, (node_paths, attr_paths)) = both(roots, paths)?;
-    Ok(Template {
+    let parts = TemplateParts {
         roots,
         node_paths,
         attr_paths,
-    })
+    };
+    Ok(Template::new(alloc, parts)?)
 }
 
 /// A tree: the roots of its template, the paths of its node slots and of its attribute slots, and

@@ -1,7 +1,7 @@
 -- A template's nodes at the mirror, one by one, and back again: the mirror loses nothing of a template.
 use Rattle.std.proofs.Common.{ℕ, List, [], ◌∷◌, ◌≡◌, refl, sym, ap, ◌∙◌, subst, map}
 use Rattle.std.specs.Prelude.{Option}
-use Rattle.rt_parts.specs.declared.template.Template.{Template}
+use Rattle.rt_parts.specs.declared.template.TemplateParts.{TemplateParts as Template}
 use Rattle.rt_parts.specs.declared.template.TemplateAttribute.{TemplateAttribute}
 use Rattle.rt_parts.specs.declared.template.TemplateAttribute.TheVariants as attributes
 use Rattle.rt_parts.specs.declared.template.TemplateNode.{TemplateNode}

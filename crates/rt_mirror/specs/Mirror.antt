@@ -11,7 +11,7 @@ use Rattle.rt_edits.specs.declared.edit.Edit.TheVariants as edits
 use Rattle.rt_parts.specs.declared.error.CapturedError.{CapturedError}
 use Rattle.rt_parts.specs.declared.error.RenderError.{RenderError}
 use Rattle.rt_parts.specs.declared.error.RenderError.TheVariants as errors
-use Rattle.rt_parts.specs.declared.template.Template.{Template}
+use Rattle.rt_parts.specs.declared.template.TemplateParts.{TemplateParts as Template}
 use Rattle.rt_parts.specs.declared.template.TemplateAttribute.{TemplateAttribute}
 use Rattle.rt_parts.specs.declared.template.TemplateAttribute.TheVariants as attributes
 use Rattle.rt_parts.specs.declared.template.TemplateNode.{TemplateNode}

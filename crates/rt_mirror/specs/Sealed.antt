@@ -2,7 +2,7 @@
 use Rattle.std.specs.Prelude.{List, map, Result, Ok, Err}
 use Rattle.rt_parts.specs.declared.error.RenderError.{RenderError}
 use Rattle.rt_parts.specs.declared.error.RenderError.TheVariants as errors
-use Rattle.rt_parts.specs.declared.template.Template.{Template}
+use Rattle.rt_parts.specs.declared.template.TemplateParts.{TemplateParts as Template}
 use Rattle.rt_parts.specs.declared.template.TemplateNode.{TemplateNode}
 use Rattle.rt_nodes.specs.declared.vnode.VNode.{VNode}
 use Rattle.rt_nodes.specs.declared.vnode.VComponent.{VComponent as CodeComponent}

@@ -4,7 +4,7 @@ use Rattle.std.specs.List.{All}
 use Rattle.std.proofs.lemmas.List.Elements.{All-nil, All-cons, All-head, All-tail}
 use Rattle.rt_parts.specs.Met.{Met, AtElement, AtAttribute, AtText, AtSlot, met_in}
 use Rattle.rt_nodes.specs.Places.{Step, InTemplate, InFragment, Kind, AnElement, AText, ATextSlot, APlaceholder, AnEmptyFragment, NodePlace, Below, in_items, in_value, nodes_met, slots_met, fragment_nodes, value_nodes, tree_nodes, node_places, SlotPlace, held_in, value_slots, tree_slots, slot_places, HasPlacesApart}
-use Rattle.rt_parts.specs.declared.template.Template.{Template}
+use Rattle.rt_parts.specs.declared.template.TemplateParts.{TemplateParts as Template}
 use Rattle.rt_nodes.specs.declared.vnode.VNode.{VNode}
 use Rattle.rt_nodes.specs.declared.vnode.VComponent.{VComponent}
 use Rattle.rt_nodes.specs.declared.vnode.DynamicNode.{DynamicNode}

@@ -2,7 +2,7 @@
 use Rattle.std.specs.Prelude.{◌≢◌, ℕ, ◌+◌, List, [], ◌∷◌, ◌++◌, map}
 use Rattle.std.specs.List.{AllPairs, slice_index_or}
 use Rattle.rt_parts.specs.Met.{Met, AtElement, AtAttribute, AtText, AtSlot, met_in}
-use Rattle.rt_parts.specs.declared.template.Template.{Template}
+use Rattle.rt_parts.specs.declared.template.TemplateParts.{TemplateParts as Template}
 use Rattle.rt_nodes.specs.declared.vnode.VNode.{VNode}
 use Rattle.rt_nodes.specs.declared.vnode.DynamicNode.TheOpen.{DynamicNode-F, VNode-F}
 use Rattle.rt_nodes.specs.declared.vnode.DynamicNode.TheFolds.{fold-VNode, para-VNode}

@@ -5,7 +5,7 @@ ghost use Rattle.rt_nodes.specs.NodeTest.{fits};
 ghost use Rattle.rt_nodes.specs.Places.{InTemplate, APlaceholder, node_places, slot_places};
 ghost use Rattle.rt_nodes.specs.Shown.{placeholder_tree};
 
-use rt_parts::{Attribute, Parts, RenderError, Template, TemplateNode};
+use rt_parts::{Attribute, Parts, RenderError, Template, TemplateNode, TemplateParts};
 use rt_values::{Boxed, List, OutOfMemory, Part, Shared, Text, both};
 use std::alloc::Global;
 
@@ -106,18 +106,11 @@ impl<P: Parts> VNode<P> {
         ensures slots { IfOk result (λ tree. slot_places tree ≡ []) }
     {
         let path = List::from_slice(alloc, &[0])?;
-        let roots = Shared::one(alloc, TemplateNode::Dynamic { id: 0 });
-        let slots = both(
-            Shared::one(alloc, path),
-            Shared::one(alloc, DynamicNode::Placeholder),
-        );
-        let (roots, (node_paths, dynamic_nodes)) = both(roots, slots)?;
+        let template = Template::of_one(alloc, TemplateNode::Dynamic { id: 0 }, path);
+        let dynamic_nodes = Shared::one(alloc, DynamicNode::Placeholder);
+        let (template, dynamic_nodes) = both(template, dynamic_nodes)?;
         Ok(VNode {
-            template: Template {
-                roots,
-                node_paths,
-                attr_paths: Shared::empty(),
-            },
+            template,
             dynamic_nodes,
             dynamic_attrs: Shared::empty(),
         })

@@ -7,7 +7,7 @@ use Rattle.rt_parts.specs.Slots.{node_slots, attr_slots, are_numbered}
 use Rattle.rt_parts.specs.declared.attribute.Attribute.{Attribute}
 use Rattle.rt_parts.specs.declared.attribute.AttributeValue.{AttributeValue}
 use Rattle.rt_parts.specs.declared.attribute.AttributeValue.TheVariants.{Text as TextValue, None as NoValue, Listener}
-use Rattle.rt_parts.specs.declared.template.Template.{Template}
+use Rattle.rt_parts.specs.declared.template.TemplateParts.{TemplateParts as Template}
 use Rattle.rt_parts.specs.declared.template.TemplateNode.{TemplateNode}
 
 -- what a walk looks for: the path of each slot, the names in each attribute slot, and how many

@@ -3,3 +3,4 @@ pub mod Met
 pub mod Names
 pub mod Slots
 pub mod BlockTest
+pub mod Forms

@@ -5,11 +5,13 @@
 mod attribute;
 mod error;
 mod event;
+mod hints;
 mod parts;
 mod template;
+mod written;
 
 pub use attribute::{Attribute, AttributeValue, ListenerCallback};
 pub use error::{CapturedError, RenderError, SuspendedFuture};
 pub use event::Event;
 pub use parts::Parts;
-pub use template::{Template, TemplateAttribute, TemplateNode};
+pub use template::{Template, TemplateAttribute, TemplateNode, TemplateParts};

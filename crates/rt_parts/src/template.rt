@@ -1,20 +1,57 @@
 //! Templates: the static part of a tree, with numbered slots in it.
 
-ghost use Rattle.std.specs.Prelude.{◌≡◌, ◌↔◌, IsTrue, IfOk};
+ghost use Rattle.std.specs.Prelude.{◌≡◌, ◌↔◌, ◌∷◌, [], IsTrue, IfOk};
 
+use crate::hints::hints_of;
+use crate::written::{Form, form_of, is_same_form};
 use rt_values::{List, OutOfMemory, Part, Shared, Text, both};
 use std::alloc::Global;
+use std::marker::Model;
+use std::rc::Rc;
 
-/// The static part of a tree. Slots are numbered from 0 as they are met depth first: an element,
+/// What a template is made of. Slots are numbered from 0 as they are met depth first: an element,
 /// its attributes, its children.
 #[derive(Drop)]
-pub struct Template {
-    pub roots: Shared<TemplateNode>,
+pub struct TemplateParts {
+    pub roots: List<TemplateNode>,
     /// The path of each node slot. A path begins with the root's index, and goes on with the index
     /// of a child at each level below.
-    pub node_paths: Shared<List<u8>>,
+    pub node_paths: List<List<u8>>,
     /// The path of the element of each attribute slot.
-    pub attr_paths: Shared<List<u8>>,
+    pub attr_paths: List<List<u8>>,
+}
+
+/// What all copies of a template share: its parts, what was written of them, and paths of its
+/// nodes.
+#[derive(Drop)]
+pub(crate) struct Written {
+    parts: TemplateParts,
+    form: Form,
+    hints: List<Shared<u8>>,
+}
+
+/// The static part of a tree. A look whether two templates are equal compares what was written of
+/// them once, with no walk through their nodes; all copies share it.
+#[derive(Drop)]
+pub struct Template {
+    written: Rc<Written>,
+}
+
+impl Model for Template {
+    ghost use Rattle.std.specs.Prelude.{◌≡◌};
+    ghost use Rattle.std.specs.Coded.{codes};
+    ghost use Rattle.rt_parts.specs.contracts.template.TemplateNode as node;
+    ghost use Rattle.rt_parts.specs.declared.template.TemplateParts.{TemplateParts};
+    ghost use Rattle.rt_parts.specs.Forms.{form_of};
+
+    ghost Value = { TemplateParts };
+
+    ghost coded = { Prim.hlevel (codes, node.the_row.coded) };
+
+    ghost view = { λ template. ((template.written).value).parts };
+
+    ghost invariant = { λ template.
+        ((template.written).value).form ≡ form_of ((template.written).value).parts };
 }
 
 /// A node of a template.
@@ -50,26 +87,81 @@ pub enum TemplateAttribute {
 }
 
 impl Template {
+    /// The template that is made of these parts.
+    pub fn new(alloc: Global, parts: TemplateParts) -> Result<Template, OutOfMemory>
+        ensures parts { IfOk result (λ template. template ≡ parts) }
+    {
+        let form = form_of(alloc, &parts)?;
+        let hints = hints_of(alloc, parts.roots.as_slice())?;
+        let written = Written { parts, form, hints };
+        let written = Rc::new(alloc, written)?;
+        Ok(Template { written })
+    }
+
+    /// The template of one root, with a node slot at one path.
+    pub fn of_one(
+        alloc: Global,
+        root: TemplateNode,
+        path: List<u8>,
+    ) -> Result<Template, OutOfMemory>
+        ensures parts { IfOk result (λ template. template ≡ record {
+          roots = root ∷ [];
+          node_paths = path ∷ [];
+          attr_paths = [];
+        }) }
+    {
+        let mut roots = List::new(alloc);
+        roots.push(root)?;
+        let mut node_paths = List::new(alloc);
+        node_paths.push(path)?;
+        let parts = TemplateParts {
+            roots,
+            node_paths,
+            attr_paths: List::new(alloc),
+        };
+        Ok(Template::new(alloc, parts)?)
+    }
+
+    /// Its roots.
+    pub fn roots(&self) -> &[TemplateNode]
+        ensures nodes { result.now ≡ self.now.roots }
+    {
+        self.written.as_ref().parts.roots.as_slice()
+    }
+
+    /// The path of each node slot.
+    pub fn node_paths(&self) -> &[List<u8>]
+        ensures items { result.now ≡ self.now.node_paths }
+    {
+        self.written.as_ref().parts.node_paths.as_slice()
+    }
+
+    /// The path of the element of each attribute slot.
+    pub fn attr_paths(&self) -> &[List<u8>]
+        ensures items { result.now ≡ self.now.attr_paths }
+    {
+        self.written.as_ref().parts.attr_paths.as_slice()
+    }
+
+    /// Paths of the nodes, depth first, for who wants one that is made already. Those with an index
+    /// that no byte tells aren't among them. Nothing is said of them: each is to be tested.
+    pub fn hints(&self) -> &[Shared<u8>] {
+        self.written.as_ref().hints.as_slice()
+    }
+
     /// Whether roots and paths are equal.
     pub fn same(&self, other: &Template) -> bool
         ensures { IsTrue result ↔ (self.now ≡ other.now) }
     {
-        same_nodes(self.roots.as_slice(), other.roots.as_slice())
-            && self.node_paths.same(&other.node_paths)
-            && self.attr_paths.same(&other.attr_paths)
+        is_same_form(&self.written.as_ref().form, &other.written.as_ref().form)
     }
 
     /// The same template once more.
     pub fn copy(&self, _alloc: Global) -> Result<Template, OutOfMemory>
         ensures { IfOk result (λ copied. copied ≡ self.now) }
     {
-        let paths = both(self.node_paths.share(), self.attr_paths.share());
-        let (roots, (node_paths, attr_paths)) = both(self.roots.share(), paths)?;
-        Ok(Template {
-            roots,
-            node_paths,
-            attr_paths,
-        })
+        let written = self.written.clone()?;
+        Ok(Template { written })
     }
 }
 

@@ -2,7 +2,7 @@
 use Rattle.std.proofs.Common.{ℕ, List, [], ◌∷◌, ◌++◌, ◌≡◌, refl, sym, ap, subst, ◌∙◌, map, ◌+◌, length, arith}
 use Rattle.std.specs.Bool.{◌==◌}
 use Rattle.std.specs.Prelude.{true, false, Option, Some, None, option_map, is_none}
-use Rattle.rt_parts.specs.declared.template.Template.{Template}
+use Rattle.rt_parts.specs.declared.template.TemplateParts.{TemplateParts as Template}
 use Rattle.rt_model.specs.Program.{done, current_scope}
 use Rattle.rt_model.specs.Tree.{Slot, block, listener}
 use Rattle.rt_mirror.specs.Sealed.{template_of}

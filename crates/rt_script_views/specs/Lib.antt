@@ -1,3 +1,4 @@
+pub mod Handed
 pub mod Seen
 pub mod Digits
 pub mod Plans

@@ -1,6 +1,6 @@
 -- What a plan means: the tree of its template, and the programs that fill its slots.
 use Rattle.std.specs.Prelude.{Bool, true, false, List, [], ◌∷◌, ◌++◌, Option, Some, None, pos, option_map, is_none}
-use Rattle.rt_parts.specs.declared.template.Template.{Template}
+use Rattle.rt_parts.specs.declared.template.TemplateParts.{TemplateParts as Template}
 use Rattle.rt_model.specs.Tree.{Attribute, block, placeholder_tree, Tree, Slot, text_slot, placeholder_slot, component_slot, fragment_slot, Own, Fragment, ErrorBoundary, SuspenseBoundary, rendered, listener}
 use Rattle.rt_model.specs.Program.{Program, done, current_scope}
 use Rattle.rt_mirror.specs.Sealed.{template_of}

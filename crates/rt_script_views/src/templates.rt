@@ -8,9 +8,9 @@ ghost use Rattle.rt_language.specs.Views.{template_in_bytes, template_nodes};
 ghost use Rattle.rt_syntax.specs.Mirror as source;
 ghost use Rattle.rt_script_views.specs.Built.{AttributeBuilt, AttributesBuilt, NodeBuilt, RowBuilt};
 
-use rt_parts::{Template, TemplateAttribute, TemplateNode};
+use rt_parts::{Template, TemplateAttribute, TemplateNode, TemplateParts};
 use rt_syntax::{ViewAttribute, ViewNode};
-use rt_values::{List, OutOfMemory, Part, Shared, both};
+use rt_values::{List, OutOfMemory, Part, Shared};
 use std::alloc::Global;
 
 /// A template as far as it is built. Slots are numbered as they are met.
@@ -38,11 +38,7 @@ pub(crate) fn template_of(alloc: Global, roots: &[ViewNode]) -> Result<Template,
 }
 
 /// The template with these roots, and with the paths that were met.
-fn finished(
-    alloc: Global,
-    roots: Shared<TemplateNode>,
-    paths: Paths,
-) -> Result<Template, OutOfMemory>
+fn finished(alloc: Global, roots: List<TemplateNode>, paths: Paths) -> Result<Template, OutOfMemory>
     ensures template { IfOk result (λ template. template ≡ record {
       roots = roots;
       node_paths = paths.node_paths;
@@ -54,13 +50,12 @@ fn finished(
         attr_paths,
         path: _,
     } = paths;
-    let attr_paths = Shared::from_list(alloc, attr_paths);
-    let (node_paths, attr_paths) = both(Shared::from_list(alloc, node_paths), attr_paths)?;
-    Ok(Template {
+    let parts = TemplateParts {
         roots,
         node_paths,
         attr_paths,
-    })
+    };
+    Ok(Template::new(alloc, parts)?)
 }
 
 /// The nodes of a template that these nodes give, below the present path. A node past the 256th,
@@ -70,7 +65,7 @@ fn row_of(
     alloc: Global,
     paths: &mut Paths,
     nodes: &[ViewNode],
-) -> Result<Shared<TemplateNode>, OutOfMemory>
+) -> Result<List<TemplateNode>, OutOfMemory>
     ensures built { IfOk result (λ made.
         RowBuilt paths.old paths.new (source.view_of nodes.now) (mirror.nodes_of made)) }
 {
@@ -83,6 +78,20 @@ fn row_of(
         made.push(node)?;
         index = index.saturating_add(1);
     }
+    Ok(made)
+}
+
+/// The same as the children of an element.
+#[cycle(template)]
+fn kids_of(
+    alloc: Global,
+    paths: &mut Paths,
+    nodes: &[ViewNode],
+) -> Result<Shared<TemplateNode>, OutOfMemory>
+    ensures built { IfOk result (λ made.
+        RowBuilt paths.old paths.new (source.view_of nodes.now) (mirror.nodes_of made)) }
+{
+    let made = row_of(alloc, paths, nodes)?;
     let finished = Shared::from_list(alloc, made)?;
     Ok(finished)
 }
@@ -114,7 +123,7 @@ fn node_of(alloc: Global, paths: &mut Paths, node: &ViewNode) -> Result<Template
             kids,
         } => {
             let attrs = attributes_of(alloc, paths, attributes.as_slice())?;
-            let children = row_of(alloc, paths, kids.as_slice())?;
+            let children = kids_of(alloc, paths, kids.as_slice())?;
             Ok(TemplateNode::Element {
                 tag: tag.copy(alloc)?,
                 namespace: namespace.copy(alloc)?,

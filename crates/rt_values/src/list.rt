@@ -33,6 +33,15 @@ impl<T> List<T> {
         }
     }
 
+    /// A list of nothing, with room for so many items.
+    pub fn with_room(alloc: Global, room: usize) -> Result<List<T>, OutOfMemory>
+        ensures empty { IfOk result (λ list. list ≡ []) }
+    {
+        Ok(List {
+            items: Vec::with_capacity(alloc, room)?,
+        })
+    }
+
     /// The list of what a vector holds, taken over as it is.
     pub fn from_vec(items: Vec<T>) -> List<T>
         ensures items { result ≡ items.items }
@@ -166,7 +175,7 @@ pub fn same_slice<T: Part>(left: &[T], right: &[T]) -> bool
 pub fn copy_slice<T: Part>(alloc: Global, items: &[T]) -> Result<Vec<T>, OutOfMemory>
     ensures copy { IfOk result (λ copied. copied.items ≡ items.now) }
 {
-    let mut copied = Vec::new(alloc);
+    let mut copied = Vec::with_capacity(alloc, items.len())?;
     for item in items {
         copied.push(item.copy(alloc)?)?;
     }

@@ -11,7 +11,7 @@ use std::rc::Rc;
 
 /// Items in order that no one adds to or takes from. All copies of a list share its items, so that
 /// a copy takes no room for them, however many they are; and a list without items takes none.
-#[derive(Drop)]
+#[derive(Debug, Drop)]
 pub struct Shared<T> {
     items: Option<Rc<Vec<T>>>,
 }
@@ -84,9 +84,9 @@ impl<T: Drop> Shared<T> {
     pub fn one(alloc: Global, item: T) -> Result<Shared<T>, OutOfMemory>
         ensures one { IfOk result (λ shared. shared ≡ item ∷ []) }
     {
-        let mut list = List::new(alloc);
-        list.push(item)?;
-        Shared::from_list(alloc, list)
+        let mut items = Vec::with_capacity(alloc, 1)?;
+        items.push(item)?;
+        Shared::from_list(alloc, List::from_vec(items))
     }
 
     /// The same items once more.

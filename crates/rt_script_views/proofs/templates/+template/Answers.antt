@@ -17,7 +17,7 @@ pub node_of-returns-in_ok-copy-in-Element-2 : goal.node_of-returns-in_ok-copy-in
 node_of-returns-in_ok-copy-in-Element-2 t c =
     record {
       built =
-          element-built c.args.paths.now c.attributes_of.new.paths c.row_of.new.paths c.args.node.now c.in-Element.tag c.in-Element.namespace c.in-Element.attributes c.in-Element.kids c.in_ok-attrs-in-Element.attrs c.in_ok-children-in-Element.children _
+          element-built c.args.paths.now c.attributes_of.new.paths c.kids_of.new.paths c.args.node.now c.in-Element.tag c.in-Element.namespace c.in-Element.attributes c.in-Element.kids c.in_ok-attrs-in-Element.attrs c.in_ok-children-in-Element.children _
           c.in-Element.is
           (λ i. made.Element (c.in_ok-copy-in-Element.ensures.copy i) (c.in_ok-copy-in-Element-2.ensures.copy i) c.in_ok-attrs-in-Element.attrs c.in_ok-children-in-Element.children)
           (search rules)
