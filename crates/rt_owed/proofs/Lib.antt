@@ -5,3 +5,9 @@ pub mod Drops
 pub mod Kept
 pub mod Rooms
 pub mod Tables
+pub mod Held
+pub mod Orders
+pub mod Gone
+pub mod Rolls
+pub mod Ordered
+pub mod Joined

@@ -36,7 +36,7 @@ Within xs ys = (s : ℕ) → has xs s ≡ true → has ys s ≡ true
 
 -- a list without a number is empty
 pub no_number : (view list : List ℕ) (b : Bool) → view ≡ list → b ≡ (length view == 0) → IsTrue b ↔ (list ≡ [])
-no_number view list b same is = (λ yes. sym same ∙ none view (sym is ∙ yes), λ empty. is ∙ ap (λ (ns : List ℕ). length ns == 0) (same ∙ empty))
+no_number view list b same is = (λ so. sym same ∙ none view (sym is ∙ so), λ empty. is ∙ ap (λ (ns : List ℕ). length ns == 0) (same ∙ empty))
   where
     none : (xs : List ℕ) → (length xs == 0) ≡ true → xs ≡ []
     none [] h = refl

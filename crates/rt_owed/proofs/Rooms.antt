@@ -5,7 +5,7 @@ use Rattle.std.proofs.lemmas.Bool.{eqb-true}
 use Rattle.rt_model.specs.Lists.{drop_number, has, join}
 use Rattle.rt_model.proofs.Maps.{by_test}
 use Rattle.rt_model.proofs.Members.{by_either, clash, or_left, or_right, number_stays, number_left}
-use Rattle.rt_owed.specs.Lists.{EachOnce, different, front}
+use Rattle.rt_owed.specs.Lists.{EachOnce, different, front, numbers_of}
 use Rattle.rt_owed.specs.Rooms.{HasRoom, IsRoomy}
 use Rattle.rt_owed.proofs.Members.{Within, by_part, has_first, has_second, has_only}
 use Rattle.rt_owed.proofs.Different.{all_different, no_more, one_less}
@@ -85,18 +85,18 @@ room_entered entered numbers room n h =
         )
 
 -- the last is entered no more
-pub room_taken_back : (entered numbers : List ℕ) (room : ℕ) → HasRoom entered numbers room → HasRoom (front entered) numbers room
+pub room_taken_back : (entered : List (ℕ × ℕ)) (numbers : List ℕ) (room : ℕ) → HasRoom (numbers_of entered) numbers room → HasRoom (numbers_of (front entered)) numbers room
 room_taken_back entered numbers room h =
-    less_room entered numbers numbers (front entered) room h h.apart
-    (λ s g. by_part numbers (front entered) s g (λ q. has_first numbers entered s q) (λ q. has_second numbers entered s (front_within entered s q)))
+    less_room (numbers_of entered) numbers numbers (numbers_of (front entered)) room h h.apart
+    (λ s g. by_part numbers (numbers_of (front entered)) s g (λ q. has_first numbers (numbers_of entered) s q) (λ q. has_second numbers (numbers_of entered) s (front_within entered s q)))
   where
-    front_within : (xs : List ℕ) → Within (front xs) xs
+    front_within : (xs : List (ℕ × ℕ)) → Within (numbers_of (front xs)) (numbers_of xs)
     front_within [] s q = q
     front_within (x ∷ []) s q = clash q refl
     front_within (x ∷ y ∷ ys) s q =
-        by_either (nat_eq x s) (has (front (y ∷ ys)) s) q
-        (λ r. or_left (nat_eq x s) (has (y ∷ ys) s) r)
-        (λ r. or_right (nat_eq x s) (has (y ∷ ys) s) (front_within (y ∷ ys) s r))
+        by_either (nat_eq x.0 s) (has (numbers_of (front (y ∷ ys))) s) q
+        (λ r. or_left (nat_eq x.0 s) (has (numbers_of (y ∷ ys)) s) r)
+        (λ r. or_right (nat_eq x.0 s) (has (numbers_of (y ∷ ys)) s) (front_within (y ∷ ys) s r))
 
 -- one is entered no more
 pub room_left : (entered numbers : List ℕ) (room n : ℕ) → HasRoom entered numbers room → HasRoom (drop_number entered n) numbers room
@@ -146,7 +146,8 @@ pub roomy_entered : (entered posted waiting : List ℕ) (room a b c d n : ℕ) �
 roomy_entered entered posted waiting room a b c d n h p q =
     record { posted = room_entered entered posted room n h.posted; waiting = room_entered entered waiting room n h.waiting; posted_taken = p; waiting_taken = q }
 
-pub roomy_taken_back : (entered posted waiting : List ℕ) (room a b : ℕ) → IsRoomy entered posted waiting room a b → IsRoomy (front entered) posted waiting room a b
+pub roomy_taken_back : (entered : List (ℕ × ℕ)) (posted waiting : List ℕ) (room a b : ℕ) → IsRoomy (numbers_of entered) posted waiting room a b
+    → IsRoomy (numbers_of (front entered)) posted waiting room a b
 roomy_taken_back entered posted waiting room a b h =
     record { posted = room_taken_back entered posted room h.posted; waiting = room_taken_back entered waiting room h.waiting; posted_taken = h.posted_taken; waiting_taken = h.waiting_taken }
 

@@ -1,12 +1,8 @@
 -- What a list is by what came to it.
-use Rattle.std.specs.Prelude.{ℕ, List, [], ◌∷◌, ◌++◌, Option, Some, None}
+use Rattle.std.specs.Prelude.{List, [], ◌∷◌, ◌++◌, Option, Some, None}
 use Rattle.std.specs.declared.snapshot.Snapshot.{Snapshot}
-use Rattle.rt_model.specs.Lists.{drop_number}
 use Rattle.rt_model.specs.State.{Posted, Mark, Woken}
 use Rattle.rt_model.specs.Commands.{drop_posted}
-use Rattle.rt_owed.specs.Lists.{front}
-use Rattle.rt_owed.specs.declared.entered.Passage.{Passage}
-use Rattle.rt_owed.specs.declared.entered.Passage.TheVariants as passages
 use Rattle.rt_owed.specs.declared.told.Posting.{Posting}
 use Rattle.rt_owed.specs.declared.told.Posting.TheVariants as postings
 
@@ -14,17 +10,6 @@ use Rattle.rt_owed.specs.declared.told.Posting.TheVariants as postings
 abbrev pub all_of : {A : Type 0} → Option (Snapshot (List A) × A) → List A
 all_of None = []
 all_of (Some last) = last.1 ∷ (last.0).value
-
--- numbers after one of them came or went
-abbrev pub after_passage : List ℕ → Passage → List ℕ
-after_passage ns (passages.Came n) = ns ++ n ∷ []
-after_passage ns (passages.Went n) = drop_number ns n
-after_passage ns passages.Undone = front ns
-
--- the numbers that came and did not go
-abbrev pub passed : List Passage → List ℕ
-passed [] = []
-passed (p ∷ ps) = after_passage (passed ps) p
 
 -- what is posted after one change of it
 abbrev pub after_posting : List Posted → Posting → List Posted

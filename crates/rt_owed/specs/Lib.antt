@@ -1,3 +1,4 @@
 pub mod Lists
+pub mod Orders
 pub mod Changes
 pub mod Rooms

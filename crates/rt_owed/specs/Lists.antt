@@ -1,6 +1,6 @@
 -- Lists of numbers: each once, how many different ones, the front; and the scopes and tasks of what is posted.
 use Rattle.std.specs.Prelude.{ℕ, suc, false, List, [], ◌∷◌, ◌≡◌, if◌then◌else◌}
-use Rattle.rt_model.specs.Lists.{has, join}
+use Rattle.rt_model.specs.Lists.{at, has, join, or_else}
 use Rattle.rt_model.specs.State.{Posted, Mark, Woken}
 
 -- a list that others join, one after another, each once
@@ -23,9 +23,13 @@ different [] = 0
 different (n ∷ ns) = if has ns n then different ns else suc (different ns)
 
 -- all but the last
-abbrev pub front : List ℕ → List ℕ
+abbrev pub front : List (ℕ × ℕ) → List (ℕ × ℕ)
 front [] = []
-front (n ∷ ns) = elim ns [ [] ↦ [] | m ∷ ms ↦ n ∷ front ns ]
+front (e ∷ es) = elim es [ [] ↦ [] | d ∷ ds ↦ e ∷ front es ]
+
+-- the value that a number was entered with, 0 where it isn't entered
+abbrev pub held : List (ℕ × ℕ) → ℕ → ℕ
+held es n = or_else 0 (at es n)
 
 -- the scopes whose marks are posted
 abbrev pub marks_in : List Posted → List ℕ
@@ -43,3 +47,8 @@ wakes_in (Woken t ∷ ps) = t ∷ wakes_in ps
 abbrev pub numbers_of : {A : Type 0} → List (ℕ × A) → List ℕ
 numbers_of [] = []
 numbers_of (e ∷ es) = e.0 ∷ numbers_of es
+
+-- the rows of a table, each with one value
+abbrev pub values_of : {A : Type 0} → (A → ℕ) → List (ℕ × A) → List (ℕ × ℕ)
+values_of value [] = []
+values_of value (e ∷ es) = (e.0, value e.1) ∷ values_of value es

@@ -2,8 +2,9 @@
 //! live scope and task has its place from its making on, so that nothing here is refused later.
 #![tactic(auto)]
 
-mod entered;
 mod lists;
+mod numbers;
+mod order;
 mod owed;
 mod roll;
 mod told;

@@ -1,7 +1,9 @@
 //! Lists of numbers, with room that was taken before.
-ghost use Rattle.std.specs.Prelude.{◌≡◌, ◌<◌, ◌≤◌, ◌-◌, ◌||◌, ℕ, length, get_or, vec_len, vec_capacity, OnOk, IfSome, IfNone, false, if◌then◌else◌};
-ghost use Rattle.rt_model.specs.Lists.{has, drop_number, join};
+ghost use Rattle.std.specs.Prelude.{◌≡◌, ◌<◌, ◌≤◌, ◌-◌, ◌||◌, ℕ, length, get_or, vec_capacity, OnOk, IfSome, IfNone, true, false, if◌then◌else◌};
+ghost use Rattle.rt_model.specs.Lists.{has, drop_number};
+ghost use Rattle.rt_owed.specs.Lists.{EachOnce};
 
+use crate::numbers::Numbers;
 use rt_values::OutOfMemory;
 
 /// Where a number stands first.
@@ -30,44 +32,46 @@ pub(crate) fn has_number(numbers: &[u64], number: u64) -> bool
     false
 }
 
-/// Takes a number out wherever it stands.
+/// Takes a number out of a list in which none stands twice, where it stands there.
 pub(crate) fn drop_from(numbers: &mut Vec<u64>, number: u64)
+    requires once { EachOnce numbers.old.items }
     ensures dropped { numbers.new.items ≡ drop_number numbers.old.items number }
     ensures room { vec_capacity numbers.new ≡ vec_capacity numbers.old }
 {
-    while let Some(index) = number_in(numbers.as_slice(), number) {
-        numbers.remove(index);
+    match number_in(numbers.as_slice(), number) {
+        Some(index) => {
+            let _gone = numbers.remove(index);
+        }
+        None => {}
     }
 }
 
-/// Puts a number at the end where it isn't in the list.
-pub(crate) fn join_within(numbers: &mut Vec<u64>, number: u64)
-    requires room { has numbers.old.items number ≡ false
-        → vec_len numbers.old < vec_capacity numbers.old }
-    ensures joined { numbers.new.items ≡ join numbers.old.items number }
-    ensures room { vec_capacity numbers.new ≡ vec_capacity numbers.old }
+/// Takes a number out of numbers of which none stands twice, where it is one of them.
+pub(crate) fn take_out(numbers: &mut Numbers, number: u64)
+    requires once { EachOnce numbers.old.items }
+    ensures dropped { numbers.new.items ≡ drop_number numbers.old.items number }
+    ensures room { numbers.new.room ≡ numbers.old.room }
 {
-    if has_number(numbers.as_slice(), number) {
-        return;
+    match number_in(numbers.as_slice(), number) {
+        Some(index) => numbers.remove(index),
+        None => {}
     }
-    numbers.push_reserved(number);
 }
 
 /// Makes room for so many numbers in each of two lists.
 pub(crate) fn widen(
     posted: &mut Vec<u64>,
-    waiting: &mut Vec<u64>,
+    waiting: &mut Numbers,
     room: usize,
 ) -> Result<(), OutOfMemory>
     ensures posted { posted.new.items ≡ posted.old.items }
     ensures waiting { waiting.new.items ≡ waiting.old.items }
     ensures posted_room { vec_capacity posted.old ≤ vec_capacity posted.new }
-    ensures waiting_room { vec_capacity waiting.old ≤ vec_capacity waiting.new }
-    ensures wide { OnOk result ((room ≤ vec_capacity posted.new) × (room ≤ vec_capacity waiting.new)) }
+    ensures waiting_room { waiting.old.room ≤ waiting.new.room }
+    ensures wide { OnOk result ((room ≤ vec_capacity posted.new) × (room ≤ waiting.new.room)) }
 {
     posted.reserve(room.saturating_sub(posted.len()))?;
-    waiting.reserve(room.saturating_sub(waiting.len()))?;
-    Ok(())
+    waiting.reserve(room)
 }
 
 /// The room that two lists need beside each other once a number isn't waited for any more.
@@ -78,5 +82,17 @@ pub(crate) fn narrowed(posted: &[u64], waiting: &[u64], number: u64, room: usize
         room
     } else {
         room.saturating_sub(1)
+    }
+}
+
+/// Whether numbers surely stay in order where only what is kept of this one changes.
+pub(crate) fn stays(in_order: bool, numbers: &[u64], number: u64) -> bool
+    ensures was { result ≡ true → in_order ≡ true }
+    ensures none { result ≡ true → has numbers.now number ≡ false }
+{
+    if has_number(numbers, number) {
+        false
+    } else {
+        in_order
     }
 }

@@ -17,7 +17,7 @@ module _ {A : Type 0} where
       subst (IsFirst rows n) {x = i + 1} (omega arith)
       (first-past rows n i d (omega arith) (others i d (omega arith)) (passed rows d n i (omega arith) (λ k e below. others k e (omega arith))))
 
-  first-before : (rows : List (ℕ × A)) (n i : ℕ) → i ≤ length rows → ((k : ℕ) (e : ℕ × A) → k < i → (get_or rows k e).0 ≢ n) → IsFirst rows n i
+  pub first-before : (rows : List (ℕ × A)) (n i : ℕ) → i ≤ length rows → ((k : ℕ) (e : ℕ × A) → k < i → (get_or rows k e).0 ≢ n) → IsFirst rows n i
   first-before [] n i within others = subst (IsFirst [] n) {x = 0} (omega arith) (first-start [] n)
   first-before (row ∷ rows) n i within others = passed (row ∷ rows) row n i within others
 

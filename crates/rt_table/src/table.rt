@@ -1,5 +1,5 @@
 //! A table of numbered values, in the order in which they came.
-ghost use Rattle.std.specs.Prelude.{◌≡◌, ℕ, [], ◌∷◌, ◌++◌, ◌<◌, length, get_or, remove, slice_set, Option, Some, None, true, IfSome, IfNone, OnOk, OnErr};
+ghost use Rattle.std.specs.Prelude.{◌≡◌, ℕ, [], ◌∷◌, ◌++◌, ◌<◌, ◌-◌, length, get_or, remove, slice_set, Option, Some, None, true, IfSome, IfNone, OnOk, OnErr};
 ghost use Rattle.std.specs.Option.{option_copied};
 ghost use Rattle.std.specs.Fn.{FnOnceReturnsAtMut};
 ghost use Rattle.rt_model.specs.Lists.{at, put, without};
@@ -50,7 +50,16 @@ impl<T> Table<T> {
         self.rows.as_slice()
     }
 
+    /// Whether the numbers are known to rise from row to row. They are where each that was put at the
+    /// end was above the last one.
+    pub fn rises(&self) -> bool
+        ensures rises { result ≡ true → Ascends self.now }
+    {
+        self.rising
+    }
+
     /// The first value under a number. A binary search, or a walk where the numbers don't rise.
+    #[inline(always)]
     pub fn get(&self, number: u64) -> Option<&T>
         ensures value { option_copied result ≡ at self.now number }
     {
@@ -61,6 +70,7 @@ impl<T> Table<T> {
     }
 
     // The index of the first row of a number.
+    #[inline(always)]
     fn index_of(&self, number: u64) -> Option<usize>
         ensures within { IfSome result (λ index. index < length self.now) }
         ensures first { IfSome result (λ index. IsFirst self.now number index) }
@@ -110,6 +120,28 @@ impl<T: Drop> Table<T> {
     pub fn remove(&mut self, number: u64)
         ensures others { self.new ≡ without self.old number }
     {
+        if self.rising {
+            self.remove_one(number);
+        } else {
+            self.remove_each(number);
+        }
+    }
+
+    // Takes out the one value under a number, among numbers that rise.
+    fn remove_one(&mut self, number: u64)
+        requires ascending { Ascends self.old }
+        ensures others { self.new ≡ without self.old number }
+    {
+        match self.index_of(number) {
+            Some(index) => self.remove_at(index),
+            None => {}
+        }
+    }
+
+    // Takes out every value under a number, whatever their order.
+    fn remove_each(&mut self, number: u64)
+        ensures others { self.new ≡ without self.old number }
+    {
         while let Some(index) = self.index_of(number) {
             self.remove_at(index);
         }
@@ -120,9 +152,32 @@ impl<T: Drop> Table<T> {
         ensures first { result ≡ at self.old number }
         ensures others { self.new ≡ without self.old number }
     {
+        if self.rising {
+            self.take_one(number)
+        } else {
+            self.take_each(number)
+        }
+    }
+
+    // Takes out the one value under a number, among numbers that rise, and gives it.
+    fn take_one(&mut self, number: u64) -> Option<T>
+        requires ascending { Ascends self.old }
+        ensures first { result ≡ at self.old number }
+        ensures others { self.new ≡ without self.old number }
+    {
         let index = self.index_of(number)?;
         let (_number, value) = self.rows.remove(index);
-        self.remove(number);
+        Some(value)
+    }
+
+    // Takes out every value under a number, whatever their order, and gives the first one.
+    fn take_each(&mut self, number: u64) -> Option<T>
+        ensures first { result ≡ at self.old number }
+        ensures others { self.new ≡ without self.old number }
+    {
+        let index = self.index_of(number)?;
+        let (_number, value) = self.rows.remove(index);
+        self.remove_each(number);
         Some(value)
     }
 
@@ -196,7 +251,8 @@ impl<T: Drop> Table<T> {
 }
 
 // The index of the row of a number, among numbers that rise. It is looked for where it stands while no
-// row went, and then by halves.
+// row went.
+#[inline(always)]
 fn near<T>(rows: &[(u64, T)], number: u64) -> Option<usize>
     requires ascending { Ascends rows.now }
     ensures within { IfSome result (λ index. index < length rows.now) }
@@ -209,11 +265,50 @@ fn near<T>(rows: &[(u64, T)], number: u64) -> Option<usize>
     if stands_at(rows, guess, number) {
         Some(guess)
     } else {
+        from_behind(rows, number)
+    }
+}
+
+// The index of the row of a number, among numbers that rise. It is looked for where it stands while each
+// row that went stood before it, and then by halves.
+#[inline(never)]
+fn from_behind<T>(rows: &[(u64, T)], number: u64) -> Option<usize>
+    requires ascending { Ascends rows.now }
+    ensures within { IfSome result (λ index. index < length rows.now) }
+    ensures first { IfSome result (λ index. IsFirst rows.now number index) }
+    ensures own { IfSome result (λ index.
+        (row : ℕ × T) → (get_or rows.now index row).0 ≡ number) }
+    ensures absent { IfNone result (at rows.now number ≡ None) }
+{
+    let Some(last) = last_number(rows) else {
+        return None;
+    };
+    if last < number {
+        return None;
+    }
+    let back = (last - number) as usize;
+    let guess = rows.len().saturating_sub(1).saturating_sub(back);
+    if stands_at(rows, guess, number) {
+        Some(guess)
+    } else {
         search(rows, number)
     }
 }
 
+// The number of the last row.
+fn last_number<T>(rows: &[(u64, T)]) -> Option<u64>
+    ensures last { IfSome result (λ number.
+        (row : ℕ × T) → (get_or rows.now (length rows.now - 1) row).0 ≡ number) }
+    ensures none { IfNone result (length rows.now ≡ 0) }
+{
+    match rows.last() {
+        Some(row) => Some(row.0),
+        None => None,
+    }
+}
+
 // Whether the row at an index has a number.
+#[inline(always)]
 fn stands_at<T>(rows: &[(u64, T)], index: usize, number: u64) -> bool
     requires ascending { Ascends rows.now }
     ensures within { result ≡ true → index < length rows.now }
@@ -236,6 +331,7 @@ fn search<T>(rows: &[(u64, T)], number: u64) -> Option<usize>
 }
 
 // The index of the first row of a number, whatever their order.
+#[inline(never)]
 fn walk<T>(rows: &[(u64, T)], number: u64) -> Option<usize>
     ensures within { IfSome result (λ index. index < length rows.now) }
     ensures first { IfSome result (λ index. IsFirst rows.now number index) }

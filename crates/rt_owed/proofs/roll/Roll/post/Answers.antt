@@ -1,22 +1,34 @@
-use Rattle.std.proofs.Common.{ap, ◌∙◌, ◌<◌, ◌≤◌, ◌≡◌, length, arith}
-use Rattle.std.specs.Prelude.{vec_capacity, vec_len}
-use Rattle.rt_model.specs.Lists.{has}
-use Rattle.rt_owed.specs.Rooms.{Entries}
-use Rattle.rt_owed.specs.Changes.{passed}
-use Rattle.rt_owed.proofs.Rooms.{has_place, roomy_posted}
+-- A number that is next, or isn't posted yet, joins; another one is there.
+use Rattle.std.proofs.Common.{◌∙◌, ◌++◌, ◌∷◌, [], ap, sym}
+use Rattle.rt_model.proofs.Maps.{pick_true}
+use Rattle.rt_owed.proofs.Rolls.{joined, with_posted}
 use Rattle.rt_owed.proofs.roll.Roll.post.Goals as goal
 
-pub join_within-requires : goal.join_within-requires
-join_within-requires c =
+pub add_posted-requires : goal.add_posted-requires
+add_posted-requires c =
     record {
-      room = λ none.
-          let place : length c.self.inside.posted.items < c.self.inside.room = has_place (passed c.self.inside.entered) c.self.inside.posted.items c.self.inside.room c.args.number c.self.invariant.posted (ap (λ (e : Entries). has e.entered c.args.number) c.self.view_is ∙ c.requires) none in
-          let taken : c.self.inside.room ≤ vec_capacity c.self.inside.posted = c.self.invariant.posted_taken in
-          let long : vec_len c.self.inside.posted ≡ length c.self.inside.posted.items = c.self.inside.posted.ok.0 in
-          omega (arith, place, taken, long);
+      there = c.requires;
+      none = c.is_next.ensures.none c.if-is_next.true;
+      rises = λ so. c.is_next.ensures.rises c.if-is_next.true;
     }
 
-pub invariant_of-self : goal.invariant_of-self
-invariant_of-self c =
-    rw c.join_within.ensures.joined
-    (roomy_posted (passed c.self.inside.entered) c.self.inside.posted.items c.self.inside.waiting.items c.self.inside.room (vec_capacity c.self.inside.posted) (vec_capacity c.self.inside.waiting) (vec_capacity c.join_within.new.numbers) c.args.number c.self.invariant c.join_within.ensures.room (ap (λ (e : Entries). has e.entered c.args.number) c.self.view_is ∙ c.requires))
+pub add_posted-requires-then-not-is_posted : goal.add_posted-requires-then-not-is_posted
+add_posted-requires-then-not-is_posted c =
+    record {
+      there = c.requires;
+      none = sym c.is_posted.ensures ∙ c.if-not-is_posted.true;
+      rises = λ so. absurd (cc so);
+    }
+
+pub returns-then-is_next : goal.returns-then-is_next
+returns-then-is_next c = c.add_posted.ensures ∙ ap (λ ps. with_posted c.args.self.now ps) (sym (joined c.args.self.now.posted c.args.number (c.is_next.ensures.none c.if-is_next.true)))
+
+pub returns-then-not-is_posted : goal.returns-then-not-is_posted
+returns-then-not-is_posted c =
+    c.add_posted-then-not-is_posted.ensures
+    ∙ ap (λ ps. with_posted c.args.self.now ps) (sym (joined c.args.self.now.posted c.args.number (sym c.is_posted.ensures ∙ c.if-not-is_posted.true)))
+
+pub returns-else-not-is_posted : goal.returns-else-not-is_posted
+returns-else-not-is_posted c =
+    ap (λ ps. with_posted c.args.self.now ps)
+    (sym (pick_true c.args.self.now.posted (c.args.self.now.posted ++ c.args.number ∷ []) (sym c.is_posted.ensures ∙ c.if-not-is_posted.false)))

@@ -1,22 +1,24 @@
-use Rattle.std.proofs.Common.{ap, ◌∙◌, ◌<◌, ◌≤◌, ◌≡◌, length, arith}
-use Rattle.std.specs.Prelude.{vec_capacity, vec_len}
+-- A number that waits has its place.
+use Rattle.std.proofs.Common.{◌<◌, ◌≤◌, ◌≡◌, ◌∙◌, true, false, length, ap, arith}
+use Rattle.std.specs.Prelude.{vec_capacity}
 use Rattle.rt_model.specs.Lists.{has}
+use Rattle.rt_owed.specs.Lists.{numbers_of}
 use Rattle.rt_owed.specs.Rooms.{Entries}
-use Rattle.rt_owed.specs.Changes.{passed}
-use Rattle.rt_owed.proofs.Rooms.{has_place, roomy_waiting}
+use Rattle.rt_owed.proofs.Rolls.{roll_waiting}
+use Rattle.rt_owed.proofs.Rooms.{has_place}
 use Rattle.rt_owed.proofs.roll.Roll.wait.Goals as goal
 
-pub join_within-requires : goal.join_within-requires
-join_within-requires c =
-    record {
-      room = λ none.
-          let place : length c.self.inside.waiting.items < c.self.inside.room = has_place (passed c.self.inside.entered) c.self.inside.waiting.items c.self.inside.room c.args.number c.self.invariant.waiting (ap (λ (e : Entries). has e.entered c.args.number) c.self.view_is ∙ c.requires) none in
-          let taken : c.self.inside.room ≤ vec_capacity c.self.inside.waiting = c.self.invariant.waiting_taken in
-          let long : vec_len c.self.inside.waiting ≡ length c.self.inside.waiting.items = c.self.inside.waiting.ok.0 in
-          omega (arith, place, taken, long);
-    }
+pub push-requires : goal.push-requires
+push-requires c =
+    let there : has (numbers_of c.self.inside.entered) c.args.number ≡ true = ap (λ (e : Entries). has (numbers_of e.entered) c.args.number) c.self.view_is ∙ c.requires.there in
+    let none : has c.self.inside.waiting.items c.args.number ≡ false = ap (λ (e : Entries). has e.waiting c.args.number) c.self.view_is ∙ c.requires.none in
+    let place : length c.self.inside.waiting.items < c.self.inside.room = has_place (numbers_of c.self.inside.entered) c.self.inside.waiting.items c.self.inside.room c.args.number c.self.invariant.roomy.waiting there none in
+    let taken : c.self.inside.room ≤ c.self.inside.waiting.room = c.self.invariant.roomy.waiting_taken in
+    omega (arith, place, taken)
 
 pub invariant_of-self : goal.invariant_of-self
 invariant_of-self c =
-    rw c.join_within.ensures.joined
-    (roomy_waiting (passed c.self.inside.entered) c.self.inside.posted.items c.self.inside.waiting.items c.self.inside.room (vec_capacity c.self.inside.posted) (vec_capacity c.self.inside.waiting) (vec_capacity c.join_within.new.numbers) c.args.number c.self.invariant c.join_within.ensures.room (ap (λ (e : Entries). has e.entered c.args.number) c.self.view_is ∙ c.requires))
+    let there : has (numbers_of c.self.inside.entered) c.args.number ≡ true = ap (λ (e : Entries). has (numbers_of e.entered) c.args.number) c.self.view_is ∙ c.requires.there in
+    let none : has c.self.inside.waiting.items c.args.number ≡ false = ap (λ (e : Entries). has e.waiting c.args.number) c.self.view_is ∙ c.requires.none in
+    rw c.push.ensures.pushed
+    (roll_waiting c.self.inside.entered c.self.inside.posted.items c.self.inside.waiting.items c.self.inside.rising c.self.inside.room (vec_capacity c.self.inside.posted) c.self.inside.waiting.room c.push.new.self.room c.args.number c.self.invariant c.push.ensures.same_room there none)
