@@ -1,14 +1,19 @@
 -- What is told of a place, step by step.
-use Rattle.std.proofs.Common.{ℕ, suc, ◌+◌, ◌<◌, ◌≤◌, Bool, true, false, ◌&&◌, List, [], ◌∷◌, ◌++◌, ◌≡◌, ◌≢◌, nat_eq, length, get_or, drop, refl, sym, ap, ◌∙◌, arith, append_assoc, append-nil}
-use Rattle.std.proofs.lemmas.List.{drop_more}
+use Rattle.std.proofs.Common.{ℕ, suc, ◌+◌, ◌<◌, ◌≤◌, Bool, true, false, ◌&&◌, List, [], ◌∷◌, ◌++◌, ◌≡◌, ◌≢◌, nat_eq, length, get_or, drop, map, take, refl, sym, ap, ◌∙◌, arith, append_assoc, append-nil}
+use Rattle.std.proofs.lemmas.List.{drop_more, map-append}
+use Rattle.std.proofs.Math.Seq.{take-suc}
 use Rattle.std.proofs.lemmas.Grind.{common_steps}
 use Rattle.rt_model.specs.Lists.{same_numbers}
 use Rattle.rt_model.specs.Tree as model
 use Rattle.rt_model.specs.Tree.{inside, item}
 use Rattle.rt_model.proofs.Maps.{pick_true, pick_false}
 use Rattle.rt_places.specs.Places.{place_of, step_of}
+use Rattle.rt_parts.specs.declared.template.TemplateParts.{TemplateParts as Template}
+use Rattle.rt_places.proofs.Stands.{places-append}
 use Rattle.rt_places.specs.declared.place.Step.{Step}
-use Rattle.rt_named.specs.Named.{path_after, path_from, slot_after, slot_at, steps_at, steps_from}
+use Rattle.rt_places.specs.declared.place.Step.TheVariants as steps
+use Rattle.rt_plan.specs.declared.place.Step.{Step as Told}
+use Rattle.rt_named.specs.Named.{path_after, path_from, slot_after, slot_at, slot_from, step_in, steps_at, steps_from}
 
 pub drop-all : {A : Type 0} (xs : List A) (i : ℕ) → length xs ≤ i → drop i xs ≡ []
 drop-all xs i end = grind (arith, common_steps, end)
@@ -44,6 +49,60 @@ path_step place i step q new within is more =
 
 pub path_end : (place : List Step) (i : ℕ) (q all : List ℕ) → length place ≤ i → path_from q (place_of (drop i place)) ≡ all → q ≡ all
 path_end place i q all end is = ap (λ (ss : List Step). path_from q (place_of ss)) (sym (drop-all place i end)) ∙ is
+
+-- the slot goes on
+pub slot_step : (place : List Step) (i : ℕ) (step : Step) (k next : ℕ) → i < length place → step ≡ get_or place i step → next ≡ slot_after k (step_of step)
+    → slot_from next (place_of (drop (i + 1) place)) ≡ slot_from k (place_of (drop i place))
+slot_step place i step k next within is more =
+    ap (λ (n : ℕ). slot_from n (place_of (drop (i + 1) place))) more
+    ∙ ap (λ (s : Step). slot_from k (step_of s ∷ place_of (drop (i + 1) place))) is
+    ∙ ap (λ (ss : List Step). slot_from k (place_of ss)) (sym (drop_more place i step within))
+
+pub slot_last : (place : List Step) (i k all : ℕ) → length place ≤ i → slot_from k (place_of (drop i place)) ≡ all → k ≡ all
+slot_last place i k all end is = ap (λ (ss : List Step). slot_from k (place_of ss)) (sym (drop-all place i end)) ∙ is
+
+-- what is told of one more step, which comes last
+steps-last : (k : ℕ) (place : model.Place) (s : model.Step) → steps_from k (place ++ s ∷ []) ≡ steps_from k place ++ steps_at (slot_from k place) s
+steps-last k [] (inside t p) = refl
+steps-last k [] (item i) = refl
+steps-last k (inside t p ∷ rest) s = steps-last (slot_at t.node_paths p) rest s
+steps-last k (item i ∷ rest) s = ap (λ (ss : List (ℕ × ℕ)). (k, i) ∷ ss) (steps-last k rest s)
+
+path-last : (q : List ℕ) (place : model.Place) (s : model.Step) → path_from q (place ++ s ∷ []) ≡ path_after (path_from q place) s
+path-last q [] s = refl
+path-last q (t ∷ rest) s = path-last (path_after q t) rest s
+
+-- a template's step tells nothing but the path
+pub way_inside : (above place : List Step) (t : Template) (p : List ℕ) → place ≡ above ++ steps.Inside t p ∷ []
+    → (steps_from 0 (place_of above) ≡ steps_from 0 (place_of place)) × (p ≡ path_from [] (place_of place))
+way_inside above place t p is =
+    let all : place_of place ≡ place_of above ++ step_of (steps.Inside t p) ∷ [] = ap place_of is ∙ places-append above (steps.Inside t p ∷ []) in (
+      sym (ap (λ ss. steps_from 0 ss) all ∙ steps-last 0 (place_of above) (step_of (steps.Inside t p)) ∙ append-nil (steps_from 0 (place_of above))),
+      sym (ap (λ ss. path_from [] ss) all ∙ path-last [] (place_of above) (step_of (steps.Inside t p))),
+    )
+
+-- an item's step leaves the path
+pub way_item : (above place : List Step) (i : ℕ) → place ≡ above ++ steps.Item i ∷ [] → path_from [] (place_of above) ≡ path_from [] (place_of place)
+way_item above place i is =
+    sym (ap (λ ss. path_from [] (place_of ss)) is ∙ ap (λ ss. path_from [] ss) (places-append above (steps.Item i ∷ [])) ∙ path-last [] (place_of above) (step_of (steps.Item i)))
+
+-- one step more to an item
+pub told_below : (above : List Step) (i slot : ℕ) (told all : List (ℕ × ℕ)) → told ≡ steps_from 0 (place_of above) → slot ≡ slot_from 0 (place_of above) → all ≡ told ++ (slot, i) ∷ []
+    → all ≡ steps_from 0 (place_of (above ++ steps.Item i ∷ []))
+told_below above i slot told all so_far is more =
+    more ∙ (λ j. so_far j ++ (is j, i) ∷ [])
+    ∙ sym (steps-last 0 (place_of above) (step_of (steps.Item i)))
+    ∙ ap (λ ss. steps_from 0 ss) (sym (places-append above (steps.Item i ∷ [])))
+
+-- one more of some steps
+pub told_more : (all : List Told) (told slot position : ℕ) (own : Told) → told < length all → own ≡ get_or all told own → step_in own ≡ (slot, position)
+    → map step_in (take (told + 1) all) ≡ map step_in (take told all) ++ (slot, position) ∷ []
+told_more all told slot position own within is same =
+    let one : told + 1 ≡ suc told = omega arith in
+    ap (λ n. map step_in (take n all)) one
+    ∙ ap (map step_in) (take-suc all told own within)
+    ∙ map-append step_in (take told all) (get_or all told own ∷ [])
+    ∙ ap (λ (x : ℕ × ℕ). map step_in (take told all) ++ x ∷ []) (ap step_in (sym is) ∙ same)
 
 -- a path that isn't at an index is sought after it
 pub slot_passed : (paths : List (List ℕ)) (path : List ℕ) (i : ℕ) (own : List ℕ) → i < length paths → own ≡ get_or paths i own → same_numbers own path ≡ false

@@ -30,6 +30,11 @@ abbrev pub steps_at : ℕ → model.Step → List (ℕ × ℕ)
 steps_at k (inside t p) = []
 steps_at k (item i) = (k, i) ∷ []
 
+-- the slot that a place leads to, from another one on
+abbrev pub slot_from : ℕ → model.Place → ℕ
+slot_from k [] = k
+slot_from k (s ∷ rest) = slot_from (slot_after k s) rest
+
 -- the steps that are told of a place, below a slot
 abbrev pub steps_from : ℕ → model.Place → List (ℕ × ℕ)
 steps_from k [] = []

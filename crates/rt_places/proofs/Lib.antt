@@ -7,4 +7,7 @@ pub mod Keyed
 pub mod Hits
 pub mod Trails
 pub mod Firsts
+pub mod Alone
 pub mod Sided
+pub mod Guessed
+pub mod Lasts

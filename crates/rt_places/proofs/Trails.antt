@@ -1,7 +1,7 @@
 -- Where a walk stands, step by step.
 use Rattle.std.proofs.Common.{ℕ, ◌+◌, List, [], ◌∷◌, ◌++◌, ◌≡◌, refl, sym, ap, ◌∙◌, rules}
 use Rattle.std.specs.Borrow.{Bor}
-use Rattle.rt_parts.specs.declared.template.Template.{Template}
+use Rattle.rt_parts.specs.declared.template.TemplateParts.{TemplateParts as Template}
 use Rattle.rt_model.specs.Tree.{item}
 use Rattle.rt_mirror.specs.Sealed.{template_of}
 use Rattle.rt_places.specs.declared.place.Step.{Step}
@@ -11,10 +11,10 @@ use Rattle.rt_places.specs.declared.trail.Path.TheViews.{Below}
 use Rattle.rt_places.specs.declared.trail.Path.TheVariants.{Top, Whole}
 use Rattle.rt_places.specs.declared.trail.Trail.{Trail, the_lemmas as trail_lemmas}
 use Rattle.rt_places.specs.declared.trail.Trail.TheViews.{Inside, Item}
-use Rattle.rt_places.specs.declared.trail.Trail.TheVariants.{Root}
+use Rattle.rt_places.specs.declared.trail.Trail.TheVariants.{At, Root}
 use Rattle.rt_places.specs.Places.{at_path, place_of}
-use Rattle.rt_places.specs.PlaceKeys.{mixed, path_key, step_key, steps_key}
-use Rattle.rt_places.specs.Trails.{path_of, place_on, steps_of}
+use Rattle.rt_places.specs.PlaceKeys.{led, path_key, step_key, steps_key}
+use Rattle.rt_places.specs.Trails.{item_from, path_of, place_on, steps_of}
 use Rattle.rt_places.proofs.Stands.{places-append}
 
 pub path_Top : path_of Top ≡ []
@@ -35,6 +35,9 @@ steps_Inside above template path = search (rules, trail_lemmas)
 pub steps_Item : (above : Bor Trail) (position : ℕ) → steps_of (Item above position) ≡ steps_of above.now ++ steps.Item position ∷ []
 steps_Item above position = search (rules, trail_lemmas)
 
+pub steps_At : (whole : Bor (List Step)) → steps_of (At whole) ≡ whole.now
+steps_At whole = search (rules, trail_lemmas)
+
 pub on_Root : place_on Root ≡ []
 on_Root = ap place_of steps_Root
 
@@ -43,6 +46,9 @@ on_Inside above template path = ap place_of (steps_Inside above template path) �
 
 pub on_Item : (above : Bor Trail) (position : ℕ) → place_on (Item above position) ≡ place_on above.now ++ item position ∷ []
 on_Item above position = ap place_of (steps_Item above position) ∙ places-append (steps_of above.now) (steps.Item position ∷ [])
+
+pub on_At : (whole : Bor (List Step)) → place_on (At whole) ≡ place_of whole.now
+on_At whole = ap place_of (steps_At whole)
 
 -- lists that end in one thing have one front, and one last thing
 pub some_last : {A : Type 0} (xs : List A) (x : A) → xs ++ x ∷ [] ≡ [] → ⊥
@@ -59,14 +65,25 @@ same_last (a ∷ xs) (b ∷ ys) x y h =
     ((λ i. first i ∷ rest.0 i), rest.1)
 
 -- keys of longer paths and places
-pub path_key-last : (path : List ℕ) (i key : ℕ) → path_key (path ++ i ∷ []) key ≡ mixed (path_key path key) i
-path_key-last [] i key = refl
-path_key-last (j ∷ path) i key = path_key-last path i (mixed key j)
+pub path_key-last : (path : List ℕ) (i rest : ℕ) → path_key (path ++ i ∷ []) rest ≡ path_key path (led i rest)
+path_key-last [] i rest = refl
+path_key-last (j ∷ path) i rest = ap (λ n. led j n) (path_key-last path i rest)
 
-pub steps_key-last : (front : List Step) (x : Step) (key : ℕ) → steps_key (front ++ x ∷ []) key ≡ step_key x (steps_key front key)
-steps_key-last [] x key = refl
-steps_key-last (y ∷ front) x key = steps_key-last front x (step_key y key)
+pub steps_key-last : (front : List Step) (x : Step) (rest : ℕ) → steps_key (front ++ x ∷ []) rest ≡ steps_key front (step_key x rest)
+steps_key-last [] x rest = refl
+steps_key-last (y ∷ front) x rest = ap (λ n. step_key y n) (steps_key-last front x rest)
 
-pub ruleset trails = (path_Top, path_Below, path_Whole, steps_Root, steps_Inside, steps_Item, path_key-last, steps_key-last)
+-- the last step of a place says in which item it is, or the steps before it do
+pub item-Inside : (n : ℕ) (front : List Step) (template : Template) (path : List ℕ) → item_from n (front ++ steps.Inside template path ∷ []) ≡ item_from n front
+item-Inside n [] template path = refl
+item-Inside n (steps.Inside t q ∷ front) template path = item-Inside n front template path
+item-Inside n (steps.Item i ∷ front) template path = item-Inside i front template path
 
-pub ruleset standing = (on_Root, on_Inside, on_Item, path_Top, path_Below, path_Whole)
+pub item-Item : (n : ℕ) (front : List Step) (position : ℕ) → item_from n (front ++ steps.Item position ∷ []) ≡ position
+item-Item n [] position = refl
+item-Item n (steps.Inside t q ∷ front) position = item-Item n front position
+item-Item n (steps.Item i ∷ front) position = item-Item i front position
+
+pub ruleset trails = (item-Inside, item-Item, path_Top, path_Below, path_Whole, steps_Root, steps_Inside, steps_Item, steps_At, path_key-last, steps_key-last)
+
+pub ruleset standing = (on_Root, on_Inside, on_Item, on_At, path_Top, path_Below, path_Whole)

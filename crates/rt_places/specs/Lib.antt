@@ -1,4 +1,5 @@
 pub mod Places
+pub mod Parted
 pub mod Pieces
 pub mod Spots
 pub mod Drawn
@@ -8,3 +9,4 @@ pub mod Indexed
 pub mod Trails
 pub mod Apart
 pub mod Sides
+pub mod Held

@@ -26,6 +26,7 @@ abbrev pub trail_step : Trail-F (List Step) → List Step
 trail_step Trail-F.Root = []
 trail_step (Trail-F.Inside above template path) = above.now ++ steps.Inside template.now (path_of path.now) ∷ []
 trail_step (Trail-F.Item above position) = above.now ++ steps.Item position ∷ []
+trail_step (Trail-F.At whole) = whole.now
 
 -- the steps to where a walk stands
 abbrev pub steps_of : Trail → List Step
@@ -34,3 +35,13 @@ steps_of = fold-Trail (List Step) trail_step
 -- the place where a walk stands
 abbrev pub place_on : Trail → model.Place
 place_on trail = place_of (steps_of trail)
+
+-- the position of the last item among steps, or one that came before them
+abbrev pub item_from : ℕ → List Step → ℕ
+item_from n [] = n
+item_from n (steps.Inside template path ∷ xs) = item_from n xs
+item_from n (steps.Item position ∷ xs) = item_from position xs
+
+-- the position of the last item of a place, 0 where it has none
+abbrev pub last_item : List Step → ℕ
+last_item place = item_from 0 place

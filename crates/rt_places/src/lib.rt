@@ -5,6 +5,7 @@ mod drawn;
 mod keys;
 mod levels;
 mod nodes;
+mod pairs;
 mod piece;
 mod place;
 mod place_keys;
@@ -21,4 +22,4 @@ pub use place::{Kind, Place, Step, is_same_kind, is_same_place, place_inside, pl
 pub use seats::Seats;
 pub use side::{Side, SideName};
 pub use spot::{Spot, spots};
-pub use trail::{Path, Trail, is_on, place_on, stands_at, steps_to};
+pub use trail::{Path, Trail, is_on, place_on, stands_after, stands_at, steps_on, steps_to};

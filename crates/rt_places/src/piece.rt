@@ -13,26 +13,26 @@ use std::alloc::Global;
 pub enum Piece {
     /// An element, with its attributes.
     Element {
-        path: Shared<u64>,
+        path: Shared<u8>,
         attrs: Shared<TemplateAttribute>,
     },
     /// A text.
     Text {
-        path: Shared<u64>,
+        path: Shared<u8>,
     },
     /// The node slot with this number.
     Slot {
         id: u64,
-        path: Shared<u64>,
+        path: Shared<u8>,
     },
 }
 
 /// What is met in a template with these roots.
-pub fn pieces_of(alloc: Global, roots: &Shared<TemplateNode>) -> Result<List<Piece>, OutOfMemory>
+pub fn pieces_of(alloc: Global, roots: &[TemplateNode]) -> Result<List<Piece>, OutOfMemory>
     ensures { IfOk result (λ pieces. map piece_of pieces ≡ row_met [] 0 roots.now) }
 {
     let mut pieces = List::new(alloc);
-    add_pieces(alloc, roots.as_slice(), &[], &mut pieces)?;
+    add_pieces(alloc, roots, &[], &mut pieces)?;
     Ok(pieces)
 }
 
@@ -41,7 +41,7 @@ pub fn pieces_of(alloc: Global, roots: &Shared<TemplateNode>) -> Result<List<Pie
 fn add_pieces(
     alloc: Global,
     nodes: &[TemplateNode],
-    up: &[u64],
+    up: &[u8],
     pieces: &mut List<Piece>,
 ) -> Result<(), OutOfMemory>
     ensures { OnOk result (map piece_of pieces.new
@@ -58,7 +58,7 @@ fn add_pieces(
 fn add_node(
     alloc: Global,
     node: &TemplateNode,
-    up: &[u64],
+    up: &[u8],
     index: u64,
     pieces: &mut List<Piece>,
 ) -> Result<(), OutOfMemory>
@@ -85,7 +85,7 @@ fn add_node(
 #[tactic(auto, using(crate::proofs::Walks::walks))]
 fn push_element(
     alloc: Global,
-    path: &Shared<u64>,
+    path: &Shared<u8>,
     attrs: &Shared<TemplateAttribute>,
     pieces: &mut List<Piece>,
 ) -> Result<(), OutOfMemory>
@@ -96,11 +96,24 @@ fn push_element(
     pieces.push(Piece::Element { path, attrs })
 }
 
-/// The path of the child with an index, below the node with the path `up`.
-pub fn path_below(alloc: Global, up: &[u64], index: u64) -> Result<Shared<u64>, OutOfMemory>
+/// The path of the child with an index, below the node with the path `up`. An index that no byte
+/// tells is answered as want of memory: no node has one.
+pub fn path_below(alloc: Global, up: &[u8], index: u64) -> Result<Shared<u8>, OutOfMemory>
     ensures { IfOk result (λ path. path ≡ up.now ++ index ∷ []) }
 {
     let mut path = List::from_slice(alloc, up)?;
+    let index = byte(index)?;
     path.push(index)?;
     Shared::from_list(alloc, path)
+}
+
+/// A number as a byte, or want of memory.
+pub(crate) fn byte(number: u64) -> Result<u8, OutOfMemory>
+    ensures { IfOk result (λ byte. byte ≡ number) }
+{
+    if number < 256 {
+        Ok(number as u8)
+    } else {
+        Err(OutOfMemory)
+    }
 }

@@ -1,6 +1,6 @@
 //! The components of a tree, by their places.
 
-ghost use Rattle.std.specs.Prelude.{◌≡◌, [], IfOk, map, slice_get, true};
+ghost use Rattle.std.specs.Prelude.{◌≡◌, ◌≤◌, [], IfOk, length, map, slice_get, true};
 ghost use Rattle.std.specs.Option.{option_copied};
 ghost use Rattle.rt_places.specs.Apart.{Apart};
 ghost use Rattle.rt_places.specs.Keys.{Indexes};
@@ -10,26 +10,29 @@ ghost use Rattle.rt_places.specs.PlaceKeys.{seat_key};
 ghost use Rattle.rt_places.specs.Trails.{place_on};
 
 use crate::keys::{is_index, is_rising, key_run, keys_of};
-use crate::place::{Place, Step, is_same_place};
-use crate::place_keys::{SEAT, steps_key, steps_key_on};
-use crate::trail::{Trail, is_on};
+use crate::place::{Place, is_same_place};
+use crate::place_keys::{SEAT, key_from, steps_key_on};
+use crate::trail::{Trail, is_on, item_of, item_on};
 use rt_values::{List, OutOfMemory, Shared};
 use std::alloc::Global;
 use std::marker::Model;
+
+/// So many places have no key.
+const ALONE: usize = 1;
 
 /// The places of a tree's components in its order, no two the same. One is found by a key.
 #[derive(Drop)]
 pub struct Seats {
     items: Shared<Place>,
-    /// Keys with the indices of their places, ascending.
+    /// Keys with the indices of their places, ascending. One place alone has none.
     keys: Shared<(u64, u64)>,
 }
 
 impl Model for Seats {
-    ghost use Rattle.std.specs.Prelude.{List, map};
+    ghost use Rattle.std.specs.Prelude.{List};
     ghost use Rattle.std.specs.Coded.{codes};
     ghost use Rattle.rt_parts.specs.contracts.template.TemplateNode as node;
-    ghost use Rattle.rt_places.specs.Keys.{Indexes};
+    ghost use Rattle.rt_places.specs.Keys.{AreKeyed};
     ghost use Rattle.rt_places.specs.Apart.{Apart};
     ghost use Rattle.rt_places.specs.PlaceKeys.{seat_key};
     ghost use Rattle.rt_places.specs.declared.place.Step.{Step};
@@ -40,7 +43,7 @@ impl Model for Seats {
 
     ghost view = { λ seats. seats.items };
 
-    ghost invariant = { λ seats. Indexes seats.keys (map seat_key seats.items)
+    ghost invariant = { λ seats. AreKeyed seat_key seats.keys seats.items
         × Apart seats.items };
 }
 
@@ -58,6 +61,28 @@ impl Seats {
     /// Components at these places. Two that are the same are answered as want of memory: no tree has
     /// such.
     pub fn from_list(alloc: Global, items: List<Place>) -> Result<Seats, OutOfMemory>
+        ensures items { IfOk result (λ seats. seats ≡ items) }
+    {
+        if items.len() <= ALONE {
+            Seats::alone(alloc, items)
+        } else {
+            Seats::keyed(alloc, items)
+        }
+    }
+
+    // No component or one.
+    fn alone(alloc: Global, items: List<Place>) -> Result<Seats, OutOfMemory>
+        requires { length items ≤ 1 }
+        ensures items { IfOk result (λ seats. seats ≡ items) }
+    {
+        Ok(Seats {
+            items: Shared::from_list(alloc, items)?,
+            keys: Shared::empty(),
+        })
+    }
+
+    // Any number of them, by their keys.
+    fn keyed(alloc: Global, items: List<Place>) -> Result<Seats, OutOfMemory>
         ensures items { IfOk result (λ seats. seats ≡ items) }
     {
         let keys = keys_in(alloc, items.as_slice())?;
@@ -97,19 +122,51 @@ impl Seats {
         self.items.get(index as usize)
     }
 
-    /// The index of the component at a place.
-    pub fn index_at(&self, place: &[Step]) -> Option<u64>
+    /// The index of the component at a place. In most trees it is the position of the item in which
+    /// the component stands; there no other one is looked at.
+    pub fn index_at(&self, place: &Place) -> Option<u64>
         ensures found { result ≡ seat_index self.now (place_of place.now) }
         ensures apart { Apart self.now }
     {
+        let guess = item_of(place);
+        if is_at(self.items.as_slice(), guess as usize, place) {
+            return Some(guess);
+        }
+        self.found_at(place)
+    }
+
+    // The index of the component at a place, by its key.
+    fn found_at(&self, place: &Place) -> Option<u64>
+        ensures found { result ≡ seat_index self.now (place_of place.now) }
+        ensures apart { Apart self.now }
+    {
+        if self.items.len() <= ALONE {
+            return alone_at(self.items.as_slice(), place);
+        }
         first_in(self.items.as_slice(), self.keys.as_slice(), place)
     }
 
-    /// The index of the component where a walk stands.
+    /// The index of the component where a walk stands. In most trees it is the position of the item
+    /// in which the component stands; there no other one is looked at.
     pub fn index_on(&self, trail: &Trail<'_>) -> Option<u64>
         ensures found { result ≡ seat_index self.now (place_on trail.now) }
         ensures apart { Apart self.now }
     {
+        let guess = item_on(trail);
+        if stands_on(self.items.as_slice(), guess as usize, trail) {
+            return Some(guess);
+        }
+        self.found_on(trail)
+    }
+
+    // The index of the component where a walk stands, by its key.
+    fn found_on(&self, trail: &Trail<'_>) -> Option<u64>
+        ensures found { result ≡ seat_index self.now (place_on trail.now) }
+        ensures apart { Apart self.now }
+    {
+        if self.items.len() <= ALONE {
+            return alone_on(self.items.as_slice(), trail);
+        }
         let run = key_run(self.keys.as_slice(), steps_key_on(trail, SEAT));
         first_on(self.items.as_slice(), run, trail)
     }
@@ -121,7 +178,7 @@ fn keys_in(alloc: Global, items: &[Place]) -> Result<Vec<u64>, OutOfMemory>
 {
     let mut keys = Vec::with_capacity(alloc, items.len())?;
     for item in items {
-        keys.push(steps_key(item.as_slice(), SEAT))?;
+        keys.push(key_from(item, SEAT))?;
     }
     Ok(keys)
 }
@@ -153,22 +210,22 @@ fn is_first(items: &[Place], sorted: &[(u64, u64)], index: usize) -> bool
     ensures { result ≡ true → IsFirstSeats items.now index }
 {
     match items.get(index) {
-        Some(item) => is_index(first_in(items, sorted, item.as_slice()), index),
+        Some(item) => is_index(first_in(items, sorted, item), index),
         None => false,
     }
 }
 
 // The index of the first component at a place.
-fn first_in(items: &[Place], sorted: &[(u64, u64)], place: &[Step]) -> Option<u64>
+fn first_in(items: &[Place], sorted: &[(u64, u64)], place: &Place) -> Option<u64>
     requires { Indexes sorted.now (map seat_key items.now) }
     ensures { result ≡ seat_index items.now (place_of place.now) }
 {
-    let run = key_run(sorted, steps_key(place, SEAT));
+    let run = key_run(sorted, key_from(place, SEAT));
     first_at(items, run, place)
 }
 
 // The first of these indices at which a place stands.
-fn first_at(items: &[Place], run: &[(u64, u64)], place: &[Step]) -> Option<u64>
+fn first_at(items: &[Place], run: &[(u64, u64)], place: &Place) -> Option<u64>
     ensures { result ≡ first_of_seats items.now (place_of place.now) run.now }
 {
     for entry in run {
@@ -179,12 +236,36 @@ fn first_at(items: &[Place], run: &[(u64, u64)], place: &[Step]) -> Option<u64>
     None
 }
 
+// The index of the only component, where it is at a place.
+fn alone_at(items: &[Place], place: &Place) -> Option<u64>
+    requires { length items.now ≤ 1 }
+    ensures { result ≡ seat_index items.now (place_of place.now) }
+{
+    if is_at(items, 0, place) {
+        Some(0)
+    } else {
+        None
+    }
+}
+
+// The index of the only component, where a walk stands at it.
+fn alone_on(items: &[Place], trail: &Trail<'_>) -> Option<u64>
+    requires { length items.now ≤ 1 }
+    ensures { result ≡ seat_index items.now (place_on trail.now) }
+{
+    if stands_on(items, 0, trail) {
+        Some(0)
+    } else {
+        None
+    }
+}
+
 // Whether a place stands at an index.
-fn is_at(items: &[Place], index: usize, place: &[Step]) -> bool
+fn is_at(items: &[Place], index: usize, place: &Place) -> bool
     ensures { result ≡ is_seat_at items.now (place_of place.now) index }
 {
     match items.get(index) {
-        Some(item) => is_same_place(item.as_slice(), place),
+        Some(item) => is_same_place(item, place),
         None => false,
     }
 }
@@ -206,7 +287,7 @@ fn stands_on(items: &[Place], index: usize, trail: &Trail<'_>) -> bool
     ensures { result ≡ is_seat_at items.now (place_on trail.now) index }
 {
     match items.get(index) {
-        Some(item) => is_on(item.as_slice(), trail),
+        Some(item) => is_on(item, trail),
         None => false,
     }
 }

@@ -10,7 +10,7 @@ ghost use Rattle.rt_places.specs.Trails.{place_on};
 
 use crate::drawn::Drawn;
 use crate::nodes::Nodes;
-use crate::place::{Kind, Step};
+use crate::place::{Kind, Place};
 use crate::seats::Seats;
 use crate::trail::Trail;
 use rt_nodes::VNode;
@@ -82,7 +82,7 @@ impl<P: Parts> Side<P> {
     }
 
     /// The child scope of the component at a place.
-    pub fn child_at(&self, place: &[Step]) -> Option<u64>
+    pub fn child_at(&self, place: &Place) -> Option<u64>
         ensures { result ≡ child_in self.now (place_of place.now) }
     {
         match self.seats.index_at(place) {
@@ -91,9 +91,10 @@ impl<P: Parts> Side<P> {
         }
     }
 
-    /// A number is drawn for the node at a place. A place without a node of this kind is answered
-    /// as want of memory. A refusal leaves the side as it was.
-    pub fn draw(&mut self, place: &[Step], kind: Kind, number: u64) -> Result<(), OutOfMemory>
+    /// A number is drawn for the node at a place: most often for the first that has none. A place
+    /// without a node of this kind is answered as want of memory. A refusal leaves the side as it
+    /// was.
+    pub fn draw(&mut self, place: &Place, kind: Kind, number: u64) -> Result<(), OutOfMemory>
         ensures drawn { OnOk result (side_of self.new
             ≡ and_number (side_of self.old) (place_of place.now, kind_of kind, number)) }
         ensures others { OnOk result (self.new ≡ record self.old {
@@ -102,7 +103,8 @@ impl<P: Parts> Side<P> {
         }) }
         ensures err { OnErr result (self.new ≡ self.old) }
     {
-        match self.nodes.index_at(place, kind) {
+        let next = self.numbers.as_slice().len() as u64;
+        match self.nodes.index_at(place, kind, next) {
             Some(index) => self.numbers.push(index, number),
             None => Err(OutOfMemory),
         }
@@ -110,7 +112,7 @@ impl<P: Parts> Side<P> {
 
     /// A child scope is made for the component at a place. A place without a component is answered
     /// as want of memory. A refusal leaves the side as it was.
-    pub fn seat(&mut self, place: &[Step], child: u64) -> Result<(), OutOfMemory>
+    pub fn seat(&mut self, place: &Place, child: u64) -> Result<(), OutOfMemory>
         ensures seated { OnOk result (side_of self.new
             ≡ and_child (side_of self.old) (place_of place.now, child)) }
         ensures others { OnOk result (self.new ≡ record self.old {

@@ -31,7 +31,7 @@ pub fn spots<P: Parts>(alloc: Global, tree: &VNode<P>) -> Result<List<Spot<P>>, 
     ensures { IfOk result (λ found. map spot_of found ≡ tree_spots [] tree.now) }
 {
     let mut found = List::new(alloc);
-    add_spots(alloc, &Shared::empty(), tree, &mut found)?;
+    add_spots(alloc, &Place::at(Shared::empty()), tree, &mut found)?;
     Ok(found)
 }
 
@@ -46,7 +46,7 @@ fn add_spots<P: Parts>(
     ensures { OnOk result (map spot_of found.new
         ≡ map spot_of found.old ++ tree_spots (place_of above.now) tree.now) }
 {
-    let pieces = pieces_of(alloc, &tree.template.roots)?;
+    let pieces = pieces_of(alloc, tree.template.roots())?;
     for piece in pieces.as_slice() {
         add_piece(alloc, above, tree, piece, found)?;
     }

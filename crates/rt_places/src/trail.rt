@@ -1,15 +1,19 @@
 //! Where a walk through a scope's tree stands. It takes no memory, whereas a place is a list.
 
-ghost use Rattle.std.specs.Prelude.{◌≡◌, ◌↔◌, ◌++◌, ◌+◌, length, IfOk, IsTrue, OnOk};
+ghost use Rattle.std.specs.Prelude.{◌≡◌, ◌↔◌, ◌++◌, ◌∷◌, ◌+◌, [], length, IfOk, IsTrue, OnOk, IfSome};
 ghost use Rattle.rt_model.specs.Tree.{same_place};
 ghost use Rattle.rt_places.specs.declared.place.Step.TheVariants as steps;
 ghost use Rattle.rt_places.specs.Places.{place_of};
-ghost use Rattle.rt_places.specs.Trails.{path_of, place_on, steps_of};
+ghost use Rattle.rt_places.specs.Trails.{last_item, path_of, place_on, steps_of};
 
-use crate::place::{Place, Step};
+use crate::piece::byte;
+use crate::place::{Place, Step, is_whole};
 use rt_parts::Template;
-use rt_values::{List, OutOfMemory, Shared, same_slice};
+use rt_values::{List, OutOfMemory, Part, Shared, same_slice};
 use std::alloc::Global;
+
+/// How many known paths are looked at for one.
+const LOOKS: usize = 8;
 
 /// A node's place in a template: at its index, below its parent.
 #[derive(Drop)]
@@ -17,42 +21,80 @@ pub enum Path<'a> {
     Top,
     Below(&'a Path<'a>, u64),
     /// All indices at once.
-    Whole(&'a [u64]),
+    Whole(&'a [u8]),
 }
 
-/// Where a walk stands in a scope's tree: at the root, or a step below where it stood.
+/// Where a walk stands in a scope's tree: at the root, at a place that was made, or a step below
+/// where it stood.
 #[derive(Drop)]
 pub enum Trail<'a> {
     Root,
     Inside(&'a Trail<'a>, &'a Template, &'a Path<'a>),
     Item(&'a Trail<'a>, u64),
+    /// All steps at once.
+    At(&'a Shared<Step>),
 }
 
 /// Whether a path leads there.
 #[tactic(auto, using(crate::proofs::Trails::trails))]
-fn leads_to(path: &[u64], there: &Path<'_>) -> bool
+fn leads_to(path: &[u8], there: &Path<'_>) -> bool
     ensures { IsTrue result ↔ (path.now ≡ path_of there.now) }
 {
     match (path, there) {
         ([], Path::Top) => true,
-        ([front @ .., last], Path::Below(up, index)) => *last == *index && leads_to(front, up),
+        ([front @ .., last], Path::Below(up, index)) => {
+            u64::from(*last) == *index && leads_to(front, up)
+        }
         (path, Path::Whole(whole)) => same_slice(path, whole),
         _ => false,
     }
 }
 
 /// Whether a place is where a walk stands.
-pub fn is_on(place: &[Step], trail: &Trail<'_>) -> bool
+pub fn is_on(place: &Place, trail: &Trail<'_>) -> bool
     ensures { result ≡ same_place (place_of place.now) (place_on trail.now) }
 {
-    stands_on(place, trail)
+    parts_on(place, trail)
 }
 
 /// Whether a walk stands at a place.
-pub fn stands_at(trail: &Trail<'_>, place: &[Step]) -> bool
+pub fn stands_at(trail: &Trail<'_>, place: &Place) -> bool
     ensures { result ≡ same_place (place_on trail.now) (place_of place.now) }
 {
-    stands_on(place, trail)
+    parts_on(place, trail)
+}
+
+/// Whether a walk stands where these steps lead.
+pub fn stands_after(trail: &Trail<'_>, steps: &[Step]) -> bool
+    ensures { result ≡ same_place (place_on trail.now) (place_of steps.now) }
+{
+    stands_on(steps, trail)
+}
+
+// Whether the two parts of a place lead to where a walk stands.
+fn parts_on(place: &Place, trail: &Trail<'_>) -> bool
+    ensures { IsTrue result ↔ (place.now ≡ steps_of trail.now) }
+{
+    let (above, last) = place.parts();
+    match last {
+        Some(last) => is_below(above, last, trail),
+        None => stands_on(above, trail),
+    }
+}
+
+// Whether these steps and one more lead to where a walk stands.
+#[tactic(auto, using(crate::proofs::Trails::trails))]
+fn is_below(above: &[Step], last: &Step, trail: &Trail<'_>) -> bool
+    ensures { IsTrue result ↔ (above.now ++ last.now ∷ [] ≡ steps_of trail.now) }
+{
+    match trail {
+        Trail::Root => false,
+        Trail::Inside(up, template, path) => {
+            is_inside(last, template, path) && stands_on(above, up)
+        }
+        Trail::Item(up, position) => is_item(last, *position) && stands_on(above, up),
+        Trail::At(whole) => is_whole(above, last, whole.as_slice()),
+    }
 }
 
 // Whether these steps lead to where a walk stands.
@@ -68,7 +110,10 @@ fn stands_on(place: &[Step], trail: &Trail<'_>) -> bool
         ([front @ .., last], Trail::Item(above, position)) => {
             is_item(last, *position) && stands_on(front, above)
         }
-        _ => false,
+        (place, Trail::At(whole)) => same_slice(place, whole.as_slice()),
+        (_, Trail::Root) => false,
+        ([], Trail::Inside(_, _, _)) => false,
+        ([], Trail::Item(_, _)) => false,
     }
 }
 
@@ -95,6 +140,46 @@ fn is_item(step: &Step, position: u64) -> bool
     }
 }
 
+/// The position of the item in which a walk stands, 0 where it stands in none.
+#[tactic(auto, using(crate::proofs::Trails::trails))]
+pub(crate) fn item_on(trail: &Trail<'_>) -> u64
+    ensures { result ≡ last_item (steps_of trail.now) }
+{
+    match trail {
+        Trail::Root => 0,
+        Trail::Inside(above, _, _) => item_on(above),
+        Trail::Item(_, position) => *position,
+        Trail::At(whole) => last_item(whole.as_slice()),
+    }
+}
+
+/// The position of the item in which a place is, 0 where it is in none.
+#[tactic(auto, using(crate::proofs::Trails::trails))]
+pub(crate) fn item_of(place: &Place) -> u64
+    ensures { result ≡ last_item place.now }
+{
+    let (above, last) = place.parts();
+    match last {
+        Some(Step::Item { position }) => *position,
+        Some(Step::Inside { .. }) => last_item(above),
+        None => last_item(above),
+    }
+}
+
+// The same of steps.
+#[tactic(auto, using(crate::proofs::Trails::trails))]
+fn last_item(place: &[Step]) -> u64
+    ensures { result ≡ last_item place.now }
+{
+    match place {
+        [] => 0,
+        [front @ .., last] => match last {
+            Step::Inside { .. } => last_item(front),
+            Step::Item { position } => *position,
+        },
+    }
+}
+
 /// How many steps lead to where a walk stands. More than a `usize` counts are answered as want of
 /// memory.
 #[tactic(auto, using(crate::proofs::Trails::trails))]
@@ -105,6 +190,7 @@ pub fn steps_to(trail: &Trail<'_>) -> Result<usize, OutOfMemory>
         Trail::Root => Ok(0),
         Trail::Inside(above, _, _) => one_more(steps_to(above)?),
         Trail::Item(above, _) => one_more(steps_to(above)?),
+        Trail::At(whole) => Ok(whole.len()),
     }
 }
 
@@ -118,12 +204,64 @@ fn one_more(count: usize) -> Result<usize, OutOfMemory>
 }
 
 /// The place where a walk stands.
+#[tactic(auto, using(crate::proofs::Trails::trails))]
 pub fn place_on(alloc: Global, trail: &Trail<'_>) -> Result<Place, OutOfMemory>
     ensures { IfOk result (λ place. place ≡ steps_of trail.now) }
 {
-    let mut steps = List::new(alloc);
+    match trail {
+        Trail::Root => Ok(Place::at(Shared::empty())),
+        Trail::Inside(above, template, path) => {
+            let last = step_inside(alloc, template, path)?;
+            let above = steps_on(alloc, above)?;
+            Ok(Place::below(above, last))
+        }
+        Trail::Item(above, position) => {
+            let above = steps_on(alloc, above)?;
+            Ok(Place::below(
+                above,
+                Step::Item {
+                    position: *position,
+                },
+            ))
+        }
+        Trail::At(whole) => {
+            let steps = whole.share()?;
+            Ok(Place::at(steps))
+        }
+    }
+}
+
+/// The steps to where a walk stands, in one list.
+#[tactic(auto, using(crate::proofs::Trails::trails))]
+pub fn steps_on(alloc: Global, trail: &Trail<'_>) -> Result<Shared<Step>, OutOfMemory>
+    ensures { IfOk result (λ steps. steps ≡ steps_of trail.now) }
+{
+    match trail {
+        Trail::At(whole) => whole.share(),
+        Trail::Root => Ok(Shared::empty()),
+        Trail::Inside(_, _, _) => list_of(alloc, trail),
+        Trail::Item(_, _) => list_of(alloc, trail),
+    }
+}
+
+// The steps to where a walk stands, in a list of their own.
+fn list_of(alloc: Global, trail: &Trail<'_>) -> Result<Shared<Step>, OutOfMemory>
+    ensures { IfOk result (λ steps. steps ≡ steps_of trail.now) }
+{
+    let room = steps_to(trail)?;
+    let mut steps = List::from_vec(Vec::with_capacity(alloc, room)?);
     add_steps(alloc, trail, &mut steps)?;
     Shared::from_list(alloc, steps)
+}
+
+// The step to a node of a template.
+#[tactic(auto, using(crate::proofs::Trails::trails))]
+fn step_inside(alloc: Global, template: &Template, path: &Path<'_>) -> Result<Step, OutOfMemory>
+    ensures { IfOk result (λ step. step ≡ steps.Inside template.now (path_of path.now)) }
+{
+    let path = path_in(alloc, template.hints(), path)?;
+    let template = template.copy(alloc)?;
+    Ok(Step::Inside { template, path })
 }
 
 // Puts the steps to where a walk stands after these.
@@ -135,9 +273,8 @@ fn add_steps(alloc: Global, trail: &Trail<'_>, steps: &mut List<Step>) -> Result
         Trail::Root => Ok(()),
         Trail::Inside(above, template, path) => {
             add_steps(alloc, above, steps)?;
-            let path = path_on(alloc, path)?;
-            let template = template.copy(alloc)?;
-            steps.push(Step::Inside { template, path })
+            let step = step_inside(alloc, template, path)?;
+            steps.push(step)
         }
         Trail::Item(above, position) => {
             add_steps(alloc, above, steps)?;
@@ -145,30 +282,112 @@ fn add_steps(alloc: Global, trail: &Trail<'_>, steps: &mut List<Step>) -> Result
                 position: *position,
             })
         }
+        Trail::At(whole) => add_copies(alloc, whole.as_slice(), steps),
+    }
+}
+
+// Puts these steps after others.
+fn add_copies(alloc: Global, whole: &[Step], steps: &mut List<Step>) -> Result<(), OutOfMemory>
+    ensures { OnOk result (steps.new ≡ steps.old ++ whole.now) }
+{
+    for step in whole {
+        steps.push(step.copy(alloc)?)?;
+    }
+    Ok(())
+}
+
+// The path to there, once more where it is among these.
+fn path_in(alloc: Global, paths: &[Shared<u8>], there: &Path<'_>) -> Result<Shared<u8>, OutOfMemory>
+    ensures { IfOk result (λ path. path ≡ path_of there.now) }
+{
+    match known_path(paths, there) {
+        Some(path) => path.share(),
+        None => path_on(alloc, there),
+    }
+}
+
+// A path among some that leads there. A few are looked at, from where it can stand first where all
+// paths of a template stand in order.
+fn known_path<'a>(paths: &'a [Shared<u8>], there: &Path<'_>) -> Option<&'a Shared<u8>>
+    ensures { IfSome result (λ path. path.now ≡ path_of there.now) }
+{
+    let first = nodes_before(there);
+    for index in first..first.saturating_add(LOOKS) {
+        if index >= paths.len() {
+            return None;
+        }
+        if leads_to(paths[index].as_slice(), there) {
+            return Some(&paths[index]);
+        }
+    }
+    None
+}
+
+// So many nodes at least come before the one at a path: those above it, and one for each sibling.
+fn nodes_before(there: &Path<'_>) -> usize {
+    match there {
+        Path::Top => 0,
+        Path::Below(up, index) => nodes_before(up)
+            .saturating_add(*index as usize)
+            .saturating_add(one_at(up)),
+        Path::Whole(_) => 0,
+    }
+}
+
+// 1 where a node stands at a path, 0 at the top.
+fn one_at(up: &Path<'_>) -> usize {
+    match up {
+        Path::Top => 0,
+        Path::Below(_, _) => 1,
+        Path::Whole(_) => 1,
     }
 }
 
 // The path to there.
 #[tactic(auto, using(crate::proofs::Trails::trails))]
-fn path_on(alloc: Global, there: &Path<'_>) -> Result<Shared<u64>, OutOfMemory>
+fn path_on(alloc: Global, there: &Path<'_>) -> Result<Shared<u8>, OutOfMemory>
     ensures { IfOk result (λ path. path ≡ path_of there.now) }
 {
-    let mut path = List::new(alloc);
-    add_path(alloc, there, &mut path)?;
+    let count = levels_to(there)?;
+    let mut path = List::from_vec(Vec::with_capacity(alloc, count)?);
+    add_path(there, &mut path)?;
     Shared::from_list(alloc, path)
+}
+
+// How many indices lead there.
+#[tactic(auto, using(crate::proofs::Trails::trails))]
+fn levels_to(there: &Path<'_>) -> Result<usize, OutOfMemory>
+    ensures { IfOk result (λ count. count ≡ length (path_of there.now)) }
+{
+    match there {
+        Path::Top => Ok(0),
+        Path::Below(up, _) => one_more(levels_to(up)?),
+        Path::Whole(whole) => Ok(whole.len()),
+    }
 }
 
 // Puts the path to there after these indices.
 #[tactic(auto, using(crate::proofs::Trails::trails))]
-fn add_path(alloc: Global, there: &Path<'_>, path: &mut List<u64>) -> Result<(), OutOfMemory>
+fn add_path(there: &Path<'_>, path: &mut List<u8>) -> Result<(), OutOfMemory>
     ensures { OnOk result (path.new ≡ path.old ++ path_of there.now) }
 {
     match there {
         Path::Top => Ok(()),
         Path::Below(up, index) => {
-            add_path(alloc, up, path)?;
-            path.push(*index)
+            add_path(up, path)?;
+            let index = byte(*index)?;
+            path.push(index)
         }
-        Path::Whole(whole) => path.append(List::from_slice(alloc, whole)?),
+        Path::Whole(whole) => add_indices(whole, path),
     }
+}
+
+// Puts these indices after others.
+fn add_indices(whole: &[u8], path: &mut List<u8>) -> Result<(), OutOfMemory>
+    ensures { OnOk result (path.new ≡ path.old ++ whole.now) }
+{
+    for index in whole {
+        path.push(*index)?;
+    }
+    Ok(())
 }

@@ -1,6 +1,6 @@
 -- Whether two components are the same, and so two templates.
 use Rattle.std.specs.Prelude.{◌≡◌, ◌↔◌, IsTrue, Bool, true, false, ◌&&◌, Option, Some, None}
-use Rattle.rt_parts.specs.declared.template.Template.{Template}
+use Rattle.rt_parts.specs.declared.template.TemplateParts.{TemplateParts as Template}
 use Rattle.rt_nodes.specs.declared.vnode.VComponent.{VComponent}
 use Rattle.rt_nodes.specs.declared.vnode.DynamicNode.TheViews.{out-VComponent}
 use Rattle.rt_nodes.specs.declared.vnode.DynamicNode.TheOpen.{VComponent-F}

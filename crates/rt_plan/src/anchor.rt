@@ -25,7 +25,7 @@ pub enum Anchor {
 pub(crate) fn last_of_tree<P: Parts>(alloc: Global, tree: &VNode<P>) -> Result<Anchor, OutOfMemory>
     ensures { IfOk result (λ last. last ≡ last_of_tree tree.now) }
 {
-    let tokens = tokens_in(alloc, tree.template.roots.as_slice())?;
+    let tokens = tokens_in(alloc, tree.template.roots())?;
     let values = tree.dynamic_nodes.as_slice();
     let mut last = Anchor::Child;
     for token in tokens.as_slice() {

@@ -16,7 +16,7 @@ use std::alloc::Global;
 pub fn count_tree<P: Parts>(alloc: Global, tree: &VNode<P>) -> Result<u64, OutOfMemory>
     ensures { IfOk result (λ count. count ≡ count_tree tree.now) }
 {
-    let tokens = tokens_in(alloc, tree.template.roots.as_slice())?;
+    let tokens = tokens_in(alloc, tree.template.roots())?;
     let values = tree.dynamic_nodes.as_slice();
     let mut count = 0u64;
     for token in tokens.as_slice() {

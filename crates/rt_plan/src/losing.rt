@@ -21,7 +21,7 @@ pub(crate) fn lose_tree<P: Parts>(
 ) -> Result<(), OutOfMemory>
     ensures { OnOk result (plan.new.items ≡ plan.old.items ++ lose_tree tree.now root) }
 {
-    let tokens = tokens_in(alloc, tree.template.roots.as_slice())?;
+    let tokens = tokens_in(alloc, tree.template.roots())?;
     for token in tokens.as_slice() {
         lose_token(alloc, *token, tree, root, plan)?;
     }

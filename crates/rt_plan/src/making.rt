@@ -49,8 +49,8 @@ pub(crate) fn make_tree<P: Parts>(
 ) -> Result<(), OutOfMemory>
     ensures { OnOk result (plan.new.items ≡ plan.old.items ++ make_tree shown tree.now steps.now) }
 {
-    let roots = tree.template.roots.as_slice();
-    let pieces = pieces_in(alloc, roots, tree.dynamic_attrs.as_slice(), shown)?;
+    let nodes = tree.template.roots();
+    let pieces = pieces_in(alloc, nodes, tree.dynamic_attrs.as_slice(), shown)?;
     for piece in pieces {
         make_piece(alloc, piece, tree, steps, shown, plan)?;
     }
@@ -79,7 +79,7 @@ fn make_piece<P: Parts>(
         Piece::Slot { id } => {
             let values = tree.dynamic_nodes.as_slice();
             if let Some(value) = values.get(id as usize) {
-                let spot = Spot::of(steps, tree.template.node_paths.as_slice(), id);
+                let spot = Spot::of(steps, tree.template.node_paths(), id);
                 make_value(alloc, value, &spot, shown, plan)?;
             }
         }

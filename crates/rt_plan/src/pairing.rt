@@ -49,7 +49,7 @@ fn pair_tree<P: Parts>(
     if !are_equal::<P>(&old.template, &new.template) {
         return replace_tree(alloc, old, new, steps, shown, plan);
     }
-    let tokens = tokens_in(alloc, old.template.roots.as_slice())?;
+    let tokens = tokens_in(alloc, old.template.roots())?;
     pair_attributes(alloc, old, new, tokens.as_slice(), shown, plan)?;
     for token in tokens.as_slice() {
         pair_token(alloc, *token, old, new, steps, shown, plan)?;
@@ -100,7 +100,7 @@ fn pair_slot<P: Parts>(
 {
     match new.dynamic_nodes.as_slice().get(id as usize) {
         Some(after) => {
-            let spot = Spot::of(steps, new.template.node_paths.as_slice(), id);
+            let spot = Spot::of(steps, new.template.node_paths(), id);
             pair_value(alloc, before, after, &spot, shown, plan)
         }
         None => Ok(()),

@@ -1,6 +1,6 @@
 //! Where a node of a scope stands.
 
-use rt_values::{List, ScopeId};
+use rt_values::{ScopeId, Shared};
 
 /// One step down to a node: the slot of a fragment, and the position of an item in it.
 #[derive(Clone, Copy, Debug, PartialEq, Eq)]
@@ -9,14 +9,14 @@ pub struct Step {
     pub position: u64,
 }
 
-/// Where a node of a scope stands.
+/// Where a node of a scope stands. What it shares with other places takes no room.
 #[derive(Debug, Drop)]
 pub struct Place {
     pub scope: ScopeId,
     /// Whether it stands in the block of a fallback.
     pub fallback: bool,
     /// The steps to the innermost template, from the scope's own tree inwards.
-    pub steps: List<Step>,
+    pub steps: Shared<Step>,
     /// The path in the innermost template. A slot's node has the path of its slot.
-    pub path: List<u8>,
+    pub path: Shared<u8>,
 }

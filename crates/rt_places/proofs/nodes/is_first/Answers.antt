@@ -1,7 +1,5 @@
-use Rattle.std.proofs.Common.{◌≡◌, ◌<◌, ◌∙◌, length, sym, ap, arith}
+use Rattle.std.proofs.Common.{◌≡◌, ◌<◌, ◌∙◌, length, sym, arith}
 use Rattle.std.specs.Prelude.{Some, slice_get}
-use Rattle.rt_places.specs.Indexed.{node_index}
-use Rattle.rt_places.specs.Places.{kind_of, place_of}
 use Rattle.rt_places.proofs.Keyed.{got_there}
 use Rattle.rt_places.proofs.Firsts.{first_node}
 use Rattle.rt_places.proofs.nodes.is_first.Goals as goal
@@ -14,7 +12,4 @@ returns-in-Some c = λ yes.
     let here : slice_get c.args.items.now c.args.index ≡ Some c.in-Some.item.now =
     got_there c.args.items.now c.args.index c.in-Some.item.now (let low : c.args.index < length c.args.items.now = omega (arith, c.in-Some.ensures.lookup) in low) c.in-Some.ensures.lookup.1 in
     first_node c.args.items.now c.args.index c.in-Some.item.now here
-    (
-    sym (ap (λ p. node_index c.args.items.now (place_of p) (kind_of c.in-Some.item.now.kind)) c.as_slice.ensures.items)
-    ∙ sym c.first_in.ensures ∙ c.is_index.ensures yes
-    )
+    (sym c.first_in.ensures ∙ c.is_index.ensures yes)

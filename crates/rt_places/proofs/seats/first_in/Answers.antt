@@ -15,5 +15,5 @@ returns c =
     c.first_at.ensures
     ∙ among_seats seats p c.key_run-run.result.now
     ∙ ap (λ is. first_in_seats seats p is)
-    (c.key_run-run.ensures.indices ∙ ap (λ key. picks key c.args.sorted.now) c.steps_key.ensures ∙ c.requires.each _)
+    (c.key_run-run.ensures.indices ∙ ap (λ key. picks key c.args.sorted.now) c.key_from.ensures ∙ c.requires.each _)
     ∙ sym (seat_found c.args.place.now seats)

@@ -1,7 +1,5 @@
-use Rattle.std.proofs.Common.{◌≡◌, ◌<◌, ◌∙◌, length, sym, ap, arith}
+use Rattle.std.proofs.Common.{◌≡◌, ◌<◌, ◌∙◌, length, sym, arith}
 use Rattle.std.specs.Prelude.{Some, slice_get}
-use Rattle.rt_places.specs.Indexed.{seat_index}
-use Rattle.rt_places.specs.Places.{place_of}
 use Rattle.rt_places.proofs.Keyed.{got_there}
 use Rattle.rt_places.proofs.Firsts.{first_seat}
 use Rattle.rt_places.proofs.seats.is_first.Goals as goal
@@ -14,4 +12,4 @@ returns-in-Some c = λ yes.
     let here : slice_get c.args.items.now c.args.index ≡ Some c.in-Some.item.now =
     got_there c.args.items.now c.args.index c.in-Some.item.now (let low : c.args.index < length c.args.items.now = omega (arith, c.in-Some.ensures.lookup) in low) c.in-Some.ensures.lookup.1 in
     first_seat c.args.items.now c.args.index c.in-Some.item.now here
-    (sym (ap (λ p. seat_index c.args.items.now (place_of p)) c.as_slice.ensures.items) ∙ sym c.first_in.ensures ∙ c.is_index.ensures yes)
+    (sym c.first_in.ensures ∙ c.is_index.ensures yes)

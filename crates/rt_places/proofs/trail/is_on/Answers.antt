@@ -3,4 +3,4 @@ use Rattle.rt_places.proofs.Backs.{place-tested}
 use Rattle.rt_places.proofs.trail.is_on.Goals as goal
 
 pub returns : goal.returns
-returns c = place-tested _ c.args.place.now (steps_of c.args.trail.now) c.stands_on.ensures.0 c.stands_on.ensures.1
+returns c = place-tested _ c.args.place.now (steps_of c.args.trail.now) c.parts_on.ensures.0 c.parts_on.ensures.1

@@ -14,10 +14,10 @@ pair_all-returns-then-index-news g t c = λ equality.
 
 pub pair_tree-loop-token-init : goal.pair_tree-loop-token-init
 pair_tree-loop-token-init g t c = λ equality.
-    pair_begun equality c.args.shown c.args.old.now c.args.new.now c.args.steps.now c.args.plan.now.items c.pair_attributes.new.plan.items c.as_slice-2.result.now c.as_slice-token-items.result.now
+    pair_begun equality c.args.shown c.args.old.now c.args.new.now c.args.steps.now c.args.plan.now.items c.pair_attributes.new.plan.items c.as_slice.result.now c.as_slice-token-items.result.now
     (sym (c.are_equal.ensures equality) ∙ c.if-not-are_equal.false)
-    (c.as_slice-2.ensures.value ∙ c.in_ok-tokens.ensures ∙ ap tokens_in c.as_slice.ensures.items)
-    (c.as_slice-token-items.ensures.value ∙ sym c.as_slice-2.ensures.value)
+    (c.as_slice.ensures.value ∙ c.in_ok-tokens.ensures ∙ ap tokens_in c.roots.ensures.nodes)
+    (c.as_slice-token-items.ensures.value ∙ sym c.as_slice.ensures.value)
     c.in_ok-pair_attributes.ensures
 
 pub pair_tree-loop-token-preserved : goal.pair_tree-loop-token-preserved

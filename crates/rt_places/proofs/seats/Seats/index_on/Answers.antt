@@ -1,24 +1,17 @@
-use Rattle.std.proofs.Common.{◌∙◌, sym, ap}
-use Rattle.rt_places.specs.Indexed.{first_of_seats}
-use Rattle.rt_places.specs.Keys.{picks}
-use Rattle.rt_places.specs.Trails.{place_on, steps_of}
-use Rattle.rt_places.proofs.Hits.{among_seats, first_in_seats, seat_found}
+-- The component that was guessed, or else the one that its key names.
+use Rattle.std.proofs.Common.{◌∙◌, ap, sym}
+use Rattle.rt_places.specs.Indexed.{is_seat_at}
+use Rattle.rt_places.specs.Trails.{place_on}
+use Rattle.rt_places.proofs.Guessed.{seat_guessed}
 use Rattle.rt_places.proofs.seats.Seats.index_on.Goals as goal
 
-pub key_run-run-requires : goal.key_run-run-requires
-key_run-run-requires c = let is = c.as_slice.ensures.items in record { ascending = rw is c.self.invariant.0.ascending }
-
-pub returns-clause-found : goal.returns-clause-found
-returns-clause-found c =
-    let seats = c.self.inside.items in
+pub returns-then-stands_on-clause-found : goal.returns-then-stands_on-clause-found
+returns-then-stands_on-clause-found c =
     let p = place_on c.args.trail.now in
+    let guess = c.item_on-guess.result in
     rw (← c.self.view_is)
-    (c.first_on.ensures
-    ∙ ap (λ xs. first_of_seats xs p c.key_run-run.result.now) c.as_slice-2.ensures.items
-    ∙ among_seats seats p c.key_run-run.result.now
-    ∙ ap (λ is. first_in_seats seats p is)
-    (c.key_run-run.ensures.indices ∙ (λ i. picks (c.steps_key_on.ensures i) (c.as_slice.ensures.items i)) ∙ c.self.invariant.0.each _)
-    ∙ sym (seat_found (steps_of c.args.trail.now) seats))
+    (seat_guessed c.self.inside.items p guess c.self.invariant.1
+    (ap (λ xs. is_seat_at xs p guess) (sym c.as_slice.ensures.items) ∙ sym c.stands_on.ensures ∙ c.if-stands_on.true))
 
-pub returns-clause-apart : goal.returns-clause-apart
-returns-clause-apart c = rw (← c.self.view_is) c.self.invariant.1
+pub returns-then-stands_on-clause-apart : goal.returns-then-stands_on-clause-apart
+returns-then-stands_on-clause-apart c = rw (← c.self.view_is) c.self.invariant.1
