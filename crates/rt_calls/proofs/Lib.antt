@@ -7,3 +7,4 @@ pub mod Lookups
 pub mod Hooked
 pub mod ProgramsGoOn
 pub mod Told
+pub mod KindPlaces

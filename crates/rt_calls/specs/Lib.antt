@@ -1,4 +1,5 @@
 pub mod World
+pub mod Provisions
 pub mod Turn
 pub mod Enter
 pub mod Calls

@@ -9,6 +9,7 @@ mod entered;
 mod faults;
 mod made;
 mod programs;
+mod provisions;
 mod rest;
 mod rows;
 mod turn;
@@ -23,6 +24,7 @@ pub use programs::{
     calls_stand_for, cells_go_on, contexts_go_on, errors_go_on, given_goes_on, hooks_go_on,
     reads_go_on, tasks_go_on,
 };
+pub use provisions::Provisions;
 pub use rest::{Rest, Scope, is_error_boundary};
 pub use rows::{Hook, Provided, Rows, ScopeRow};
 pub use turn::{BodyTurn, Turn, TurnParts};

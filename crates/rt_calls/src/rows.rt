@@ -8,6 +8,7 @@ ghost use Rattle.rt_mirror.specs.Sealed.{component_of};
 ghost use Rattle.rt_calls.specs.World.{provided, rows_in, boundaries_in};
 ghost use Rattle.rt_calls.specs.Calls.{number_of, parents_of, renders_of, hook_of, hooks_of};
 
+use crate::provisions::Provisions;
 use crate::rest::{Rest, Scope, is_error_boundary, no_component};
 use rt_parts::{CapturedError, Parts};
 use rt_places::SideName;
@@ -36,7 +37,7 @@ pub struct ScopeRow<P: Parts> {
     /// How often its body answered a tree.
     pub renders: u64,
     pub hooks: List<Hook<P>>,
-    pub contexts: List<Provided<P>>,
+    pub contexts: Provisions<P>,
     /// The error that an error boundary keeps.
     pub error: Option<CapturedError>,
 }
@@ -137,7 +138,7 @@ impl<P: Parts> Rows<P> {
             ≡ option_and_then (λ row. provided row.contexts kind) (at (rows_in self.now.table) id.0) }
     {
         match self.get(id) {
-            Some(row) => first_of(row.contexts.as_slice(), kind),
+            Some(row) => row.contexts.get(kind),
             None => None,
         }
     }
@@ -161,18 +162,6 @@ impl<P: Parts> Rows<P> {
             None => &[],
         }
     }
-}
-
-/// The first value of a kind.
-fn first_of<P: Parts>(contexts: &[Provided<P>], kind: u32) -> Option<&P::Value>
-    ensures { option_copied result ≡ provided contexts.now kind }
-{
-    for context in contexts {
-        if context.kind == kind {
-            return Some(&context.value);
-        }
-    }
-    None
 }
 
 /// Whether a scope of this number is an error boundary.

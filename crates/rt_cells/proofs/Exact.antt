@@ -14,6 +14,7 @@ use Rattle.rt_cells.specs.declared.places.Place.{Place}
 use Rattle.rt_cells.specs.declared.places.Place.TheVariants as place
 use Rattle.rt_cells.specs.Orders.{scope_cmp, context_cmp, source_cmp, reader_cmp, place_cmp}
 use Rattle.rt_cells.specs.Held.{owner_cmp}
+use Rattle.rt_cells.specs.Links.{link_cmp}
 use Rattle.rt_values.specs.contracts.names.ScopeIdOrd.TheImpl.Laws as scope_laws
 use Rattle.rt_cells.specs.contracts.contexts.ReactiveContextOrd.TheImpl.Laws as context_laws
 use Rattle.rt_cells.specs.contracts.sources.ReaderOrd.TheImpl.Laws as reader_laws
@@ -75,6 +76,14 @@ place_exact (place.Context x j) (place.Error y) e = absurd (cc e)
 place_exact (place.Context x j) (place.Context y k) e =
     let parts = then_parts (scope_cmp x y) (nat_cmp j k) e in
     λ i. place.Context (scope_exact x y parts.0 i) (nat_cmp-IsAntisymmetric j k parts.1 i)
+
+pub link_total : IsTotalOrder link_cmp
+link_total = then_total (on_total (λ link. link.0) place_total) (on_total (λ link. link.1) reader_total)
+
+pub link_exact : (x y : Place × Reader) → link_cmp x y ≡ Equal → x ≡ y
+link_exact x y e =
+    let parts = then_parts (place_cmp x.0 y.0) (reader_cmp x.1 y.1) e in
+    λ i. (place_exact x.0 y.0 parts.0 i, reader_exact x.1 y.1 parts.1 i)
 
 pub owner_total : IsTotalOrder owner_cmp
 owner_total = then_total (on_total (λ owned. owned.0) scope_total) (on_total (λ owned. owned.1) nat_cmp_total)

@@ -10,6 +10,7 @@ pub mod LinkSteps
 pub mod Linked
 pub mod InOrder
 pub mod ReadersOf
+pub mod NextReader
 pub mod ContextsOf
 pub mod DroppedContexts
 pub mod Members

@@ -105,7 +105,7 @@ gone true a false was = elim a as (λ a. a ≡ false → (a && true) ≡ false) 
 gone false a f was = elim a as (λ a. (a && true) ≡ a) [ true ↦ refl | false ↦ refl ]
 
 -- whether what is found passes, where nothing found has nothing
-found_passes : (place : Place) (found : Option (List Source)) → passes (stands_at place) found ≡ stands_at place (unwrap_or found [])
+pub found_passes : (place : Place) (found : Option (List Source)) → passes (stands_at place) found ≡ stands_at place (unwrap_or found [])
 found_passes place None = refl
 found_passes place (Some sources) = refl
 
@@ -117,6 +117,16 @@ put_passes false place sources found = refl
 taken_passes : (tie : Bool) (place : Place) (found : Option (List Source)) → passes (stands_at place) (cond tie None found) ≡ cond tie false (passes (stands_at place) found)
 taken_passes true place found = refl
 taken_passes false place found = refl
+
+-- what each reader has once one has these sources
+pub put_each : (tie : Bool) (sources : List Source) (found : Option (List Source)) → unwrap_or (cond tie (Some sources) found) [] ≡ cond tie sources (unwrap_or found [])
+put_each true sources found = refl
+put_each false sources found = refl
+
+-- and once one has none
+pub taken_each : (tie : Bool) (found : Option (List Source)) → unwrap_or (cond tie None found) [] ≡ cond tie [] (unwrap_or found [])
+taken_each true found = refl
+taken_each false found = refl
 
 put_sorted : (tie : Bool) (sources : List Source) (found : Option (List Source)) → IsStrictlySortedBy source_cmp sources → IfSome found (IsStrictlySortedBy source_cmp)
     → IfSome (cond tie (Some sources) found) (IsStrictlySortedBy source_cmp)

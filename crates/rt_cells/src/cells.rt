@@ -1,13 +1,15 @@
 //! Tracked cells with their readers: what a body reads, and whom a write tells.
 //! A cell, a reader and a reactive context are known by number; a number is never used again.
-ghost use Rattle.std.specs.Prelude.{◌≡◌, ◌↔◌, ◌⊎◌, ◌-◌, ◌^◌, ◌<◌, ◌++◌, ◌∷◌, ℕ, [], IfOk, OnOk, OnErr, is_some, not, nat_eq};
-ghost use Rattle.std.specs.Option.{option_copied};
+ghost use Rattle.std.specs.Prelude.{◌≡◌, ◌↔◌, ◌⊎◌, ◌-◌, ◌^◌, ◌<◌, ◌++◌, ◌∷◌, ℕ, [], IfOk, OnOk, OnErr, IfNone, cond, is_some, not, nat_eq, true, false};
+ghost use Rattle.std.specs.Option.{IfSome, option_copied};
 ghost use Rattle.std.specs.List.{filter};
 ghost use Rattle.std.specs.List.Sorted.{IsStrictlySortedBy};
 ghost use Rattle.std.specs.Ordering.{nat_cmp};
+ghost use Rattle.std.specs.BTreeMap.{is_at};
+ghost use Rattle.rt_cells.specs.declared.sources.Reader.{Reader};
 ghost use Rattle.rt_cells.specs.Orders.{reader_cmp, source_cmp};
 ghost use Rattle.rt_cells.specs.Held.{held_at, owner_at, value_at, numbers_of};
-ghost use Rattle.rt_cells.specs.Reads.{in_order, reads_of, readers_of, context_sources};
+ghost use Rattle.rt_cells.specs.Reads.{in_order, reads_of, readers_of, context_sources, comes_after, is_read_by, IsNextReader};
 ghost use Rattle.rt_cells.specs.Cells.{started, cell_made, cell_entered, cell_written, cell_dropped, cells_of_dropped, reads_set, read_added, reader_dropped, context_made, contexts_dropped};
 
 use crate::faults::CellsFault;
@@ -77,6 +79,9 @@ impl<V> Cells<V> {
         ensures ok { OnOk result (self.new ≡ reads_set reader sources.now self.old) }
         ensures set { OnOk result
             (reads_of reader self.new.reads ≡ in_order source_cmp sources.now) }
+        ensures each { OnOk result ((other : Reader) → reads_of other self.new.reads
+            ≡ cond (is_at (reader_cmp reader) other) (in_order source_cmp sources.now)
+            (reads_of other self.old.reads)) }
         ensures err { OnErr result (self.new ≡ self.old) }
     {
         self.reads.set(alloc, reader, sources)
@@ -113,6 +118,16 @@ impl<V> Cells<V> {
         self.reads.readers_of(alloc, source)
     }
 
+    /// The first scope that reads the source, by number, or the first one after another scope. None
+    /// where no other does. It takes no memory.
+    pub fn next_reader(&self, source: Source, after: Option<u64>) -> Option<u64>
+        ensures next { IfSome result (IsNextReader source after self.now.reads) }
+        ensures none { IfNone result ((scope : ℕ) → comes_after after scope ≡ true
+            → is_read_by scope source self.now.reads ≡ false) }
+    {
+        self.reads.next_reader(source, after)
+    }
+
     /// The contexts of the scope that some reader has looked up, of whatever kind, ascending.
     pub fn context_sources(
         &self,
@@ -129,6 +144,8 @@ impl<V> Cells<V> {
     pub fn drop_reader(&mut self, reader: Reader)
         ensures dropped { self.new ≡ reader_dropped reader self.old }
         ensures none { reads_of reader self.new.reads ≡ [] }
+        ensures each { (other : Reader) → reads_of other self.new.reads
+            ≡ cond (is_at (reader_cmp reader) other) [] (reads_of other self.old.reads) }
     {
         self.reads.drop_reader(reader);
     }

@@ -1,12 +1,13 @@
 //! Each reader with its sources, and from each source back to its readers.
-ghost use Rattle.std.specs.Prelude.{◌≡◌, ◌++◌, ◌∷◌, [], List, IfOk, OnOk, OnErr};
+ghost use Rattle.std.specs.Prelude.{◌≡◌, ℕ, ◌++◌, ◌∷◌, [], List, IfOk, OnOk, OnErr, IfNone, cond, true, false};
 ghost use Rattle.std.specs.Option.{IfSome};
 ghost use Rattle.std.specs.List.Sorted.{IsStrictlySortedBy};
-ghost use Rattle.std.specs.BTreeMap.{insert_entry};
+ghost use Rattle.std.specs.BTreeMap.{insert_entry, is_at};
+ghost use Rattle.rt_cells.specs.declared.sources.Reader.{Reader};
 ghost use Rattle.rt_cells.specs.Orders.{source_cmp, reader_cmp};
-ghost use Rattle.rt_cells.specs.Reads.{in_order, sources_at, reads_of, readers_of, with_reads, without_reader, context_sources};
+ghost use Rattle.rt_cells.specs.Reads.{in_order, sources_at, reads_of, readers_of, with_reads, without_reader, context_sources, comes_after, is_read_by, IsNextReader};
 
-use crate::links::{contexts_at, enter, leave, readers_at};
+use crate::links::{contexts_at, enter, leave, readers_at, scope_at};
 use crate::places::{Place, place_of};
 use crate::sources::{Reader, Source};
 use rt_values::{List, OutOfMemory, ScopeId};
@@ -78,6 +79,8 @@ impl Reads {
     pub fn drop_reader(&mut self, reader: Reader)
         ensures dropped { self.new ≡ without_reader reader self.old }
         ensures none { reads_of reader self.new ≡ [] }
+        ensures each { (other : Reader) → reads_of other self.new
+            ≡ cond (is_at (reader_cmp reader) other) [] (reads_of other self.old) }
     {
         if let Some(former) = self.sources.remove(&reader) {
             leave(&mut self.links, reader, former.as_slice(), &[]);
@@ -89,6 +92,8 @@ impl Reads {
         requires ascending { IsStrictlySortedBy source_cmp sources }
         ensures ok { OnOk result (self.new ≡ insert_entry reader_cmp self.old reader sources) }
         ensures put { OnOk result (reads_of reader self.new ≡ sources) }
+        ensures each { OnOk result ((other : Reader) → reads_of other self.new
+            ≡ cond (is_at (reader_cmp reader) other) sources (reads_of other self.old)) }
         ensures err { OnErr result (self.new ≡ self.old) }
     {
         if let Err(refused) = enter(&mut self.links, reader, sources.as_slice()) {
@@ -131,6 +136,9 @@ impl Reads {
         ensures ok { OnOk result
             (self.new ≡ with_reads reader (in_order source_cmp sources.now) self.old) }
         ensures set { OnOk result (reads_of reader self.new ≡ in_order source_cmp sources.now) }
+        ensures each { OnOk result ((other : Reader) → reads_of other self.new
+            ≡ cond (is_at (reader_cmp reader) other) (in_order source_cmp sources.now)
+            (reads_of other self.old)) }
         ensures err { OnErr result (self.new ≡ self.old) }
     {
         let sources = in_order(alloc, sources)?;
@@ -148,6 +156,15 @@ impl Reads {
     {
         let readers = readers_at(alloc, &self.links, place_of(source))?;
         Ok(List::from_vec(readers))
+    }
+
+    /// The first scope that reads a source, by number, or the first one after another scope.
+    pub fn next_reader(&self, source: Source, after: Option<u64>) -> Option<u64>
+        ensures next { IfSome result (IsNextReader source after self.now) }
+        ensures none { IfNone result ((scope : ℕ) → comes_after after scope ≡ true
+            → is_read_by scope source self.now ≡ false) }
+    {
+        scope_at(&self.links, place_of(source), after)
     }
 
     /// The reader has one more source, or as many as before where it has that one.

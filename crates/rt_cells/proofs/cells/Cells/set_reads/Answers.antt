@@ -14,3 +14,6 @@ returns-clause-ok g c = rw (← c.self.view_is)
 
 pub returns-clause-set : goal.returns-clause-set
 returns-clause-set g c = c.set.ensures.set
+
+pub returns-clause-each : goal.returns-clause-each
+returns-clause-each g c = rw (← c.self.view_is) c.set.ensures.each

@@ -1,8 +1,11 @@
 -- All of the reader's sources go.
 use Rattle.std.proofs.Common.{◌∙◌, sym, ap, ◌&&◌, not, []}
 use Rattle.std.specs.Option.{unwrap_or}
+use Rattle.std.specs.BTreeMap.{is_at}
+use Rattle.rt_cells.specs.Orders.{reader_cmp}
+use Rattle.rt_cells.specs.Reads.{sources_at}
 use Rattle.rt_cells.specs.Links.{is_let_go}
-use Rattle.rt_cells.proofs.Linked.{dropped_linked, none_sorted, in_table}
+use Rattle.rt_cells.proofs.Linked.{taken_each, dropped_linked, none_sorted, in_table}
 use Rattle.rt_cells.proofs.reads.Reads.drop_reader.Goals as goal
 
 pub leave-requires : goal.leave-requires
@@ -14,3 +17,13 @@ invariant_of-self c =
     (λ link. c.leave.ensures.left link
     ∙ ap (λ former. in_table c.self.inside.links.keys link && not (is_let_go c.args.reader [] former link))
     (c.as_slice.ensures.items ∙ ap (λ found. unwrap_or found []) (sym c.in-Some.is ∙ c.remove.ensures.value)))
+
+pub returns-in-Some-clause-each : goal.returns-in-Some-clause-each
+returns-in-Some-clause-each c =
+    rw (← c.self.view_is)
+    (λ other. ap (λ found. unwrap_or found []) (c.remove.ensures.updates.0 other) ∙ taken_each (is_at (reader_cmp c.args.reader) other) (sources_at other c.self.inside.sources.entries))
+
+pub returns-in_default-clause-each : goal.returns-in_default-clause-each
+returns-in_default-clause-each c =
+    rw (← c.self.view_is)
+    (λ other. ap (λ found. unwrap_or found []) (c.remove.ensures.updates.0 other) ∙ taken_each (is_at (reader_cmp c.args.reader) other) (sources_at other c.self.inside.sources.entries))

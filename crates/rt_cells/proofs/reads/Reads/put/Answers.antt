@@ -1,8 +1,11 @@
 -- The links are tied to the sources again on each way out.
 use Rattle.std.proofs.Common.{◌≡◌, ◌∙◌, sym, ap, refl, ◌&&◌, not, [], inr, Bool, true, false}
 use Rattle.std.specs.Option.{unwrap_or}
+use Rattle.std.specs.BTreeMap.{is_at}
+use Rattle.rt_cells.specs.Orders.{reader_cmp}
+use Rattle.rt_cells.specs.Reads.{sources_at}
 use Rattle.rt_cells.specs.Links.{is_let_go}
-use Rattle.rt_cells.proofs.Linked.{put_linked, undone_linked, kept_sorted, none_sorted, in_table}
+use Rattle.rt_cells.proofs.Linked.{put_each, put_linked, undone_linked, kept_sorted, none_sorted, in_table}
 use Rattle.rt_cells.proofs.reads.Reads.put.Goals as goal
 
 and-true : (b : Bool) → b ≡ (b && true)
@@ -50,3 +53,13 @@ invariant_of-self-in-Err-insert c =
     ∙ (λ i. in_table c.enter.new.links.keys link && not (is_let_go c.args.reader
     (ap (λ found. unwrap_or found []) (sym c.in-Err-insert.ensures.absent) i)
     ((c.as_slice-in-Err-insert.ensures.items ∙ ap (λ pair. pair.1) c.in-Err-insert.ensures.value_returned) i) link))))
+
+pub returns-in-Some-clause-each : goal.returns-in-Some-clause-each
+returns-in-Some-clause-each c =
+    rw (← c.self.view_is)
+    (λ other. ap (λ found. unwrap_or found []) (c.in-Ok.ensures.updates.0 other) ∙ put_each (is_at (reader_cmp c.args.reader) other) c.args.sources (sources_at other c.self.inside.sources.entries))
+
+pub returns-in-None-clause-each : goal.returns-in-None-clause-each
+returns-in-None-clause-each c =
+    rw (← c.self.view_is)
+    (λ other. ap (λ found. unwrap_or found []) (c.in-Ok.ensures.updates.0 other) ∙ put_each (is_at (reader_cmp c.args.reader) other) c.args.sources (sources_at other c.self.inside.sources.entries))

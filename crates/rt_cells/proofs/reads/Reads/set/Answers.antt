@@ -1,8 +1,8 @@
 -- A reader without sources is dropped, and one with sources is put.
-use Rattle.std.proofs.Common.{◌≡◌, ◌∙◌, sym, ap, refl, subst, List, [], ◌∷◌}
+use Rattle.std.proofs.Common.{◌≡◌, ◌∙◌, sym, ap, refl, subst, cond, List, [], ◌∷◌}
 use mathlib.Core.Bool.{true≢false}
 use Rattle.std.specs.Result.{OnOk}
-use Rattle.std.specs.BTreeMap.{insert_entry}
+use Rattle.std.specs.BTreeMap.{insert_entry, is_at}
 use Rattle.rt_cells.specs.declared.sources.Source.{Source}
 use Rattle.rt_cells.specs.declared.sources.Reader.{Reader}
 use Rattle.rt_cells.specs.Orders.{reader_cmp}
@@ -32,3 +32,15 @@ returns-clause-ok c =
 pub returns-clause-set : goal.returns-clause-set
 returns-clause-set c =
     subst (λ (sources : List Source). OnOk c.put.result (reads_of c.args.reader c.put.new.self ≡ sources)) c.in_ok-sources.ensures.sources c.put.ensures.put
+
+pub returns-then-is_empty-clause-each : goal.returns-then-is_empty-clause-each
+returns-then-is_empty-clause-each c =
+    λ other.
+    c.drop_reader.ensures.each other
+    ∙ ap (λ sources. cond (is_at (reader_cmp c.args.reader) other) sources (reads_of other c.args.self.now))
+    (sym (c.if-is_empty.ensures.empty.0 refl) ∙ c.in_ok-sources.ensures.sources)
+
+pub returns-clause-each : goal.returns-clause-each
+returns-clause-each c =
+    subst (λ (sources : List Source). OnOk c.put.result ((other : Reader) → reads_of other c.put.new.self ≡ cond (is_at (reader_cmp c.args.reader) other) sources (reads_of other c.args.self.now)))
+    c.in_ok-sources.ensures.sources c.put.ensures.each
