@@ -1,3 +1,4 @@
+pub mod Replaced
 pub mod Orders
 pub mod Contents
 pub mod Slots

@@ -4,7 +4,7 @@ use Rattle.std.specs.List.{slice_index_or}
 use Rattle.std.specs.Borrow.{Bor}
 use Rattle.rt_parts.specs.declared.attribute.Attribute.{Attribute}
 use Rattle.rt_parts.specs.declared.attribute.AttributeValue.{AttributeValue}
-use Rattle.rt_parts.specs.declared.template.Template.{Template as CodeTemplate}
+use Rattle.rt_parts.specs.declared.template.TemplateParts.{TemplateParts as CodeTemplate}
 use Rattle.rt_parts.specs.declared.template.TemplateAttribute.{TemplateAttribute as CodeEntry}
 use Rattle.rt_edits.specs.declared.edit.Edit.{Edit}
 use Rattle.rt_nodes.specs.declared.vnode.VNode.{VNode}

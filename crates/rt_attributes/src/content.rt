@@ -6,7 +6,7 @@ ghost use Rattle.std.specs.List.{slice_index_or};
 ghost use Rattle.rt_model.specs.Document.{with_attribute};
 ghost use Rattle.rt_attributes.specs.Content.{attributes_of, with_all_given, with_all_listeners, with_entries, with_entry, with_given, with_listener_given, with_listeners_given, with_listeners_of};
 
-use crate::order::{put_attribute, put_listener};
+use crate::order::{Attributes, Listeners};
 use rt_edits::DocAttr;
 use rt_parts::{Attribute, AttributeValue, Parts, TemplateAttribute};
 use rt_values::{List, OutOfMemory, Part, Text, both};
@@ -30,11 +30,11 @@ pub fn element_attributes<P: Parts>(
 ) -> Result<List<DocAttr>, OutOfMemory>
     ensures { IfOk result (λ all. attributes_of all ≡ with_entries given.now [] entries.now) }
 {
-    let mut all = Vec::new(alloc);
+    let mut all = Attributes::new(alloc);
     for entry in entries {
         add_entry(alloc, given, entry, &mut all)?;
     }
-    Ok(List::from_vec(all))
+    Ok(all.into_list())
 }
 
 #[tactic(auto, using(crate::proofs::Contents::contents))]
@@ -42,10 +42,10 @@ fn add_entry<P: Parts>(
     alloc: Global,
     given: &[List<Attribute<P>>],
     entry: &TemplateAttribute,
-    all: &mut Vec<DocAttr>,
+    all: &mut Attributes,
 ) -> Result<(), OutOfMemory>
-    ensures { OnOk result (attributes_of all.new.items
-        ≡ with_entry given.now (attributes_of all.old.items) entry.now) }
+    ensures { OnOk result (attributes_of all.new
+        ≡ with_entry given.now (attributes_of all.old) entry.now) }
 {
     match entry {
         TemplateAttribute::Static {
@@ -62,10 +62,10 @@ fn add_entry<P: Parts>(
 fn add_all_given<P: Parts>(
     alloc: Global,
     given: &[Attribute<P>],
-    all: &mut Vec<DocAttr>,
+    all: &mut Attributes,
 ) -> Result<(), OutOfMemory>
-    ensures { OnOk result (attributes_of all.new.items
-        ≡ with_all_given (attributes_of all.old.items) given.now) }
+    ensures { OnOk result (attributes_of all.new
+        ≡ with_all_given (attributes_of all.old) given.now) }
 {
     for attribute in given {
         add_given(alloc, attribute, all)?;
@@ -78,10 +78,10 @@ fn add_all_given<P: Parts>(
 fn add_given<P: Parts>(
     alloc: Global,
     attribute: &Attribute<P>,
-    all: &mut Vec<DocAttr>,
+    all: &mut Attributes,
 ) -> Result<(), OutOfMemory>
-    ensures { OnOk result (attributes_of all.new.items
-        ≡ with_given (attributes_of all.old.items) attribute.now) }
+    ensures { OnOk result (attributes_of all.new
+        ≡ with_given (attributes_of all.old) attribute.now) }
 {
     match &attribute.value {
         AttributeValue::Text(text) => {
@@ -98,21 +98,18 @@ fn add_attribute(
     name: &Text,
     namespace: &Option<Text>,
     value: &Text,
-    all: &mut Vec<DocAttr>,
+    all: &mut Attributes,
 ) -> Result<(), OutOfMemory>
-    ensures { OnOk result (attributes_of all.new.items ≡ with_attribute (attributes_of all.old.items)
+    ensures { OnOk result (attributes_of all.new ≡ with_attribute (attributes_of all.old)
         (record { name = name.now; namespace = namespace.now; value = value.now })) }
 {
     let names = both(name.copy(alloc), namespace.copy(alloc));
     let ((name, namespace), value) = both(names, value.copy(alloc))?;
-    put_attribute(
-        all,
-        DocAttr {
-            name,
-            namespace,
-            value,
-        },
-    )
+    all.put(DocAttr {
+        name,
+        namespace,
+        value,
+    })
 }
 
 /// The names of the events that an element with these entries in its template listens to, in the
@@ -124,11 +121,11 @@ pub fn element_listeners<P: Parts>(
 ) -> Result<List<Text>, OutOfMemory>
     ensures { IfOk result (λ all. all ≡ with_all_listeners given.now [] entries.now) }
 {
-    let mut all = Vec::new(alloc);
+    let mut all = Listeners::new(alloc);
     for entry in entries {
         add_listeners(alloc, given, entry, &mut all)?;
     }
-    Ok(List::from_vec(all))
+    Ok(all.into_list())
 }
 
 #[tactic(auto, using(crate::proofs::Contents::contents))]
@@ -136,9 +133,9 @@ fn add_listeners<P: Parts>(
     alloc: Global,
     given: &[List<Attribute<P>>],
     entry: &TemplateAttribute,
-    all: &mut Vec<Text>,
+    all: &mut Listeners,
 ) -> Result<(), OutOfMemory>
-    ensures { OnOk result (all.new.items ≡ with_listeners_of given.now all.old.items entry.now) }
+    ensures { OnOk result (all.new ≡ with_listeners_of given.now all.old entry.now) }
 {
     match entry {
         TemplateAttribute::Static {
@@ -155,9 +152,9 @@ fn add_listeners<P: Parts>(
 fn add_listeners_given<P: Parts>(
     alloc: Global,
     given: &[Attribute<P>],
-    all: &mut Vec<Text>,
+    all: &mut Listeners,
 ) -> Result<(), OutOfMemory>
-    ensures { OnOk result (all.new.items ≡ with_listeners_given all.old.items given.now) }
+    ensures { OnOk result (all.new ≡ with_listeners_given all.old given.now) }
 {
     for attribute in given {
         add_listener_given(alloc, attribute, all)?;
@@ -169,12 +166,12 @@ fn add_listeners_given<P: Parts>(
 fn add_listener_given<P: Parts>(
     alloc: Global,
     attribute: &Attribute<P>,
-    all: &mut Vec<Text>,
+    all: &mut Listeners,
 ) -> Result<(), OutOfMemory>
-    ensures { OnOk result (all.new.items ≡ with_listener_given all.old.items attribute.now) }
+    ensures { OnOk result (all.new ≡ with_listener_given all.old attribute.now) }
 {
     match &attribute.value {
-        AttributeValue::Listener(_) => put_listener(all, attribute.name.copy(alloc)?),
+        AttributeValue::Listener(_) => all.put(attribute.name.copy(alloc)?),
         AttributeValue::Text(_) => Ok(()),
         AttributeValue::None => Ok(()),
     }

@@ -1,86 +1,115 @@
 //! The order in which a node of the document keeps its attributes and listeners.
 
-ghost use Rattle.std.specs.Prelude.{◌≡◌, OnOk};
+ghost use Rattle.std.specs.Prelude.{◌≡◌, [], length, OnOk};
+ghost use Rattle.std.specs.Option.{option_cmp};
 ghost use Rattle.std.specs.Ordering.{nat_cmp};
 ghost use Rattle.std.specs.Cmp.Lexicographic.{slice_cmp};
-ghost use Rattle.rt_model.specs.Lists.{earlier_text, same_numbers, same_option};
-ghost use Rattle.rt_model.specs.Document.{earlier_namespace, with_attribute, with_listener};
+ghost use Rattle.std.specs.List.Sorted.{IsBinarySearchResult, IsSearchInRange};
+ghost use Rattle.rt_model.specs.Lists.{same_numbers, same_option};
+ghost use Rattle.rt_model.specs.Document.{with_attribute, with_listener};
 ghost use Rattle.rt_mirror.specs.Mirror.{doc_attribute_of};
 ghost use Rattle.rt_attributes.specs.Content.{attributes_of};
-ghost use Rattle.rt_attributes.specs.Order.{attribute_place, has_key, is_earlier, listener_place};
+ghost use Rattle.rt_attributes.specs.Order.{key_order};
 
 use rt_edits::DocAttr;
-use rt_values::{OutOfMemory, Part, Text};
+use rt_values::{List, OutOfMemory, Part, Text};
+use std::alloc::Global;
 use std::cmp::Ordering;
+use std::marker::Model;
 
-/// An attribute takes its place in the order, in place of the one with its name and namespace.
-pub(crate) fn put_attribute(all: &mut Vec<DocAttr>, attribute: DocAttr) -> Result<(), OutOfMemory>
-    ensures { OnOk result (attributes_of all.new.items
-        ≡ with_attribute (attributes_of all.old.items) (doc_attribute_of attribute)) }
-{
-    let at = place_of_attribute(all.as_slice(), &attribute);
-    if at < all.len() && is_same_key(&attribute, &all[at]) {
-        all[at] = attribute;
-        return Ok(());
-    }
-    all.insert(at, attribute)?;
-    Ok(())
+/// Attributes of one element, ascending by namespace, none first, and then by name.
+#[derive(Drop)]
+pub(crate) struct Attributes {
+    all: Vec<DocAttr>,
 }
 
-// The index of the first attribute that has its name and namespace or comes after it, or else their
-// number.
-fn place_of_attribute(all: &[DocAttr], attribute: &DocAttr) -> usize
-    ensures { result ≡ attribute_place attribute.now all.now }
-{
-    for at in 0..all.len() {
-        if is_same_key(attribute, &all[at]) || is_earlier_key(attribute, &all[at]) {
-            return at;
+impl Model for Attributes {
+    ghost use Rattle.std.specs.Prelude.{List};
+    ghost use Rattle.std.specs.List.Sorted.{IsStrictlySortedBy};
+    ghost use Rattle.rt_edits.specs.declared.doc_node.DocAttr.{DocAttr as Attribute};
+    ghost use Rattle.rt_attributes.specs.Order.{key_order};
+
+    ghost Value = { List Attribute };
+
+    ghost view = { λ attributes. attributes.all.items };
+
+    ghost invariant = { λ attributes. IsStrictlySortedBy key_order attributes.all.items };
+}
+
+impl Attributes {
+    /// No attribute.
+    pub fn new(alloc: Global) -> Attributes
+        ensures empty { result ≡ [] }
+    {
+        Attributes {
+            all: Vec::new(alloc),
         }
     }
-    all.len()
+
+    /// An attribute takes its place in the order, in place of the one with its name and namespace.
+    pub fn put(&mut self, attribute: DocAttr) -> Result<(), OutOfMemory>
+        ensures put { OnOk result (attributes_of self.new
+            ≡ with_attribute (attributes_of self.old) (doc_attribute_of attribute)) }
+    {
+        match attribute_at(self.all.as_slice(), &attribute) {
+            Ok(at) => {
+                self.all[at] = attribute;
+                Ok(())
+            }
+            Err(at) => {
+                self.all.insert(at, attribute)?;
+                Ok(())
+            }
+        }
+    }
+
+    /// The attributes in their order.
+    pub fn into_list(self) -> List<DocAttr>
+        ensures all { result ≡ self }
+    {
+        let Attributes { all } = self;
+        List::from_vec(all)
+    }
 }
 
-// Whether two attributes have one name and namespace.
-fn is_same_key(attribute: &DocAttr, other: &DocAttr) -> bool
-    ensures { result ≡ has_key attribute.now other.now }
+// Where the attribute with this one's name and namespace stands, or else where this one belongs.
+fn attribute_at(all: &[DocAttr], attribute: &DocAttr) -> Result<usize, usize>
+    ensures within { IsSearchInRange result (length all.now) }
+    ensures position { IsBinarySearchResult (λ other. key_order other attribute.now)
+        all.now result }
 {
-    is_same_text(&other.name, &attribute.name)
-        && is_same_namespace(&other.namespace, &attribute.namespace)
+    all.binary_search_by(
+        |other: &DocAttr| -> Ordering
+            ensures order { result ≡ key_order other.now attribute.entry.now }
+        { order_of_keys(other, attribute) },
+    )
 }
 
-// Whether an attribute comes before another one: by namespace, then by name.
-fn is_earlier_key(attribute: &DocAttr, other: &DocAttr) -> bool
-    ensures { result ≡ is_earlier attribute.now other.now }
+// The order of attributes: by namespace, then by name.
+fn order_of_keys(attribute: &DocAttr, other: &DocAttr) -> Ordering
+    ensures { result ≡ key_order attribute.now other.now }
 {
-    is_earlier_namespace(&attribute.namespace, &other.namespace)
-        || (is_same_namespace(&attribute.namespace, &other.namespace)
-            && is_earlier_text(&attribute.name, &other.name))
+    let namespaces = order_of_namespaces(&attribute.namespace, &other.namespace);
+    namespaces.then(order_of_texts(&attribute.name, &other.name))
 }
 
 // None comes before every namespace.
-fn is_earlier_namespace(namespace: &Option<Text>, other: &Option<Text>) -> bool
-    ensures { result ≡ earlier_namespace namespace.now other.now }
+fn order_of_namespaces(namespace: &Option<Text>, other: &Option<Text>) -> Ordering
+    ensures { result ≡ option_cmp (slice_cmp nat_cmp) namespace.now other.now }
 {
     match namespace {
         None => match other {
-            None => false,
-            Some(_) => true,
+            None => Ordering::Equal,
+            Some(_) => Ordering::Less,
         },
         Some(namespace) => match other {
-            None => false,
-            Some(other) => is_earlier_text(namespace, other),
+            None => Ordering::Greater,
+            Some(other) => order_of_texts(namespace, other),
         },
     }
 }
 
 // Texts ascend by their bytes.
-#[tactic(auto, using(crate::proofs::Orders::orders))]
-fn is_earlier_text(text: &Text, other: &Text) -> bool
-    ensures { result ≡ earlier_text text.now other.now }
-{
-    order_of_texts(text, other).is_lt()
-}
-
 fn order_of_texts(text: &Text, other: &Text) -> Ordering
     ensures { result ≡ slice_cmp nat_cmp text.now other.now }
 {
@@ -101,26 +130,66 @@ pub(crate) fn is_same_namespace(namespace: &Option<Text>, other: &Option<Text>) 
     namespace.same(other)
 }
 
-/// A listener's name takes its place in the order, once.
-pub(crate) fn put_listener(all: &mut Vec<Text>, name: Text) -> Result<(), OutOfMemory>
-    ensures { OnOk result (all.new.items ≡ with_listener all.old.items name) }
-{
-    let at = place_of_listener(all.as_slice(), &name);
-    if at < all.len() && is_same_text(&all[at], &name) {
-        return Ok(());
-    }
-    all.insert(at, name)?;
-    Ok(())
+/// Names of the events that one element listens to, ascending.
+#[derive(Drop)]
+pub(crate) struct Listeners {
+    all: Vec<Text>,
 }
 
-// The index of the first listener that is this name or comes after it, or else their number.
-fn place_of_listener(all: &[Text], name: &Text) -> usize
-    ensures { result ≡ listener_place name.now all.now }
-{
-    for at in 0..all.len() {
-        if is_same_text(&all[at], name) || is_earlier_text(name, &all[at]) {
-            return at;
+impl Model for Listeners {
+    ghost use Rattle.std.specs.Prelude.{List, ℕ};
+    ghost use Rattle.std.specs.Ordering.{nat_cmp};
+    ghost use Rattle.std.specs.Cmp.Lexicographic.{slice_cmp};
+    ghost use Rattle.std.specs.List.Sorted.{IsStrictlySortedBy};
+
+    ghost Value = { List (List ℕ) };
+
+    ghost view = { λ listeners. listeners.all.items };
+
+    ghost invariant = { λ listeners. IsStrictlySortedBy (slice_cmp nat_cmp) listeners.all.items };
+}
+
+impl Listeners {
+    /// No listener.
+    pub fn new(alloc: Global) -> Listeners
+        ensures empty { result ≡ [] }
+    {
+        Listeners {
+            all: Vec::new(alloc),
         }
     }
-    all.len()
+
+    /// A listener's name takes its place in the order, once.
+    pub fn put(&mut self, name: Text) -> Result<(), OutOfMemory>
+        ensures put { OnOk result (self.new ≡ with_listener self.old name) }
+    {
+        match listener_at(self.all.as_slice(), &name) {
+            Ok(_at) => Ok(()),
+            Err(at) => {
+                self.all.insert(at, name)?;
+                Ok(())
+            }
+        }
+    }
+
+    /// The names in their order.
+    pub fn into_list(self) -> List<Text>
+        ensures all { result ≡ self }
+    {
+        let Listeners { all } = self;
+        List::from_vec(all)
+    }
+}
+
+// Where this name stands, or else where it belongs.
+fn listener_at(all: &[Text], name: &Text) -> Result<usize, usize>
+    ensures within { IsSearchInRange result (length all.now) }
+    ensures position { IsBinarySearchResult (λ other. slice_cmp nat_cmp other name.now)
+        all.now result }
+{
+    all.binary_search_by(
+        |other: &Text| -> Ordering
+            ensures order { result ≡ slice_cmp nat_cmp other.now name.entry.now }
+        { order_of_texts(other, name) },
+    )
 }

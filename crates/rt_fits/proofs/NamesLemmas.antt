@@ -17,12 +17,15 @@ distinct-append (x ∷ xs) ys =
     ap (λ b. not (list_any (same_name x) (xs ++ ys)) && b) (distinct-append xs ys) ∙
     and_assoc (not (list_any (same_name x) (xs ++ ys))) (fresh xs ys) (distinct ys)
 
+-- the items from the k-th on
+pub drop-next : {A : Type 0} (xs : List A) (k : ℕ) (x : A) → k < length xs → x ≡ get_or xs k x → drop k xs ≡ x ∷ drop (k + 1) xs
+drop-next xs k x within read = rw (add-one, drop-cons xs k x) (ap (λ y. y ∷ drop (suc k) xs) (sym read))
+
 -- the names of the attributes from the k-th on
 pub names_in-drop : (slots : List (List Name)) (attrs : List TemplateAttribute) (k : ℕ) (x : TemplateAttribute) → k < length attrs → x ≡ get_or attrs k x
     → names_in slots (drop k attrs) ≡ names_of slots x ++ names_in slots (drop (k + 1) attrs)
 names_in-drop slots attrs k x within read =
-    let e : drop k attrs ≡ x ∷ drop (k + 1) attrs = rw (add-one, drop-cons attrs k x) (ap (λ y. y ∷ drop (suc k) attrs) (sym read)) in
-    ap (names_in slots) e
+    ap (names_in slots) (drop-next attrs k x within read)
 
 -- the names from the k-th attribute on differ where its own are fresh and those after it differ
 pub distinct-drop : (slots : List (List Name)) (attrs : List TemplateAttribute) (k : ℕ) (x : TemplateAttribute) → k < length attrs → x ≡ get_or attrs k x

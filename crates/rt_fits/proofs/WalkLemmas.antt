@@ -1,5 +1,5 @@
 -- A walk through one part of a template after another.
-use Rattle.std.proofs.Common.{◌≡◌, ℕ, suc, ◌+◌, ◌<◌, ◌≤◌, List, [], ◌∷◌, ◌++◌, length, get_or, drop, map, true, refl, sym, ◌∙◌, ap, add-one, drop-cons, rules}
+use Rattle.std.proofs.Common.{◌≡◌, ℕ, ◌+◌, ◌<◌, ◌≤◌, List, [], ◌∷◌, ◌++◌, length, get_or, drop, map, true, refl, sym, ◌∙◌, ap, rules}
 use Rattle.std.proofs.Math.ListN.{drop_of_length-le}
 use Rattle.std.proofs.lemmas.List.{length-map}
 use Rattle.std.specs.Prelude.{◌&&◌, nat_le, Option, Some, None, if◌then◌else◌, option_and_then}
@@ -7,6 +7,7 @@ use Rattle.rt_parts.specs.Met.{Met, AtElement, met, met_step, met_attr, met_attr
 use Rattle.rt_parts.specs.Names.{distinct, names_in}
 use Rattle.rt_parts.specs.BlockTest.{Sought}
 use Rattle.rt_fits.specs.Walk.{walk_step, walked}
+use Rattle.rt_fits.proofs.NamesLemmas.{drop-next}
 use Rattle.rt_fits.specs.declared.walk.Seen.{Seen}
 use Rattle.rt_parts.specs.declared.template.TemplateAttribute.{TemplateAttribute}
 use Rattle.rt_parts.specs.declared.template.TemplateNode.{TemplateNode}
@@ -34,9 +35,6 @@ walked-append s (x ∷ xs) ys seen =
       | None ↦ refl
       | Some after ↦ walked-append s xs ys after
     ]
-
-drop-next : {A : Type 0} (xs : List A) (i : ℕ) (x : A) → i < length xs → x ≡ get_or xs i x → drop i xs ≡ x ∷ drop (i + 1) xs
-drop-next xs i x within read = rw (add-one, drop-cons xs i x) (ap (λ y. y ∷ drop (suc i) xs) (sym read))
 
 met_among-drop : (nodes : List TemplateNode) (path : List ℕ) (i : ℕ) (x : TemplateNode) → i < length nodes → x ≡ get_or nodes i x
     → met_among (map met (drop i nodes)) path i ≡ met x (path ++ i ∷ []) ++ met_among (map met (drop (i + 1) nodes)) path (i + 1)

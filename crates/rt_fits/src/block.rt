@@ -22,9 +22,9 @@ pub fn block_fits<P: Parts>(
     requires { levels ≤ 128 }
     ensures { result ≡ block_fits template.now values attrs.now levels }
 {
-    let roots = template.roots.len();
-    values == template.node_paths.len()
-        && attrs.len() == template.attr_paths.len()
+    let roots = template.roots().len();
+    values == template.node_paths().len()
+        && attrs.len() == template.attr_paths().len()
         && listeners_fit(attrs)
         && 0 < roots
         && roots <= CHILDREN
@@ -42,17 +42,11 @@ fn slots_are_met<P: Parts>(block: &Block<'_, P>) -> bool
     ensures { result ≡ met_as (sought_by block.now) (met_in block.now.template.now.roots) }
 {
     let start = Seen { nodes: 0, attrs: 0 };
-    let seen = walk_among(
-        block.template.roots.as_slice(),
-        &Place::Top,
-        1,
-        block,
-        start,
-    );
+    let seen = walk_among(block.template.roots(), &Place::Top, 1, block, start);
     saw_all(
         seen,
-        block.template.node_paths.len(),
-        block.template.attr_paths.len(),
+        block.template.node_paths().len(),
+        block.template.attr_paths().len(),
     )
 }
 

@@ -5,6 +5,7 @@ mod block;
 mod names;
 mod node_test;
 mod place;
+mod rising;
 mod walk;
 
 pub use node_test::fits;

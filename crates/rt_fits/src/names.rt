@@ -4,15 +4,27 @@ ghost use Rattle.std.specs.Prelude.{◌≡◌, [], map};
 ghost use Rattle.std.specs.List.{list_any, slice_index_or};
 ghost use Rattle.rt_parts.specs.Names.{same_name, same_namespace, distinct, fresh, name_of, names_in, names_of, slot_names};
 
+use crate::rising::last_name;
 use rt_parts::{Attribute, Parts, TemplateAttribute};
 use rt_values::{List, Text};
 
-/// Whether no two attributes of one element have the same name and namespace.
-#[tactic(auto, using(crate::proofs::NamesLemmas::name_lists))]
+/// Whether no two attributes of one element have the same name and namespace. Names that ascend are
+/// told apart by one look at each of them, all others by a look at each two.
 pub(crate) fn names_differ<P: Parts>(
     attrs: &[TemplateAttribute],
     slots: &[List<Attribute<P>>],
 ) -> bool
+    ensures { result ≡ distinct (names_in (slot_names slots.now) attrs.now) }
+{
+    if last_name(attrs, slots).is_some() {
+        return true;
+    }
+    all_differ(attrs, slots)
+}
+
+// The same by a look at each two of them.
+#[tactic(auto, using(crate::proofs::NamesLemmas::name_lists))]
+fn all_differ<P: Parts>(attrs: &[TemplateAttribute], slots: &[List<Attribute<P>>]) -> bool
     ensures { result ≡ distinct (names_in (slot_names slots.now) attrs.now) }
 {
     for at in 0..attrs.len() {
@@ -132,8 +144,8 @@ fn are_same_namespaces(left: &Option<Text>, right: &Option<Text>) -> bool
     }
 }
 
-// The attributes in the slot with this number, none where there is no such slot.
-fn in_slot<P: Parts>(slots: &[List<Attribute<P>>], id: u64) -> &[Attribute<P>]
+/// The attributes in the slot with this number, none where there is no such slot.
+pub(crate) fn in_slot<P: Parts>(slots: &[List<Attribute<P>>], id: u64) -> &[Attribute<P>]
     ensures { result.now ≡ slice_index_or slots.now id [] }
 {
     match slots.get(id as usize) {

@@ -35,7 +35,7 @@ fn tree_fits<P: Parts>(tree: &VNode<P>, levels: usize) -> bool
     if !is_block(tree, levels) {
         return false;
     }
-    let paths = tree.template.node_paths.as_slice();
+    let paths = tree.template.node_paths();
     for (slot, node) in tree.dynamic_nodes.as_slice().iter().enumerate() {
         if !node_fits(node, levels.saturating_sub(depth_of(paths, slot))) {
             return false;

@@ -88,7 +88,7 @@ fn walk<P: Parts>(
         }
         TemplateNode::Text { .. } => Some(seen),
         TemplateNode::Dynamic { id } => {
-            let nodes = next_slot(block.template.node_paths.as_slice(), place, *id, seen.nodes)?;
+            let nodes = next_slot(block.template.node_paths(), place, *id, seen.nodes)?;
             Some(Seen { nodes, ..seen })
         }
     }
@@ -124,7 +124,7 @@ fn walk_attr<P: Parts>(
     match attr {
         TemplateAttribute::Static { .. } => Some(seen),
         TemplateAttribute::Dynamic { id } => {
-            let attrs = next_slot(block.template.attr_paths.as_slice(), place, *id, seen.attrs)?;
+            let attrs = next_slot(block.template.attr_paths(), place, *id, seen.attrs)?;
             Some(Seen { attrs, ..seen })
         }
     }

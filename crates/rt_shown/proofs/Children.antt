@@ -1,5 +1,5 @@
 -- The place of a child scope among those that a side keeps under indices of its components.
-use Rattle.std.proofs.Common.{ℕ, ◌+◌, ◌<◌, ◌≤◌, true, false, List, [], ◌∷◌, ◌≡◌, ◌≢◌, add-one, ap, arith, drop, drop-cons, get_or, length, map, refl, sym, ◌∙◌}
+use Rattle.std.proofs.Common.{ℕ, ◌+◌, ◌<◌, ◌≤◌, true, false, List, [], ◌∷◌, ◌≡◌, ◌≢◌, add-one, ap, drop, drop-cons, get_or, length, map, refl, sym, ◌∙◌}
 use Rattle.std.specs.Prelude.{Option, Some, None, nat_eq, option_map, slice_get}
 use Rattle.std.specs.Borrow.{Bor}
 use Rattle.std.specs.Option.{option_copied}
@@ -8,7 +8,7 @@ use Rattle.std.proofs.lemmas.Bool.{eqb-true}
 use Rattle.std.proofs.lemmas.Option.{slice_get-map}
 use Rattle.rt_model.specs.Tree.{Place}
 use Rattle.rt_model.specs.Caused.{place_of_child}
-use Rattle.rt_model.proofs.Maps.{by_test, pick_false, pick_true}
+use Rattle.rt_model.proofs.Maps.{by_test, eq_same, pick_false, pick_true}
 use Rattle.rt_places.specs.declared.place.Step.{Step}
 use Rattle.rt_places.specs.Places.{place_of, seated}
 use Rattle.rt_places.proofs.Placed.{by_option, seated_none, seated_one}
@@ -77,10 +77,7 @@ module _ (seats : List Place) (s : ℕ) where
 -- under one index
 
 number_same : (m n : ℕ) → m ≡ n → nat_eq m n ≡ true
-number_same m n same = ap (λ k. nat_eq m k) (sym same) ∙ itself m
-  where
-    itself : (k : ℕ) → nat_eq k k ≡ true
-    itself k = grind (arith)
+number_same m n same = ap (λ k. nat_eq m k) (sym same) ∙ eq_same m
 
 number_other : (m n : ℕ) → m ≢ n → nat_eq m n ≡ false
 number_other m n other = by_test (nat_eq m n) (λ same. absurd (other (eqb-true m n same))) (λ apart. apart)

@@ -18,7 +18,7 @@ use Rattle.rt_edits.specs.declared.doc_node.DocNode.{DocNode}
 use Rattle.rt_mirror.specs.Mirror.{trees_from, forest_of}
 use Rattle.rt_mirror.specs.Sealed.{tree_of}
 use Rattle.rt_places.specs.Places.{side_of}
-use Rattle.rt_shown.specs.declared.sides.Sides.{Sides}
+use Rattle.rt_shown.specs.declared.calm.Sides.{Sides}
 use Rattle.rt_shown.specs.declared.showing.Shown.{Shown}
 use Rattle.rt_shown.specs.Seen.{seen_within, tree_in, tree_seen, items_seen}
 use Rattle.rt_shown.proofs.Views.{items_are}

@@ -2,6 +2,7 @@ pub mod OneByOne
 pub mod Looks
 pub mod Forests
 pub mod Views
+pub mod TopsSeen
 pub mod Climbing
 pub mod Hearings
 pub mod Standing
@@ -12,6 +13,7 @@ pub mod Ways
 pub mod Parted
 pub mod ScopesWrite
 pub mod SlotsWrite
+pub mod Quiet
 pub mod ItemsWrite
 pub mod Writings
 pub mod UnitsAgree
@@ -22,3 +24,4 @@ pub mod Claimed
 pub mod RowsWrite
 pub mod Children
 pub mod Walked
+pub mod BothLooks

@@ -36,3 +36,9 @@ pub then_is : (a b : Edited) (edits : List Edit) → a.stopped ≡ false → edi
 then_is a b edits goes joined =
     ap (λ (es : List doc.Edit). record { edits = es; stopped = b.stopped }) (ap (λ xs. map edit_of xs) joined ∙ edits-append a.edits b.edits) ∙
     sym (ap (λ (c : Bool). if c then edited_of a else record { edits = map edit_of a.edits ++ map edit_of b.edits; stopped = b.stopped }) goes)
+
+-- where the first part holds no edit it is the second one
+pub then_second : (a b : Edited) → a.stopped ≡ false → a.edits ≡ [] → edited_of b ≡ then_on (edited_of a) (edited_of b)
+then_second a b goes none =
+    ap (λ (es : List Edit). record { edits = map edit_of es ++ map edit_of b.edits; stopped = b.stopped }) (sym none) ∙
+    sym (ap (λ (c : Bool). if c then edited_of a else record { edits = map edit_of a.edits ++ map edit_of b.edits; stopped = b.stopped }) goes)

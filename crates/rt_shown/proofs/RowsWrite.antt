@@ -14,7 +14,7 @@ use Rattle.rt_model.specs.Tree.{Place}
 use Rattle.rt_model.specs.Caused.{Written, then_on}
 use Rattle.rt_mirror.specs.Sealed.{template_of}
 use Rattle.rt_places.specs.Places.{at_path}
-use Rattle.rt_shown.specs.declared.sides.Sides.{Sides}
+use Rattle.rt_shown.specs.declared.calm.Sides.{Sides}
 use Rattle.rt_shown.specs.Units.{node_writes, row_writes, slot_writes}
 use Rattle.rt_shown.proofs.OneByOne.{next_drop}
 use Rattle.rt_shown.proofs.Parted.{then_nothing, then_then}

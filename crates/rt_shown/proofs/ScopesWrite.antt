@@ -1,7 +1,7 @@
 -- What scopes, sides and trees write, part by part.
 use Rattle.std.proofs.Common.{ℕ, zero, suc, ◌+◌, ◌-◌, Bool, true, false, ◌&&◌, List, [], ◌∷◌, ◌++◌, ◌≡◌, ◌≢◌, refl, sym, ap, ◌∙◌, map, arith}
 use Rattle.std.specs.Prelude.{Option, Some, None, slice_get, if◌then◌else◌, is_some}
-use Rattle.rt_parts.specs.declared.template.Template.{Template as CodeTemplate}
+use Rattle.rt_parts.specs.declared.template.TemplateParts.{TemplateParts as CodeTemplate}
 use Rattle.rt_parts.specs.declared.template.TemplateAttribute.{TemplateAttribute}
 use Rattle.rt_parts.specs.declared.template.TemplateNode.{TemplateNode}
 use Rattle.rt_parts.specs.declared.template.TemplateNode.TheVariants as nodes
@@ -31,7 +31,7 @@ use Rattle.rt_places.specs.declared.side.SideName.{SideName}
 use Rattle.rt_places.specs.Places.{at_path, output_of, side_name_of, side_of}
 use Rattle.rt_attributes.specs.Given.{block_written}
 use Rattle.rt_attributes.proofs.Passes.{block_out}
-use Rattle.rt_shown.specs.declared.sides.Sides.{Sides}
+use Rattle.rt_shown.specs.declared.calm.Sides.{Sides}
 use Rattle.rt_shown.specs.declared.sides.Unit.{Unit as CodeUnit}
 use Rattle.rt_shown.specs.Look.{look_is_shown, look_side, look_shows}
 use Rattle.rt_shown.specs.Seen.{scope_seen, seen_within, tree_seen}

@@ -22,7 +22,7 @@ use Rattle.rt_mirror.specs.Sealed.{tree_of, slot_of, component_of}
 use Rattle.rt_mirror.proofs.SealedTrees.{slot_Text, slot_Placeholder, slot_Component, slot_Fragment}
 use Rattle.rt_places.specs.Places.{side_of}
 use Rattle.rt_places.specs.Sides.{child_in, number_in}
-use Rattle.rt_shown.specs.declared.sides.Sides.{Sides}
+use Rattle.rt_shown.specs.declared.calm.Sides.{Sides}
 use Rattle.rt_shown.specs.Seen.{value_seen}
 use Rattle.rt_shown.specs.Ways.{place_found, way_of}
 use Rattle.rt_shown.specs.Units.{both_of, unit_writes, slot_writes, child_writes, items_writes, slot_replaces}

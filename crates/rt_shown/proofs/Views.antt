@@ -201,51 +201,46 @@ module _ {P C Q V H T E L : Type 0} where
       ap (λ ns. nodes_in look n side tree above up i ns) (before_Dynamic id no_nodes) ∙ join-empty (slot_in look n side tree id place) ∙
       slot_absent look n side tree.dynamic_nodes id place h
 
-module _ {P C Q V H T E L : Type 0} where
-  -- one more node of a row is seen
-  pub row_more : (look : Look P C Q V H T E L) (n : ℕ) (side : Side P C Q V H T E L) (tree : VNode P C Q V H T E L) (above : Place) (up : List ℕ)
-      (row : List TemplateNode) (i : ℕ) (node : TemplateNode) (before this after : List DocNode) (whole : Forest)
-      → i < length row → node ≡ get_or row i node
-      → join_rows (forest_of before) (row_seen look n side tree above up i (drop i row)) ≡ whole
-      → forest_of this ≡ node_seen look n side tree above up i node
-      → after ≡ before ++ this
-      → join_rows (forest_of after) (row_seen look n side tree above up (i + 1) (drop (i + 1) row)) ≡ whole
-  row_more look n side tree above up row i node before this after whole low is so_far one more =
-      let rest : Forest = row_seen look n side tree above up (i + 1) (drop (i + 1) row) in
-      ap (λ f. join_rows f rest) (ap forest_of more ∙ forest-append before this ∙ ap (λ f. join_rows (forest_of before) f) one) ∙
-      join-join (forest_of before) (node_seen look n side tree above up i node) rest ∙
-      ap (λ nodes. join_rows (forest_of before) (row_seen look n side tree above up i nodes)) (sym (next_drop row i node low is)) ∙ so_far
+-- nodes after none
+pub after_none : (row : List DocNode) (f : Forest) → row ≡ [] → join_rows (forest_of row) f ≡ f
+after_none row f none = ap (λ (ns : List DocNode). join_rows (forest_of ns) f) none
 
-  -- the whole row is seen
-  pub row_done : (look : Look P C Q V H T E L) (n : ℕ) (side : Side P C Q V H T E L) (tree : VNode P C Q V H T E L) (above : Place) (up : List ℕ)
-      (row : List TemplateNode) (i : ℕ) (all : List DocNode) (whole : Forest)
-      → length row ≤ i → join_rows (forest_of all) (row_seen look n side tree above up i (drop i row)) ≡ whole → forest_of all ≡ whole
-  row_done look n side tree above up row i all whole end so_far =
-      sym (join-empty (forest_of all)) ∙ ap (λ nodes. join_rows (forest_of all) (row_seen look n side tree above up i nodes)) (sym (drop_of_length-le row end)) ∙ so_far
+module _ {P C Q V H T E L : Type 0} (look : Look P C Q V H T E L) (n : ℕ) (side : Side P C Q V H T E L) where
+  module _ (tree : VNode P C Q V H T E L) (above : Place) (up : List ℕ) (row : List TemplateNode) where
+    -- one more node of a row is seen
+    pub row_more : (i : ℕ) (node : TemplateNode) (before after whole : Forest) → i < length row → node ≡ get_or row i node
+        → join_rows before (row_seen look n side tree above up i (drop i row)) ≡ whole
+        → after ≡ join_rows before (node_seen look n side tree above up i node)
+        → join_rows after (row_seen look n side tree above up (i + 1) (drop (i + 1) row)) ≡ whole
+    row_more i node before after whole low is so_far one =
+        let rest : Forest = row_seen look n side tree above up (i + 1) (drop (i + 1) row) in
+        ap (λ f. join_rows f rest) one ∙
+        join-join before (node_seen look n side tree above up i node) rest ∙
+        ap (λ nodes. join_rows before (row_seen look n side tree above up i nodes)) (sym (next_drop row i node low is)) ∙ so_far
 
-  -- one more item is seen
-  pub items_more : (look : Look P C Q V H T E L) (n : ℕ) (side : Side P C Q V H T E L) (first : ℕ) (place : Place)
-      (trees : List (VNode P C Q V H T E L)) (i : ℕ) (tree : VNode P C Q V H T E L) (at_item : Place) (position : ℕ) (before this after : List DocNode) (whole : Forest)
-      → i < length trees → tree ≡ get_or trees i tree
-      → join_rows (forest_of before) (items_seen look n side first i place (drop i trees)) ≡ whole
-      → forest_of this ≡ tree_seen look n side tree at_item
-      → at_item ≡ place ++ item position ∷ []
-      → position ≡ first + i
-      → after ≡ before ++ this
-      → join_rows (forest_of after) (items_seen look n side first (i + 1) place (drop (i + 1) trees)) ≡ whole
-  items_more look n side first place trees i tree at_item position before this after whole low is so_far one at_place at_position more =
-      let rest : Forest = items_seen look n side first (i + 1) place (drop (i + 1) trees) in
-      let seen : forest_of this ≡ tree_seen look n side tree (place ++ item (first + i) ∷ []) =
-      one ∙ ap (λ p. tree_seen look n side tree p) (at_place ∙ ap (λ m. place ++ item m ∷ []) at_position) in
-      ap (λ f. join_rows f rest) (ap forest_of more ∙ forest-append before this ∙ ap (λ f. join_rows (forest_of before) f) seen) ∙
-      join-join (forest_of before) (tree_seen look n side tree (place ++ item (first + i) ∷ [])) rest ∙
-      ap (λ ts. join_rows (forest_of before) (items_seen look n side first i place ts)) (sym (next_drop trees i tree low is)) ∙ so_far
+    -- the whole row is seen
+    pub row_done : (i : ℕ) (all whole : Forest) → length row ≤ i → join_rows all (row_seen look n side tree above up i (drop i row)) ≡ whole → all ≡ whole
+    row_done i all whole end so_far =
+        sym (join-empty all) ∙ ap (λ nodes. join_rows all (row_seen look n side tree above up i nodes)) (sym (drop_of_length-le row end)) ∙ so_far
 
-  -- all items are seen
-  pub items_done : (look : Look P C Q V H T E L) (n : ℕ) (side : Side P C Q V H T E L) (first : ℕ) (place : Place)
-      (trees : List (VNode P C Q V H T E L)) (i : ℕ) (all : List DocNode) (whole : Forest)
-      → length trees ≤ i → join_rows (forest_of all) (items_seen look n side first i place (drop i trees)) ≡ whole → forest_of all ≡ whole
-  items_done look n side first place trees i all whole end so_far =
-      sym (join-empty (forest_of all)) ∙ ap (λ ts. join_rows (forest_of all) (items_seen look n side first i place ts)) (sym (drop_of_length-le trees end)) ∙ so_far
+  module _ (first : ℕ) (place : Place) (trees : List (VNode P C Q V H T E L)) where
+    -- one more item is seen
+    pub items_more : (i : ℕ) (tree : VNode P C Q V H T E L) (at_item : Place) (position : ℕ) (before after whole : Forest)
+        → i < length trees → tree ≡ get_or trees i tree
+        → join_rows before (items_seen look n side first i place (drop i trees)) ≡ whole
+        → at_item ≡ place ++ item position ∷ [] → position ≡ first + i
+        → after ≡ join_rows before (tree_seen look n side tree at_item)
+        → join_rows after (items_seen look n side first (i + 1) place (drop (i + 1) trees)) ≡ whole
+    items_more i tree at_item position before after whole low is so_far at_place at_position one =
+        let rest : Forest = items_seen look n side first (i + 1) place (drop (i + 1) trees) in
+        ap (λ f. join_rows f rest)
+        (one ∙ ap (λ p. join_rows before (tree_seen look n side tree p)) (at_place ∙ ap (λ m. place ++ item m ∷ []) at_position)) ∙
+        join-join before (tree_seen look n side tree (place ++ item (first + i) ∷ [])) rest ∙
+        ap (λ ts. join_rows before (items_seen look n side first i place ts)) (sym (next_drop trees i tree low is)) ∙ so_far
 
-pub ruleset views = (scope_out, scope_none, scope_some, side_none, side_some, child_none, child_some, value_Text, value_Placeholder, value_Component, value_none, value_some, tree_row, node_Element, node_Text, node_Slot, node_no_Slot, below_Element, below_Text, below_Placeholder, content_Element, content_Text, content_Placeholder, forest-append, join-empty, join-join, on_Root, on_Inside, on_Item, path_Top, path_Below)
+    -- all items are seen
+    pub items_done : (i : ℕ) (all whole : Forest) → length trees ≤ i → join_rows all (items_seen look n side first i place (drop i trees)) ≡ whole → all ≡ whole
+    items_done i all whole end so_far =
+        sym (join-empty all) ∙ ap (λ ts. join_rows all (items_seen look n side first i place ts)) (sym (drop_of_length-le trees end)) ∙ so_far
+
+pub ruleset views = (scope_out, scope_none, scope_some, side_none, side_some, child_none, child_some, value_Text, value_Placeholder, value_Component, value_none, value_some, tree_row, node_Element, node_Text, node_Slot, node_no_Slot, below_Element, below_Text, below_Placeholder, content_Element, content_Text, content_Placeholder, forest-append, join-empty, join-join, after_none, on_Root, on_Inside, on_Item, path_Top, path_Below)

@@ -1,7 +1,7 @@
 -- Where a walk stands one step further.
 use Rattle.std.proofs.Common.{ℕ, List, ◌≡◌, ap, ◌∙◌}
 use Rattle.std.specs.Borrow.{Bor}
-use Rattle.rt_parts.specs.declared.template.Template.{Template as CodeTemplate}
+use Rattle.rt_parts.specs.declared.template.TemplateParts.{TemplateParts as CodeTemplate}
 use Rattle.rt_mirror.specs.Sealed.{template_of}
 use Rattle.rt_places.specs.declared.trail.Path.{Path}
 use Rattle.rt_places.specs.declared.trail.Trail.{Trail}

@@ -6,6 +6,8 @@ pub mod Hearing
 pub mod Means
 pub mod Ways
 pub mod Written
+pub mod Tops
 pub mod Touched
+pub mod Calm
 pub mod Units
 pub mod Reruns

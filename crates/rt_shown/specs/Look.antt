@@ -125,6 +125,10 @@ module _ {P C Q V H T E L : Type 0} where
   abbrev pub look_is_shown : Look P C Q V H T E L → ℕ → Bool
   look_is_shown look s = look_live look s && shown_steps look (look_height look s) s
 
+  -- of each scope of which the one keeps nothing the other shows what it does
+  abbrev pub IsAlike : Look P C Q V H T E L → Look P C Q V H T E L → Type 0
+  IsAlike look other = (s : ℕ) → at (stood_in look) s ≡ None → look_at other s ≡ look_at look s
+
 module _ (K : Types) where
   -- what a look shows of a scope, as the definitions have it
   pub record Sight : Type 0 where

@@ -22,7 +22,7 @@ use Rattle.rt_places.specs.Places.{output_of, side_name_of, side_of}
 use Rattle.rt_places.specs.Sides.{child_in}
 use Rattle.rt_shown.specs.declared.look.Look.{Look}
 use Rattle.rt_shown.specs.declared.edited.Edited.{Edited}
-use Rattle.rt_shown.specs.declared.sides.Sides.{Sides}
+use Rattle.rt_shown.specs.declared.calm.Sides.{Sides}
 use Rattle.rt_shown.specs.declared.sides.Unit.{Unit as CodeUnit}
 use Rattle.rt_shown.specs.Look.{look_is_shown, look_side, look_shows}
 use Rattle.rt_shown.specs.Seen.{seen_within, scope_seen, value_in, tree_in, items_in}

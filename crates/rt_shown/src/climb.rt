@@ -109,7 +109,7 @@ fn find_tree<P: Parts>(
         &standing,
         number,
         &Path::Top,
-        tree.template.roots.as_slice(),
+        tree.template.roots(),
         levels,
     )
 }

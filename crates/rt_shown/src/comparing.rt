@@ -5,20 +5,21 @@ ghost use Rattle.rt_nodes.specs.declared.vnode.DynamicNode.TheVariants as values
 ghost use Rattle.rt_places.specs.Trails.{path_of, place_on};
 ghost use Rattle.rt_shown.specs.Units.{Writes, child_writes, items_writes, name_writes, node_writes, output_writes, row_writes, scope_writes, slot_writes, tree_writes, unit_writes};
 
+use crate::calm::{Sides, stays_quiet};
 use crate::edited::{Edited, halts, nothing, then_on, then_stop, writes};
 use crate::inserting::items_inserted;
 use crate::look::{Look, is_same_side};
-use crate::showing::items_view;
 use crate::sides::{
-    Sides, Unit, is_shown_in_both, removals, scope_replaced, shown_in, slot_replaced, tree_replaced,
+    Unit, is_shown_in_both, removals, scope_replaced, shown_in, slot_replaced, tree_replaced,
 };
 use crate::slots::{no_items_written, placeholder_written, text_written};
+use crate::tops::items_tops;
 use crate::touching::is_touched;
 use crate::way::{is_on_way, is_place, stop_on};
 use rt_attributes::attributes_written;
 use rt_nodes::{DynamicNode, VComponent, VNode};
 use rt_parts::{Parts, TemplateNode};
-use rt_places::{LEVELS, Path, SideName, Trail, down};
+use rt_places::{Path, SideName, Trail, down};
 use rt_values::{List, OutOfMemory, Part, Shared};
 use rt_work::is_same_component;
 use std::alloc::Global;
@@ -56,7 +57,7 @@ pub(crate) fn written_within<P: Parts>(
 // The side that shows in both states, or one side in place of the other.
 #[cycle(written)]
 #[tactic(auto, using(crate::proofs::Writings::writings))]
-fn scope_written<P: Parts>(
+pub(crate) fn scope_written<P: Parts>(
     alloc: Global,
     unit: &Unit<'_, P>,
     depth: u64,
@@ -101,12 +102,15 @@ fn side_written<P: Parts>(
             Some(new) => {
                 let old = shown_in(unit.before, old);
                 let new = shown_in(unit.after, new);
+                let stop = stop_on(unit.way, scope, name);
+                let quiet = stays_quiet(unit, &old, stop);
                 let sides = Sides {
                     unit: &*unit,
                     old: &old,
                     new: &new,
-                    stop: stop_on(unit.way, scope, name),
+                    stop,
                     depth,
+                    quiet,
                 };
                 outputs_written(alloc, &sides, levels)
             }
@@ -155,7 +159,7 @@ fn tree_written<P: Parts>(
     if !new.template.same(&old.template) {
         return tree_replaced(alloc, sides, above, new, old);
     }
-    let nodes = new.template.roots.as_slice();
+    let nodes = new.template.roots();
     let slots = nodes_written(alloc, sides, above, &Path::Top, nodes, new, old, levels)?;
     then_on(
         writes(attributes_written(alloc, sides.old.side, above, new, old)?),
@@ -334,7 +338,8 @@ fn fragment_written<P: Parts>(
     }
 }
 
-// What a matched child scope writes; nothing where it was to be fed and was refused.
+// What a matched child scope writes; nothing where it was to be fed and was refused. Where no child
+// writes anything it isn't looked for.
 #[cycle(written)]
 #[tactic(auto, using(crate::proofs::Writings::writings))]
 fn child_written<P: Parts>(
@@ -347,6 +352,9 @@ fn child_written<P: Parts>(
         (λ app. child_writes app sides.now (place_on place.now))) }
 {
     let levels = down(levels)?;
+    if sides.quiet {
+        return Ok(nothing(alloc));
+    }
     match sides.old.side.child_on(place) {
         Some(child) => {
             if is_place(place, sides.stop) && !is_on_way(sides.unit.way, child) {
@@ -391,6 +399,6 @@ fn items_written<P: Parts>(
         return Ok(written);
     }
     let first = new.len() as u64;
-    let over = items_view(alloc, sides.old, first, place, &old[new.len()..], LEVELS)?;
+    let over = items_tops(alloc, sides.old, first, place, &old[new.len()..])?;
     then_on(written, writes(removals(alloc, over.as_slice())?))
 }

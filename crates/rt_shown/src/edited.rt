@@ -72,6 +72,9 @@ pub(crate) fn then_on(first: Edited, second: Edited) -> Result<Edited, OutOfMemo
     if first.stopped {
         return Ok(first);
     }
+    if first.edits.is_empty() {
+        return Ok(second);
+    }
     let Edited {
         mut edits,
         stopped: _,

@@ -8,14 +8,14 @@ ghost use Rattle.rt_shown.specs.Units.{around_from, items_inserts, last_among};
 ghost use Rattle.rt_shown.specs.Ways.{place_found};
 ghost use Rattle.rt_shown.specs.Written.{edited_of};
 
+use crate::calm::Sides;
 use crate::edited::{Edited, halts, one_edit};
-use crate::showing::{items_view, tree_view};
-use crate::sides::Sides;
+use crate::rows::{items_view, tree_view};
 use crate::way::is_around;
 use rt_edits::{DocNode, Edit};
 use rt_nodes::VNode;
 use rt_parts::Parts;
-use rt_places::{LEVELS, Place, Trail};
+use rt_places::{Place, Trail};
 use rt_values::{ElementId, OutOfMemory};
 use std::alloc::Global;
 
@@ -34,18 +34,11 @@ pub(crate) fn items_inserted<P: Parts>(
         (last_among sides.now.new.now (place_on place.now) 0 0 (take position new.now))
         (drop position new.now)) }
 {
-    if any_around(place, position as u64, sides.stop, new.len() as u64)? {
+    if any_around(alloc, place, position as u64, sides.stop, new.len() as u64)? {
         return Ok(halts(alloc));
     }
     let last = last_before(alloc, sides, place, &new[..position])?;
-    let nodes = items_view(
-        alloc,
-        sides.new,
-        position as u64,
-        place,
-        &new[position..],
-        LEVELS,
-    )?;
+    let nodes = items_view(alloc, sides.new, position as u64, place, &new[position..])?;
     one_edit(
         alloc,
         Edit::InsertNodesAfter {
@@ -57,6 +50,7 @@ pub(crate) fn items_inserted<P: Parts>(
 
 // Whether one of the items from a position on is the refused place or holds it.
 fn any_around(
+    alloc: Global,
     place: &Trail<'_>,
     first: u64,
     stop: Option<&Place>,
@@ -70,7 +64,7 @@ fn any_around(
     }
     for position in first..end {
         let item = Trail::Item(&*place, position);
-        let around = is_around(&item, stop)?;
+        let around = is_around(alloc, &item, stop)?;
         if around {
             return Ok(true);
         }
@@ -92,7 +86,7 @@ fn last_before<P: Parts>(
     for back in 0..trees.len() {
         let position = trees.len() - 1 - back;
         let above = Trail::Item(&*place, position as u64);
-        let row = tree_view(alloc, sides.new, &trees[position], &above, LEVELS)?;
+        let row = tree_view(alloc, sides.new, &trees[position], &above)?;
         if !row.is_empty() {
             return Ok(last_of(0, row.as_slice()));
         }

@@ -2,21 +2,25 @@
 //! calls, and the edits that a unit writes.
 #![tactic(auto)]
 
+mod calm;
 mod climb;
 mod comparing;
 mod edited;
 mod hearing;
 mod inserting;
 mod look;
+mod own;
+mod rows;
 mod scope_set;
 mod showing;
 mod sides;
 mod slots;
+mod tops;
 mod touching;
 mod way;
 mod writing;
 
 pub use hearing::{Listener, heard};
 pub use look::{Look, Stood};
-pub use showing::{nodes_of, view};
+pub use rows::{nodes_of, view};
 pub use writing::{built, written, written_until};

@@ -1,19 +1,19 @@
 //! The scopes as they stand, or as they stood before a unit.
 
-ghost use Rattle.std.specs.Prelude.{◌≡◌, ℕ};
+ghost use Rattle.std.specs.Prelude.{◌≡◌, ◌&&◌, ℕ, None, true, is_some};
 ghost use Rattle.std.specs.Option.{option_copied};
 ghost use Rattle.rt_model.specs.Lists.{at};
 ghost use Rattle.rt_model.specs.State.{same_side};
 ghost use Rattle.rt_places.specs.Places.{side_name_of};
 ghost use Rattle.rt_calls.specs.Calls.{number_of};
-ghost use Rattle.rt_shown.specs.Look.{is_showing, look_at, look_below, look_is_shown, look_parent, look_shown, look_shows, look_side, rung_in, rung_of, seen_in, shown_on, side_standing, side_stood, standing, stood_in};
+ghost use Rattle.rt_shown.specs.Look.{IsAlike, is_showing, look_at, look_below, look_is_shown, look_parent, look_shown, look_shows, look_side, rung_in, rung_of, seen_in, shown_on, side_standing, side_stood, standing, stood_in};
 ghost use Rattle.rt_shown.specs.Stands.{ShowsRows, ShowsStood};
 
 use rt_calls::{Rows, Scope};
 use rt_parts::Parts;
 use rt_places::{Side, SideName};
 use rt_table::Table;
-use rt_values::ScopeId;
+use rt_values::{Boxed, ScopeId};
 
 /// What is shown of a scope, as it stood before a unit.
 #[derive(Drop)]
@@ -29,7 +29,7 @@ pub struct Stood<P: Parts> {
 }
 
 /// Where a scope stands, and which side it shows.
-#[derive(Clone, Copy)]
+#[derive(Clone, Copy, PartialEq, Eq)]
 struct Rung {
     parent: Option<u64>,
     height: u64,
@@ -43,7 +43,7 @@ struct Rung {
 pub struct Look<'a, P: Parts> {
     rows: &'a Rows<P>,
     /// Of scopes that have changed, what they were; none of those that were not live.
-    stood: Option<&'a Table<Option<Stood<P>>>>,
+    stood: Option<&'a Table<Option<Boxed<Stood<P>>>>>,
     /// How many scopes were live.
     scopes: u64,
 }
@@ -51,6 +51,8 @@ pub struct Look<'a, P: Parts> {
 impl<'a, P: Parts> Look<'a, P> {
     /// The scopes as they stand.
     pub fn now(rows: &'a Rows<P>) -> Look<'a, P>
+        ensures each { (scope : ℕ) → look_at result scope
+            ≡ seen_in None (at rows.now.table scope) }
         ensures shows { ShowsRows result rows.now.table }
     {
         Look {
@@ -62,9 +64,14 @@ impl<'a, P: Parts> Look<'a, P> {
 
     /// The scopes as they stood when so many of them were live. What has changed since is kept in
     /// `stood`, with None for each scope that was not live.
-    pub fn before(rows: &'a Rows<P>, stood: &'a Table<Option<Stood<P>>>, scopes: u64) -> Look<'a, P>
+    pub fn before(
+        rows: &'a Rows<P>,
+        stood: &'a Table<Option<Boxed<Stood<P>>>>,
+        scopes: u64,
+    ) -> Look<'a, P>
         ensures each { (scope : ℕ) → look_at result scope
             ≡ seen_in (at stood.now scope) (at rows.now.table scope) }
+        ensures stood { stood_in result ≡ stood.now }
         ensures count { result.scopes ≡ scopes }
         ensures shows { ShowsStood result rows.now.table stood.now scopes }
     {
@@ -83,13 +90,20 @@ impl<'a, P: Parts> Look<'a, P> {
     }
 
     /// What is kept of a scope as it stood.
-    fn kept(&self, scope: u64) -> Option<&Option<Stood<P>>>
+    fn kept(&self, scope: u64) -> Option<&Option<Boxed<Stood<P>>>>
         ensures { option_copied result ≡ at (stood_in self.now) scope }
     {
         match self.stood {
             Some(stood) => stood.get(scope),
             None => None,
         }
+    }
+
+    /// Whether it is kept what a scope was.
+    fn is_kept(&self, scope: u64) -> bool
+        ensures { result ≡ is_some (at (stood_in self.now) scope) }
+    {
+        self.kept(scope).is_some()
     }
 
     /// A scope as it stands.
@@ -104,7 +118,7 @@ impl<'a, P: Parts> Look<'a, P> {
         ensures { result ≡ look_parent self.now scope }
     {
         match self.kept(scope) {
-            Some(Some(stood)) => stood.parent,
+            Some(Some(stood)) => stood.get().parent,
             Some(None) => None,
             None => parent_of(self.present(scope)?.row.parent),
         }
@@ -115,7 +129,7 @@ impl<'a, P: Parts> Look<'a, P> {
         ensures { result ≡ look_below self.now scope }
     {
         match self.kept(scope) {
-            Some(Some(stood)) => Some(stood.below),
+            Some(Some(stood)) => Some(stood.get().below),
             Some(None) => None,
             None => Some(self.present(scope)?.rest.below),
         }
@@ -126,7 +140,7 @@ impl<'a, P: Parts> Look<'a, P> {
         ensures { result ≡ look_shows self.now scope }
     {
         match self.kept(scope) {
-            Some(Some(stood)) => stood.shows,
+            Some(Some(stood)) => stood.get().shows,
             Some(None) => None,
             None => self.present(scope)?.rest.shows,
         }
@@ -137,7 +151,7 @@ impl<'a, P: Parts> Look<'a, P> {
         ensures { option_copied result ≡ look_side self.now scope name }
     {
         match self.kept(scope) {
-            Some(Some(stood)) => Some(side_of_stood(stood, name)),
+            Some(Some(stood)) => Some(side_of_stood(stood.get(), name)),
             Some(None) => None,
             None => Some(side_of_scope(self.present(scope)?, name)),
         }
@@ -159,7 +173,7 @@ impl<'a, P: Parts> Look<'a, P> {
         ensures { result ≡ rung_in (look_at self.now scope) }
     {
         match self.kept(scope) {
-            Some(Some(stood)) => Some(rung_stood(stood)),
+            Some(Some(stood)) => Some(rung_stood(stood.get())),
             Some(None) => None,
             None => Some(rung_now(self.present(scope)?)),
         }
@@ -196,6 +210,66 @@ impl<'a, P: Parts> Look<'a, P> {
         }
         self.is_shown_on(steps - 1, rung.below, rung.parent)
     }
+
+    /// Whether a scope is shown in both looks, where the other one shows what this one does of each
+    /// scope of which nothing is kept.
+    pub(crate) fn is_shown_too(&self, other: &Look<'_, P>, scope: u64) -> bool
+        requires alike { IsAlike self.now other.now }
+        ensures { result ≡ (look_is_shown self.now scope && look_is_shown other.now scope) }
+    {
+        let Some(former) = self.rung(scope) else {
+            return false;
+        };
+        let Some(present) = other.rung(scope) else {
+            return false;
+        };
+        if !is_same_rung(former, present) {
+            return self.is_shown(scope) && other.is_shown(scope);
+        }
+        if former.height == 0 {
+            return true;
+        }
+        self.is_shown_both(other, former.height - 1, former.below, former.parent)
+    }
+
+    /// Whether in both looks the parent shows the side, and each scope above it does. From a scope
+    /// on of which something is kept they are asked one by one.
+    fn is_shown_both(
+        &self,
+        other: &Look<'_, P>,
+        steps: u64,
+        below: SideName,
+        parent: Option<u64>,
+    ) -> bool
+        requires alike { IsAlike self.now other.now }
+        ensures { result
+            ≡ (shown_on self.now steps below parent && shown_on other.now steps below parent) }
+    {
+        let Some(above) = parent else {
+            return true;
+        };
+        if self.is_kept(above) {
+            return self.is_shown_on(steps, below, parent)
+                && other.is_shown_on(steps, below, parent);
+        }
+        let Some(rung) = other.rung(above) else {
+            return false;
+        };
+        if !is_side(rung.shows, below) {
+            return false;
+        }
+        if steps == 0 {
+            return true;
+        }
+        self.is_shown_both(other, steps - 1, rung.below, rung.parent)
+    }
+}
+
+/// Whether a scope stands where it did, and shows the same side.
+fn is_same_rung(former: Rung, present: Rung) -> bool
+    ensures { result ≡ true → former ≡ present }
+{
+    former == present
 }
 
 /// Where a scope stood.

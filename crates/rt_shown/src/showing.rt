@@ -1,13 +1,12 @@
 //! What shows: the kept outputs with their numbers, put into one another.
 
-ghost use Rattle.std.specs.Prelude.{◌≡◌, ◌+◌, [], IfOk};
-ghost use Rattle.rt_model.specs.Document.{DocElement, Empty, Node};
+ghost use Rattle.std.specs.Prelude.{◌≡◌, ◌+◌, [], IfOk, OnOk};
+ghost use Rattle.rt_model.specs.Document.{DocElement, Empty, Node, join_rows};
 ghost use Rattle.rt_attributes.specs.Content.{with_all_listeners, with_entries};
 ghost use Rattle.rt_mirror.specs.Mirror.{content_of, forest_below, forest_of};
 ghost use Rattle.rt_places.specs.Places.{kind_of};
-ghost use Rattle.rt_places.specs.Trails.{path_of, place_on};
 ghost use Rattle.rt_places.specs.Sides.{number_in};
-ghost use Rattle.rt_shown.specs.Means.{IsView};
+ghost use Rattle.rt_places.specs.Trails.{path_of, place_on};
 ghost use Rattle.rt_shown.specs.Seen.{child_seen, items_in, node_in, row_in, scope_seen, side_seen, tree_in, value_in};
 
 use crate::look::Look;
@@ -15,7 +14,7 @@ use rt_attributes::{element_attributes, element_listeners};
 use rt_edits::{DocKind, DocNode};
 use rt_nodes::{DynamicNode, VNode};
 use rt_parts::{Attribute, Parts, TemplateAttribute, TemplateNode};
-use rt_places::{Kind, LEVELS, Path, Side, Trail, down};
+use rt_places::{Kind, Path, Side, Trail, down};
 use rt_values::{ElementId, List, OutOfMemory, Part, Text, both};
 use std::alloc::Global;
 
@@ -36,93 +35,68 @@ pub(crate) struct Standing<'a, P: Parts> {
     pub above: &'a Trail<'a>,
 }
 
-/// The document that shows.
-pub fn view<P: Parts>(alloc: Global, look: &Look<'_, P>) -> Result<List<DocNode>, OutOfMemory>
-    ensures view { IfOk result (λ row. IsView row look.now 0) }
-{
-    nodes_of(alloc, look, 0)
-}
-
-/// The nodes of the document that a scope shows.
-pub fn nodes_of<P: Parts>(
-    alloc: Global,
-    look: &Look<'_, P>,
-    scope: u64,
-) -> Result<List<DocNode>, OutOfMemory>
-    ensures nodes { IfOk result (λ row. IsView row look.now scope) }
-{
-    scope_view(alloc, look, scope)
-}
-
-/// The nodes of the document that a scope shows, as the look sees it.
-pub(crate) fn scope_view<P: Parts>(
-    alloc: Global,
-    look: &Look<'_, P>,
-    scope: u64,
-) -> Result<List<DocNode>, OutOfMemory>
-    ensures { IfOk result (λ row. forest_of row ≡ scope_seen look.now look.now.scopes scope) }
-{
-    view_within(alloc, look, look.scopes(), scope, LEVELS)
-}
-
-/// The nodes of a scope, at most `depth` scopes deep.
+/// Puts the nodes of a scope after the others, at most `depth` scopes deep.
 #[cycle(view)]
 #[tactic(auto, using(crate::proofs::Views::views))]
-fn view_within<P: Parts>(
+pub(crate) fn show_scope<P: Parts>(
     alloc: Global,
     look: &Look<'_, P>,
     depth: u64,
     scope: u64,
     levels: u64,
-) -> Result<List<DocNode>, OutOfMemory>
-    ensures { IfOk result (λ row. forest_of row ≡ scope_seen look.now depth scope) }
+    row: &mut List<DocNode>,
+) -> Result<(), OutOfMemory>
+    ensures { OnOk result (forest_of row.new
+        ≡ join_rows (forest_of row.old) (scope_seen look.now depth scope)) }
 {
     let levels = down(levels)?;
     if depth == 0 {
-        return Ok(List::new(alloc));
+        return Ok(());
     }
     match look.shown_side(scope) {
-        Some(side) => side_view(
-            alloc,
-            &Shown {
+        Some(side) => {
+            let shown = Shown {
                 look: &*look,
                 side,
                 depth: depth - 1,
-            },
-            levels,
-        ),
-        None => Ok(List::new(alloc)),
+            };
+            show_side(alloc, &shown, levels, row)
+        }
+        None => Ok(()),
     }
 }
 
 #[cycle(view)]
 #[tactic(auto, using(crate::proofs::Views::views))]
-fn side_view<P: Parts>(
+fn show_side<P: Parts>(
     alloc: Global,
     shown: &Shown<'_, P>,
     levels: u64,
-) -> Result<List<DocNode>, OutOfMemory>
-    ensures { IfOk result (λ row. forest_of row
-        ≡ side_seen shown.now.look.now shown.now.depth shown.now.side.now) }
+    row: &mut List<DocNode>,
+) -> Result<(), OutOfMemory>
+    ensures { OnOk result (forest_of row.new ≡ join_rows (forest_of row.old)
+        (side_seen shown.now.look.now shown.now.depth shown.now.side.now)) }
 {
     let levels = down(levels)?;
     match &shown.side.output {
-        Some(tree) => tree_view(alloc, shown, tree, &Trail::Root, levels),
-        None => Ok(List::new(alloc)),
+        Some(tree) => show_tree(alloc, shown, tree, &Trail::Root, levels, row),
+        None => Ok(()),
     }
 }
 
-/// The nodes of a tree that stands at `above`.
+/// Puts the nodes of a tree that stands at `above` after the others.
 #[cycle(view)]
 #[tactic(auto, using(crate::proofs::Views::views))]
-pub(crate) fn tree_view<P: Parts>(
+pub(crate) fn show_tree<P: Parts>(
     alloc: Global,
     shown: &Shown<'_, P>,
     tree: &VNode<P>,
     above: &Trail<'_>,
     levels: u64,
-) -> Result<List<DocNode>, OutOfMemory>
-    ensures { IfOk result (λ row. forest_of row ≡ tree_in shown.now tree.now (place_on above.now)) }
+    row: &mut List<DocNode>,
+) -> Result<(), OutOfMemory>
+    ensures { OnOk result (forest_of row.new
+        ≡ join_rows (forest_of row.old) (tree_in shown.now tree.now (place_on above.now))) }
 {
     let levels = down(levels)?;
     let standing = Standing {
@@ -130,49 +104,46 @@ pub(crate) fn tree_view<P: Parts>(
         tree,
         above: &*above,
     };
-    nodes_view(
-        alloc,
-        &standing,
-        &Path::Top,
-        tree.template.roots.as_slice(),
-        levels,
-    )
+    let nodes = tree.template.roots();
+    show_nodes(alloc, &standing, &Path::Top, nodes, levels, row)
 }
 
-// The nodes that these nodes of a template show, below the one with the path `up`.
+// Those of these nodes of a template, below the one with the path `up`.
 #[cycle(view)]
 #[tactic(auto, using(crate::proofs::Views::views))]
-fn nodes_view<P: Parts>(
+fn show_nodes<P: Parts>(
     alloc: Global,
     standing: &Standing<'_, P>,
     up: &Path<'_>,
     nodes: &[TemplateNode],
     levels: u64,
-) -> Result<List<DocNode>, OutOfMemory>
-    ensures { IfOk result (λ row. forest_of row
-        ≡ row_in standing.now (path_of up.now) 0 nodes.now) }
+    row: &mut List<DocNode>,
+) -> Result<(), OutOfMemory>
+    ensures { OnOk result (forest_of row.new
+        ≡ join_rows (forest_of row.old) (row_in standing.now (path_of up.now) 0 nodes.now)) }
 {
     let levels = down(levels)?;
-    let mut row = List::new(alloc);
     for index in 0..nodes.len() {
-        row.append(node_view(alloc, standing, up, index as u64, &nodes[index], levels)?)?;
+        let node = &nodes[index];
+        show_node(alloc, standing, up, index as u64, node, levels, row)?;
     }
-    Ok(row)
+    Ok(())
 }
 
-// The nodes that a node of a template shows, which has an index below the one with the path `up`.
+// Those of a node of a template, which has an index below the one with the path `up`.
 #[cycle(view)]
 #[tactic(auto, using(crate::proofs::Views::views))]
-fn node_view<P: Parts>(
+fn show_node<P: Parts>(
     alloc: Global,
     standing: &Standing<'_, P>,
     up: &Path<'_>,
     index: u64,
     node: &TemplateNode,
     levels: u64,
-) -> Result<List<DocNode>, OutOfMemory>
-    ensures { IfOk result (λ row. forest_of row
-        ≡ node_in standing.now (path_of up.now) index node.now) }
+    row: &mut List<DocNode>,
+) -> Result<(), OutOfMemory>
+    ensures { OnOk result (forest_of row.new
+        ≡ join_rows (forest_of row.old) (node_in standing.now (path_of up.now) index node.now)) }
 {
     let levels = down(levels)?;
     let path = Path::Below(&*up, index);
@@ -184,19 +155,22 @@ fn node_view<P: Parts>(
             attrs,
             children,
         } => {
+            let number = standing.shown.side.number_on(&place, Kind::Element);
+            let mut below = List::new(alloc);
             let nodes = children.as_slice();
-            let below = nodes_view(alloc, standing, &path, nodes, levels)?;
+            show_nodes(alloc, standing, &path, nodes, levels, &mut below)?;
             let given = standing.tree.dynamic_attrs.as_slice();
             let kind = element(alloc, given, tag, namespace, attrs.as_slice(), below)?;
-            numbered(alloc, standing.shown.side, &place, Kind::Element, kind)
+            push_node(number, kind, row)
         }
         TemplateNode::Text { text } => {
+            let number = standing.shown.side.number_on(&place, Kind::StaticText);
             let kind = DocKind::Text(text.copy(alloc)?);
-            numbered(alloc, standing.shown.side, &place, Kind::StaticText, kind)
+            push_node(number, kind, row)
         }
         TemplateNode::Dynamic { id } => match standing.tree.dynamic_nodes.get(*id as usize) {
-            Some(value) => slot_view(alloc, standing.shown, value, &place, levels),
-            None => Ok(List::new(alloc)),
+            Some(value) => show_slot(alloc, standing.shown, value, &place, levels, row),
+            None => Ok(()),
         },
     }
 }
@@ -230,95 +204,89 @@ fn element<P: Parts>(
     })
 }
 
-/// The nodes of what stands in a slot at a place.
+/// Puts the nodes of what stands in a slot at a place after the others.
 #[cycle(view)]
 #[tactic(auto, using(crate::proofs::Views::views))]
-pub(crate) fn slot_view<P: Parts>(
+pub(crate) fn show_slot<P: Parts>(
     alloc: Global,
     shown: &Shown<'_, P>,
     value: &DynamicNode<P>,
     place: &Trail<'_>,
     levels: u64,
-) -> Result<List<DocNode>, OutOfMemory>
-    ensures { IfOk result (λ row. forest_of row
-        ≡ value_in shown.now value.now (place_on place.now)) }
+    row: &mut List<DocNode>,
+) -> Result<(), OutOfMemory>
+    ensures { OnOk result (forest_of row.new
+        ≡ join_rows (forest_of row.old) (value_in shown.now value.now (place_on place.now))) }
 {
     let levels = down(levels)?;
     match value {
         DynamicNode::Text(text) => {
+            let number = shown.side.number_on(place, Kind::Text);
             let kind = DocKind::Text(text.copy(alloc)?);
-            numbered(alloc, shown.side, place, Kind::Text, kind)
+            push_node(number, kind, row)
         }
         DynamicNode::Placeholder => {
-            numbered(
-                alloc,
-                shown.side,
-                place,
-                Kind::Placeholder,
-                DocKind::Placeholder,
-            )
+            let number = shown.side.number_on(place, Kind::Placeholder);
+            push_node(number, DocKind::Placeholder, row)
         }
-        DynamicNode::Component(_) => child_view(alloc, shown, place, levels),
+        DynamicNode::Component(_) => show_child(alloc, shown, place, levels, row),
         DynamicNode::Fragment(trees) => {
             if trees.is_empty() {
-                return numbered(
-                    alloc,
-                    shown.side,
-                    place,
-                    Kind::EmptyFragment,
-                    DocKind::Placeholder,
-                );
+                let number = shown.side.number_on(place, Kind::EmptyFragment);
+                return push_node(number, DocKind::Placeholder, row);
             }
-            items_view(alloc, shown, 0, place, trees.as_slice(), levels)
+            show_items(alloc, shown, 0, place, trees.as_slice(), levels, row)
         }
     }
 }
 
-// What the child scope at a place shows.
+// Those of the child scope at a place.
 #[cycle(view)]
 #[tactic(auto, using(crate::proofs::Views::views))]
-fn child_view<P: Parts>(
+fn show_child<P: Parts>(
     alloc: Global,
     shown: &Shown<'_, P>,
     place: &Trail<'_>,
     levels: u64,
-) -> Result<List<DocNode>, OutOfMemory>
-    ensures { IfOk result (λ row. forest_of row
-        ≡ child_seen shown.now.look.now shown.now.depth shown.now.side.now (place_on place.now)) }
+    row: &mut List<DocNode>,
+) -> Result<(), OutOfMemory>
+    ensures { OnOk result (forest_of row.new ≡ join_rows (forest_of row.old)
+        (child_seen shown.now.look.now shown.now.depth shown.now.side.now (place_on place.now))) }
 {
     let levels = down(levels)?;
     match shown.side.child_on(place) {
-        Some(child) => view_within(alloc, shown.look, shown.depth, child, levels),
-        None => Ok(List::new(alloc)),
+        Some(child) => show_scope(alloc, shown.look, shown.depth, child, levels, row),
+        None => Ok(()),
     }
 }
 
-/// The nodes of a fragment's items, the first of which has the position `first`.
+/// Puts the nodes of a fragment's items, the first of which has the position `first`, after the
+/// others.
 #[cycle(view)]
 #[tactic(auto, using(crate::proofs::Views::views))]
-pub(crate) fn items_view<P: Parts>(
+pub(crate) fn show_items<P: Parts>(
     alloc: Global,
     shown: &Shown<'_, P>,
     first: u64,
     place: &Trail<'_>,
     trees: &[VNode<P>],
     levels: u64,
-) -> Result<List<DocNode>, OutOfMemory>
-    ensures { IfOk result (λ row. forest_of row
-        ≡ items_in shown.now first (place_on place.now) trees.now) }
+    row: &mut List<DocNode>,
+) -> Result<(), OutOfMemory>
+    ensures { OnOk result (forest_of row.new
+        ≡ join_rows (forest_of row.old) (items_in shown.now first (place_on place.now) trees.now)) }
 {
     let levels = down(levels)?;
-    let mut row = List::new(alloc);
     for index in 0..trees.len() {
         let position = position_after(first, index as u64)?;
         let above = Trail::Item(&*place, position);
-        row.append(tree_view(alloc, shown, &trees[index], &above, levels)?)?;
+        show_tree(alloc, shown, &trees[index], &above, levels, row)?;
     }
-    Ok(row)
+    Ok(())
 }
 
-// The position so many items further on.
-fn position_after(first: u64, index: u64) -> Result<u64, OutOfMemory>
+/// The position so many items further on.
+pub(crate) fn position_after(first: u64, index: u64) -> Result<u64, OutOfMemory>
     ensures { IfOk result (λ position. position ≡ first + index) }
 {
     match first.checked_add(index) {
@@ -327,24 +295,14 @@ fn position_after(first: u64, index: u64) -> Result<u64, OutOfMemory>
     }
 }
 
-// The one node at a place, with its number.
+// Puts the node with a number after the others.
 #[tactic(auto, using(crate::proofs::Views::views))]
-fn numbered<P: Parts>(
-    alloc: Global,
-    side: &Side<P>,
-    place: &Trail<'_>,
-    kind: Kind,
-    content: DocKind,
-) -> Result<List<DocNode>, OutOfMemory>
-    ensures { IfOk result (λ row. forest_of row
-        ≡ Node (number_in side.now (place_on place.now) (kind_of kind))
-        (content_of content) (forest_below content) Empty) }
+fn push_node(number: u64, content: DocKind, row: &mut List<DocNode>) -> Result<(), OutOfMemory>
+    ensures { OnOk result (forest_of row.new ≡ join_rows (forest_of row.old)
+        (Node number (content_of content) (forest_below content) Empty)) }
 {
-    let number = side.number_on(place, kind);
-    let mut row = List::new(alloc);
     row.push(DocNode {
         id: ElementId(number),
         kind: content,
-    })?;
-    Ok(row)
+    })
 }

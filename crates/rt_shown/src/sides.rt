@@ -1,4 +1,4 @@
-//! A side of a scope before and after a unit, and nodes that give way to others.
+//! The scopes before and after a unit, and nodes that give way to others.
 
 ghost use Rattle.std.specs.Prelude.{◌≡◌, ◌&&◌, map, IfOk};
 ghost use Rattle.rt_model.specs.Document.{Forest};
@@ -7,20 +7,24 @@ ghost use Rattle.rt_mirror.specs.Mirror.{edit_of, forest_of};
 ghost use Rattle.rt_places.specs.Trails.{place_on};
 ghost use Rattle.rt_shown.specs.Look.{look_is_shown};
 ghost use Rattle.rt_shown.specs.Seen.{scope_seen};
+ghost use Rattle.rt_shown.specs.Tops.{removed, replaced, tops_of};
 ghost use Rattle.rt_shown.specs.Units.{slot_replaces, tree_replaces};
 ghost use Rattle.rt_shown.specs.Ways.{place_found};
 ghost use Rattle.rt_shown.specs.Written.{edited_of};
 
+use crate::calm::Sides;
 use crate::edited::{Edited, halts, writes};
 use crate::look::Look;
+use crate::rows::{scope_view, slot_view, tree_view};
 use crate::scope_set::ScopeSet;
-use crate::showing::{Shown, scope_view, slot_view, tree_view};
+use crate::showing::Shown;
+use crate::tops::{scope_tops, slot_tops, tree_tops};
 use crate::way::{Stop, is_around};
 use rt_edits::{DocNode, Edit};
 use rt_nodes::{DynamicNode, VNode};
 use rt_parts::Parts;
-use rt_places::{LEVELS, Place, Side, Trail};
-use rt_values::{List, OutOfMemory, both};
+use rt_places::{Place, Side, Trail};
+use rt_values::{ElementId, List, OutOfMemory, both};
 use std::alloc::Global;
 
 /// The scopes before and after a unit, and the way to what was refused in it.
@@ -31,18 +35,6 @@ pub(crate) struct Unit<'a, P: Parts> {
     pub way: &'a [Stop],
     /// The scopes that it may have changed, with those above them; none where all may have been.
     pub touched: Option<&'a ScopeSet>,
-}
-
-/// One side of a scope before and after a unit.
-#[derive(Drop)]
-pub(crate) struct Sides<'a, P: Parts> {
-    pub unit: &'a Unit<'a, P>,
-    pub old: &'a Shown<'a, P>,
-    pub new: &'a Shown<'a, P>,
-    /// The refused place on it, or the one that leads there.
-    pub stop: Option<&'a Place>,
-    /// How many scopes deep its components may go.
-    pub depth: u64,
 }
 
 /// Whether a scope is shown both before and after.
@@ -76,7 +68,7 @@ pub(crate) fn scope_replaced<P: Parts>(
         (scope_seen unit.now.before.now unit.now.before.now.scopes scope)
         (scope_seen unit.now.after.now unit.now.after.now.scopes scope))) }
 {
-    let old = scope_view(alloc, unit.before, scope);
+    let old = scope_tops(alloc, unit.before, scope);
     let new = scope_view(alloc, unit.after, scope);
     replaces(alloc, old, new)
 }
@@ -92,8 +84,8 @@ pub(crate) fn tree_replaced<P: Parts>(
     ensures { IfOk result (λ written. edited_of written
         ≡ tree_replaces sides.now (place_on above.now) new.now old.now) }
 {
-    let old = tree_view(alloc, sides.old, old, above, LEVELS);
-    let new = tree_view(alloc, sides.new, new, above, LEVELS);
+    let old = tree_tops(alloc, sides.old, old, above);
+    let new = tree_view(alloc, sides.new, new, above);
     give_way(alloc, sides.stop, above, old, new)
 }
 
@@ -108,8 +100,8 @@ pub(crate) fn slot_replaced<P: Parts>(
     ensures { IfOk result (λ written. edited_of written
         ≡ slot_replaces sides.now (place_on place.now) new.now old.now) }
 {
-    let old = slot_view(alloc, sides.old, old, place, LEVELS);
-    let new = slot_view(alloc, sides.new, new, place, LEVELS);
+    let old = slot_tops(alloc, sides.old, old, place);
+    let new = slot_view(alloc, sides.new, new, place);
     give_way(alloc, sides.stop, place, old, new)
 }
 
@@ -118,15 +110,15 @@ fn give_way(
     alloc: Global,
     stop: Option<&Place>,
     place: &Trail<'_>,
-    old: Result<List<DocNode>, OutOfMemory>,
+    old: Result<List<u64>, OutOfMemory>,
     new: Result<List<DocNode>, OutOfMemory>,
 ) -> Result<Edited, OutOfMemory>
     ensures { (f g : Forest) →
-        IfOk old (λ row. forest_of row ≡ f) → IfOk new (λ row. forest_of row ≡ g) →
+        IfOk old (λ tops. tops ≡ tops_of f) → IfOk new (λ row. forest_of row ≡ g) →
         IfOk result (λ written. edited_of written ≡ caused.built_whole (place_found stop.entry)
         (place_on place.now) (caused.replaced_by f g)) }
 {
-    let around = is_around(place, stop)?;
+    let around = is_around(alloc, place, stop)?;
     if around {
         return Ok(halts(alloc));
     }
@@ -134,13 +126,14 @@ fn give_way(
 }
 
 // Old nodes give way to new ones.
+#[tactic(auto, using(crate::proofs::TopsSeen::tops))]
 fn replaces(
     alloc: Global,
-    old: Result<List<DocNode>, OutOfMemory>,
+    old: Result<List<u64>, OutOfMemory>,
     new: Result<List<DocNode>, OutOfMemory>,
 ) -> Result<Edited, OutOfMemory>
-    ensures { (f g : Forest) → IfOk old (λ row. forest_of row
-        ≡ f) → IfOk new (λ row. forest_of row ≡ g) →
+    ensures { (f g : Forest) → IfOk old (λ tops. tops
+        ≡ tops_of f) → IfOk new (λ row. forest_of row ≡ g) →
         IfOk result (λ written. edited_of written ≡ caused.writes (caused.replaced_by f g)) }
 {
     let (old, new) = both(old, new)?;
@@ -149,18 +142,13 @@ fn replaces(
 
 // The first old node is replaced by the new ones, the others are removed.
 #[tactic(auto, using(crate::proofs::Writings::writings))]
-fn replaced_by(
-    alloc: Global,
-    old: &[DocNode],
-    new: List<DocNode>,
-) -> Result<List<Edit>, OutOfMemory>
-    ensures { IfOk result (λ edits. map edit_of edits
-        ≡ caused.replaced_by (forest_of old.now) (forest_of new)) }
+fn replaced_by(alloc: Global, old: &[u64], new: List<DocNode>) -> Result<List<Edit>, OutOfMemory>
+    ensures { IfOk result (λ edits. map edit_of edits ≡ replaced old.now (forest_of new)) }
 {
     let mut edits = List::new(alloc);
     if let Some(first) = old.first() {
         edits.push(Edit::ReplaceNodeWith {
-            id: first.id,
+            id: ElementId(*first),
             nodes: new,
         })?;
         edits.append(removals(alloc, &old[1..])?)?;
@@ -168,14 +156,16 @@ fn replaced_by(
     Ok(edits)
 }
 
-/// Each node of a row is removed.
+/// Each of these nodes is removed.
 #[tactic(auto, using(crate::proofs::Writings::writings))]
-pub(crate) fn removals(alloc: Global, row: &[DocNode]) -> Result<List<Edit>, OutOfMemory>
-    ensures { IfOk result (λ edits. map edit_of edits ≡ caused.removals (forest_of row.now)) }
+pub(crate) fn removals(alloc: Global, tops: &[u64]) -> Result<List<Edit>, OutOfMemory>
+    ensures { IfOk result (λ edits. map edit_of edits ≡ removed tops.now) }
 {
     let mut edits = List::new(alloc);
-    for node in row {
-        edits.push(Edit::RemoveNode { id: node.id })?;
+    for number in tops {
+        edits.push(Edit::RemoveNode {
+            id: ElementId(*number),
+        })?;
     }
     Ok(edits)
 }

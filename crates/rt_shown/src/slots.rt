@@ -5,8 +5,9 @@ ghost use Rattle.rt_nodes.specs.declared.vnode.DynamicNode.TheVariants as values
 ghost use Rattle.rt_places.specs.Trails.{place_on};
 ghost use Rattle.rt_shown.specs.Units.{Writes, slot_writes};
 
+use crate::calm::Sides;
 use crate::edited::{Edited, nothing, one_edit};
-use crate::sides::{Sides, slot_replaced};
+use crate::sides::slot_replaced;
 use rt_edits::Edit;
 use rt_nodes::{DynamicNode, VNode};
 use rt_parts::Parts;

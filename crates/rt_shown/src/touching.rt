@@ -6,14 +6,39 @@ ghost use Rattle.rt_shown.specs.Touched.{Covers, Reaches, is_touched};
 use crate::look::{Look, Stood};
 use crate::scope_set::ScopeSet;
 use rt_parts::Parts;
-use rt_values::OutOfMemory;
+use rt_values::{Boxed, OutOfMemory};
 use std::alloc::Global;
 
 /// The scopes of which it is kept what they were, with all that stand above them. None where that
-/// can't be told.
-pub(crate) fn touched<P: Parts>(
+/// can't be told, and where the scope showed no child: then none below it is asked for.
+pub(crate) fn touched_below<P: Parts>(
     alloc: Global,
-    stood: &[(u64, Option<Stood<P>>)],
+    stood: &[(u64, Option<Boxed<Stood<P>>>)],
+    before: &Look<'_, P>,
+    after: &Look<'_, P>,
+    scope: u64,
+) -> Result<Option<ScopeSet>, OutOfMemory>
+    ensures { IfOk result (λ found. IfSome found (λ scopes. Covers scopes stood.now after.now)) }
+{
+    if stands_alone(before, scope) {
+        return Ok(None);
+    }
+    Ok(touched(alloc, stood, after)?)
+}
+
+// Whether a scope shows no child.
+fn stands_alone<P: Parts>(look: &Look<'_, P>, scope: u64) -> bool {
+    match look.shown_side(scope) {
+        Some(side) => side.children.as_slice().is_empty(),
+        None => true,
+    }
+}
+
+// The scopes of which it is kept what they were, with all that stand above them. None where that
+// can't be told.
+fn touched<P: Parts>(
+    alloc: Global,
+    stood: &[(u64, Option<Boxed<Stood<P>>>)],
     after: &Look<'_, P>,
 ) -> Result<Option<ScopeSet>, OutOfMemory>
     ensures { IfOk result (λ found. IfSome found (λ scopes. Covers scopes stood.now after.now)) }

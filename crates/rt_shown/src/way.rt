@@ -9,7 +9,7 @@ ghost use Rattle.rt_shown.specs.Ways.{look_way, look_way_up, place_found, place_
 
 use crate::look::{Look, is_side};
 use rt_parts::Parts;
-use rt_places::{Place, Side, SideName, Step, Trail, stands_at, steps_to};
+use rt_places::{Place, Side, SideName, Step, Trail, stands_after, stands_at, steps_to};
 use rt_values::{List, OutOfMemory, Part};
 use rt_work::Item;
 use std::alloc::Global;
@@ -85,13 +85,14 @@ fn way_up<P: Parts>(
 {
     let mut way = List::new(alloc);
     way.push(Stop { scope, side, place })?;
-    add_above(look, look.scopes(), scope, &mut way)?;
+    add_above(alloc, look, look.scopes(), scope, &mut way)?;
     Ok(way)
 }
 
 // The scopes above one, at most so many steps up.
 #[tactic(auto, using(crate::proofs::Ways::ways))]
 fn add_above<P: Parts>(
+    alloc: Global,
     look: &Look<'_, P>,
     steps: u64,
     child: u64,
@@ -104,19 +105,24 @@ fn add_above<P: Parts>(
     }
     match look.parent(child) {
         Some(parent) => {
-            way.push(stop_above(look, parent, child)?)?;
-            add_above(look, steps - 1, parent, way)
+            way.push(stop_above(alloc, look, parent, child)?)?;
+            add_above(alloc, look, steps - 1, parent, way)
         }
         None => Ok(()),
     }
 }
 
 // The parent on the way, with the place where its child stands.
-fn stop_above<P: Parts>(look: &Look<'_, P>, parent: u64, child: u64) -> Result<Stop, OutOfMemory>
+fn stop_above<P: Parts>(
+    alloc: Global,
+    look: &Look<'_, P>,
+    parent: u64,
+    child: u64,
+) -> Result<Stop, OutOfMemory>
     ensures { IfOk result (λ stop. stop_of stop ≡ stop_over look.now parent child) }
 {
     let side = look.below(child);
-    let place = place_above(look, parent, side, child)?;
+    let place = place_above(alloc, look, parent, side, child)?;
     Ok(Stop {
         scope: parent,
         side,
@@ -126,6 +132,7 @@ fn stop_above<P: Parts>(look: &Look<'_, P>, parent: u64, child: u64) -> Result<S
 
 // Where a child stands on the side of its parent that it was made on.
 fn place_above<P: Parts>(
+    alloc: Global,
     look: &Look<'_, P>,
     parent: u64,
     side: Option<SideName>,
@@ -136,7 +143,7 @@ fn place_above<P: Parts>(
 {
     match side {
         Some(name) => match look.side(parent, name) {
-            Some(side) => place_of_child(side, child),
+            Some(side) => place_of_child(alloc, side, child),
             None => Ok(None),
         },
         None => Ok(None),
@@ -144,13 +151,17 @@ fn place_above<P: Parts>(
 }
 
 // The place of a child scope.
-fn place_of_child<P: Parts>(side: &Side<P>, scope: u64) -> Result<Option<Place>, OutOfMemory>
+fn place_of_child<P: Parts>(
+    alloc: Global,
+    side: &Side<P>,
+    scope: u64,
+) -> Result<Option<Place>, OutOfMemory>
     ensures { IfOk result (λ place. option_map place_of place
         ≡ caused.place_of_child (side_of side.now).children scope) }
 {
     for pair in side.children.as_slice() {
         if let Some(place) = place_under(side, pair.0, pair.1, scope) {
-            return Ok(Some(place.share()?));
+            return Ok(Some(place.copy(alloc)?));
         }
     }
     Ok(None)
@@ -210,20 +221,25 @@ pub(crate) fn is_place(place: &Trail<'_>, stop: Option<&Place>) -> bool
     ensures { result ≡ caused.is_place (place_on place.now) (place_found stop.entry) }
 {
     match stop {
-        Some(stop) => stands_at(place, stop.as_slice()),
+        Some(stop) => stands_at(place, stop),
         None => false,
     }
 }
 
 /// Whether the refused place, if there is one, is this one or within it.
-pub(crate) fn is_around(place: &Trail<'_>, stop: Option<&Place>) -> Result<bool, OutOfMemory>
+pub(crate) fn is_around(
+    alloc: Global,
+    place: &Trail<'_>,
+    stop: Option<&Place>,
+) -> Result<bool, OutOfMemory>
     ensures { IfOk result (λ answer. answer
         ≡ caused.is_around (place_on place.now) (place_found stop.entry)) }
 {
     match stop {
         Some(stop) => {
             let count = steps_to(place)?;
-            Ok(is_front(place, count, stop.as_slice()))
+            let steps = stop.steps(alloc)?;
+            Ok(is_front(place, count, steps.as_slice()))
         }
         None => Ok(false),
     }
@@ -238,5 +254,5 @@ fn is_front(place: &Trail<'_>, count: usize, other: &[Step]) -> bool
     if count > other.len() {
         return false;
     }
-    stands_at(place, &other[..count])
+    stands_after(place, &other[..count])
 }

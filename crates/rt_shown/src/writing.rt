@@ -1,7 +1,8 @@
 //! The edits that a unit writes, by comparing the scopes before and after it. A unit that a fault
 //! ended wrote those before the refused place.
 
-ghost use Rattle.std.specs.Prelude.{IfOk};
+ghost use Rattle.std.specs.Prelude.{[], IfOk};
+ghost use Rattle.rt_shown.specs.Look.{IsAlike};
 ghost use Rattle.rt_shown.specs.Means.{AreBuilt};
 ghost use Rattle.rt_shown.specs.Reruns.{AreCaused, AreCausedUntil};
 ghost use Rattle.rt_shown.specs.Units.{AreOnWay};
@@ -10,17 +11,18 @@ ghost use Rattle.rt_shown.specs.Ways.{way_of};
 use crate::comparing::written_within;
 use crate::edited::Edited;
 use crate::look::{Look, Stood};
+use crate::own::own_written;
+use crate::rows::view;
 use crate::scope_set::ScopeSet;
-use crate::showing::view;
 use crate::sides::Unit;
-use crate::touching::touched;
+use crate::touching::touched_below;
 use crate::way::{Stop, way_to};
 use rt_calls::Rows;
 use rt_edits::Edit;
 use rt_parts::Parts;
 use rt_places::LEVELS;
 use rt_table::Table;
-use rt_values::{ElementId, List, OutOfMemory};
+use rt_values::{Boxed, ElementId, List, OutOfMemory};
 use rt_work::Item;
 use std::alloc::Global;
 
@@ -41,7 +43,7 @@ pub fn built<P: Parts>(alloc: Global, after: &Look<'_, P>) -> Result<List<Edit>,
 pub fn written<P: Parts>(
     alloc: Global,
     rows: &Rows<P>,
-    stood: &Table<Option<Stood<P>>>,
+    stood: &Table<Option<Boxed<Stood<P>>>>,
     lived: u64,
     scope: u64,
 ) -> Result<List<Edit>, OutOfMemory>
@@ -50,11 +52,33 @@ pub fn written<P: Parts>(
 {
     let before = Look::before(rows, stood, lived);
     let after = Look::now(rows);
-    let found = touched(alloc, stood.as_slice(), &after)?;
+    let found = touched_below(alloc, stood.as_slice(), &before, &after, scope)?;
     match found {
-        Some(scopes) => edits_on(alloc, &before, &after, &[], Some(&scopes), scope),
-        None => edits_on(alloc, &before, &after, &[], None, scope),
+        Some(scopes) => edits_of(alloc, &before, &after, Some(&scopes), scope),
+        None => edits_of(alloc, &before, &after, None, scope),
     }
+}
+
+// What a rerun of a scope writes in which nothing was refused.
+fn edits_of<P: Parts>(
+    alloc: Global,
+    before: &Look<'_, P>,
+    after: &Look<'_, P>,
+    touched: Option<&ScopeSet>,
+    scope: u64,
+) -> Result<List<Edit>, OutOfMemory>
+    requires alike { IsAlike before.now after.now }
+    ensures { IfOk result (λ edits.
+        AreOnWay edits before.now after.now [] touched.entry scope) }
+{
+    let unit = Unit {
+        before: &*before,
+        after: &*after,
+        way: &[],
+        touched,
+    };
+    let Edited { edits, stopped: _ } = own_written(alloc, &unit, before.scopes(), scope)?;
+    Ok(edits)
 }
 
 /// What a rerun of a scope wrote before an item of it was refused.

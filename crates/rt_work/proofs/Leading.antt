@@ -3,18 +3,21 @@ use Rattle.std.proofs.Common.{ℕ, zero, suc, List, [], ◌∷◌, ◌++◌, ◌
 use Rattle.std.specs.Prelude.{Option, Some, None, slice_get}
 use Rattle.rt_nodes.specs.declared.vnode.DynamicNode.{DynamicNode}
 use Rattle.rt_model.specs.OneLog.{types}
+use Rattle.rt_model.specs.World.{Application}
 use Rattle.rt_model.specs.Tree.{Types, Place, Kind}
 use Rattle.rt_places.specs.Places.{node_of}
 use Rattle.rt_places.proofs.Sided.{node_there}
 use Rattle.rt_work.specs.After.{Ground, Out, after, nothing_yet, one, with_node}
 use Rattle.rt_work.specs.Events.{Event, stays, goes, comes, fed, left, made}
-use Rattle.rt_work.specs.Goes.{Leads, NodesGo}
+use Rattle.rt_work.specs.Goes.{Leads, NodesGo, Walks}
 use Rattle.rt_work.specs.Grounds.{ground_of, out_of, value_turn}
+use Rattle.rt_work.specs.Pairs.{values_pair}
 use Rattle.rt_work.specs.declared.patched.Ground as code
 use Rattle.rt_work.specs.declared.patched.Patched.{Patched}
 use Rattle.rt_work.specs.declared.patched.Turn.{Turn}
 use Rattle.rt_work.specs.declared.patched.Turn.TheVariants as turns
 use Rattle.rt_work.proofs.Followed.{none_at, one_goes}
+use Rattle.rt_work.proofs.PairRules.{gave_way}
 
 -- what stands in a list stands there in a longer one, and what comes stands at its end
 get_before : {A : Type 0} (xs ys : List A) (i : ℕ) (x : A) → slice_get xs i ≡ Some x → slice_get (xs ++ ys) i ≡ Some x
@@ -70,6 +73,16 @@ module _ {P C Q V H T E L : Type 0} (g : code.Ground P C Q V H T E L) where
   pub leads_change : (old new : DynamicNode P C Q V H T E L) (place : Place) (before now : Patched P C Q V H T E L)
       → out_of now ≡ after (ground_of g) (value_turn turns.Goes old place ++ value_turn turns.Comes new place) (out_of before) → Leads g before now
   leads_change old new place before now h = leads_by (value_turn turns.Goes old place ++ value_turn turns.Comes new place) before now h
+
+  -- and what is of another kind gives way, whatever the application
+  pub walks_away : (old new a b : DynamicNode P C Q V H T E L) (place : Place) (before now : Patched P C Q V H T E L) → old ≡ a → new ≡ b
+      → ((app : Application (types C Q V H T E L)) → values_pair app a b place ≡ value_turn turns.Goes a place ++ value_turn turns.Comes b place)
+      → out_of now ≡ after (ground_of g) (value_turn turns.Goes old place ++ value_turn turns.Comes new place) (out_of before)
+      → Walks g before now (λ app. values_pair app old new place)
+  walks_away old new a b place before now was is apart h = (
+    λ app tests. gave_way app (ground_of g) old new a b place (out_of before) (out_of now) was is (apart app) h,
+    leads_change old new place before now h,
+  )
 
 module _ {P C Q V H T E L : Type 0} where
   -- nothing was walked through yet

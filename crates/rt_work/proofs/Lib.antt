@@ -12,3 +12,5 @@ pub mod Turns
 pub mod PairRules
 pub mod Ends
 pub mod Leading
+pub mod Stays
+pub mod Likened

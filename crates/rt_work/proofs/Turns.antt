@@ -19,7 +19,7 @@ use Rattle.rt_places.specs.Places.{at_path}
 use Rattle.rt_places.specs.Spots.{tree_spots, value_spots, items_spots}
 use Rattle.rt_places.proofs.Stands as stands
 use Rattle.rt_places.proofs.Stands.{slot_there, slot_absent}
-use Rattle.rt_places.proofs.Trails.{on_Root, on_Inside, on_Item, path_Top, path_Below}
+use Rattle.rt_places.proofs.Trails.{on_At, on_Root, on_Inside, on_Item, path_Top, path_Below}
 use Rattle.rt_work.specs.declared.patched.Turn.{Turn}
 use Rattle.rt_work.specs.After.{Ground, Out, after}
 use Rattle.rt_work.specs.Events.{Event, walk}
@@ -42,14 +42,14 @@ module _ {K : model.Types} (turn : Turn) (whole : Template) (above : Place) (slo
       ∙ ap (λ es. map (turned turn) (slot k (place_in whole above up i)) ++ es) (node_walk up (i + 1) rest)
 
 module _ {P C Q V H T E L : Type 0} (turn : Turn) where
-  abbrev spots_in : VNode P C Q V H T E L → ℕ → Place → List (Spot (types C Q V H T E L))
+  abbrev pub spots_in : VNode P C Q V H T E L → ℕ → Place → List (Spot (types C Q V H T E L))
   spots_in tree k place = slots_spots (slots_from (map slot_of tree.dynamic_nodes)) k place
 
   abbrev walk_in : VNode P C Q V H T E L → Place → List ℕ → ℕ → TemplateNodes → List (Event (types C Q V H T E L))
   walk_in tree above up i ns =
       walk (λ p k. node_turns turn p k ∷ []) (template_of tree.template) above (λ k place. map (turned turn) (spots_in tree k place)) up i ns
 
-  row_is : (tree : VNode P C Q V H T E L) (above : Place) (up : List ℕ) (i : ℕ) (row : List TemplateNode) → row_turn turn tree above up i row ≡ walk_in tree above up i (nodes_of row)
+  pub row_is : (tree : VNode P C Q V H T E L) (above : Place) (up : List ℕ) (i : ℕ) (row : List TemplateNode) → row_turn turn tree above up i row ≡ walk_in tree above up i (nodes_of row)
   unfolding node_turn
   row_is tree above up i [] = refl
   row_is tree above up i (node ∷ row) =
@@ -158,4 +158,4 @@ module _ {P C Q V H T E L : Type 0} (g : Ground (types C Q V H T E L)) (turn : T
   items_done place trees i o whole end so_far =
       sym (ap (λ ts. after g (items_turn turn i place ts) o) (drop_of_length-le trees end)) ∙ so_far
 
-pub ruleset turns = (after-append, tree_row, node_Element, node_Text, node_Slot, node_no_Slot, value_Text, value_Placeholder, value_Component, value_none, value_some, on_Root, on_Inside, on_Item, path_Top, path_Below)
+pub ruleset turns = (after-append, tree_row, node_Element, node_Text, node_Slot, node_no_Slot, value_Text, value_Placeholder, value_Component, value_none, value_some, on_Root, on_Inside, on_Item, on_At, path_Top, path_Below)

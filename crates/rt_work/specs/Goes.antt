@@ -1,9 +1,13 @@
 -- Where the nodes that a side knows go, as far as two trees were walked through.
 use Rattle.std.specs.Prelude.{ℕ, List, map, Option, Some, None, get_or, slice_get, ◌≡◌}
+use Rattle.rt_model.specs.OneLog.{types}
 use Rattle.rt_model.specs.Tree.{Place, Kind}
+use Rattle.rt_model.specs.World.{Application}
 use Rattle.rt_places.specs.Places.{node_of}
 use Rattle.rt_work.specs.declared.patched.Ground.{Ground}
 use Rattle.rt_work.specs.declared.patched.Patched.{Patched}
+use Rattle.rt_work.specs.Events.{Event}
+use Rattle.rt_work.specs.Pairs.{Pairs}
 
 -- a node that goes to an index is the one that stands there
 pub record NodesGo (olds news : List (Place × Kind)) (to : List (Option ℕ)) : Type 0 where
@@ -17,3 +21,8 @@ module _ {P C Q V H T E L : Type 0} where
   -- a walk that went on leads none astray
   abbrev pub Leads : Ground P C Q V H T E L → Patched P C Q V H T E L → Patched P C Q V H T E L → Type 0
   Leads given before now = Led given before → Led given now
+
+  -- a walk went on by these events, whatever the application, and leads none astray
+  abbrev pub Walks : Ground P C Q V H T E L → Patched P C Q V H T E L → Patched P C Q V H T E L
+      → (Application (types C Q V H T E L) → List (Event (types C Q V H T E L))) → Type 0
+  Walks given before now events = Pairs given before now events × Leads given before now

@@ -1,13 +1,16 @@
 //! The open work of a component runtime: what a new tree keeps of an old one, and what it leads to.
 #![tactic(auto)]
 
+mod alike;
 mod component;
 mod item;
 mod pairing;
 mod patched;
+mod staying;
 mod turning;
 
 pub use component::is_same_component;
 pub use item::{Item, RowStep};
 pub use pairing::walk_both;
 pub use patched::Patched;
+pub use staying::all_stay;

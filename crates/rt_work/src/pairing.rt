@@ -6,9 +6,9 @@ ghost use Rattle.rt_places.specs.Places.{node_of};
 ghost use Rattle.rt_places.specs.Trails.{path_of, place_on};
 ghost use Rattle.rt_work.specs.declared.patched.Turn.TheVariants as turns;
 ghost use Rattle.rt_work.specs.After.{after};
-ghost use Rattle.rt_work.specs.Goes.{Leads, NodesGo};
+ghost use Rattle.rt_work.specs.Goes.{NodesGo, Walks};
 ghost use Rattle.rt_work.specs.Grounds.{ground_of, out_of, value_turn};
-ghost use Rattle.rt_work.specs.Pairs.{Pairs, components_pair, fragments_pair, items_pair, node_pair, row_pair, slot_pair, tree_pair, values_pair};
+ghost use Rattle.rt_work.specs.Pairs.{components_pair, fragments_pair, items_pair, node_pair, row_pair, slot_pair, tree_pair, values_pair};
 ghost use Rattle.rt_work.specs.Patches.{Patches};
 
 use crate::component::is_same_component;
@@ -64,16 +64,15 @@ fn pair_tree<P: Parts>(
     levels: u64,
     out: &mut Patched<P>,
 ) -> Result<(), OutOfMemory>
-    ensures pairs { OnOk result (Pairs ground.now out.old out.new
+    ensures { OnOk result (Walks ground.now out.old out.new
         (λ app. tree_pair app old.now new.now (place_on above.now))) }
-    ensures leads { OnOk result (Leads ground.now out.old out.new) }
 {
     let levels = down(levels)?;
     if !new.template.same(&old.template) {
         tree_turns(alloc, ground, above, old, Turn::Goes, LEVELS, out)?;
         return tree_turns(alloc, ground, above, new, Turn::Comes, LEVELS, out);
     }
-    let nodes = new.template.roots.as_slice();
+    let nodes = new.template.roots();
     pair_nodes(
         alloc,
         ground,
@@ -101,9 +100,8 @@ fn pair_nodes<P: Parts>(
     levels: u64,
     out: &mut Patched<P>,
 ) -> Result<(), OutOfMemory>
-    ensures pairs { OnOk result (Pairs ground.now out.old out.new
+    ensures { OnOk result (Walks ground.now out.old out.new
         (λ app. row_pair app old.now new.now (place_on above.now) (path_of up.now) 0 nodes.now)) }
-    ensures leads { OnOk result (Leads ground.now out.old out.new) }
 {
     let levels = down(levels)?;
     for index in 0..nodes.len() {
@@ -138,9 +136,8 @@ fn pair_node<P: Parts>(
     levels: u64,
     out: &mut Patched<P>,
 ) -> Result<(), OutOfMemory>
-    ensures pairs { OnOk result (Pairs ground.now out.old out.new
+    ensures { OnOk result (Walks ground.now out.old out.new
         (λ app. node_pair app old.now new.now (place_on above.now) (path_of up.now) index node.now)) }
-    ensures leads { OnOk result (Leads ground.now out.old out.new) }
 {
     let levels = down(levels)?;
     let path = Path::Below(&*up, index);
@@ -172,10 +169,9 @@ fn pair_slot<P: Parts>(
     levels: u64,
     out: &mut Patched<P>,
 ) -> Result<(), OutOfMemory>
-    ensures pairs { OnOk result (Pairs ground.now out.old out.new
+    ensures { OnOk result (Walks ground.now out.old out.new
         (λ app. slot_pair app (option_copied old.entry) (option_copied new.entry)
         (place_on trail.now))) }
-    ensures leads { OnOk result (Leads ground.now out.old out.new) }
 {
     let levels = down(levels)?;
     match old {
@@ -202,9 +198,8 @@ fn pair_values<P: Parts>(
     levels: u64,
     out: &mut Patched<P>,
 ) -> Result<(), OutOfMemory>
-    ensures pairs { OnOk result (Pairs ground.now out.old out.new
+    ensures { OnOk result (Walks ground.now out.old out.new
         (λ app. values_pair app old.now new.now (place_on trail.now))) }
-    ensures leads { OnOk result (Leads ground.now out.old out.new) }
 {
     let levels = down(levels)?;
     match old {
@@ -250,9 +245,8 @@ fn pair_fragments<P: Parts>(
     levels: u64,
     out: &mut Patched<P>,
 ) -> Result<(), OutOfMemory>
-    ensures pairs { OnOk result (Pairs ground.now out.old out.new
+    ensures { OnOk result (Walks ground.now out.old out.new
         (λ app. fragments_pair app were.now are.now (place_on trail.now))) }
-    ensures leads { OnOk result (Leads ground.now out.old out.new) }
 {
     let levels = down(levels)?;
     if were.is_empty() {
@@ -295,9 +289,8 @@ fn pair_components<P: Parts>(
     next: &VComponent<P>,
     out: &mut Patched<P>,
 ) -> Result<(), OutOfMemory>
-    ensures pairs { OnOk result (Pairs ground.now out.old out.new
+    ensures { OnOk result (Walks ground.now out.old out.new
         (λ app. components_pair app was.now next.now (place_on trail.now))) }
-    ensures leads { OnOk result (Leads ground.now out.old out.new) }
 {
     if is_same_component(was, next) {
         return out.feed(alloc, ground, trail, was, next);
@@ -319,9 +312,8 @@ fn pair_items<P: Parts>(
     levels: u64,
     out: &mut Patched<P>,
 ) -> Result<(), OutOfMemory>
-    ensures pairs { OnOk result (Pairs ground.now out.old out.new
+    ensures { OnOk result (Walks ground.now out.old out.new
         (λ app. items_pair app 0 (place_on trail.now) were.now are.now)) }
-    ensures leads { OnOk result (Leads ground.now out.old out.new) }
 {
     let levels = down(levels)?;
     for position in 0..were.len() {

@@ -17,6 +17,9 @@ use rt_places::{Kind, NodeAt, Place, Side, SideName, Trail, place_on};
 use rt_values::{List, OutOfMemory, Part};
 use std::alloc::Global;
 
+// So few things are no long list, and most trees have at most so many more than before.
+const FEW: usize = 8;
+
 /// The side on which a new tree comes in the place of an old one.
 #[derive(Drop)]
 pub(crate) struct Ground<'a, P: Parts> {
@@ -62,10 +65,10 @@ impl<P: Parts> Patched<P> {
         let nodes = side.nodes.as_slice().len();
         let seats = side.seats.as_slice().len();
         Ok(Patched {
-            work: List::new(alloc),
+            work: List::with_room(alloc, room_for(seats))?,
             drops: List::new(alloc),
-            nodes: List::new(alloc),
-            seats: List::new(alloc),
+            nodes: List::with_room(alloc, room_for(nodes))?,
+            seats: List::with_room(alloc, room_for(seats))?,
             nodes_to: nowhere(alloc, nodes)?,
             seats_to: nowhere(alloc, seats)?,
         })
@@ -137,11 +140,12 @@ impl<P: Parts> Patched<P> {
         ensures stays { OnOk result (out_of self.new ≡ after (ground_of ground.now)
             (events.stays (place_on trail.now) (kind_of kind) ∷ []) (out_of self.old)) }
     {
-        let known = ground.side.nodes.index_on(trail, kind);
+        let next = self.nodes.len() as u64;
+        let known = ground.side.nodes.index_near(trail, kind, next);
         let place = known_place(alloc, node_place(ground.side, known), trail)?;
-        go_to(&mut self.nodes_to, known, self.nodes.len() as u64);
+        go_to(&mut self.nodes_to, known, next);
         self.nodes.push(NodeAt {
-            place: place.share()?,
+            place: place.copy(alloc)?,
             kind,
         })?;
         Ok(place)
@@ -164,7 +168,7 @@ impl<P: Parts> Patched<P> {
         let component = component.copy(alloc)?;
         let place = known_place(alloc, seat_place(ground.side, known), trail)?;
         go_to(&mut self.seats_to, known, self.seats.len() as u64);
-        let place = add_seat(&mut self.seats, place)?;
+        let place = add_seat(alloc, &mut self.seats, place)?;
         self.work.push(Item::Feed {
             scope: ground.scope,
             side: ground.name,
@@ -205,7 +209,7 @@ impl<P: Parts> Patched<P> {
             (out_of self.old)) }
     {
         let component = component.copy(alloc)?;
-        let place = add_seat(&mut self.seats, place_on(alloc, trail)?)?;
+        let place = add_seat(alloc, &mut self.seats, place_on(alloc, trail)?)?;
         self.work.push(Item::Make {
             scope: ground.scope,
             side: ground.name,
@@ -236,6 +240,16 @@ impl<P: Parts> Patched<P> {
     }
 }
 
+// The room for the new ones where there were so many: a long list that grows by a few grows without
+// a move.
+fn room_for(count: usize) -> usize {
+    if count < FEW {
+        0
+    } else {
+        count.saturating_add(FEW)
+    }
+}
+
 // So many things that go nowhere.
 fn nowhere(alloc: Global, count: usize) -> Result<List<Option<u64>>, OutOfMemory>
     ensures { IfOk result (λ to. to ≡ replicate count None) }
@@ -246,11 +260,11 @@ fn nowhere(alloc: Global, count: usize) -> Result<List<Option<u64>>, OutOfMemory
 }
 
 // The new tree has one more component, at this place. It is shared with the list of them.
-fn add_seat(seats: &mut List<Place>, place: Place) -> Result<Place, OutOfMemory>
+fn add_seat(alloc: Global, seats: &mut List<Place>, place: Place) -> Result<Place, OutOfMemory>
     ensures same { IfOk result (λ out. out ≡ place) }
     ensures more { OnOk result (seats.new ≡ seats.old ++ place ∷ []) }
 {
-    seats.push(place.share()?)?;
+    seats.push(place.copy(alloc)?)?;
     Ok(place)
 }
 
@@ -294,7 +308,7 @@ fn known_place(
     ensures { IfOk result (λ place. place ≡ known_or (option_copied known.entry) (steps_of trail.now)) }
 {
     match known {
-        Some(place) => place.share(),
+        Some(place) => place.copy(alloc),
         None => place_on(alloc, trail),
     }
 }

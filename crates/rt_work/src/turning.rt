@@ -8,11 +8,12 @@ ghost use Rattle.rt_work.specs.Grounds.{ground_of, items_turn, node_turn, out_of
 use crate::patched::{Ground, Patched, Turn};
 use rt_nodes::{DynamicNode, VNode};
 use rt_parts::{Parts, TemplateNode};
-use rt_places::{Kind, Path, Trail, down};
+use rt_places::{Kind, Path, Trail, down, steps_on};
 use rt_values::OutOfMemory;
 use std::alloc::Global;
 
-/// All of a tree comes or goes.
+/// All of a tree comes or goes. Of one that comes the place is made once, and those of its nodes
+/// are made from it.
 #[cycle(turning)]
 #[tactic(auto, using(crate::proofs::Turns::turns))]
 pub(crate) fn tree_turns<P: Parts>(
@@ -28,18 +29,16 @@ pub(crate) fn tree_turns<P: Parts>(
         (tree_turn turn (place_on above.now) tree.now) (out_of out.old)) }
 {
     let levels = down(levels)?;
-    let nodes = tree.template.roots.as_slice();
-    nodes_turn(
-        alloc,
-        ground,
-        above,
-        &Path::Top,
-        nodes,
-        tree,
-        turn,
-        levels,
-        out,
-    )
+    let nodes = tree.template.roots();
+    let up = Path::Top;
+    match turn {
+        Turn::Comes => {
+            let steps = steps_on(alloc, above)?;
+            let known = Trail::At(&steps);
+            nodes_turn(alloc, ground, &known, &up, nodes, tree, turn, levels, out)
+        }
+        Turn::Goes => nodes_turn(alloc, ground, above, &up, nodes, tree, turn, levels, out),
+    }
 }
 
 // What these nodes of a tree's template stand for.

@@ -5,4 +5,4 @@ use Rattle.rt_attributes.proofs.content.add_all_given.Given as goal
 
 abbrev pub invariant-loop-attribute : goal.invariant-loop-attribute
 invariant-loop-attribute g l =
-    with_all_given (attributes_of l.all.items) (drop l.attribute-index l.given) ≡ with_all_given (attributes_of l.fn.all.items) l.given
+    with_all_given (attributes_of l.all) (drop l.attribute-index l.given) ≡ with_all_given (attributes_of l.fn.all) l.given

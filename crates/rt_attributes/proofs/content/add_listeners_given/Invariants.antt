@@ -4,4 +4,4 @@ use Rattle.rt_attributes.specs.Content.{with_listeners_given}
 use Rattle.rt_attributes.proofs.content.add_listeners_given.Given as goal
 
 abbrev pub invariant-loop-attribute : goal.invariant-loop-attribute
-invariant-loop-attribute g l = with_listeners_given l.all.items (drop l.attribute-index l.given) ≡ with_listeners_given l.fn.all.items l.given
+invariant-loop-attribute g l = with_listeners_given l.all (drop l.attribute-index l.given) ≡ with_listeners_given l.fn.all l.given

@@ -1,14 +1,13 @@
--- The attributes passed are fresh.
-use Rattle.std.proofs.Common.{◌∙◌, sym}
-use Rattle.std.proofs.lemmas.List.{take_rest}
-use Rattle.rt_parts.specs.Names.{slot_names}
-use Rattle.rt_fits.proofs.NamesLemmas.{distinct-next, distinct-stop}
+-- Names that ascend differ.
+use Rattle.std.proofs.Common.{◌≡◌, ◌∙◌, [], true, sym, ap}
+use Rattle.std.specs.Prelude.{is_some}
+use Rattle.rt_parts.specs.Names.{names_in, slot_names}
+use Rattle.rt_fits.specs.Rising.{risen}
+use Rattle.rt_fits.proofs.RisingLemmas.{risen-distinct, some_mapped}
 use Rattle.rt_fits.proofs.names.names_differ.Goals as goal
 
-pub returns-then-not-is_fresh : goal.returns-then-not-is_fresh
-returns-then-not-is_fresh g c =
-    sym (c.loop-at.invariant ∙ distinct-stop (slot_names c.args.slots.now) c.args.attrs.now c.loop-at.at _ c.loop-at-test.true c.index-attrs-at.is (sym (rw take_rest at c.is_fresh.ensures) ∙ c.if-not-is_fresh.true))
-
-pub loop-at-preserved : goal.loop-at-preserved
-loop-at-preserved g c =
-    c.loop-at.invariant ∙ distinct-next (slot_names c.args.slots.now) c.args.attrs.now c.loop-at.at _ c.loop-at-test.true c.index-attrs-at.is (sym (rw take_rest at c.is_fresh.ensures) ∙ c.if-not-is_fresh.false)
+pub returns-then-is_some : goal.returns-then-is_some
+returns-then-is_some g c =
+    let names = names_in (slot_names c.args.slots.now) c.args.attrs.now in
+    let rising : is_some (risen [] names) ≡ true = sym (ap is_some c.last_name.ensures) ∙ some_mapped (λ last. last.now) c.last_name.result ∙ sym c.is_some.ensures ∙ c.if-is_some.true in
+    sym (risen-distinct [] names rising)

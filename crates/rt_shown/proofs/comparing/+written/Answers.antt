@@ -1,21 +1,29 @@
 -- What each call wrote is what the definitions write, whatever the application.
 use Rattle.std.proofs.Common.{◌≡◌, ◌+◌, ◌<◌, ◌≤◌, [], ◌∷◌, ◌++◌, length, sym, ap, refl, ◌∙◌, arith}
 use Rattle.std.proofs.lemmas.Result.{IfOk-weaker}
+use Rattle.std.specs.List.{slice_range}
 use Rattle.rt_model.specs.Caused as caused
-use Rattle.rt_mirror.specs.Mirror.{forest_of}
 use Rattle.rt_places.specs.Trails.{path_of, place_on}
 use Rattle.rt_places.proofs.Trails.{on_Item, on_Root, path_Below, path_Top}
 use Rattle.rt_shown.specs.Seen.{items_in}
+use Rattle.rt_shown.specs.Tops.{removed}
 use Rattle.rt_shown.specs.Units.{items_writes, row_writes, tree_writes}
 use Rattle.rt_shown.specs.Written.{edited_of}
 use Rattle.rt_shown.proofs.OneByOne.{not_at_end, range_to_end}
+use Rattle.rt_shown.proofs.TopsSeen.{removed-is}
 use Rattle.rt_shown.proofs.ScopesWrite.{name_some, name_some_none, output_both, scope_other, scope_same, tree_matched, unit_passed}
 use Rattle.rt_shown.proofs.SlotsWrite.{child_elsewhere, child_halts, child_on_way}
+use Rattle.rt_shown.proofs.Quiet.{child_quiet}
 use Rattle.rt_shown.proofs.Walked.{stands_below}
 use Rattle.rt_shown.proofs.ItemsWrite.{items_more, items_over, items_rest}
 use Rattle.rt_shown.proofs.RowsWrite.{element_here, row_end, row_more, slot_anew, slot_here}
 use Rattle.rt_shown.proofs.comparing.+written.Goals as goal
 use Rattle.rt_shown.proofs.comparing.+written.Goals.{child_written-else-is_place-via-then-is_place+else-not-is_on_way, child_written-else-is_place-via-else-is_place}
+
+pub child_written-returns-then-sides : goal.child_written-returns-then-sides
+child_written-returns-then-sides g t c = λ app tests passes.
+    c.nothing.ensures ∙
+    sym (child_quiet app c.args.sides.now (place_on c.args.place.now) passes (sym c.args.sides.now.calm ∙ c.if-sides.true))
 
 pub child_written-returns-then-not-is_on_way : goal.child_written-returns-then-not-is_on_way
 child_written-returns-then-not-is_on_way g t c = λ app tests passes.
@@ -68,14 +76,14 @@ items_written-loop-position-preserved g t c =
 pub items_written-returns : goal.items_written-returns
 items_written-returns g t c =
     let end : c.loop-position.position ≡ length c.args.new.now = omega (arith, c.loop-position.auto.position-end, c.loop-position-test.false) in
+    let over = items_in c.args.sides.now.old.now (length c.args.new.now) (place_on c.args.place.now) (slice_range c.args.old.now (length c.args.new.now) (length c.args.old.now)) in
     IfOk-weaker c.then_on-2.result _ _
     (λ both is app tests passes. is ∙ ap (λ w. caused.then_on (edited_of c.loop-position.written) w) c.writes.ensures ∙
     items_over app c.args.sides.now (place_on c.args.place.now) c.args.new.now c.args.old.now c.loop-position.position (edited_of c.loop-position.written)
-    (items_writes app c.args.sides.now (place_on c.args.place.now) 0 0 c.args.new.now c.args.old.now) _ _
+    (items_writes app c.args.sides.now (place_on c.args.place.now) 0 0 c.args.new.now c.args.old.now) _ over
     end (c.loop-position.invariant.left app tests passes)
-    (ap forest_of c.as_slice.ensures.items ∙ c.in_ok-over.ensures ∙
-    ap (λ ts. items_in c.args.sides.now.old.now (length c.args.new.now) (place_on c.args.place.now) ts) (range_to_end c.args.old.now (length c.args.new.now)))
-    c.in_ok-removals.ensures)
+    (ap (λ ts. items_in c.args.sides.now.old.now (length c.args.new.now) (place_on c.args.place.now) ts) (range_to_end c.args.old.now (length c.args.new.now)))
+    (c.in_ok-removals.ensures ∙ ap removed (c.as_slice.ensures.items ∙ c.in_ok-over.ensures) ∙ removed-is over))
     c.then_on-2.ensures
 
 pub outputs_written-returns : goal.outputs_written-returns
@@ -156,7 +164,7 @@ side_written-returns-in-Some-side g t c =
       new_side = c.shown_in-new.ensures.side;
       new_look = c.shown_in-new.ensures.look;
       new_deep = c.shown_in-new.ensures.depth;
-      stops = c.stop_on.ensures;
+      stops = c.stop_on-stop.ensures;
     }))
     c.outputs_written.ensures
 
@@ -171,7 +179,7 @@ tree_written-returns g t c =
     (λ both is app tests passes. is ∙
     (λ k. caused.then_on (c.writes.ensures k)
     ((c.in_ok-slots.ensures app tests passes
-    ∙ (λ m. row_writes app c.args.sides.now (place_on c.args.above.now) c.args.new.now c.args.old.now (path_Top m) 0 (c.as_slice-nodes.ensures.items m))) k)) ∙
+    ∙ (λ m. row_writes app c.args.sides.now (place_on c.args.above.now) c.args.new.now c.args.old.now (path_Top m) 0 (c.roots-nodes.ensures.nodes m))) k)) ∙
     tree_matched app c.args.sides.now (place_on c.args.above.now) c.args.new.now c.args.old.now c.in_ok-attributes_written.field-0
     (c.same.ensures.0 c.if-not-same.false) c.in_ok-attributes_written.ensures)
     c.then_on.ensures

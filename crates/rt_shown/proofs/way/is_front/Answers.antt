@@ -13,4 +13,4 @@ returns-then-count-other c =
 pub returns : goal.returns
 returns c =
     let low : length (steps_of c.args.place.now) ≤ length c.args.other.now = omega (arith, c.if-count-other.false, c.requires) in
-    front_by (steps_of c.args.place.now) c.args.other.now _ c.args.count _ c.stands_at.ensures (first_of (search rules, grind (arith, common_steps))) c.requires low
+    front_by (steps_of c.args.place.now) c.args.other.now _ c.args.count _ c.stands_after.ensures (first_of (search rules, grind (arith, common_steps))) c.requires low

@@ -18,7 +18,7 @@ loop-pair-preserved g c =
 pub returns-in-Some : goal.returns-in-Some
 returns-in-Some g c =
     let seats = map place_of c.args.side.now.seats in
-    ap (λ p. Some (place_of p)) c.in_ok-share.ensures.items
+    ap (λ p. Some (place_of p)) c.in_ok-copy.ensures.copy
     ∙ child_found seats c.args.scope c.as_slice-pair-items.result.now c.loop-pair.pair-index (0, 0) c.loop-pair-test.true
     (caused.place_of_child (seated seats c.args.side.now.children) c.args.scope) c.loop-pair.invariant (place_of c.in-Some.place.now) c.in-Some.ensures
 

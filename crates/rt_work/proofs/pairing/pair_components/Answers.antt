@@ -12,37 +12,32 @@ use Rattle.rt_work.proofs.Turns.{then_after}
 use Rattle.rt_work.proofs.Leading.{leads_by}
 use Rattle.rt_work.proofs.pairing.pair_components.Goals as goal
 
-pub returns-then-is_same_component-clause-pairs : goal.returns-then-is_same_component-clause-pairs
-returns-then-is_same_component-clause-pairs g c =
+pub returns-then-is_same_component : goal.returns-then-is_same_component
+returns-then-is_same_component g c =
     on_ok_weaker c.feed.result
     (
-    λ h app tests.
-    h ∙ ap (λ es. after (ground_of c.args.ground.now) es (out_of c.args.out.now))
-    (sym (component_stays app c.args.was.now c.args.next.now (place_on c.args.trail.now) (sym (c.is_same_component.ensures app tests) ∙ c.if-is_same_component.true)))
+    λ h. (
+      λ app tests.
+          h ∙ ap (λ es. after (ground_of c.args.ground.now) es (out_of c.args.out.now))
+          (sym (component_stays app c.args.was.now c.args.next.now (place_on c.args.trail.now) (sym (c.is_same_component.ensures app tests) ∙ c.if-is_same_component.true))),
+      leads_by c.args.ground.now (fed (place_on c.args.trail.now) (component_of c.args.was.now) (component_of c.args.next.now) ∷ []) c.args.out.now c.feed.new.self h,
+    )
     )
     c.feed.ensures
 
-pub returns-clause-pairs : goal.returns-clause-pairs
-returns-clause-pairs g c =
+pub returns : goal.returns
+returns g c =
     let ground = ground_of c.args.ground.now in
     let place = place_on c.args.trail.now in
     on_ok_weaker c.turn_component-2.result
     (
-    λ h app tests.
-    then_after ground (component_turns turns.Goes place (component_of c.args.was.now) ∷ []) (component_turns turns.Comes place (component_of c.args.next.now) ∷ []) (out_of c.args.out.now) (out_of c.turn_component.new.self) _ c.in_ok-turn_component.ensures h
-    ∙ ap (λ es. after ground es (out_of c.args.out.now))
-    (sym (component_changes app c.args.was.now c.args.next.now place (sym (c.is_same_component.ensures app tests) ∙ c.if-is_same_component.false)))
+    λ h. (
+      λ app tests.
+          then_after ground (component_turns turns.Goes place (component_of c.args.was.now) ∷ []) (component_turns turns.Comes place (component_of c.args.next.now) ∷ []) (out_of c.args.out.now) (out_of c.turn_component.new.self) _ c.in_ok-turn_component.ensures h
+          ∙ ap (λ es. after ground es (out_of c.args.out.now))
+          (sym (component_changes app c.args.was.now c.args.next.now place (sym (c.is_same_component.ensures app tests) ∙ c.if-is_same_component.false))),
+      λ led. leads_by c.args.ground.now (component_turns turns.Comes place (component_of c.args.next.now) ∷ []) c.turn_component.new.self c.turn_component-2.new.self h
+          (leads_by c.args.ground.now (component_turns turns.Goes place (component_of c.args.was.now) ∷ []) c.args.out.now c.turn_component.new.self c.in_ok-turn_component.ensures led),
     )
-    c.turn_component-2.ensures
-
-pub returns-then-is_same_component-clause-leads : goal.returns-then-is_same_component-clause-leads
-returns-then-is_same_component-clause-leads g c = on_ok_weaker c.feed.result (leads_by c.args.ground.now (fed (place_on c.args.trail.now) (component_of c.args.was.now) (component_of c.args.next.now) ∷ []) c.args.out.now c.feed.new.self) c.feed.ensures
-
-pub returns-clause-leads : goal.returns-clause-leads
-returns-clause-leads g c =
-    on_ok_weaker c.turn_component-2.result (
-    λ h led.
-    leads_by c.args.ground.now (component_turns turns.Comes (place_on c.args.trail.now) (component_of c.args.next.now) ∷ []) c.turn_component.new.self c.turn_component-2.new.self h
-    (leads_by c.args.ground.now (component_turns turns.Goes (place_on c.args.trail.now) (component_of c.args.was.now) ∷ []) c.args.out.now c.turn_component.new.self c.in_ok-turn_component.ensures led)
     )
     c.turn_component-2.ensures

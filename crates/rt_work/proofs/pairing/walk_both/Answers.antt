@@ -14,7 +14,7 @@ pub returns-in_ok-pair_tree-in-Some-clause-patches : goal.returns-in_ok-pair_tre
 returns-in_ok-pair_tree-in-Some-clause-patches g c = λ app tests.
     let o = out_of c.in_ok-out.out in
     pair_ends app _ c.args.tree.now c.pair_tree.new.out c.in_ok-out.ensures.nodes_apart c.in_ok-out.ensures.seats_apart c.in-Some.old o c.in-Some.is c.in_ok-out.ensures.none
-    (told_of _ (λ p. tree_pair app c.in-Some.old c.args.tree.now p) o (out_of c.pair_tree.new.out) _ [] (c.in_ok-pair_tree-in-Some.ensures.pairs app tests) on_Root)
+    (told_of _ (λ p. tree_pair app c.in-Some.old c.args.tree.now p) o (out_of c.pair_tree.new.out) _ [] (c.in_ok-pair_tree-in-Some.ensures.0 app tests) on_Root)
 
 pub returns-in_ok-tree_turns-in-None-clause-patches : goal.returns-in_ok-tree_turns-in-None-clause-patches
 returns-in_ok-tree_turns-in-None-clause-patches g c = λ app tests.
@@ -24,7 +24,7 @@ returns-in_ok-tree_turns-in-None-clause-patches g c = λ app tests.
 
 pub returns-in_ok-pair_tree-in-Some-clause-goes : goal.returns-in_ok-pair_tree-in-Some-clause-goes
 returns-in_ok-pair_tree-in-Some-clause-goes g c =
-    c.in_ok-pair_tree-in-Some.ensures.leads (led_first (map node_of c.args.side.now.nodes) c.in_ok-out.out (length c.args.side.now.nodes) (length c.args.side.now.seats) c.in_ok-out.ensures.none)
+    c.in_ok-pair_tree-in-Some.ensures.1 (led_first (map node_of c.args.side.now.nodes) c.in_ok-out.out (length c.args.side.now.nodes) (length c.args.side.now.seats) c.in_ok-out.ensures.none)
 
 pub returns-in_ok-tree_turns-in-None-clause-goes : goal.returns-in_ok-tree_turns-in-None-clause-goes
 returns-in_ok-tree_turns-in-None-clause-goes g c =

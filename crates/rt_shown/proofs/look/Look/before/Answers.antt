@@ -7,6 +7,7 @@ pub returns : goal.returns
 returns g c =
     record {
       each = λ scope. refl;
+      stood = refl;
       count = refl;
       shows = λ w stands is. shows_stood _ (c.args.rows.now).table c.args.stood.now c.args.scopes (λ s. refl) refl w stands is;
     }

@@ -6,7 +6,7 @@ use Rattle.rt_work.proofs.patched.Patched.new.Goals as goal
 
 pub returns-clause-none : goal.returns-clause-none
 returns-clause-none g c =
-    nothing_found _ (length c.args.side.now.nodes) (length c.args.side.now.seats) c.new.ensures.empty c.new-2.ensures.empty c.new-3.ensures.empty c.new-4.ensures.empty
+    nothing_found _ (length c.args.side.now.nodes) (length c.args.side.now.seats) c.in_ok-with_room.ensures.empty c.new.ensures.empty c.in_ok-with_room-2.ensures.empty c.in_ok-with_room-3.ensures.empty
     (c.in_ok-nowhere.ensures ∙ ap (λ xs. replicate (length xs) None) c.as_slice-nodes.ensures.items)
     (c.in_ok-nowhere-2.ensures ∙ ap (λ xs. replicate (length xs) None) c.as_slice-seats.ensures.items)
 

@@ -1,7 +1,7 @@
 -- Whether the names of the attributes that are left differ.
 use Rattle.std.proofs.Common.{◌≡◌, drop}
 use Rattle.rt_parts.specs.Names.{distinct, names_in, slot_names}
-use Rattle.rt_fits.proofs.names.names_differ.Given as goal
+use Rattle.rt_fits.proofs.names.all_differ.Given as goal
 
 abbrev pub invariant-loop-at : goal.invariant-loop-at
 invariant-loop-at g l =
