@@ -8,7 +8,7 @@ ghost use Rattle.rt_calls.specs.Kept.{provided_of, scope_of};
 ghost use Rattle.rt_queries.specs.Provided.{provides};
 ghost use Rattle.rt_state.specs.Mirror.{scopes_of, state_of};
 
-use rt_calls::{Provided, Scope};
+use rt_calls::{Provisions, Scope};
 use rt_parts::Parts;
 use rt_state::State;
 
@@ -18,7 +18,7 @@ pub fn provided_here<P: Parts>(scopes: &State<P>, scope: u64, kind: u32) -> Opti
         option_copied result ≡ provided_here (state_of g scopes.now) scope kind }
 {
     match scopes.scope(scope) {
-        Some(found) => of_kind(found.row.contexts.as_slice(), kind),
+        Some(found) => of_kind(&found.row.contexts, kind),
         None => None,
     }
 }
@@ -64,17 +64,12 @@ fn provider_from<P: Parts>(scopes: &State<P>, kind: u32, steps: u64, scope: u64)
 fn provides<P: Parts>(scope: &Scope<P>, kind: u32) -> bool
     ensures { result ≡ provides kind (scope_of scope.now) }
 {
-    of_kind(scope.row.contexts.as_slice(), kind).is_some()
+    of_kind(&scope.row.contexts, kind).is_some()
 }
 
 /// The first value of a kind.
-fn of_kind<P: Parts>(contexts: &[Provided<P>], kind: u32) -> Option<&P::Value>
+fn of_kind<P: Parts>(contexts: &Provisions<P>, kind: u32) -> Option<&P::Value>
     ensures { option_copied result ≡ at (map provided_of contexts.now) kind }
 {
-    for context in contexts {
-        if context.kind == kind {
-            return Some(&context.value);
-        }
-    }
-    None
+    contexts.get(kind)
 }

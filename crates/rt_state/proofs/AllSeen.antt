@@ -28,7 +28,7 @@ module _ {K : Types} where
       ∙ marks_all es w (join seen e.0) (λ n h. live n (or_right (nat_eq e.0 n) (has (numbers_of es) n) h))
 
 module _ {P C Q V H T E L : Type 0} where
-  numbers_each : (es : List (ℕ × Scope P C Q V H T E L)) → numbers_of (scopes_of es) ≡ numbers_of es
+  pub numbers_each : (es : List (ℕ × Scope P C Q V H T E L)) → numbers_of (scopes_of es) ≡ numbers_of es
   numbers_each [] = refl
   numbers_each (e ∷ es) = ap (λ (ns : List ℕ). e.0 ∷ ns) (numbers_each es)
 

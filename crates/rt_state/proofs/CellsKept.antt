@@ -96,14 +96,14 @@ module _ {V : Type 0} where
   some-value cs n v is = ap is_some (sym (held-found cs n)) ∙ there-value (held_at n cs) v is
 
 module _ {K : Types} where
-  abbrev with_cells : model.State K → List (ℕ × model.CellRow K) → model.State K
+  abbrev pub with_cells : model.State K → List (ℕ × model.CellRow K) → model.State K
   with_cells w cs = record w { cells = cs }
 
 module _ {P C Q V H T E L : Type 0} where
   -- a cell is made, where its scope is live
   pub cell_made : (d : State P C Q V H T E L) (s n : ℕ) (v : V) (new : tracked.State V) → ((g : Unkept (types C Q V H T E L)) → model.is_live (state_of g d) s ≡ true)
       → new ≡ tracked.cell_entered (record { 0 = s }) n v d.cells
-      → (g : Unkept (types C Q V H T E L)) (app : world.Application (types C Q V H T E L)) (polled : Option ℕ) → state_of g (record d { cells = new }) ≡ command app (state_of g d) s polled (world.NewCell n v)
+      → (g : Unkept (types C Q V H T E L)) (app : world.Application (types C Q V H T E L)) (polled : Option ℕ) → with_cells (state_of g d) (each cell_of new.cells) ≡ command app (state_of g d) s polled (world.NewCell n v)
   cell_made d s n v new live is g app polled =
       let owner : ScopeId = record { 0 = s } in
       let w : model.State (types C Q V H T E L) = state_of g d in
@@ -120,7 +120,7 @@ module _ {P C Q V H T E L : Type 0} where
 
   -- a cell is written, and its readers are told
   pub cell_written : (d : State P C Q V H T E L) (n : ℕ) (v : V) (new : tracked.State V) → is_some (held_at n (d.cells).cells) ≡ true → new ≡ tracked.cell_written n v d.cells
-      → (g : Unkept (types C Q V H T E L)) → tell (state_of g (record d { cells = new })) (world.Cell n) ≡ write_cell (state_of g d) n v
+      → (g : Unkept (types C Q V H T E L)) → tell (with_cells (state_of g d) (each cell_of new.cells)) (world.Cell n) ≡ write_cell (state_of g d) n v
   cell_written d n v new live is g =
       let w : model.State (types C Q V H T E L) = state_of g d in
       let found = some_is (held_at n (d.cells).cells) live in
@@ -132,7 +132,7 @@ module _ {P C Q V H T E L : Type 0} where
       ∙ ap (λ o. written_at w n v o) (sym (found-each cell_of (d.cells).cells n (Some old) (sym stood)))
 
   pub no_cell_written : (d : State P C Q V H T E L) (n : ℕ) (v : V) (new : tracked.State V) → is_some (held_at n (d.cells).cells) ≡ false → new ≡ tracked.cell_written n v d.cells
-      → (g : Unkept (types C Q V H T E L)) → state_of g (record d { cells = new }) ≡ write_cell (state_of g d) n v
+      → (g : Unkept (types C Q V H T E L)) → with_cells (state_of g d) (each cell_of new.cells) ≡ write_cell (state_of g d) n v
   no_cell_written d n v new gone is g =
       let w : model.State (types C Q V H T E L) = state_of g d in
       let stood : at (d.cells).cells n ≡ None = sym (held-found (d.cells).cells n) ∙ none_is (held_at n (d.cells).cells) gone in
@@ -142,7 +142,7 @@ module _ {P C Q V H T E L : Type 0} where
 
   -- a cell is dropped, and its readers are told
   pub cell_dropped : (d : State P C Q V H T E L) (n : ℕ) (v : V) (new : tracked.State V) → Some v ≡ value_at n (d.cells).cells → new.cells ≡ filter (λ e. not (nat_eq e.0 n)) (d.cells).cells
-      → (g : Unkept (types C Q V H T E L)) → tell (state_of g (record d { cells = new })) (world.Cell n) ≡ drop_cell_row (state_of g d) n
+      → (g : Unkept (types C Q V H T E L)) → tell (with_cells (state_of g d) (each cell_of new.cells)) (world.Cell n) ≡ drop_cell_row (state_of g d) n
   cell_dropped d n v new there is g =
       let w : model.State (types C Q V H T E L) = state_of g d in
       let live : is_some (at w.cells n) ≡ true = ap is_some (at-each cell_of (d.cells).cells n) ∙ some-mapped cell_of (at (d.cells).cells n) ∙ some-value (d.cells).cells n v (sym there) in
@@ -151,7 +151,7 @@ module _ {P C Q V H T E L : Type 0} where
       ∙ ap (λ b. if b then tell (with_cells w (without w.cells n)) (world.Cell n) else w) (sym live)
 
   pub no_cell_dropped : (d : State P C Q V H T E L) (n : ℕ) (new : tracked.State V) → None ≡ value_at n (d.cells).cells → new.cells ≡ filter (λ e. not (nat_eq e.0 n)) (d.cells).cells
-      → (g : Unkept (types C Q V H T E L)) → state_of g (record d { cells = new }) ≡ drop_cell_row (state_of g d) n
+      → (g : Unkept (types C Q V H T E L)) → with_cells (state_of g d) (each cell_of new.cells) ≡ drop_cell_row (state_of g d) n
   no_cell_dropped d n new there is g =
       let w : model.State (types C Q V H T E L) = state_of g d in
       let stood : at (d.cells).cells n ≡ None = no-value (d.cells).cells n (sym there) in

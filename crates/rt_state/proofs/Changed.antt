@@ -1,6 +1,6 @@
 -- What a change of one value in a table is in the model.
 use Rattle.std.proofs.Common.{◌≡◌, ℕ, List, refl, ap, sym, ◌∙◌}
-use Rattle.std.specs.Prelude.{Option, Some, None, option_map, Result, Ok, Err, OnOk, IfOk}
+use Rattle.std.specs.Prelude.{Option, Some, None, option_map, Result, Ok, Err, OnOk, OnErr, IfOk}
 use Rattle.rt_model.specs.Lists.{at, put}
 use Rattle.rt_model.specs.OneLog.{types}
 use Rattle.rt_model.specs.Tree as tree
@@ -19,6 +19,16 @@ use Rattle.rt_state.proofs.Each.{at-each, put-each}
 pub on_ok : {U X : Type 0} {A B : Type 0} (r : Result U X) → OnOk r A → (A → B) → OnOk r B
 on_ok (Ok u) a f = f a
 on_ok (Err e) a f = tt
+
+-- the same of every failed outcome
+pub on_err : {U X : Type 0} {A B : Type 0} (r : Result U X) → OnErr r A → (A → B) → OnErr r B
+on_err (Ok u) a f = tt
+on_err (Err e) a f = f a
+
+-- a fact of the successful and of the failed ones is one of all
+pub either_way : {U X : Type 0} {A : Type 0} (r : Result U X) → OnOk r A → OnErr r A → A
+either_way (Ok u) a b = a
+either_way (Err e) a b = b
 
 -- the same of a fact about the value of an outcome
 pub if_ok : {U X : Type 0} {A B : U → Type 0} (r : Result U X) → IfOk r A → ((u : U) → A u → B u) → IfOk r B

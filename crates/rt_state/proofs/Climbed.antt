@@ -6,8 +6,7 @@ use Rattle.rt_model.specs.Lists.{at}
 use Rattle.rt_model.specs.Tree.{Types}
 use Rattle.rt_model.specs.State as model
 use Rattle.rt_model.specs.State.{SideName, climb, climb_at, is_boundary, location_at, location_from, shown_at, shown_from, is_side}
-use Rattle.rt_state.specs.Climbs.{shows_side}
-use Rattle.rt_state.specs.Mounts.{shown_in}
+use Rattle.rt_state.specs.Mounts.{shown_in, shown_over}
 
 -- a number of steps that isn't 0
 pub one-less : (n : ℕ) → nat_eq n 0 ≡ false → suc (n - 1) ≡ n
@@ -122,25 +121,10 @@ module _ {K : Types} (scopes : List (ℕ × model.Scope K)) where
     counted_shown : shown_by (at scopes s) (λ p. shown_from scopes (n - 1) p) ≡ shown_from scopes n s
     counted_shown = shown-is (n - 1) s ∙ ap (λ m. shown_from scopes m s) (one-less n some)
 
-    -- the scope is gone
-    pub shown_gone : at scopes s ≡ None → false ≡ shown_from scopes n s
-    shown_gone gone = ap (λ o. shown_by o (λ p. shown_from scopes (n - 1) p)) (sym gone) ∙ counted_shown
-
-    shown_up : (x : model.Scope K) (up : Option ℕ) → at scopes s ≡ Some x → x.parent ≡ up → shown_at scopes (λ p. shown_from scopes (n - 1) p) x.below up ≡ shown_from scopes n s
+    -- it shows where the scopes above it do
+    pub shown_up : (x : model.Scope K) (up : Option ℕ) → at scopes s ≡ Some x → x.parent ≡ up → shown_at scopes (λ p. shown_from scopes (n - 1) p) x.below up ≡ shown_from scopes n s
     shown_up x up stood is =
         ap (λ o. shown_at scopes (λ p. shown_from scopes (n - 1) p) x.below o) (sym is) ∙ ap (λ o. shown_by o (λ p. shown_from scopes (n - 1) p)) (sym stood) ∙ counted_shown
-
-    -- nothing is above
-    pub shown_top : (x : model.Scope K) → at scopes s ≡ Some x → x.parent ≡ None → true ≡ shown_from scopes n s
-    shown_top x stood top = shown_up x None stood top
-
-    side_shown : (p : ℕ) (below : SideName) (o : Option (model.Scope K)) (b : Bool) → shows_side o below && b ≡ elim o [ None ↦ false | Some y ↦ is_side y.shows below && b ]
-    side_shown p below None b = refl
-    side_shown p below (Some y) b = refl
-
-    -- the scope above shows this side, and so do those further up
-    pub shown_on : (x : model.Scope K) (p : ℕ) → at scopes s ≡ Some x → x.parent ≡ Some p → shows_side (at scopes p) x.below && shown_from scopes (n - 1) p ≡ shown_from scopes n s
-    shown_on x p stood up = side_shown p x.below (at scopes p) (shown_from scopes (n - 1) p) ∙ shown_up x (Some p) stood up
 
   -- a live scope shows where those above it do
   pub live_shows : (s : ℕ) (x : model.Scope K) (b : Bool) → at scopes s ≡ Some x → b ≡ shown_from scopes x.height s → b ≡ shown_in scopes s
@@ -151,3 +135,33 @@ module _ {K : Types} (scopes : List (ℕ × model.Scope K)) where
   pub gone_shows : (s : ℕ) → at scopes s ≡ None → false ≡ shown_in scopes s
   gone_shows s gone =
       ap (λ (o : Option (model.Scope K)). is_some o && shown_from scopes (elim o as (λ _. ℕ) [ None ↦ 0 | Some y ↦ y.height ]) s) (sym gone)
+
+module _ {K : Types} (scopes : List (ℕ × model.Scope K)) (n : ℕ) (x : model.Scope K) where
+  -- nothing is above a scope
+  pub over_top : x.parent ≡ None → true ≡ shown_over scopes n x
+  over_top top = ap (λ o. shown_at scopes (λ q. shown_from scopes n q) x.below o) (sym top)
+
+  module _ (p : ℕ) (up : x.parent ≡ Some p) where
+    over_at : (o : Option (model.Scope K)) → at scopes p ≡ o
+        → elim o as (λ _. Bool) [ None ↦ false | Some y ↦ is_side y.shows x.below && shown_from scopes n p ] ≡ shown_over scopes n x
+    over_at o stood =
+        ap (λ (r : Option (model.Scope K)). elim r as (λ _. Bool) [ None ↦ false | Some y ↦ is_side y.shows x.below && shown_from scopes n p ]) (sym stood)
+        ∙ ap (λ r. shown_at scopes (λ q. shown_from scopes n q) x.below r) (sym up)
+
+    -- the parent is gone
+    pub over_gone : at scopes p ≡ None → false ≡ shown_over scopes n x
+    over_gone gone = over_at None gone
+
+    module _ (y : model.Scope K) (stood : at scopes p ≡ Some y) where
+      -- the parent shows another side
+      pub over_other : is_side y.shows x.below ≡ false → false ≡ shown_over scopes n x
+      over_other other = ap (λ b. b && shown_from scopes n p) (sym other) ∙ over_at (Some y) stood
+
+      -- no step is left
+      pub over_last : is_side y.shows x.below ≡ true → nat_eq n 0 ≡ true → true ≡ shown_over scopes n x
+      over_last own none = shown_end scopes n p none ∙ ap (λ b. b && shown_from scopes n p) (sym own) ∙ over_at (Some y) stood
+
+      -- the climb goes on
+      pub over_on : is_side y.shows x.below ≡ true → nat_eq n 0 ≡ false → shown_over scopes (n - 1) y ≡ shown_over scopes n x
+      over_on own some =
+          shown_up scopes n p some y y.parent stood refl ∙ ap (λ b. b && shown_from scopes n p) (sym own) ∙ over_at (Some y) stood

@@ -21,15 +21,15 @@ module _ {P C Q V H T E L : Type 0} where
   owed_after d t = record d.owed {
     posted = drop_posted (d.owed).posted (model.Woken t) ++ holding (scopes_of (d.rows).table) t;
     queued = drop_number (d.owed).queued t;
-    tasks = drop_number (d.owed).tasks t;
+    tasks = without (d.owed).tasks t;
   }
 
   pub owed_ended : (d : State P C Q V H T E L) (t : ℕ) (a b c e : Owing) (seen : List (ℕ × Scope P C Q V H T E L))
       → a ≡ with_owed d.owed (drop_posted (d.owed).posted (model.Woken t)) → b ≡ record a { queued = drop_number a.queued t } → c ≡ with_owed b (b.posted ++ holding (scopes_of seen) t)
-      → e ≡ record c { tasks = drop_number c.tasks t } → seen ≡ (d.rows).table → e ≡ owed_after d t
+      → e ≡ record c { tasks = without c.tasks t } → seen ≡ (d.rows).table → e ≡ owed_after d t
   owed_ended d t a b c e seen wakes queued marks left same =
       left
-      ∙ ap (λ (o : Owing). let p : Owing = record o { tasks = drop_number o.tasks t } in p)
+      ∙ ap (λ (o : Owing). let p : Owing = record o { tasks = without o.tasks t } in p)
       (
       marks
       ∙ ap (λ (es : List (ℕ × Scope P C Q V H T E L)). with_owed b (b.posted ++ holding (scopes_of es) t)) same

@@ -22,7 +22,7 @@ rest_here stay i d within = ap (λ (xs : List (ℕ × ℕ)). after_first (number
 
 module _ (nodes : List NodeAt) where
   -- a number at a node that a side knows
-  known_more : (e : ℕ × ℕ) (es : List (ℕ × ℕ)) → is_some (slice_get nodes e.0) ≡ true → numbers_at nodes (e ∷ es) ≡ e.1 ∷ numbers_at nodes es
+  pub known_more : (e : ℕ × ℕ) (es : List (ℕ × ℕ)) → is_some (slice_get nodes e.0) ≡ true → numbers_at nodes (e ∷ es) ≡ e.1 ∷ numbers_at nodes es
   known_more e es h = by (slice_get nodes e.0) h
     where
       by : (o : Option NodeAt) → is_some o ≡ true → (elim o as (λ _. List ℕ) [ None ↦ numbers_at nodes es | Some q ↦ e.1 ∷ numbers_at nodes es ]) ≡ e.1 ∷ numbers_at nodes es
@@ -30,7 +30,7 @@ module _ (nodes : List NodeAt) where
       by (Some a) q = refl
 
   -- one past their end
-  not_known : (e : ℕ × ℕ) (es : List (ℕ × ℕ)) → is_some (slice_get nodes e.0) ≡ false → numbers_at nodes (e ∷ es) ≡ numbers_at nodes es
+  pub not_known : (e : ℕ × ℕ) (es : List (ℕ × ℕ)) → is_some (slice_get nodes e.0) ≡ false → numbers_at nodes (e ∷ es) ≡ numbers_at nodes es
   not_known e es h = by (slice_get nodes e.0) h
     where
       by : (o : Option NodeAt) → is_some o ≡ false → (elim o as (λ _. List ℕ) [ None ↦ numbers_at nodes es | Some q ↦ e.1 ∷ numbers_at nodes es ]) ≡ numbers_at nodes es

@@ -1,14 +1,15 @@
 -- A scope's record goes.
 use Rattle.std.proofs.Common.{◌≡◌, ℕ, Bool, true, false, List, [], ◌∷◌, refl, ap, ◌∙◌, nat_eq}
 use Rattle.std.specs.Prelude.{Some, is_some, if◌then◌else◌}
-use Rattle.rt_model.specs.Lists.{at, without, drop_number}
+use Rattle.rt_model.specs.Lists.{at, without}
 use Rattle.rt_model.specs.OneLog.{types}
 use Rattle.rt_model.specs.Tree.{Types}
 use Rattle.rt_model.specs.State as model
-use Rattle.rt_calls.specs.Kept.{scope_of}
+use Rattle.rt_cells.specs.Cells as tracked
+use Rattle.rt_calls.specs.Kept.{each, scope_of}
 use Rattle.rt_calls.specs.declared.rest.Scope.{Scope}
 use Rattle.rt_owed.specs.Rooms.{Owing}
-use Rattle.rt_state.specs.Mirror.{Unkept, scopes_of, state_of}
+use Rattle.rt_state.specs.Mirror.{Unkept, cell_of, scopes_of, state_of}
 use Rattle.rt_state.specs.declared.state.State.{State}
 use Rattle.rt_state.proofs.Each.{without-each}
 use Rattle.rt_state.proofs.Posts.{with_all}
@@ -27,9 +28,9 @@ module _ {K : Types} where
   without_none w s none = ap (λ (es : List (ℕ × model.Scope K)). let v : model.State K = record w { scopes = es } in v) (absent_stays w.scopes s none)
 
 module _ {P C Q V H T E L : Type 0} where
-  pub scopes_less : (g : Unkept (types C Q V H T E L)) (d : State P C Q V H T E L) (o : Owing) (new : List (ℕ × Scope P C Q V H T E L)) (s : ℕ)
-      → o ≡ record d.owed { scopes = drop_number (d.owed).scopes s } → new ≡ without (d.rows).table s
-      → record (with_all (state_of g d) o) { scopes = scopes_of new } ≡ record (state_of g d) { scopes = without (state_of g d).scopes s }
-  scopes_less g d o new s left less =
-      (λ i. record (with_all (state_of g d) (left i)) { scopes = scopes_of (less i) })
+  pub scopes_less : (g : Unkept (types C Q V H T E L)) (d : State P C Q V H T E L) (o : Owing) (cells : tracked.State V) (new : List (ℕ × Scope P C Q V H T E L)) (s : ℕ)
+      → o ≡ record d.owed { scopes = without (d.owed).scopes s } → cells.cells ≡ (d.cells).cells → new ≡ without (d.rows).table s
+      → record (with_all (state_of g d) o) { scopes = scopes_of new; cells = each cell_of cells.cells } ≡ record (state_of g d) { scopes = without (state_of g d).scopes s }
+  scopes_less g d o cells new s left same less =
+      (λ i. record (with_all (state_of g d) (left i)) { scopes = scopes_of (less i); cells = each cell_of (same i) })
       ∙ ap (λ (es : List (ℕ × model.Scope (types C Q V H T E L))). let w : model.State (types C Q V H T E L) = record (state_of g d) { scopes = es } in w) (without-each scope_of (d.rows).table s)

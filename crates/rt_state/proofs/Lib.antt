@@ -1,6 +1,13 @@
 pub mod Each
 pub mod Components
 pub mod Changed
+pub mod Stays
+pub mod Known
+pub mod Listing
+pub mod Rereads
+pub mod Marks
+pub mod HeldPairs
+pub mod HolderLists
 pub mod Drops
 pub mod Entered
 pub mod Posts
@@ -9,7 +16,7 @@ pub mod Thrown
 pub mod Climbed
 pub mod Provides
 pub mod Leasts
-pub mod Ranks
+pub mod LeastEffects
 pub mod Looked
 pub mod Seen
 pub mod LooksOnce
@@ -28,6 +35,11 @@ pub mod FoundScopes
 pub mod Contexts
 pub mod OneMore
 pub mod Starts
+pub mod Fronts
+pub mod Ways
+pub mod Covers
+pub mod Hidings
+pub mod Waiting
 pub mod Mounts
 pub mod Polls
 pub mod KindsInPlace
@@ -38,5 +50,6 @@ pub mod Unchanged
 pub mod Pushed
 pub mod Placed
 pub mod Forgets
+pub mod Behind
 pub mod Put
 pub mod Numbering

@@ -1,7 +1,7 @@
 -- The places of what is drawn, as scopes change, come and go.
-use Rattle.std.proofs.Common.{◌≡◌, ℕ, zero, suc, ◌<◌, Bool, true, false, List, [], ◌∷◌, ◌++◌, ◌&&◌, ◌||◌, length, get_or, map, nat_eq, refl, sym, ap, subst, ◌∙◌, arith}
+use Rattle.std.proofs.Common.{◌≡◌, ℕ, zero, suc, Bool, true, false, List, [], ◌∷◌, ◌++◌, ◌&&◌, ◌||◌, map, nat_eq, refl, sym, ap, subst, ◌∙◌}
 use Rattle.std.specs.Coded.{Coded, Coded-set, code_by, coded×, coded_ℕ, coded_bool, coded_list, coded_option}
-use Rattle.std.specs.Prelude.{Option, Some, None, Result, Ok, Err, OnOk, option_map, is_some, not, slice_get, slice_set, if◌then◌else◌}
+use Rattle.std.specs.Prelude.{Option, Some, None, Result, Ok, Err, OnOk, option_map, is_some, not, slice_get, if◌then◌else◌}
 use Rattle.rt_model.specs.Lists.{at, has, put, without}
 use Rattle.rt_model.specs.OneLog.{types}
 use Rattle.rt_model.specs.Queries.{Standing}
@@ -19,7 +19,7 @@ use Rattle.rt_named.specs.Standings.{IsPicked, IsPlaced, picked, scope_standings
 use Rattle.rt_named.proofs.Around.{Around, around, numbers_drawn, numbers_picked, side_numbers, side_picked, standings_bare, standings_both}
 use Rattle.rt_named.proofs.Cut.{at_without_all, has_joined, joined_numbers, part_once, placed_cut}
 use Rattle.rt_named.proofs.More.{Joined, drawn_on, placed_more, standings_joined}
-use Rattle.rt_named.proofs.Stays.{placed_same, sides_stay, standings_put}
+use Rattle.rt_named.proofs.Stays.{placed_same, standings_put}
 use Rattle.rt_named.proofs.Went.{went_has}
 use Rattle.rt_places.specs.declared.nodes.NodeAt.{NodeAt}
 use Rattle.rt_places.specs.declared.side.Side.{Side}
@@ -162,27 +162,6 @@ module _ {P C Q V H T E L : Type 0} where
           (at-each scope_of old s ∙ ap (λ (f : Option (Scope P C Q V H T E L)). option_map scope_of f) e) (stay x made.0 made.1)
           )
           h
-
-  -- one at an index
-  pub placed_entry : (R : Scope P C Q V H T E L → Scope P C Q V H T E L → Type 0) (old new : List (ℕ × Scope P C Q V H T E L)) (i : ℕ) (places : List (ℕ × Place)) → i < length old
-      → ((row : ℕ × Scope P C Q V H T E L) → (a : Scope P C Q V H T E L) × R (get_or old i row).1 a × (new ≡ slice_set old i ((get_or old i row).0, a)))
-      → ((x y : Scope P C Q V H T E L) → R x y → drawn_for y ≡ drawn_for x)
-      → IsPlaced (each scope_of old) places → IsPlaced (each scope_of new) places
-  placed_entry R [] new i places within made stay h = absurd (omega (arith, within))
-  placed_entry R (e ∷ es) new i places within made stay h =
-      let one = made e in
-      placed_same (each scope_of (e ∷ es)) (each scope_of new) places
-      (
-      ap (λ (fs : List (ℕ × Scope P C Q V H T E L)). standings (each scope_of fs)) one.2
-      ∙ set_same (e ∷ es) i within one.0 (stay (get_or (e ∷ es) i e).1 one.0 one.1)
-      )
-      h
-    where
-      set_same : (fs : List (ℕ × Scope P C Q V H T E L)) (j : ℕ) → j < length fs → (y : Scope P C Q V H T E L) → drawn_for y ≡ drawn_for (get_or fs j e).1
-          → standings (each scope_of (slice_set fs j ((get_or fs j e).0, y))) ≡ standings (each scope_of fs)
-      set_same [] j low y same = absurd (omega (arith, low))
-      set_same (f ∷ fs) zero low y same = ap (λ (ys : List (ℕ × Standing)). ys ++ standings (each scope_of fs)) (sides_stay f.0 (scope_of f.1) (scope_of y) same)
-      set_same (f ∷ fs) (suc j) low y same = ap (λ (ys : List (ℕ × Standing)). scope_standings f.0 (scope_of f.1) ++ ys) (set_same fs j (omega (arith, low)) y same)
 
   -- a scope for which nothing is drawn
   pub placed_pushed : (old new : List (ℕ × Scope P C Q V H T E L)) (s : ℕ) (x : Scope P C Q V H T E L) (places : List (ℕ × Place)) → new ≡ old ++ (s, x) ∷ [] → drawn_for x ≡ ([], [], [])

@@ -20,7 +20,7 @@ use Rattle.rt_state.specs.declared.state.ContextRow.{ContextRow}
 use Rattle.rt_state.specs.declared.state.State.{State}
 use Rattle.rt_state.proofs.Each.{drop-all}
 
-append_none : (a : List model.Posted) → a ++ [] ≡ a
+pub append_none : (a : List model.Posted) → a ++ [] ≡ a
 append_none a = grind (arith, common_steps)
 
 -- what is owed, with other marks and wakes

@@ -1,8 +1,6 @@
 -- What a scope provides: looked up, and put in its place.
-use Rattle.std.proofs.Common.{◌≡◌, ◌≢◌, ℕ, zero, suc, ◌+◌, ◌<◌, ◌≤◌, Bool, true, false, List, [], ◌∷◌, ◌++◌, length, get_or, take, drop, map, refl, ap, sym, ◌∙◌, arith, append_assoc, add-one, IsTrue, ◌↔◌}
-use Rattle.std.specs.Prelude.{nat_eq, slice_set, Option, Some, None, option_map, if◌then◌else◌}
-use Rattle.std.proofs.lemmas.List.{take_more, drop_more, set_split}
-use Rattle.std.proofs.lemmas.Grind.{common_steps}
+use Rattle.std.proofs.Common.{◌≡◌, ℕ, Bool, true, false, List, [], ◌∷◌, map, refl, ap, sym, ◌∙◌, IsTrue, ◌↔◌}
+use Rattle.std.specs.Prelude.{nat_eq, Option, Some, None, option_map, if◌then◌else◌}
 use Rattle.rt_model.specs.Lists.{at, put}
 use Rattle.rt_model.specs.Tree.{Types}
 use Rattle.rt_model.specs.Laws.{Tests}
@@ -13,47 +11,10 @@ use Rattle.rt_model.specs.State.{change}
 use Rattle.rt_model.specs.Commands.{tell, provided_at, provide_context}
 use Rattle.rt_calls.specs.Kept.{provided_of}
 use Rattle.rt_calls.specs.declared.rows.Provided.{Provided}
-use Rattle.rt_state.specs.Provided.{put_provided, is_provided, provides_now}
-use Rattle.rt_state.proofs.Each.{drop-all}
+use Rattle.rt_calls.specs.Provisions.{put_provided}
+use Rattle.rt_state.specs.Provided.{is_provided, provides_now}
 
 module _ {P C Q V H T E L : Type 0} where
-  -- a put comes to the value from an index on
-  abbrev pub Comes : List (Provided P C Q V H T E L) → ℕ → ℕ → Type 0
-  Comes ps kind i = (value : V) → put_provided ps kind value ≡ take i ps ++ put_provided (drop i ps) kind value
-
-  put-here : (p : Provided P C Q V H T E L) (ps : List (Provided P C Q V H T E L)) (kind : ℕ) (value : V) → p.kind ≡ kind → put_provided (p ∷ ps) kind value ≡ record { kind = kind; value = value } ∷ ps
-  put-here p ps kind value own = grind (arith, common_steps)
-
-  put-past : (p : Provided P C Q V H T E L) (ps : List (Provided P C Q V H T E L)) (kind : ℕ) (value : V) → p.kind ≢ kind → put_provided (p ∷ ps) kind value ≡ p ∷ put_provided ps kind value
-  put-past p ps kind value other = grind (arith, common_steps)
-
-  pub comes_past : (ps : List (Provided P C Q V H T E L)) (kind i : ℕ) (d : Provided P C Q V H T E L) → i < length ps → (get_or ps i d).kind ≢ kind → Comes ps kind i → Comes ps kind (i + 1)
-  comes_past ps kind i d within other so =
-      λ value.
-      so value
-      ∙ ap (λ rest. take i ps ++ put_provided rest kind value) (drop_more ps i d within)
-      ∙ ap (λ rest. take i ps ++ rest) (put-past (get_or ps i d) (drop (i + 1) ps) kind value other)
-      ∙ sym (append_assoc (take i ps) (get_or ps i d ∷ []) (put_provided (drop (i + 1) ps) kind value))
-      ∙ ap (λ front. front ++ put_provided (drop (i + 1) ps) kind value) (sym (take_more ps i d within))
-
-  pub comes_here : (ps : List (Provided P C Q V H T E L)) (kind i : ℕ) (d : Provided P C Q V H T E L) → i < length ps → (get_or ps i d).kind ≡ kind → Comes ps kind i
-      → (value : V) → put_provided ps kind value ≡ slice_set ps i (record { kind = kind; value = value })
-  comes_here ps kind i d within own so value =
-      so value
-      ∙ ap (λ rest. take i ps ++ put_provided rest kind value) (drop_more ps i d within)
-      ∙ ap (λ rest. take i ps ++ rest) (put-here (get_or ps i d) (drop (i + 1) ps) kind value own)
-      ∙ ap (λ k. take i ps ++ record { kind = kind; value = value } ∷ drop k ps) (add-one i)
-      ∙ sym (set_split ps i (record { kind = kind; value = value }) within)
-
-  take-all : (ps : List (Provided P C Q V H T E L)) (i : ℕ) → length ps ≤ i → take i ps ≡ ps
-  take-all ps i end = grind (arith, common_steps)
-
-  pub comes_end : (ps : List (Provided P C Q V H T E L)) (kind i : ℕ) → length ps ≤ i → Comes ps kind i → (value : V) → put_provided ps kind value ≡ ps ++ record { kind = kind; value = value } ∷ []
-  comes_end ps kind i end so value =
-      so value
-      ∙ ap (λ rest. take i ps ++ put_provided rest kind value) (drop-all ps i end)
-      ∙ ap (λ front. front ++ record { kind = kind; value = value } ∷ []) (take-all ps i end)
-
   -- the model's put is that of code
   pub put-mirrored : (ps : List (Provided P C Q V H T E L)) (kind : ℕ) (value : V) → map provided_of (put_provided ps kind value) ≡ put (map provided_of ps) kind value
   put-mirrored [] kind value = refl

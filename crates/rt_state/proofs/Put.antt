@@ -7,6 +7,8 @@ use Rattle.rt_places.specs.declared.side.Side.{Side}
 use Rattle.rt_places.specs.declared.side.SideName.{SideName}
 use Rattle.rt_places.specs.declared.side.SideName.TheVariants as sides
 use Rattle.rt_places.specs.Places.{side_name_of, side_of}
+use Rattle.rt_state.specs.Heights.{height_in}
+use Rattle.rt_state.specs.Mounts.{way_of}
 use Rattle.rt_state.specs.Sides.{side_put}
 
 module _ {P C Q V H T E L : Type 0} where
@@ -15,3 +17,13 @@ module _ {P C Q V H T E L : Type 0} where
   put_is sides.Main side x = refl
   put_is sides.Children side x = refl
   put_is sides.Fallback side x = refl
+
+  pub height_put : (name : SideName) (side : Side P C Q V H T E L) (x : Scope P C Q V H T E L) → height_in (side_put name side x) ≡ height_in x
+  height_put sides.Main side x = refl
+  height_put sides.Children side x = refl
+  height_put sides.Fallback side x = refl
+
+  pub way_put : (name : SideName) (side : Side P C Q V H T E L) (x : Scope P C Q V H T E L) → way_of (side_put name side x) ≡ way_of x
+  way_put sides.Main side x = refl
+  way_put sides.Children side x = refl
+  way_put sides.Fallback side x = refl

@@ -1,6 +1,6 @@
 -- The world of a call is that of the model's state.
 use Rattle.std.proofs.Common.{◌≡◌, ℕ, Bool, true, false, List, [], ◌∷◌, map, refl, ap, sym, ◌∙◌}
-use Rattle.std.specs.Prelude.{nat_eq, Option, Some, None, option_map, option_and_then, if◌then◌else◌}
+use Rattle.std.specs.Prelude.{Option, Some, None, option_map, option_and_then, if◌then◌else◌}
 use Rattle.rt_values.specs.declared.names.ScopeId.{ScopeId}
 use Rattle.rt_values.specs.declared.names.Task.{Task}
 use Rattle.rt_cells.specs.declared.numbered.Held.{Held}
@@ -15,10 +15,10 @@ use Rattle.rt_mirror.specs.Sealed.{component_of}
 use Rattle.rt_calls.specs.World.{CallWorld, rows_in, boundaries_in, provided}
 use Rattle.rt_calls.specs.Calls as calls
 use Rattle.rt_calls.specs.Calls.{hook_of}
-use Rattle.rt_calls.specs.Kept.{provided_of, scope_of, each}
-use Rattle.rt_calls.specs.declared.rows.Provided.{Provided}
+use Rattle.rt_calls.specs.Kept.{scope_of, each}
 use Rattle.rt_calls.specs.declared.rows.ScopeRow.{ScopeRow}
 use Rattle.rt_calls.specs.declared.rest.Scope.{Scope}
+use Rattle.rt_calls.proofs.KindPlaces.{provided-is}
 use Rattle.rt_calls.proofs.RowsAt.{row-found}
 use Rattle.rt_state.specs.Mirror.{Unkept, cell_of, scopes_of, state_of}
 use Rattle.rt_state.specs.declared.state.State.{State}
@@ -51,10 +51,6 @@ module _ {P C Q V H T E L : Type 0} where
   error-of : (o : Option (Scope P C Q V H T E L)) → ◌≡◌ {A = Option CapturedError} (option_map error_of (option_and_then (λ (row : ScopeRow P C Q V H T E L). row.error) (option_map (λ x. x.row) o))) (elim (option_map scope_of o) [ None ↦ None | Some x ↦ x.error ])
   error-of None = refl
   error-of (Some x) = refl
-
-  provided-is : (ps : List (Provided P C Q V H T E L)) (k : ℕ) → provided ps k ≡ at (map provided_of ps) k
-  provided-is [] k = refl
-  provided-is (p ∷ ps) k = ap (λ (o : Option V). if nat_eq p.kind k then Some p.value else o) (provided-is ps k)
 
   context-of : (k : ℕ) (o : Option (Scope P C Q V H T E L)) → ◌≡◌ {A = Option V} (option_and_then (λ (row : ScopeRow P C Q V H T E L). provided row.contexts k) (option_map (λ x. x.row) o)) (elim (option_map scope_of o) [ None ↦ None | Some x ↦ at x.contexts k ])
   context-of k None = refl

@@ -1,19 +1,29 @@
 -- What a refusal leaves as it was, and changes that want no memory.
-use Rattle.std.proofs.Common.{◌≡◌, ℕ, Bool, true, false, List, [], ◌∷◌, refl, ap, sym, subst, ◌∙◌, nat_eq, ◌<◌, length, get_or, arith}
-use Rattle.std.specs.Coded.{Coded-set, coded_list, coded_ℕ}
-use Rattle.std.specs.Prelude.{Option, Some, None, Result, Ok, Err, IfSome, IfNone, IsOk, OnErr, if◌then◌else◌, slice_set}
+use Rattle.std.proofs.Common.{◌≡◌, ℕ, Bool, true, false, List, [], ◌∷◌, refl, ap, sym, subst, ◌∙◌, nat_eq}
+use Rattle.std.specs.Coded.{Coded-set, coded×, coded_bool, coded_list, coded_ℕ}
+use Rattle.std.specs.Prelude.{Option, Some, None, Result, Ok, Err, IfSome, IfNone, IsOk, OnErr, if◌then◌else◌}
 use Rattle.std.proofs.lemmas.Bool.{eqb-true}
 use Rattle.std.proofs.Math.Logic.{∥∥₁_prop}
-use Rattle.rt_model.specs.Lists.{at, put, or_else}
+use Rattle.rt_model.specs.Lists.{at, has, put, or_else}
 use Rattle.rt_model.specs.OneLog.{types}
+use Rattle.rt_model.specs.Tree.{Types}
 use Rattle.rt_model.specs.State as model
 use Rattle.rt_model.specs.State.{change}
+use Rattle.rt_model.specs.Commands.{names_source}
+use Rattle.rt_cells.specs.declared.sources.Source.{Source}
+use Rattle.rt_cells.specs.declared.sources.Reader.{Reader}
+use Rattle.rt_cells.specs.Reads.{is_read_by}
+use Rattle.rt_calls.specs.Calls.{source_of}
 use Rattle.rt_calls.specs.Kept.{each, scope_of}
 use Rattle.rt_calls.specs.declared.rest.Scope.{Scope}
-use Rattle.rt_owed.specs.Lists.{numbers_of}
+use Rattle.rt_owed.specs.Lists.{values_of}
 use Rattle.rt_owed.specs.Rooms.{Owing}
-use Rattle.rt_owed.proofs.Tables.{numbers_put, numbers_set}
+use Rattle.rt_owed.proofs.Tables.{values_put}
 use Rattle.rt_named.specs.Standings.{IsPlaced}
+use Rattle.rt_state.specs.Heights.{heights_of, task_scopes}
+use Rattle.rt_state.specs.Mounts.{IsWaiting, ways_of}
+use Rattle.rt_state.specs.Effects.{AreListed, has_pair}
+use Rattle.rt_state.specs.Readers.{AreKnown, read_by}
 use Rattle.rt_state.specs.Mirror.{Unkept, task_of, change_task, state_of}
 use Rattle.rt_state.specs.declared.state.TaskRow.{TaskRow}
 use Rattle.rt_state.specs.declared.state.State.{State}
@@ -54,81 +64,109 @@ pub never : {U X : Type 0} (A : Type 0) (r : Result U X) → IsOk r → OnErr r 
 never A (Ok u) ok = tt
 never A (Err e) ok = absurd (cc ok)
 
--- an equation of lists of numbers has one proof
-one_proof : (xs ys : List ℕ) (p q : xs ≡ ys) → p ≡ q
-one_proof xs ys p q = Coded-set (coded_list coded_ℕ) xs ys p q
+-- an equation of lists of pairs of numbers has one proof
+one_proof : (xs ys : List (ℕ × ℕ)) (p q : xs ≡ ys) → p ≡ q
+one_proof xs ys p q = Coded-set (coded_list (coded× coded_ℕ coded_ℕ)) xs ys p q
+
+-- what is known of readers has one proof
+pub one_known : {K : Types} (scopes : List (ℕ × model.Scope K)) (reads : List (Reader × List Source)) (p q : AreKnown scopes reads) → p ≡ q
+one_known scopes reads p q = λ i. record { each = λ s x. Coded-set coded_bool (is_read_by s x reads) (names_source (read_by scopes s) (source_of x)) (p.each s x) (q.each s x) i }
+
+-- so has what is listed
+pub one_listed : {K : Types} (scopes : List (ℕ × model.Scope K)) (effects : List ℕ) (held : List (ℕ × ℕ)) (p q : AreListed scopes effects held) → p ≡ q
+one_listed scopes effects held p q =
+    λ i.
+    record {
+      each = λ s h. Coded-set coded_bool (has effects s) true (p.each s h) (q.each s h) i;
+      pairs = λ s t h. Coded-set coded_bool (has_pair held t s) true (p.pairs s t h) (q.pairs s t h) i;
+    }
 
 module _ {P C Q V H T E L : Type 0} where
   -- the state with other scopes, whose numbers are those that are entered
-  abbrev with_table : (d : State P C Q V H T E L) (es : List (ℕ × Scope P C Q V H T E L)) → numbers_of es ≡ (d.owed).scopes → numbers_of d.tasks ≡ (d.owed).tasks → ∥ IsPlaced (each scope_of es) d.places ∥₁ → State P C Q V H T E L
-  with_table d es h k p = record d { rows = record { table = es }; entered = h; known = k; placed = p }
+  abbrev with_table : (d : State P C Q V H T E L) (es : List (ℕ × Scope P C Q V H T E L)) → heights_of es ≡ (d.owed).scopes → task_scopes d.tasks ≡ (d.owed).tasks
+      → ∥ IsWaiting (ways_of es) d.fresh d.hidden d.next_scope ∥₁ → ∥ IsPlaced (each scope_of es) d.places ∥₁ → AreKnown (each scope_of es) (d.cells).reads
+      → AreListed (each scope_of es) d.effects d.held → State P C Q V H T E L
+  with_table d es h k w p r z = record d { rows = record { table = es }; entered = h; known = k; waiting = w; placed = p; readers = r; listed = z }
 
   -- scopes as they were are the state as it was
-  pub rows_same : (d : State P C Q V H T E L) (es : List (ℕ × Scope P C Q V H T E L)) (h : numbers_of es ≡ (d.owed).scopes) (k : numbers_of d.tasks ≡ (d.owed).tasks) (p : ∥ IsPlaced (each scope_of es) d.places ∥₁)
-      → es ≡ (d.rows).table → with_table d es h k p ≡ d
-  rows_same d es h k p is =
-      subst (λ (fs : List (ℕ × Scope P C Q V H T E L)). (m : numbers_of fs ≡ (d.owed).scopes) (n : ∥ IsPlaced (each scope_of fs) d.places ∥₁) → with_table d fs m k n ≡ d) (sym is)
-      (λ m n i. with_table d (d.rows).table (one_proof (numbers_of (d.rows).table) (d.owed).scopes m d.entered i) (one_proof (numbers_of d.tasks) (d.owed).tasks k d.known i) (∥∥₁_prop n d.placed i))
-      h p
+  pub rows_same : (d : State P C Q V H T E L) (es : List (ℕ × Scope P C Q V H T E L)) (h : heights_of es ≡ (d.owed).scopes) (k : task_scopes d.tasks ≡ (d.owed).tasks)
+      (w : ∥ IsWaiting (ways_of es) d.fresh d.hidden d.next_scope ∥₁) (p : ∥ IsPlaced (each scope_of es) d.places ∥₁) (r : AreKnown (each scope_of es) (d.cells).reads)
+      (z : AreListed (each scope_of es) d.effects d.held) → es ≡ (d.rows).table → with_table d es h k w p r z ≡ d
+  rows_same d es h k w p r z is =
+      subst
+      (
+      λ (fs : List (ℕ × Scope P C Q V H T E L)). (m : heights_of fs ≡ (d.owed).scopes) (l : ∥ IsWaiting (ways_of fs) d.fresh d.hidden d.next_scope ∥₁) (n : ∥ IsPlaced (each scope_of fs) d.places ∥₁)
+      (o : AreKnown (each scope_of fs) (d.cells).reads) (z : AreListed (each scope_of fs) d.effects d.held) → with_table d fs m k l n o z ≡ d
+      )
+      (sym is)
+      (
+      λ m l n o z i.
+      with_table d (d.rows).table (one_proof (heights_of (d.rows).table) (d.owed).scopes m d.entered i) (one_proof (task_scopes d.tasks) (d.owed).tasks k d.known i)
+      (∥∥₁_prop l d.waiting i) (∥∥₁_prop n d.placed i) (one_known (each scope_of (d.rows).table) (d.cells).reads o d.readers i) (one_listed (each scope_of (d.rows).table) d.effects d.held z d.listed i)
+      )
+      h w p r z
 
   -- the state with other tasks and owed things
-  abbrev with_tasks : (d : State P C Q V H T E L) (o : Owing) (ts : List (ℕ × TaskRow P C Q V H T E L)) → numbers_of (d.rows).table ≡ o.scopes → numbers_of ts ≡ o.tasks → ∥ IsPlaced (each scope_of (d.rows).table) d.places ∥₁ → State P C Q V H T E L
-  with_tasks d o ts h k p = record d { owed = o; tasks = ts; entered = h; known = k; placed = p }
+  abbrev with_tasks : (d : State P C Q V H T E L) (o : Owing) (ts : List (ℕ × TaskRow P C Q V H T E L)) → heights_of (d.rows).table ≡ o.scopes → task_scopes ts ≡ o.tasks
+      → ∥ IsWaiting (ways_of (d.rows).table) d.fresh d.hidden d.next_scope ∥₁ → ∥ IsPlaced (each scope_of (d.rows).table) d.places ∥₁ → AreKnown (each scope_of (d.rows).table) (d.cells).reads
+      → AreListed (each scope_of (d.rows).table) d.effects d.held → State P C Q V H T E L
+  with_tasks d o ts h k w p r z = record d { owed = o; tasks = ts; entered = h; known = k; waiting = w; placed = p; readers = r; listed = z }
 
-  pub tasks_same : (d : State P C Q V H T E L) (o : Owing) (ts : List (ℕ × TaskRow P C Q V H T E L)) (h : numbers_of (d.rows).table ≡ o.scopes) (k : numbers_of ts ≡ o.tasks) (p : ∥ IsPlaced (each scope_of (d.rows).table) d.places ∥₁)
-      → o ≡ d.owed → ts ≡ d.tasks → with_tasks d o ts h k p ≡ d
-  tasks_same d o ts h k p owed tasks =
-      subst (λ (a : Owing). (h : numbers_of (d.rows).table ≡ a.scopes) (k : numbers_of ts ≡ a.tasks) → with_tasks d a ts h k p ≡ d) (sym owed)
+  pub tasks_same : (d : State P C Q V H T E L) (o : Owing) (ts : List (ℕ × TaskRow P C Q V H T E L)) (h : heights_of (d.rows).table ≡ o.scopes) (k : task_scopes ts ≡ o.tasks)
+      (w : ∥ IsWaiting (ways_of (d.rows).table) d.fresh d.hidden d.next_scope ∥₁) (p : ∥ IsPlaced (each scope_of (d.rows).table) d.places ∥₁) (r : AreKnown (each scope_of (d.rows).table) (d.cells).reads)
+      (z : AreListed (each scope_of (d.rows).table) d.effects d.held) → o ≡ d.owed → ts ≡ d.tasks → with_tasks d o ts h k w p r z ≡ d
+  tasks_same d o ts h k w p r z owed tasks =
+      subst (λ (a : Owing). (h : heights_of (d.rows).table ≡ a.scopes) (k : task_scopes ts ≡ a.tasks) → with_tasks d a ts h k w p r z ≡ d) (sym owed)
       (
       λ h k.
-      subst (λ (us : List (ℕ × TaskRow P C Q V H T E L)). (k : numbers_of us ≡ (d.owed).tasks) → with_tasks d d.owed us h k p ≡ d) (sym tasks)
-      (λ k i. with_tasks d d.owed d.tasks (one_proof (numbers_of (d.rows).table) (d.owed).scopes h d.entered i) (one_proof (numbers_of d.tasks) (d.owed).tasks k d.known i) (∥∥₁_prop p d.placed i))
+      subst (λ (us : List (ℕ × TaskRow P C Q V H T E L)). (k : task_scopes us ≡ (d.owed).tasks) → with_tasks d d.owed us h k w p r z ≡ d) (sym tasks)
+      (
+      λ k i.
+      with_tasks d d.owed d.tasks (one_proof (heights_of (d.rows).table) (d.owed).scopes h d.entered i) (one_proof (task_scopes d.tasks) (d.owed).tasks k d.known i)
+      (∥∥₁_prop w d.waiting i) (∥∥₁_prop p d.placed i) (one_known (each scope_of (d.rows).table) (d.cells).reads r d.readers i) (one_listed (each scope_of (d.rows).table) d.effects d.held z d.listed i)
+      )
       k
       )
       h k
 
 module _ {P C Q V H T E L U X : Type 0} where
   -- tasks that were refused
-  pub tasks_stay : (r : Result U X) (d : State P C Q V H T E L) (o : Owing) (ts : List (ℕ × TaskRow P C Q V H T E L)) (h : numbers_of (d.rows).table ≡ o.scopes) (k : numbers_of ts ≡ o.tasks)
-      (p : ∥ IsPlaced (each scope_of (d.rows).table) d.places ∥₁) → o ≡ d.owed → ts ≡ d.tasks → OnErr r (with_tasks d o ts h k p ≡ d)
-  tasks_stay (Ok u) d o ts h k p owed tasks = tt
-  tasks_stay (Err e) d o ts h k p owed tasks = tasks_same d o ts h k p owed tasks
+  pub tasks_stay : (r : Result U X) (d : State P C Q V H T E L) (o : Owing) (ts : List (ℕ × TaskRow P C Q V H T E L)) (h : heights_of (d.rows).table ≡ o.scopes) (k : task_scopes ts ≡ o.tasks)
+      (w : ∥ IsWaiting (ways_of (d.rows).table) d.fresh d.hidden d.next_scope ∥₁) (p : ∥ IsPlaced (each scope_of (d.rows).table) d.places ∥₁) (a : AreKnown (each scope_of (d.rows).table) (d.cells).reads)
+      (z : AreListed (each scope_of (d.rows).table) d.effects d.held) → o ≡ d.owed → ts ≡ d.tasks → OnErr r (with_tasks d o ts h k w p a z ≡ d)
+  tasks_stay (Ok u) d o ts h k w p a z owed tasks = tt
+  tasks_stay (Err e) d o ts h k w p a z owed tasks = tasks_same d o ts h k w p a z owed tasks
 
   -- scopes whose change was refused
-  pub scope_stays : (r : Result U X) (R : Scope P C Q V H T E L → Scope P C Q V H T E L → Type 0) (d : State P C Q V H T E L) (new : List (ℕ × Scope P C Q V H T E L)) (h : numbers_of new ≡ (d.owed).scopes) (k : numbers_of d.tasks ≡ (d.owed).tasks)
-      (p : ∥ IsPlaced (each scope_of new) d.places ∥₁) (s : ℕ)
+  pub scope_stays : (r : Result U X) (R : Scope P C Q V H T E L → Scope P C Q V H T E L → Type 0) (d : State P C Q V H T E L) (new : List (ℕ × Scope P C Q V H T E L)) (h : heights_of new ≡ (d.owed).scopes) (k : task_scopes d.tasks ≡ (d.owed).tasks)
+      (w : ∥ IsWaiting (ways_of new) d.fresh d.hidden d.next_scope ∥₁) (p : ∥ IsPlaced (each scope_of new) d.places ∥₁) (a : AreKnown (each scope_of new) (d.cells).reads) (z : AreListed (each scope_of new) d.effects d.held) (s : ℕ)
       → (at (d.rows).table s ≡ None → new ≡ (d.rows).table)
       → ((x : Scope P C Q V H T E L) → at (d.rows).table s ≡ Some x → (y : Scope P C Q V H T E L) × R x y × (new ≡ put (d.rows).table s y))
       → ((x y : Scope P C Q V H T E L) → R x y → OnErr r (y ≡ x))
-      → OnErr r (with_table d new h k p ≡ d)
-  scope_stays r R d new h k p s absent changed step =
-      on_err r (table_stays r R (d.rows).table new s (at (d.rows).table s) refl absent changed step) (λ is. rows_same d new h k p is)
+      → OnErr r (with_table d new h k w p a z ≡ d)
+  scope_stays r R d new h k w p a z s absent changed step =
+      on_err r (table_stays r R (d.rows).table new s (at (d.rows).table s) refl absent changed step) (λ is. rows_same d new h k w p a z is)
 
-module _ {A : Type 0} where
-  -- a change of one row leaves the numbers of a table
-  pub numbers_changed : (R : A → A → Type 0) (old new : List (ℕ × A)) (n : ℕ)
+module _ {A : Type 0} (value : A → ℕ) where
+  -- a change of one row that keeps its value leaves the values of a table
+  pub values_changed : (R : A → A → Type 0) (old new : List (ℕ × A)) (n : ℕ)
       → (at old n ≡ None → new ≡ old)
       → ((x : A) → at old n ≡ Some x → (y : A) × R x y × (new ≡ put old n y))
-      → numbers_of new ≡ numbers_of old
-  numbers_changed R old new n absent changed = by (at old n) refl
+      → ((x y : A) → R x y → value y ≡ value x)
+      → values_of value new ≡ values_of value old
+  values_changed R old new n absent changed stay = by (at old n) refl
     where
-      by : (o : Option A) → at old n ≡ o → numbers_of new ≡ numbers_of old
-      by None e = ap (λ (es : List (ℕ × A)). numbers_of es) (absent e)
-      by (Some x) e = let made = changed x e in ap (λ (es : List (ℕ × A)). numbers_of es) made.2 ∙ numbers_put old n made.0 x e
+      by : (o : Option A) → at old n ≡ o → values_of value new ≡ values_of value old
+      by None e = ap (λ (es : List (ℕ × A)). values_of value es) (absent e)
+      by (Some x) e =
+          let made = changed x e in
+          ap (λ (es : List (ℕ × A)). values_of value es) made.2 ∙ values_put value old n made.0 x e (stay x made.0 made.1)
 
-  -- a row that is put in the place of one, where there is one
-  pub numbers_replaced : (found : Option A) (old new : List (ℕ × A)) (n : ℕ) (a : A) → found ≡ at old n → IfSome found (λ _. new ≡ put old n a) → IfNone found (new ≡ old) → numbers_of new ≡ numbers_of old
-  numbers_replaced None old new n a is made same = ap (λ (es : List (ℕ × A)). numbers_of es) same
-  numbers_replaced (Some x) old new n a is made same = ap (λ (es : List (ℕ × A)). numbers_of es) made ∙ numbers_put old n a x (sym is)
-
-  -- a change of a row at an index leaves the numbers
-  pub numbers_entry : (R : A → A → Type 0) (old new : List (ℕ × A)) (i : ℕ) → i < length old
-      → ((row : ℕ × A) → (a : A) × R (get_or old i row).1 a × (new ≡ slice_set old i ((get_or old i row).0, a)))
-      → numbers_of new ≡ numbers_of old
-  numbers_entry R [] new i within made = absurd (omega (arith, within))
-  numbers_entry R (e ∷ es) new i within made =
-      let one = made e in
-      ap (λ (fs : List (ℕ × A)). numbers_of fs) one.2 ∙ numbers_set (e ∷ es) i e one.0 within
+  -- a row that is put in the place of one with its value, where there is one
+  pub values_replaced : (found : Option A) (old new : List (ℕ × A)) (n : ℕ) (a b : A) → at old n ≡ Some b → value a ≡ value b
+      → found ≡ at old n → IfSome found (λ _. new ≡ put old n a) → IfNone found (new ≡ old) → values_of value new ≡ values_of value old
+  values_replaced None old new n a b stood stay is made same = ap (λ (es : List (ℕ × A)). values_of value es) same
+  values_replaced (Some x) old new n a b stood stay is made same = ap (λ (es : List (ℕ × A)). values_of value es) made ∙ values_put value old n a b stood stay
 
 module _ {P C Q V H T E L : Type 0} where
   -- a change of a task that is never refused

@@ -3,8 +3,10 @@ use Rattle.std.specs.Prelude.{ℕ, List, [], ◌∷◌, map, Some, None, slice_g
 use Rattle.rt_model.specs.Tree as tree
 use Rattle.rt_calls.specs.Kept.{scope_of}
 use Rattle.rt_calls.specs.declared.rest.Scope.{Scope}
+use Rattle.rt_cells.specs.declared.sources.Source.{Source}
 use Rattle.rt_named.specs.Standings.{drawn_in}
 use Rattle.rt_places.specs.declared.nodes.NodeAt.{NodeAt}
+use Rattle.rt_state.specs.Mounts.{Way, sideless, way_of}
 
 -- nothing is drawn
 abbrev pub bare : List (tree.Place × tree.Kind × ℕ) × List (tree.Place × tree.Kind × ℕ) × List (tree.Place × tree.Kind × ℕ)
@@ -24,3 +26,18 @@ module _ {P C Q V H T E L : Type 0} where
   abbrev pub drawn_for : Scope P C Q V H T E L
       → List (tree.Place × tree.Kind × ℕ) × List (tree.Place × tree.Kind × ℕ) × List (tree.Place × tree.Kind × ℕ)
   drawn_for x = drawn_in (scope_of x)
+
+  -- what is drawn for the three sides, the height, what says where the scope shows, and what was read last
+  abbrev pub beside_lists : Scope P C Q V H T E L
+      → (List (tree.Place × tree.Kind × ℕ) × List (tree.Place × tree.Kind × ℕ) × List (tree.Place × tree.Kind × ℕ)) × ℕ × Way × List Source
+  beside_lists x = (drawn_for x, (x.rest).height, way_of x, (x.rest).reads)
+
+  -- the same, the queued effects and the holders
+  abbrev pub kept_for : Scope P C Q V H T E L
+      → (List (tree.Place × tree.Kind × ℕ) × List (tree.Place × tree.Kind × ℕ) × List (tree.Place × tree.Kind × ℕ)) × ℕ × Way × List Source × List E × List (ℕ × ℕ)
+  kept_for x = (drawn_for x, (x.rest).height, way_of x, (x.rest).reads, (x.rest).effects, (x.rest).holders)
+
+  -- the same, whatever side the scope shows
+  abbrev pub turned_for : Scope P C Q V H T E L
+      → (List (tree.Place × tree.Kind × ℕ) × List (tree.Place × tree.Kind × ℕ) × List (tree.Place × tree.Kind × ℕ)) × ℕ × Way × List Source × List E × List (ℕ × ℕ)
+  turned_for x = (drawn_for x, (x.rest).height, sideless x, (x.rest).reads, (x.rest).effects, (x.rest).holders)

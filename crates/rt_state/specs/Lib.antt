@@ -2,8 +2,8 @@ pub mod Names
 pub mod Mirror
 pub mod Climbs
 pub mod Sources
+pub mod Readers
 pub mod Looks
-pub mod Ranks
 pub mod Provided
 pub mod Effects
 pub mod Holders
@@ -15,3 +15,4 @@ pub mod Kinds
 pub mod CleanUps
 pub mod Outputs
 pub mod Drawn
+pub mod Heights

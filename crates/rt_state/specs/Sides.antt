@@ -1,6 +1,6 @@
--- A scope with another side, or with one more number, or one more child, on a side.
-use Rattle.std.specs.Prelude.{ℕ}
-use Rattle.rt_model.specs.Tree.{Types, Place, Kind}
+-- A scope with another side, or with another tree, one more number, or one more child on a side.
+use Rattle.std.specs.Prelude.{ℕ, Some}
+use Rattle.rt_model.specs.Tree.{Types, Tree, Place, Kind}
 use Rattle.rt_model.specs.State as model
 use Rattle.rt_model.specs.State.{with_side}
 use Rattle.rt_calls.specs.declared.rest.Scope.{Scope}
@@ -17,6 +17,10 @@ module _ {P C Q V H T E L : Type 0} where
   side_put Fallback side x = record x { rest = record (x.rest) { fallback_side = side } }
 
 module _ {K : Types} where
+  -- another tree on a side, which keeps its numbers and children
+  abbrev pub with_output : model.SideName → Tree K → model.Scope K → model.Scope K
+  with_output side tree x = with_side x side (record (model.side_of x side) { output = Some tree })
+
   -- one more number, after the others of the side
   abbrev pub more_number : model.SideName → Place × Kind × ℕ → model.Scope K → model.Scope K
   more_number side n x = with_side x side (and_number (model.side_of x side) n)

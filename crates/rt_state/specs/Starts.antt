@@ -15,4 +15,5 @@ module _ {P C Q V H T E L : Type 0} where
     pub queued : (d.owed).queued ≡ []
     pub resolved : d.resolved ≡ []
     pub skipped : d.skipped ≡ []
+    pub number : d.next_scope ≡ 0
     pub next : d.next ≡ firsts

@@ -8,7 +8,7 @@ ghost use Rattle.rt_model.specs.Commands.{activated, clear_error, frozen_at, pro
 ghost use Rattle.rt_model.specs.Laws.{Tests};
 ghost use Rattle.rt_model.specs.Lists.{at};
 ghost use Rattle.rt_mirror.specs.Mirror.{error_of};
-ghost use Rattle.rt_state.specs.Drawn.{drawn_for};
+ghost use Rattle.rt_state.specs.Drawn.{kept_for};
 ghost use Rattle.rt_state.specs.Mirror.{ScopeChange, state_of};
 
 use crate::state::State;
@@ -114,7 +114,7 @@ impl<P: Parts> State<P> {
     ) -> Result<(), OutOfMemory>
         requires callable { F.IsAlwaysCallable apply }
         requires stay { (x y : Scope P P.Component P.Props P.Value P.Handler P.TaskState P.Effect P.Payload) (done : _)
-            → FnOnceReturnsAtMut F.FnOnce apply x done y → drawn_for y ≡ drawn_for x }
+            → FnOnceReturnsAtMut F.FnOnce apply x done y → kept_for y ≡ kept_for x }
         ensures changed { (k : ScopeChange P P.Component P.Props P.Value P.Handler P.TaskState P.Effect P.Payload)
             → ((x y : Scope P P.Component P.Props P.Value P.Handler P.TaskState P.Effect P.Payload)
             → FnOnceReturnsAtMut F.FnOnce apply x result y → OnOk result (y ≡ k.code x))

@@ -1,17 +1,18 @@
 //! The way up from a scope, which has at most as many steps as the scope's height.
-ghost use Rattle.std.specs.Prelude.{◌≡◌, option_map};
+ghost use Rattle.std.specs.Prelude.{◌≡◌, true, false, Some, IfNone, IfSome, option_map};
 ghost use Rattle.rt_model.specs.State as model;
-ghost use Rattle.rt_model.specs.State.{climb, error_context, suspense_context, location, location_from, is_shown, shown_from, is_side};
+ghost use Rattle.rt_model.specs.State.{climb, error_context, suspense_context, location, location_from, is_shown, is_side};
 ghost use Rattle.rt_model.specs.Lists.{at};
+ghost use Rattle.rt_calls.specs.Kept.{scope_of};
 ghost use Rattle.rt_mirror.specs.Sealed.{component_of};
 ghost use Rattle.rt_places.specs.Places.{side_name_of};
 ghost use Rattle.rt_state.specs.Climbs.{is_sought, shows_side, place_above};
 ghost use Rattle.rt_state.specs.Mirror.{scopes_of, state_of};
-ghost use Rattle.rt_state.specs.Mounts.{shown_in};
+ghost use Rattle.rt_state.specs.Mounts.{Way, hides, hides_over, shown_in, shown_over, way_of, ways_of};
 
 use crate::scopes::is_suspense_boundary;
 use crate::state::State;
-use rt_calls::is_error_boundary;
+use rt_calls::{Scope, is_error_boundary};
 use rt_nodes::VComponent;
 use rt_parts::Parts;
 use rt_places::SideName;
@@ -110,26 +111,69 @@ impl<P: Parts> State<P> {
         let Some(found) = self.scope(scope) else {
             return false;
         };
-        self.shown_from(found.rest.height, scope)
-    }
-
-    /// Whether the scopes above show the way, at most so many steps up.
-    fn shown_from(&self, steps: u64, scope: u64) -> bool
-        ensures { result ≡ shown_from (scopes_of self.now.rows.table) steps scope }
-    {
-        if steps == 0 {
+        if found.rest.height == 0 {
             return true;
         }
-        let Some(found) = self.scope(scope) else {
-            return false;
-        };
+        self.shown_above(found.rest.height - 1, found)
+    }
+
+    /// Whether the parent of a scope shows the way, and the scopes above it do, at most so many
+    /// steps up.
+    fn shown_above(&self, steps: u64, found: &Scope<P>) -> bool
+        ensures { result ≡ shown_over (scopes_of self.now.rows.table) steps (scope_of found.now) }
+    {
         let Some(parent) = found.row.parent else {
             return true;
         };
-        if !self.shows_side(parent.0, found.rest.below) {
+        let Some(above) = self.scope(parent.0) else {
+            return false;
+        };
+        if !is_side(above.rest.shows, found.rest.below) {
             return false;
         }
-        self.shown_from(steps - 1, parent.0)
+        if steps == 0 {
+            return true;
+        }
+        self.shown_above(steps - 1, above)
+    }
+
+    /// The number of a scope above that hides this one; None where it shows.
+    pub(crate) fn hider(&self, scope: u64) -> Option<u64>
+        ensures hidden { IfSome result (λ above. (x : Way) → at (ways_of self.now.rows.table) scope ≡ Some x
+            → hides (ways_of self.now.rows.table) above x.height scope ≡ true) }
+        ensures unshown { IfSome result (λ _. shown_in (scopes_of self.now.rows.table) scope ≡ false) }
+        ensures shown { IfNone result (shown_in (scopes_of self.now.rows.table) scope ≡ true) }
+    {
+        let Some(found) = self.scope(scope) else {
+            return Some(scope);
+        };
+        if found.rest.height == 0 {
+            return None;
+        }
+        self.hider_above(found.rest.height - 1, found)
+    }
+
+    /// The number of the parent or of a scope above it that hides this one, at most so many steps
+    /// up.
+    fn hider_above(&self, steps: u64, found: &Scope<P>) -> Option<u64>
+        ensures hidden { IfSome result (λ above.
+            hides_over (ways_of self.now.rows.table) above steps (way_of found.now) ≡ true) }
+        ensures shown { IfNone result (true
+            ≡ shown_over (scopes_of self.now.rows.table) steps (scope_of found.now)) }
+    {
+        let Some(parent) = found.row.parent else {
+            return None;
+        };
+        let Some(above) = self.scope(parent.0) else {
+            return Some(parent.0);
+        };
+        if !is_side(above.rest.shows, found.rest.below) {
+            return Some(parent.0);
+        }
+        if steps == 0 {
+            return None;
+        }
+        self.hider_above(steps - 1, above)
     }
 
     /// Whether a live scope shows this side.

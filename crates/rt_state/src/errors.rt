@@ -1,13 +1,15 @@
 //! Errors, and what waits for a suspense boundary.
 ghost use Rattle.std.specs.Prelude.{◌≡◌, ◌++◌, ◌∷◌, [], OnOk, OnErr, Some, None, option_map, true};
+ghost use Rattle.rt_model.specs.Lists.{has};
 ghost use Rattle.rt_model.specs.State.{change};
 ghost use Rattle.rt_model.specs.Commands.{throw_error, clear_error, registered, frozen_at};
 ghost use Rattle.rt_model.specs.State.{suspense_context};
 ghost use Rattle.rt_mirror.specs.Mirror.{error_of};
 ghost use Rattle.rt_calls.specs.Calls.{hook_of};
-ghost use Rattle.rt_state.specs.Drawn.{drawn_for};
+ghost use Rattle.rt_state.specs.Drawn.{beside_lists, kept_for};
 ghost use Rattle.rt_state.specs.Mirror.{state_of};
 
+use crate::numbers::join;
 use crate::state::State;
 use rt_calls::{Hook, Scope};
 use rt_cells::Source;
@@ -62,7 +64,7 @@ impl<P: Parts> State<P> {
                 ensures changed { OnOk result (found.new ≡ record found.old {
                   row = record found.old.row { error = error };
                 }) }
-                ensures stay { drawn_for found.new ≡ drawn_for found.old }
+                ensures stay { kept_for found.new ≡ kept_for found.old }
                 ensures err { OnErr result (found.new ≡ found.old) }
             {
                 found.row.error = error;
@@ -83,7 +85,7 @@ impl<P: Parts> State<P> {
                 ensures changed { OnOk result (found.new ≡ record found.old {
                   row = record found.old.row { hooks = found.old.row.hooks ++ hook ∷ [] };
                 }) }
-                ensures stay { drawn_for found.new ≡ drawn_for found.old }
+                ensures stay { kept_for found.new ≡ kept_for found.old }
             { found.row.hooks.push(hook) },
         )
     }
@@ -94,13 +96,25 @@ impl<P: Parts> State<P> {
             state_of g self.new ≡ change (state_of g self.old) scope
             (λ x. record x { effects = x.effects ++ effect ∷ [] })) }
     {
-        self.change_scope(
+        join(&mut self.effects, scope)?;
+        self.add_effect(scope, effect)
+    }
+
+    /// The same of a scope that is listed as one with queued effects.
+    fn add_effect(&mut self, scope: u64, effect: P::Effect) -> Result<(), OutOfMemory>
+        requires listed { has self.old.effects scope ≡ true }
+        ensures { OnOk result ((g : _) →
+            state_of g self.new ≡ change (state_of g self.old) scope
+            (λ x. record x { effects = x.effects ++ effect ∷ [] })) }
+    {
+        self.change_listed(
             scope,
             |found: &mut Scope<P>| -> Result<(), OutOfMemory>
                 ensures changed { OnOk result (found.new ≡ record found.old {
                   rest = record found.old.rest { effects = found.old.rest.effects ++ effect ∷ [] };
                 }) }
-                ensures stay { drawn_for found.new ≡ drawn_for found.old }
+                ensures stay { beside_lists found.new ≡ beside_lists found.old }
+                ensures holders { found.new.rest.holders ≡ found.old.rest.holders }
             { found.rest.effects.push(effect) },
         )
     }
@@ -138,7 +152,7 @@ impl<P: Parts> State<P> {
                     callbacks = found.old.rest.callbacks ++ (scope, effect) ∷ [];
                   };
                 }) }
-                ensures stay { drawn_for found.new ≡ drawn_for found.old }
+                ensures stay { kept_for found.new ≡ kept_for found.old }
                 ensures err { OnErr result (found.new ≡ found.old) }
             { found.rest.callbacks.push((scope, effect)) },
         )
@@ -170,7 +184,7 @@ impl<P: Parts> State<P> {
                 ensures changed { OnOk result (found.new ≡ record found.old {
                   rest = record found.old.rest { frozen = true };
                 }) }
-                ensures stay { drawn_for found.new ≡ drawn_for found.old }
+                ensures stay { kept_for found.new ≡ kept_for found.old }
                 ensures err { OnErr result (found.new ≡ found.old) }
             {
                 found.rest.frozen = true;

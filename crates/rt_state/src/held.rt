@@ -1,5 +1,5 @@
 //! What follows a body's answer: a render is counted, a suspension is held.
-ghost use Rattle.std.specs.Prelude.{◌≡◌, ◌+◌, ◌++◌, ◌∷◌, [], Some, IfErr, IfNone, IfSome, OnOk, option_map, true, false};
+ghost use Rattle.std.specs.Prelude.{◌≡◌, ◌+◌, ◌++◌, ◌∷◌, [], Some, IfErr, IfNone, IfSome, OnErr, OnOk, option_map, true, false};
 ghost use Rattle.rt_model.specs.Lists.{at};
 ghost use Rattle.rt_model.specs.World.{at_end};
 ghost use Rattle.rt_model.specs.State.{Done, Cut, change, ChildrenSide, SuspendedTask};
@@ -7,7 +7,9 @@ ghost use Rattle.rt_state.specs.Mirror.{change_task};
 ghost use Rattle.rt_model.specs.Run.{raised, suspends_on, joins, unmarked};
 ghost use Rattle.rt_state.specs.Names.{fault_of};
 ghost use Rattle.rt_state.specs.Climbs.{place_above};
-ghost use Rattle.rt_state.specs.Drawn.{drawn_for};
+ghost use Rattle.rt_state.specs.Drawn.{beside_lists, kept_for};
+ghost use Rattle.rt_state.specs.Effects.{has_pair};
+ghost use Rattle.rt_state.specs.Heights.{task_scope};
 ghost use Rattle.rt_state.specs.Mirror.{state_of};
 
 use crate::names::{Fault, Posted, Stop, TaskKind};
@@ -50,7 +52,7 @@ impl<P: Parts> State<P> {
                 ensures changed { OnOk result (found.new ≡ record found.old {
                   row = record found.old.row { renders = renders };
                 }) }
-                ensures stay { drawn_for found.new ≡ drawn_for found.old }
+                ensures stay { kept_for found.new ≡ kept_for found.old }
             {
                 found.row.renders = renders;
                 Ok(())
@@ -86,7 +88,10 @@ impl<P: Parts> State<P> {
         self.change_task(
             task,
             |row: &mut TaskRow<P>| -> Result<(), OutOfMemory>
-                ensures { OnOk result (row.new ≡ record row.old { kind = TaskKind.Suspended }) }
+                ensures changed { OnOk result (row.new ≡ record row.old {
+                  kind = TaskKind.Suspended;
+                }) }
+                ensures stay { task_scope row.new ≡ task_scope row.old }
             {
                 row.kind = TaskKind::Suspended;
                 Ok(())
@@ -133,7 +138,18 @@ impl<P: Parts> State<P> {
             state_of g self.new ≡ change (state_of g self.old) boundary
             (λ x. record x { holders = x.holders ++ (task, origin) ∷ [] })) }
     {
-        self.change_scope(
+        self.held.push((task, boundary))?;
+        self.push_holder(boundary, task, origin)
+    }
+
+    /// The same where the two are paired.
+    fn push_holder(&mut self, boundary: u64, task: u64, origin: u64) -> Result<(), OutOfMemory>
+        requires paired { has_pair self.old.held task boundary ≡ true }
+        ensures { OnOk result ((g : _) →
+            state_of g self.new ≡ change (state_of g self.old) boundary
+            (λ x. record x { holders = x.holders ++ (task, origin) ∷ [] })) }
+    {
+        self.change_listed(
             boundary,
             |found: &mut Scope<P>| -> Result<(), OutOfMemory>
                 ensures changed { OnOk result (found.new ≡ record found.old {
@@ -141,7 +157,8 @@ impl<P: Parts> State<P> {
                     holders = found.old.rest.holders ++ (task, origin) ∷ [];
                   };
                 }) }
-                ensures stay { drawn_for found.new ≡ drawn_for found.old }
+                ensures stay { beside_lists found.new ≡ beside_lists found.old }
+                ensures err { OnErr result (found.new ≡ found.old) }
             { found.rest.holders.push((task, origin)) },
         )
     }

@@ -3,7 +3,7 @@ ghost use Rattle.std.specs.Prelude.{◌≡◌, Some, OnErr, OnOk};
 ghost use Rattle.rt_model.specs.Lists.{at, put};
 ghost use Rattle.rt_calls.specs.Kept.{each, scope_of};
 ghost use Rattle.rt_places.specs.Places.{kind_of, place_of, side_name_of};
-ghost use Rattle.rt_state.specs.Drawn.{drawn_for};
+ghost use Rattle.rt_state.specs.Drawn.{kept_for};
 ghost use Rattle.rt_state.specs.Sides.{more_child, more_number};
 
 use rt_calls::Scope;
@@ -18,22 +18,22 @@ pub(crate) fn put_number<P: Parts>(
     rows: &mut Table<Scope<P>>,
     scope: u64,
     side: SideName,
-    place: Place,
+    place: &Place,
     kind: Kind,
     number: u64,
 ) -> Result<(), OutOfMemory>
     ensures put { OnOk result ((x : Scope P P.Component P.Props P.Value P.Handler P.TaskState P.Effect P.Payload)
         → at rows.old scope ≡ Some x → each scope_of rows.new ≡ put (each scope_of rows.old) scope
-        (more_number (side_name_of side) (place_of place, kind_of kind, number) (scope_of x))) }
+        (more_number (side_name_of side) (place_of place.now, kind_of kind, number) (scope_of x))) }
     ensures err { OnErr result (rows.new ≡ rows.old) }
 {
     rows.change(
         scope,
         |found: &mut Scope<P>| -> Result<(), OutOfMemory>
             ensures pushed { OnOk result (scope_of found.new ≡ more_number (side_name_of side)
-                (place_of place, kind_of kind, number) (scope_of found.old)) }
+                (place_of place.entry.now, kind_of kind, number) (scope_of found.old)) }
             ensures err { OnErr result (found.new ≡ found.old) }
-        { push_number(found, side, &place, kind, number) },
+        { push_number(found, side, place, kind, number) },
     )
 }
 
@@ -49,7 +49,6 @@ fn push_number<P: Parts>(
         (place_of place.now, kind_of kind, number) (scope_of scope.old)) }
     ensures err { OnErr result (scope.new ≡ scope.old) }
 {
-    let place = place.as_slice();
     match side {
         SideName::Main => scope.rest.main_side.draw(place, kind, number),
         SideName::Children => scope.rest.children_side.draw(place, kind, number),
@@ -66,9 +65,8 @@ pub(crate) fn push_child<P: Parts>(
 ) -> Result<(), OutOfMemory>
     ensures seated { OnOk result (scope_of scope.new ≡ more_child (side_name_of side)
         (place_of place.now, child) (scope_of scope.old)) }
-    ensures stay { drawn_for scope.new ≡ drawn_for scope.old }
+    ensures stay { kept_for scope.new ≡ kept_for scope.old }
 {
-    let place = place.as_slice();
     match side {
         SideName::Main => scope.rest.main_side.seat(place, child),
         SideName::Children => scope.rest.children_side.seat(place, child),

@@ -40,7 +40,7 @@ impl<P: Parts> State<P> {
 
 /// All these scopes are seen. They are the entered ones.
 fn see_all<P: Parts>(scopes: &[(u64, Scope<P>)], owed: &mut Owed)
-    requires entered { numbers_of scopes.now ≡ owed.old.scopes }
+    requires entered { numbers_of scopes.now ≡ numbers_of owed.old.scopes }
     ensures seen { owed.new ≡ record owed.old { seen = joins owed.old.seen (numbers_of scopes.now) } }
 {
     for entry in scopes {

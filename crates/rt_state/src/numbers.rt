@@ -40,7 +40,7 @@ pub fn join(numbers: &mut List<u64>, number: u64) -> Result<(), OutOfMemory>
 }
 
 /// Whether a number is in a list.
-fn has_number(numbers: &[u64], number: u64) -> bool
+pub(crate) fn has_number(numbers: &[u64], number: u64) -> bool
     ensures { result ≡ has numbers.now number }
 {
     for own in numbers {

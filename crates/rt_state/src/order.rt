@@ -3,22 +3,14 @@ ghost use Rattle.std.specs.Prelude.{◌≡◌, option_map, if◌then◌else◌};
 ghost use Rattle.rt_model.specs.Next.{is_before, scope_of_task, is_active, first_task, first_seen, found, next_at_rest, least, with_effects};
 ghost use Rattle.rt_model.specs.Next as model;
 ghost use Rattle.rt_calls.specs.Kept.{scope_of};
-ghost use Rattle.rt_state.specs.Effects.{has_effects, or_lesser};
+ghost use Rattle.rt_state.specs.Effects.{effects_at, has_effects, or_lesser};
 ghost use Rattle.rt_state.specs.Names.{work_of};
 ghost use Rattle.rt_state.specs.Mirror.{scopes_of, state_of};
-ghost use Rattle.rt_state.specs.Ranks.{comes_before, rank_of};
 
 use crate::names::Work;
 use crate::state::State;
 use rt_calls::Scope;
 use rt_parts::Parts;
-
-/// A scope with the number of scopes above it.
-#[derive(Clone, Copy)]
-struct Rank {
-    height: u64,
-    scope: u64,
-}
 
 impl<P: Parts> State<P> {
     /// Whether a scope comes before another: by height, and then by number.
@@ -51,26 +43,6 @@ impl<P: Parts> State<P> {
         }
     }
 
-    /// A scope with its height.
-    fn rank_of(&self, scope: u64) -> Rank
-        ensures { result ≡ rank_of (scopes_of self.now.rows.table) scope }
-    {
-        Rank {
-            height: self.height_of(scope),
-            scope,
-        }
-    }
-
-    /// A task with the scope whose order it has.
-    fn rank_of_task(&self, task: u64) -> (u64, Rank)
-        ensures { (g : _) → result ≡ (
-          task,
-          rank_of (scopes_of self.now.rows.table) (scope_of_task (state_of g self.now) task),
-        ) }
-    {
-        (task, self.rank_of(self.scope_of_task(task)))
-    }
-
     /// The scope that comes first of two, the former on equal order.
     fn lesser_scope(&self, scope: u64, other: u64) -> u64
         ensures { result
@@ -87,30 +59,14 @@ impl<P: Parts> State<P> {
     pub fn first_task(&self) -> Option<u64>
         ensures { (g : _) → result ≡ first_task (state_of g self.now) }
     {
-        let queued = self.owed.queued();
-        if queued.is_empty() {
-            return None;
-        }
-        let mut first = self.rank_of_task(queued[0]);
-        for index in 1..queued.len() {
-            first = lesser_task(first, self.rank_of_task(queued[index]));
-        }
-        Some(first.0)
+        self.owed.first_queued()
     }
 
     /// The seen scope of the least order.
     pub fn first_seen(&self) -> Option<u64>
         ensures { (g : _) → result ≡ first_seen (state_of g self.now) }
     {
-        let seen = self.owed.seen();
-        if seen.is_empty() {
-            return None;
-        }
-        let mut first = self.rank_of(seen[0]);
-        for index in 1..seen.len() {
-            first = lesser(first, self.rank_of(seen[index]));
-        }
-        Some(first.scope)
+        self.owed.first_seen()
     }
 
     /// The scope or task that comes up: the lesser of the two, the task on equal order.
@@ -145,24 +101,35 @@ impl<P: Parts> State<P> {
             (with_effects (scopes_of self.now.rows.table)) }
     {
         let mut first = None;
-        for entry in self.rows.table.as_slice() {
-            first = self.or_lesser(first, entry);
+        for scope in self.effects.as_slice() {
+            first = self.or_lesser(first, *scope);
         }
         first
     }
 
     /// The scope that comes first of one that was found, if any was, and another that counts only where
-    /// it is mounted and has queued effects.
-    fn or_lesser(&self, found: Option<u64>, entry: &(u64, Scope<P>)) -> Option<u64>
+    /// it is live, mounted and has queued effects.
+    fn or_lesser(&self, found: Option<u64>, scope: u64) -> Option<u64>
         ensures { result ≡ or_lesser (λ s t. is_before (scopes_of self.now.rows.table) s t) found
-            entry.now.0 (has_effects (scope_of entry.now.1)) }
+            scope (effects_at (scopes_of self.now.rows.table) scope) }
     {
-        if !has_effects(&entry.1) {
+        if !self.effects_at(scope) {
             return found;
         }
         match found {
-            Some(former) => Some(self.lesser_scope(former, entry.0)),
-            None => Some(entry.0),
+            Some(former) => Some(self.lesser_scope(former, scope)),
+            None => Some(scope),
+        }
+    }
+
+    /// Whether a scope is live, mounted and has queued effects.
+    #[tactic(auto, using(crate::proofs::Each::eaches))]
+    fn effects_at(&self, scope: u64) -> bool
+        ensures { result ≡ effects_at (scopes_of self.now.rows.table) scope }
+    {
+        match self.scope(scope) {
+            Some(found) => has_effects(found),
+            None => false,
         }
     }
 
@@ -187,35 +154,6 @@ impl<P: Parts> State<P> {
             Some(work) => Some(work),
             None => self.next_effects(),
         }
-    }
-}
-
-/// Whether a scope comes before another: by height, and then by number.
-fn comes_before(rank: Rank, other: Rank) -> bool
-    ensures { result ≡ comes_before rank other }
-{
-    rank.height < other.height || (rank.height == other.height && rank.scope < other.scope)
-}
-
-/// The scope that comes first of two, the former on equal order.
-fn lesser(first: Rank, other: Rank) -> Rank
-    ensures { result ≡ (if comes_before other first then other else first) }
-{
-    if comes_before(other, first) {
-        other
-    } else {
-        first
-    }
-}
-
-/// The task that comes first of two, the former on equal order.
-fn lesser_task(first: (u64, Rank), other: (u64, Rank)) -> (u64, Rank)
-    ensures { result ≡ (if comes_before other.1 first.1 then other else first) }
-{
-    if comes_before(other.1, first.1) {
-        other
-    } else {
-        first
     }
 }
 

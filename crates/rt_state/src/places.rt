@@ -1,5 +1,5 @@
 //! Where the numbers of the document stand.
-ghost use Rattle.std.specs.Prelude.{◌≡◌, ◌<◌, ◌∷◌, ℕ, List, Some, true, drop, is_some, length, option_map, slice_get};
+ghost use Rattle.std.specs.Prelude.{◌≡◌, ◌<◌, ◌∷◌, [], ℕ, List, Some, true, drop, is_some, length, option_map, slice_get};
 ghost use Rattle.std.specs.Option.{option_copied};
 ghost use Rattle.rt_model.specs.Lists.{at, without};
 ghost use Rattle.rt_model.specs.Queries.{node_place};
@@ -92,6 +92,43 @@ fn forget<P: Parts>(places: &mut Table<Place>, side: &Side<P>, stay: &[(u64, u64
 
 /// The same of what is drawn for these nodes.
 fn forget_drawn(
+    places: &mut Table<Place>,
+    nodes: &[NodeAt],
+    drawn: &[(u64, u64)],
+    stay: &[(u64, u64)],
+)
+    ensures { places.new ≡ without_all places.old
+        (went (numbers_at nodes.now drawn.now) (numbers_in stay.now)) }
+{
+    if stay.is_empty() {
+        forget_all(places, nodes, drawn);
+        return;
+    }
+    forget_but(places, nodes, drawn, stay);
+}
+
+/// The same where none stays. The last goes first: few places stand behind it, which move up.
+fn forget_all(places: &mut Table<Place>, nodes: &[NodeAt], drawn: &[(u64, u64)])
+    ensures { places.new ≡ without_all places.old (numbers_at nodes.now drawn.now) }
+{
+    for back in 0..drawn.len() {
+        let index = drawn.len() - 1 - back;
+        forget_one(places, nodes, &drawn[index]);
+    }
+}
+
+/// Takes the place of one of them out.
+fn forget_one(places: &mut Table<Place>, nodes: &[NodeAt], pair: &(u64, u64))
+    ensures { places.new ≡ without_all places.old (numbers_at nodes.now (pair.now ∷ [])) }
+{
+    if !is_known(nodes, pair.0) {
+        return;
+    }
+    places.remove(pair.1);
+}
+
+/// The same where some stay.
+fn forget_but(
     places: &mut Table<Place>,
     nodes: &[NodeAt],
     drawn: &[(u64, u64)],

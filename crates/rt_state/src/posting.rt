@@ -8,15 +8,17 @@ ghost use Rattle.rt_model.specs.Removal.{tell_all};
 ghost use Rattle.rt_model.specs.Replay.{post_all};
 ghost use Rattle.rt_calls.specs.Calls.{source_of, target_of};
 ghost use Rattle.rt_state.specs.Names.{posted_of};
+ghost use Rattle.rt_state.specs.Readers.{AreKnown};
 ghost use Rattle.rt_state.specs.Mirror.{scopes_of, state_of};
 
 use crate::names::Posted;
 use crate::sources::names_source;
 use crate::state::{ContextRow, State};
 use rt_calls::Scope;
-use rt_cells::{Source, Target};
+use rt_cells::{Cells, Source, Target};
 use rt_owed::Owed;
 use rt_parts::Parts;
+use rt_table::Table;
 use rt_values::OutOfMemory;
 
 impl<P: Parts> State<P> {
@@ -87,7 +89,7 @@ impl<P: Parts> State<P> {
         ensures told { OnOk result ((g : _) →
             state_of g self.new ≡ tell (state_of g self.old) (source_of source)) }
     {
-        add_readers(self.rows.table.as_slice(), source, &mut self.owed);
+        add_marks(&self.rows.table, &self.cells, source, &mut self.owed);
         let count = self.contexts.as_slice().len();
         for index in 0..count {
             self.tell_context(index, source)?;
@@ -158,9 +160,34 @@ impl<P: Parts> State<P> {
     }
 }
 
+/// Posts the marks of the scopes that read a source, which are entered. The cells know them, by number,
+/// which is the order of the table; only where its numbers didn't rise is each scope looked at.
+fn add_marks<P: Parts>(
+    rows: &Table<Scope<P>>,
+    cells: &Cells<P::Value>,
+    source: Source,
+    owed: &mut Owed,
+)
+    requires known { AreKnown (scopes_of rows.now) cells.now.reads }
+    requires entered { numbers_of rows.now ≡ numbers_of owed.old.scopes }
+    ensures posted { owed.new ≡ record owed.old {
+      posted = owed.old.posted ++ readers (source_of source) (scopes_of rows.now);
+    } }
+{
+    if !rows.rises() {
+        add_readers(rows.as_slice(), source, owed);
+        return;
+    }
+    let mut after = None;
+    while let Some(scope) = cells.next_reader(source, after) {
+        owed.post_mark(scope);
+        after = Some(scope);
+    }
+}
+
 /// Posts the marks of the scopes that read a source. They are entered.
 fn add_readers<P: Parts>(scopes: &[(u64, Scope<P>)], source: Source, owed: &mut Owed)
-    requires entered { numbers_of scopes.now ≡ owed.old.scopes }
+    requires entered { numbers_of scopes.now ≡ numbers_of owed.old.scopes }
     ensures posted { owed.new ≡ record owed.old {
       posted = owed.old.posted ++ readers (source_of source) (scopes_of scopes.now);
     } }
@@ -172,7 +199,7 @@ fn add_readers<P: Parts>(scopes: &[(u64, Scope<P>)], source: Source, owed: &mut 
 
 /// Posts the mark of an entered scope, where it read the source.
 fn add_reader(scope: u64, reads: &[Source], source: Source, owed: &mut Owed)
-    requires entered { has owed.old.scopes scope ≡ true }
+    requires entered { has (numbers_of owed.old.scopes) scope ≡ true }
     ensures posted { owed.new ≡ record owed.old {
       posted = owed.old.posted
           ++ (if names_source (map source_of reads.now) (source_of source) then MarkOf scope ∷ [] else []);

@@ -1,5 +1,5 @@
 //! What scopes provide.
-ghost use Rattle.std.specs.Prelude.{◌≡◌, ◌<◌, ◌++◌, ◌∷◌, [], length, map, slice_set, OnOk, OnErr, IfSome, IfNone};
+ghost use Rattle.std.specs.Prelude.{◌≡◌, map, OnOk, OnErr};
 ghost use Rattle.std.specs.Option.{option_copied};
 ghost use Rattle.rt_model.specs.Lists.{at, put};
 ghost use Rattle.rt_model.specs.State.{change};
@@ -8,60 +8,22 @@ ghost use Rattle.rt_calls.specs.Kept.{provided_of};
 ghost use Rattle.rt_model.specs.OneLog.{types};
 ghost use Rattle.rt_model.specs.World.{Application};
 ghost use Rattle.rt_model.specs.Laws.{Tests};
-ghost use Rattle.rt_state.specs.Provided.{put_provided, provides_now};
-ghost use Rattle.rt_state.specs.Drawn.{drawn_for};
+ghost use Rattle.rt_calls.specs.Provisions.{put_provided};
+ghost use Rattle.rt_state.specs.Provided.{provides_now};
+ghost use Rattle.rt_state.specs.Drawn.{kept_for};
 ghost use Rattle.rt_state.specs.Mirror.{state_of};
 
 use crate::state::State;
-use rt_calls::{Provided, Scope};
+use rt_calls::{Provisions, Scope};
 use rt_cells::Source;
 use rt_parts::Parts;
-use rt_values::{List, OutOfMemory, Part, ScopeId};
-
-/// The index of the first value of a kind.
-fn kind_in<P: Parts>(contexts: &[Provided<P>], kind: u32) -> Option<usize>
-    ensures within { IfSome result (λ index. index < length contexts.now) }
-    ensures put { IfSome result (λ index. (value : P.Value) → put_provided contexts.now kind value
-        ≡ slice_set contexts.now index (record { kind = kind; value = value })) }
-    ensures new { IfNone result ((value : P.Value) → put_provided contexts.now kind value
-        ≡ contexts.now ++ record { kind = kind; value = value } ∷ []) }
-{
-    for index in 0..contexts.len() {
-        if contexts[index].kind == kind {
-            return Some(index);
-        }
-    }
-    None
-}
+use rt_values::{OutOfMemory, Part, ScopeId};
 
 /// The first value of a kind.
-fn provided_in<P: Parts>(contexts: &[Provided<P>], kind: u32) -> Option<&P::Value>
+fn provided_in<P: Parts>(contexts: &Provisions<P>, kind: u32) -> Option<&P::Value>
     ensures { option_copied result ≡ at (map provided_of contexts.now) kind }
 {
-    for context in contexts {
-        if context.kind == kind {
-            return Some(&context.value);
-        }
-    }
-    None
-}
-
-/// Puts a value in the place of the one of its kind, or at the end.
-pub(crate) fn put_provided<P: Parts>(
-    contexts: &mut List<Provided<P>>,
-    kind: u32,
-    value: P::Value,
-) -> Result<(), OutOfMemory>
-    ensures put { OnOk result (contexts.new ≡ put_provided contexts.old kind value) }
-    ensures err { OnErr result (contexts.new ≡ contexts.old) }
-{
-    match kind_in(contexts.as_slice(), kind) {
-        Some(index) => {
-            contexts.set(index, Provided { kind, value });
-            Ok(())
-        }
-        None => contexts.push(Provided { kind, value }),
-    }
+    contexts.get(kind)
 }
 
 impl<P: Parts> State<P> {
@@ -98,7 +60,7 @@ impl<P: Parts> State<P> {
         let Some(found) = self.scope(scope) else {
             return None;
         };
-        match provided_in(found.row.contexts.as_slice(), kind) {
+        match provided_in(&found.row.contexts, kind) {
             Some(old) => Some(old.same(value)),
             None => Some(false),
         }
@@ -119,9 +81,9 @@ impl<P: Parts> State<P> {
                     contexts = put_provided found.old.row.contexts kind value;
                   };
                 }) }
-                ensures stay { drawn_for found.new ≡ drawn_for found.old }
+                ensures stay { kept_for found.new ≡ kept_for found.old }
                 ensures err { OnErr result (found.new ≡ found.old) }
-            { put_provided(&mut found.row.contexts, kind, value) },
+            { found.row.contexts.put(kind, value) },
         )
     }
 }

@@ -9,11 +9,12 @@ ghost use Rattle.rt_state.specs.CleanUps.{own_clean_up};
 ghost use Rattle.rt_state.specs.Kinds.{kinds_in_contexts};
 ghost use Rattle.rt_state.specs.Mirror.{forgets, scopes_of, state_of};
 
+use crate::holding::{drop_holder, drop_paired};
 use crate::numbers::{drop_number, insert_number};
 use crate::places::remove_rows;
 use crate::state::{ContextRow, State};
 use rt_calls::{CLEAN_UP, Hook, Scope};
-use rt_cells::Source;
+use rt_cells::{Reader, Source};
 use rt_parts::Parts;
 use rt_table::Table;
 use rt_values::{List, OutOfMemory, Part, ScopeId};
@@ -192,6 +193,10 @@ impl<P: Parts> State<P> {
             return;
         }
         self.owed.leave_scope(scope);
+        self.cells.drop_reader(Reader::Scope(ScopeId(scope)));
+        drop_number(&mut self.fresh, scope);
+        drop_holder(&mut self.hidden, scope);
+        drop_paired(&mut self.held, scope);
         remove_rows(&mut self.rows.table, &mut self.places, scope);
     }
 

@@ -12,7 +12,7 @@ ghost use Rattle.rt_state.specs.Mirror.{scopes_of, state_of};
 ghost use Rattle.rt_state.specs.Sides.{side_put};
 
 use crate::state::State;
-use rt_calls::{Hook, Rest, Scope, ScopeRow};
+use rt_calls::{Hook, Provisions, Rest, Scope, ScopeRow};
 use rt_nodes::VComponent;
 use rt_parts::Parts;
 use rt_places::{Side, SideName};
@@ -35,7 +35,7 @@ pub fn new_scope<P: Parts>(
         parent: scope_id(parent),
         renders: 0,
         hooks: List::new(alloc),
-        contexts: List::new(alloc),
+        contexts: Provisions::new(alloc),
         error: None,
     };
     let rest = Rest {

@@ -1,6 +1,6 @@
 //! What changes on the sides of scopes: numbers, children, the side that shows.
-ghost use Rattle.std.specs.Prelude.{◌≡◌, ℕ, true, ◌++◌, ◌∷◌, [], OnOk, IfOk, IfErr, Ok, Err, Some, None, map};
-ghost use Rattle.rt_model.specs.Lists.{at, drop_number as drop_from, without};
+ghost use Rattle.std.specs.Prelude.{◌≡◌, ℕ, true, ◌++◌, ◌∷◌, [], OnOk, IfOk, IfErr, Ok, Err, Some, None};
+ghost use Rattle.rt_model.specs.Lists.{at, drop_number as drop_from, has};
 ghost use Rattle.rt_model.specs.World.{Scopes, at_end};
 ghost use Rattle.rt_model.specs.State as model;
 ghost use Rattle.rt_model.specs.State.{change, effects_of};
@@ -9,27 +9,26 @@ ghost use Rattle.rt_model.specs.Replay.{draw_number};
 ghost use Rattle.rt_state.specs.Effects.{callbacks_of};
 ghost use Rattle.rt_state.specs.Names.{fault_of};
 ghost use Rattle.rt_state.specs.Sides.{more_child, more_number};
-ghost use Rattle.rt_calls.specs.Calls.{source_of, newest_first};
 ghost use Rattle.rt_mirror.specs.Sealed.{component_of};
 ghost use Rattle.rt_calls.specs.Kept.{scope_of};
 ghost use Rattle.rt_places.specs.Places.{kind_of, place_of, side_name_of};
 ghost use Rattle.rt_state.specs.Made.{IsMade};
-ghost use Rattle.rt_state.specs.Drawn.{drawn_for};
-ghost use Rattle.rt_state.specs.Mirror.{state_of, forgets};
+ghost use Rattle.rt_state.specs.Drawn.{beside_lists, kept_for, turned_for};
+ghost use Rattle.rt_state.specs.Mirror.{state_of};
 
+use crate::entering::Coming;
 use crate::held::next_number;
 use crate::joining::{push_child, put_number};
 use crate::names::{Fault, Stop};
-use crate::numbers::drop_number;
-use crate::scopes::new_scope;
-use crate::sources::newest_first;
+use crate::numbers::{drop_number, has_number};
 use crate::state::State;
 use rt_calls::{Counter, Scope};
-use rt_cells::Source;
 use rt_named::name_place;
 use rt_nodes::VComponent;
 use rt_parts::Parts;
 use rt_places::{Kind, Place, SideName};
+use rt_plan::Place as Named;
+use rt_table::Table;
 use rt_values::{List, OutOfMemory, Part};
 use std::alloc::Global;
 
@@ -40,14 +39,14 @@ impl<P: Parts> State<P> {
         alloc: Global,
         scope: u64,
         side: SideName,
-        place: Place,
+        place: &Place,
         kind: Kind,
     ) -> Result<(), Stop>
         ensures done { OnOk result ((g : _) →
-            draw_number (state_of g self.old) scope (side_name_of side) (place_of place) (kind_of kind)
+            draw_number (state_of g self.old) scope (side_name_of side) (place_of place.now) (kind_of kind)
             ≡ Done (state_of g self.new) []) }
         ensures cut { (what : Fault) → IfErr result (λ stop. stop ≡ Stop.Fault what → (g : _) →
-            draw_number (state_of g self.old) scope (side_name_of side) (place_of place) (kind_of kind)
+            draw_number (state_of g self.old) scope (side_name_of side) (place_of place.now) (kind_of kind)
             ≡ Cut (state_of g self.new) (fault_of what)) }
     {
         let number = self.next.elements;
@@ -68,13 +67,13 @@ impl<P: Parts> State<P> {
         alloc: Global,
         scope: u64,
         side: SideName,
-        place: Place,
+        place: &Place,
         kind: Kind,
         number: u64,
     ) -> Result<(), OutOfMemory>
         ensures { OnOk result ((g : _) → state_of g self.new
             ≡ change (state_of g self.old) scope
-            (λ x. more_number (side_name_of side) (place_of place, kind_of kind, number) x)) }
+            (λ x. more_number (side_name_of side) (place_of place.now, kind_of kind, number) x)) }
     {
         if !self.is_live(scope) {
             return Ok(());
@@ -82,7 +81,7 @@ impl<P: Parts> State<P> {
         if self.places.get(number).is_some() {
             return Err(OutOfMemory);
         }
-        let named = name_place(alloc, scope, side, place.as_slice())?;
+        let named = name_place(alloc, scope, side, place, last_place(&self.places))?;
         self.places.push(number, named)?;
         match put_number(&mut self.rows.table, scope, side, place, kind, number) {
             Ok(()) => Ok(()),
@@ -125,10 +124,14 @@ impl<P: Parts> State<P> {
                 what: Counter::Scopes,
             }));
         };
-        self.add_child_at(parent, side, place, number)?;
-        let scope = new_scope(alloc, component, Some(parent), height, side);
-        self.push_scope(number, scope)?;
-        self.next_scope = next;
+        self.add_child_at(parent, side, &place, number)?;
+        let coming = Coming {
+            component,
+            parent: Some(parent),
+            height,
+            below: side,
+        };
+        self.push_scope(alloc, next, coming)?;
         Ok(Some(number))
     }
 
@@ -137,20 +140,20 @@ impl<P: Parts> State<P> {
         &mut self,
         scope: u64,
         side: SideName,
-        place: Place,
+        place: &Place,
         child: u64,
     ) -> Result<(), OutOfMemory>
         ensures { OnOk result ((g : _) → state_of g self.new
             ≡ change (state_of g self.old) scope
-            (λ x. more_child (side_name_of side) (place_of place, child) x)) }
+            (λ x. more_child (side_name_of side) (place_of place.now, child) x)) }
     {
         self.revise_scope(
             scope,
             |found: &mut Scope<P>| -> Result<(), OutOfMemory>
                 ensures seated { OnOk result (scope_of found.new
-                    ≡ more_child (side_name_of side) (place_of place, child) (scope_of found.old)) }
-                ensures stay { drawn_for found.new ≡ drawn_for found.old }
-            { push_child(found, side, &place, child) },
+                    ≡ more_child (side_name_of side) (place_of place.entry.now, child) (scope_of found.old)) }
+                ensures stay { kept_for found.new ≡ kept_for found.old }
+            { push_child(found, side, place, child) },
         )
     }
 
@@ -166,7 +169,7 @@ impl<P: Parts> State<P> {
                 ensures changed { OnOk result (found.new ≡ record found.old {
                   rest = record found.old.rest { component = component };
                 }) }
-                ensures stay { drawn_for found.new ≡ drawn_for found.old }
+                ensures stay { kept_for found.new ≡ kept_for found.old }
             {
                 found.rest.component = component;
                 Ok(())
@@ -186,43 +189,20 @@ impl<P: Parts> State<P> {
     }
 
     /// A side of a boundary shows.
-    fn show(&mut self, boundary: u64, side: SideName) -> Result<(), OutOfMemory>
+    pub(crate) fn show(&mut self, boundary: u64, side: SideName) -> Result<(), OutOfMemory>
         ensures { OnOk result ((g : _) → state_of g self.new
             ≡ change (state_of g self.old) boundary
             (λ x. record x { shows = Some (side_name_of side) })) }
     {
-        self.change_scope(
+        self.turn_scope(
             boundary,
             |found: &mut Scope<P>| -> Result<(), OutOfMemory>
                 ensures changed { OnOk result (found.new ≡ record found.old {
                   rest = record found.old.rest { shows = Some side };
                 }) }
-                ensures stay { drawn_for found.new ≡ drawn_for found.old }
+                ensures stay { turned_for found.new ≡ turned_for found.old }
             {
                 found.rest.shows = Some(side);
-                Ok(())
-            },
-        )
-    }
-
-    /// The children of a boundary show, and it reads nothing.
-    pub fn show_children(&mut self, alloc: Global, boundary: u64) -> Result<(), OutOfMemory>
-        // Its last call is kept no more.
-        ensures { OnOk result ((g : _) → state_of (forgets g boundary) self.new
-            ≡ change (record (state_of g self.old) {
-              last_calls = without (state_of g self.old).last_calls boundary;
-            }) boundary (λ x. record x { shows = Some model.ChildrenSide; reads = [] })) }
-    {
-        self.change_scope(
-            boundary,
-            |found: &mut Scope<P>| -> Result<(), OutOfMemory>
-                ensures changed { OnOk result (found.new ≡ record found.old {
-                  rest = record found.old.rest { shows = Some SideName.Children; reads = [] };
-                }) }
-                ensures stay { drawn_for found.new ≡ drawn_for found.old }
-            {
-                found.rest.shows = Some(SideName::Children);
-                found.rest.reads = List::new(alloc);
                 Ok(())
             },
         )
@@ -274,7 +254,7 @@ impl<P: Parts> State<P> {
                 ensures changed { OnOk result (found.new ≡ record found.old {
                   rest = record found.old.rest { callbacks = [] };
                 }) }
-                ensures stay { drawn_for found.new ≡ drawn_for found.old }
+                ensures stay { kept_for found.new ≡ kept_for found.old }
             {
                 found.rest.callbacks = List::new(alloc);
                 Ok(())
@@ -314,48 +294,42 @@ impl<P: Parts> State<P> {
         ensures { OnOk result ((g : _) → state_of g self.new
             ≡ change (state_of g self.old) scope (λ x. record x { effects = [] })) }
     {
-        self.change_scope(
+        if !has_number(self.effects.as_slice(), scope) {
+            return Ok(());
+        }
+        self.clear_effects(alloc, scope)?;
+        drop_number(&mut self.effects, scope);
+        Ok(())
+    }
+
+    /// The same of a scope that is listed as one with queued effects, and stays so.
+    fn clear_effects(&mut self, alloc: Global, scope: u64) -> Result<(), OutOfMemory>
+        requires listed { has self.old.effects scope ≡ true }
+        ensures cleared { OnOk result ((g : _) → state_of g self.new
+            ≡ change (state_of g self.old) scope (λ x. record x { effects = [] })) }
+        ensures effects { self.new.effects ≡ self.old.effects }
+    {
+        self.change_listed(
             scope,
             |found: &mut Scope<P>| -> Result<(), OutOfMemory>
                 ensures changed { OnOk result (found.new ≡ record found.old {
                   rest = record found.old.rest { effects = [] };
                 }) }
-                ensures stay { drawn_for found.new ≡ drawn_for found.old }
+                ensures stay { beside_lists found.new ≡ beside_lists found.old }
+                ensures holders { found.new.rest.holders ≡ found.old.rest.holders }
             {
                 found.rest.effects = List::new(alloc);
                 Ok(())
             },
         )
     }
+}
 
-    /// A live scope's body has read these last.
-    pub fn keep_reads(&mut self, scope: u64, reads: List<Source>) -> Result<(), OutOfMemory>
-        // The newest one first.
-        ensures { OnOk result ((g : _) → state_of g self.new
-            ≡ change (state_of g self.old) scope
-            (λ x. record x { reads = newest_first source_of reads })) }
-    {
-        self.put_reads(scope, newest_first(reads))
-    }
-
-    /// A live scope's body has read these last, the newest first.
-    fn put_reads(&mut self, scope: u64, reads: List<Source>) -> Result<(), OutOfMemory>
-        ensures { OnOk result ((g : _) → state_of g self.new
-            ≡ change (state_of g self.old) scope
-            (λ x. record x { reads = map source_of reads })) }
-    {
-        self.change_scope(
-            scope,
-            |found: &mut Scope<P>| -> Result<(), OutOfMemory>
-                ensures changed { OnOk result (found.new ≡ record found.old {
-                  rest = record found.old.rest { reads = reads };
-                }) }
-                ensures stay { drawn_for found.new ≡ drawn_for found.old }
-            {
-                found.rest.reads = reads;
-                Ok(())
-            },
-        )
+/// The place that stands last, if there is one.
+fn last_place(places: &Table<Named>) -> Option<&Named> {
+    match places.as_slice().last() {
+        Some(row) => Some(&row.1),
+        None => None,
     }
 }
 

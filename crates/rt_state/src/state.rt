@@ -1,11 +1,16 @@
 //! The state of a runtime.
-ghost use Rattle.std.specs.Prelude.{◌≡◌, ◌<◌, ◌++◌, ◌∷◌, [], ℕ, length, get_or, slice_set, OnOk, IfOk, is_some, option_map};
-ghost use Rattle.rt_owed.specs.Lists.{numbers_of};
+ghost use Rattle.std.specs.Prelude.{◌≡◌, ◌+◌, ◌++◌, ◌∷◌, [], true, OnOk, is_some, option_map};
+ghost use Rattle.rt_state.specs.Heights.{heights_of, task_scopes};
+ghost use Rattle.rt_state.specs.Effects.{AreListed, IsListed};
+ghost use Rattle.rt_state.specs.Readers.{AreKnown};
+ghost use Rattle.rt_state.specs.Mounts.{IsWaiting, is_above, ways_of};
 ghost use Rattle.std.specs.Option.{option_copied};
 ghost use Rattle.std.specs.Fn.{FnOnceReturnsAtMut};
 ghost use Rattle.rt_model.specs.Lists.{at};
 ghost use Rattle.rt_model.specs.State as model;
-ghost use Rattle.rt_model.specs.State.{is_live, change, world_of};
+ghost use Rattle.rt_model.specs.State.{is_live, change, new_scope, world_of};
+ghost use Rattle.rt_mirror.specs.Sealed.{component_of};
+ghost use Rattle.rt_places.specs.Places.{side_name_of};
 ghost use Rattle.rt_calls.specs.Kept.{each, scope_of};
 ghost use Rattle.rt_named.specs.Standings.{IsPlaced};
 ghost use Rattle.rt_model.specs.Replay.{first_state};
@@ -13,8 +18,10 @@ ghost use Rattle.rt_calls.specs.Calls as calls;
 ghost use Rattle.rt_calls.specs.Calls.{firsts_of};
 ghost use Rattle.rt_calls.specs.Enter as entry;
 
+use crate::entering::{Coming, enter_row};
+use crate::held::next_number;
+use crate::mounting::uncover;
 use crate::names::TaskKind;
-use crate::scopes::new_scope;
 use rt_calls::{Firsts, Rows, Scope, World};
 use rt_cells::{Cells, Source, Target};
 use rt_nodes::{RootProps, VComponent};
@@ -66,23 +73,39 @@ pub struct State<P: Parts> {
     pub resolved: List<u64>,
     /// The scopes that a suspended render passed over.
     pub skipped: List<u64>,
+    /// Above the numbers of all live scopes and of their parents.
     pub next_scope: u64,
     /// The numbers that calls draw next, and the next node of the document.
     pub next: Firsts,
     /// Where each number of the document stands that a live scope has, by number.
     pub places: Table<Place>,
-    /// The live scopes are those that are entered.
-    pub ghost entered: { numbers_of rows.table ≡ owed.scopes },
-    /// The tasks that haven't ended are those that are entered.
-    pub ghost known: { numbers_of tasks ≡ owed.tasks },
+    /// The scopes that aren't mounted and may show: those that were made since the last mounting,
+    /// and those below a boundary that turned since.
+    pub fresh: List<u64>,
+    /// The other scopes that aren't mounted, each with the number of a scope above that hides it.
+    pub hidden: List<(u64, u64)>,
+    /// The live scopes that have queued effects, each once, and maybe others.
+    pub effects: List<u64>,
+    /// Each task with each live scope that it holds, and maybe other pairs.
+    pub held: List<(u64, u64)>,
+    /// The live scopes are those that are entered, with their heights.
+    pub ghost entered: { heights_of rows.table ≡ owed.scopes },
+    /// The tasks that haven't ended are those that are entered, with their scopes.
+    pub ghost known: { task_scopes tasks ≡ owed.tasks },
+    /// No two scopes have one number, and each that isn't mounted is fresh or hidden.
+    pub ghost waiting: { ∥ IsWaiting (ways_of rows.table) fresh hidden next_scope ∥₁ },
     /// The places are those of all that is drawn for the sides of live scopes.
     pub ghost placed: { ∥ IsPlaced (each scope_of rows.table) places ∥₁ },
+    /// The cells know each live scope as a reader of just what it has read last.
+    pub ghost readers: { AreKnown (each scope_of rows.table) cells.reads },
+    /// Each live scope that has queued effects is listed, and paired with each task that holds it.
+    pub ghost listed: { AreListed (each scope_of rows.table) effects held },
 }
 
 impl<P: Parts> State<P> {
     ghost use Rattle.rt_state.specs.Starts.{IsEmpty};
     ghost use Rattle.rt_state.specs.Mirror.{ScopeChange, ScopeRevision, at_first, scopes_of, state_of};
-    ghost use Rattle.rt_state.specs.Drawn.{bare, drawn_for};
+    ghost use Rattle.rt_state.specs.Drawn.{beside_lists, kept_for, turned_for};
 
     /// Nothing is kept. The counters begin at these numbers.
     pub fn empty(alloc: Global, firsts: Firsts) -> State<P>
@@ -99,6 +122,10 @@ impl<P: Parts> State<P> {
             next_scope: 0,
             next: firsts,
             places: Table::new(alloc),
+            fresh: List::new(alloc),
+            hidden: List::new(alloc),
+            effects: List::new(alloc),
+            held: List::new(alloc),
         }
     }
 
@@ -112,32 +139,51 @@ impl<P: Parts> State<P> {
         ensures { (firsts : _) → IsEmpty firsts self.old → OnOk result
             (state_of at_first self.new ≡ first_state root props (firsts_of firsts)) }
     {
-        let component = VComponent::Root(RootProps {
-            component: root,
-            props,
-        });
-        let scope = new_scope(alloc, component, None, 0, SideName::Main);
-        self.push_scope(0, scope)?;
-        self.next_scope = 1;
+        let Some(next) = next_number(self.next_scope) else {
+            return Err(OutOfMemory);
+        };
+        let coming = Coming {
+            component: VComponent::Root(RootProps {
+                component: root,
+                props,
+            }),
+            parent: None,
+            height: 0,
+            below: SideName::Main,
+        };
+        self.push_scope(alloc, next, coming)?;
         Ok(())
     }
 
-    /// Puts a scope after the others, with its place for what will be owed of it.
-    pub(crate) fn push_scope(&mut self, number: u64, scope: Scope<P>) -> Result<(), OutOfMemory>
-        requires bare { drawn_for scope ≡ bare }
-        ensures pushed { OnOk result ((g : _) → state_of g self.new ≡ record (state_of g self.old) {
-          scopes = (state_of g self.old).scopes ++ (number, scope_of scope) ∷ [];
+    /// Makes a scope under the next number, not yet run, after the others. It is told the number after
+    /// that, and the scope's parent has a number below it.
+    pub(crate) fn push_scope(
+        &mut self,
+        alloc: Global,
+        next: u64,
+        coming: Coming<P>,
+    ) -> Result<(), OutOfMemory>
+        requires next { next ≡ self.old.next_scope + 1 }
+        requires above { is_above self.old.next_scope coming.parent ≡ true }
+        ensures { OnOk result ((g : _) → state_of g self.new ≡ record (state_of g self.old) {
+          scopes = (state_of g self.old).scopes ++ (
+            self.old.next_scope,
+            new_scope (component_of coming.component) coming.parent coming.height (side_name_of coming.below),
+          ) ∷ [];
+          next_scope = next;
         }) }
-        ensures rows { OnOk result (self.new.rows.table ≡ self.old.rows.table ++ (number, scope) ∷ []) }
     {
-        self.owed.enter_scope(number)?;
-        match self.rows.table.push(number, scope) {
-            Ok(()) => Ok(()),
-            Err(OutOfMemory) => {
-                self.owed.take_back_scope();
-                Err(OutOfMemory)
-            }
-        }
+        let number = self.next_scope;
+        enter_row(
+            alloc,
+            &mut self.owed,
+            &mut self.rows.table,
+            &mut self.fresh,
+            number,
+            coming,
+        )?;
+        self.next_scope = next;
+        Ok(())
     }
 
     /// What a call can look at now, in whatever scope.
@@ -179,19 +225,61 @@ impl<P: Parts> State<P> {
     }
 
     /// Changes what is kept of a scope, where it is live.
-    pub fn change_scope<F: FnOnce(&mut Scope<P>) -> Result<(), OutOfMemory>>(
+    pub(crate) fn change_scope<F: FnOnce(&mut Scope<P>) -> Result<(), OutOfMemory>>(
         &mut self,
         scope: u64,
         apply: F,
     ) -> Result<(), OutOfMemory>
         requires callable { F.IsAlwaysCallable apply }
         requires stay { (x y : Scope P P.Component P.Props P.Value P.Handler P.TaskState P.Effect P.Payload) (done : _)
-            → FnOnceReturnsAtMut F.FnOnce apply x done y → drawn_for y ≡ drawn_for x }
+            → FnOnceReturnsAtMut F.FnOnce apply x done y → kept_for y ≡ kept_for x }
         ensures { (k : ScopeChange P P.Component P.Props P.Value P.Handler P.TaskState P.Effect P.Payload)
             → ((x y : Scope P P.Component P.Props P.Value P.Handler P.TaskState P.Effect P.Payload)
             → FnOnceReturnsAtMut F.FnOnce apply x result y → OnOk result (y ≡ k.code x))
             → OnOk result ((g : _) → state_of g self.new ≡ change (state_of g self.old) scope k.model) }
     {
+        self.rows.table.change(scope, apply)
+    }
+
+    /// Changes what is kept of a scope, where it is live, by what leaves it listed with its effects and
+    /// holders where it was.
+    pub(crate) fn change_listed<F: FnOnce(&mut Scope<P>) -> Result<(), OutOfMemory>>(
+        &mut self,
+        scope: u64,
+        apply: F,
+    ) -> Result<(), OutOfMemory>
+        requires callable { F.IsAlwaysCallable apply }
+        requires listed { (x y : Scope P P.Component P.Props P.Value P.Handler P.TaskState P.Effect P.Payload) (done : _)
+            → FnOnceReturnsAtMut F.FnOnce apply x done y → IsListed self.old.effects self.old.held scope (scope_of x)
+            → IsListed self.old.effects self.old.held scope (scope_of y) }
+        requires stay { (x y : Scope P P.Component P.Props P.Value P.Handler P.TaskState P.Effect P.Payload) (done : _)
+            → FnOnceReturnsAtMut F.FnOnce apply x done y → beside_lists y ≡ beside_lists x }
+        ensures changed { (k : ScopeChange P P.Component P.Props P.Value P.Handler P.TaskState P.Effect P.Payload)
+            → ((x y : Scope P P.Component P.Props P.Value P.Handler P.TaskState P.Effect P.Payload)
+            → FnOnceReturnsAtMut F.FnOnce apply x result y → OnOk result (y ≡ k.code x))
+            → OnOk result ((g : _) → state_of g self.new ≡ change (state_of g self.old) scope k.model) }
+        ensures effects { self.new.effects ≡ self.old.effects }
+        ensures held { self.new.held ≡ self.old.held }
+    {
+        self.rows.table.change(scope, apply)
+    }
+
+    /// Changes what is kept of a scope, where it is live, of which another side may show then. What
+    /// it hides is fresh.
+    pub(crate) fn turn_scope<F: FnOnce(&mut Scope<P>) -> Result<(), OutOfMemory>>(
+        &mut self,
+        scope: u64,
+        apply: F,
+    ) -> Result<(), OutOfMemory>
+        requires callable { F.IsAlwaysCallable apply }
+        requires stay { (x y : Scope P P.Component P.Props P.Value P.Handler P.TaskState P.Effect P.Payload) (done : _)
+            → FnOnceReturnsAtMut F.FnOnce apply x done y → turned_for y ≡ turned_for x }
+        ensures { (k : ScopeChange P P.Component P.Props P.Value P.Handler P.TaskState P.Effect P.Payload)
+            → ((x y : Scope P P.Component P.Props P.Value P.Handler P.TaskState P.Effect P.Payload)
+            → FnOnceReturnsAtMut F.FnOnce apply x result y → OnOk result (y ≡ k.code x))
+            → OnOk result ((g : _) → state_of g self.new ≡ change (state_of g self.old) scope k.model) }
+    {
+        uncover(&mut self.fresh, &mut self.hidden, scope)?;
         self.rows.table.change(scope, apply)
     }
 
@@ -203,7 +291,7 @@ impl<P: Parts> State<P> {
     ) -> Result<(), OutOfMemory>
         requires callable { F.IsAlwaysCallable apply }
         requires stay { (x y : Scope P P.Component P.Props P.Value P.Handler P.TaskState P.Effect P.Payload) (done : _)
-            → FnOnceReturnsAtMut F.FnOnce apply x done y → drawn_for y ≡ drawn_for x }
+            → FnOnceReturnsAtMut F.FnOnce apply x done y → kept_for y ≡ kept_for x }
         ensures { (revised : ScopeRevision P.Component P.Props P.Value P.Handler P.TaskState P.Effect P.Payload)
             → ((x y : Scope P P.Component P.Props P.Value P.Handler P.TaskState P.Effect P.Payload)
             → FnOnceReturnsAtMut F.FnOnce apply x result y → OnOk result (scope_of y ≡ revised (scope_of x)))
@@ -211,29 +299,5 @@ impl<P: Parts> State<P> {
             ≡ change (state_of g self.old) scope revised) }
     {
         self.rows.table.change(scope, apply)
-    }
-
-    /// Changes what is kept of the scope at an index of the table.
-    pub(crate) fn change_entry<F: FnOnce(&mut Scope<P>) -> Result<(), OutOfMemory>>(
-        &mut self,
-        index: usize,
-        apply: F,
-    ) -> Result<(), OutOfMemory>
-        requires callable { F.IsAlwaysCallable apply }
-        requires within { index < length self.old.rows.table }
-        requires stay { (x y : Scope P P.Component P.Props P.Value P.Handler P.TaskState P.Effect P.Payload) (done : _)
-            → FnOnceReturnsAtMut F.FnOnce apply x done y → drawn_for y ≡ drawn_for x }
-        ensures changed { (k : Scope P P.Component P.Props P.Value P.Handler P.TaskState P.Effect P.Payload
-            → Scope P P.Component P.Props P.Value P.Handler P.TaskState P.Effect P.Payload)
-            → ((x y : Scope P P.Component P.Props P.Value P.Handler P.TaskState P.Effect P.Payload)
-            → FnOnceReturnsAtMut F.FnOnce apply x result y → OnOk result (y ≡ k x))
-            → OnOk result ((row : ℕ × Scope P P.Component P.Props P.Value P.Handler P.TaskState P.Effect P.Payload)
-            → self.new.rows.table ≡ slice_set self.old.rows.table index
-            ((get_or self.old.rows.table index row).0, k (get_or self.old.rows.table index row).1)) }
-        ensures others { (g : _) → state_of g self.new ≡ record (state_of g self.old) {
-          scopes = scopes_of self.new.rows.table;
-        } }
-    {
-        self.rows.table.change_at(index, apply)
     }
 }

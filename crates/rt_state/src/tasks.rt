@@ -1,23 +1,17 @@
 //! Tasks: spawned, paused, ended.
-ghost use Rattle.std.specs.Prelude.{◌≡◌, ◌<◌, ◌&&◌, not, ◌++◌, ◌∷◌, [], ℕ, nat_eq, length, get_or, slice_set, IsOk, OnOk, OnErr, IfOk, IfSome, IfNone, Some, None, option_map, map, true, false, if◌then◌else◌};
-ghost use Rattle.std.specs.List.{list_any};
+ghost use Rattle.std.specs.Prelude.{◌≡◌, ◌<◌, ◌&&◌, not, ◌++◌, ◌∷◌, [], nat_eq, IsOk, OnOk, OnErr, IfOk, IfSome, IfNone, Some, None, option_map, true, if◌then◌else◌};
 ghost use Rattle.std.specs.Fn.{FnOnceReturnsAtMut};
 ghost use Rattle.rt_model.specs.Lists.{at, has};
-ghost use Rattle.rt_owed.specs.Lists.{numbers_of};
 ghost use Rattle.rt_model.specs.State as model;
-ghost use Rattle.rt_model.specs.Commands.{spawned, activated, end, unqueued, holding};
-ghost use Rattle.rt_calls.specs.Kept.{scope_of};
-ghost use Rattle.rt_state.specs.Holders.{others, let_go};
+ghost use Rattle.rt_model.specs.Commands.{spawned, activated, end, unqueued};
 ghost use Rattle.rt_model.specs.Removal.{end_all, tasks_in};
 ghost use Rattle.rt_state.specs.Names.{task_kind_of};
-ghost use Rattle.rt_state.specs.Drawn.{drawn_for};
-ghost use Rattle.rt_state.specs.Mirror.{TaskChange, change_task, scopes_of, state_held, state_of, task_of};
+ghost use Rattle.rt_state.specs.Heights.{task_scope};
+ghost use Rattle.rt_state.specs.Mirror.{TaskChange, change_task, state_held, state_of, task_of};
 
+use crate::holding::add_holding;
 use crate::names::{Posted, TaskKind};
-use crate::scopes::holds;
 use crate::state::{State, TaskRow};
-use rt_calls::Scope;
-use rt_owed::Owed;
 use rt_parts::Parts;
 use rt_values::{List, OutOfMemory};
 use std::alloc::Global;
@@ -63,7 +57,7 @@ impl<P: Parts> State<P> {
         }) }
         ensures err { OnErr result (self.new ≡ self.old) }
     {
-        self.owed.enter_task(task)?;
+        self.owed.enter_task(task, row.scope)?;
         match self.tasks.push(task, row) {
             Ok(()) => Ok(()),
             Err(OutOfMemory) => {
@@ -101,7 +95,8 @@ impl<P: Parts> State<P> {
         self.change_surely(
             task,
             |row: &mut TaskRow<P>| -> Result<(), OutOfMemory>
-                ensures { row.new ≡ record row.old { active = active } }
+                ensures changed { row.new ≡ record row.old { active = active } }
+                ensures stay { task_scope row.new ≡ task_scope row.old }
             {
                 row.active = active;
                 Ok(())
@@ -115,7 +110,9 @@ impl<P: Parts> State<P> {
         task: u64,
         apply: F,
     )
-        requires { F.IsAlwaysCallable apply }
+        requires callable { F.IsAlwaysCallable apply }
+        requires stay { (x y : TaskRow P P.Component P.Props P.Value P.Handler P.TaskState P.Effect
+            P.Payload) (done : _) → FnOnceReturnsAtMut F.FnOnce apply x done y → task_scope y ≡ task_scope x }
         ensures { (k : TaskChange P P.Component P.Props P.Value P.Handler P.TaskState P.Effect P.Payload)
             → ((x y : TaskRow P P.Component P.Props P.Value P.Handler P.TaskState P.Effect P.Payload)
             (done : _) → FnOnceReturnsAtMut F.FnOnce apply x done y → y ≡ k.code x)
@@ -130,7 +127,9 @@ impl<P: Parts> State<P> {
         task: u64,
         apply: F,
     ) -> Result<(), OutOfMemory>
-        requires { F.IsAlwaysCallable apply }
+        requires callable { F.IsAlwaysCallable apply }
+        requires stay { (x y : TaskRow P P.Component P.Props P.Value P.Handler P.TaskState P.Effect
+            P.Payload) (done : _) → FnOnceReturnsAtMut F.FnOnce apply x done y → task_scope y ≡ task_scope x }
         ensures { (k : TaskChange P P.Component P.Props P.Value P.Handler P.TaskState P.Effect P.Payload)
             → ((x y : TaskRow P P.Component P.Props P.Value P.Handler P.TaskState P.Effect P.Payload)
             → FnOnceReturnsAtMut F.FnOnce apply x result y → OnOk result (y ≡ k.code x))
@@ -149,7 +148,7 @@ impl<P: Parts> State<P> {
         }
         self.owed.drop_wakes(task);
         self.owed.unqueue(task);
-        add_holding(self.rows.table.as_slice(), task, &mut self.owed);
+        add_holding(&self.rows.table, self.held.as_slice(), task, &mut self.owed);
         self.owed.leave_task(task);
         self.tasks.remove(task);
         self.release(task)
@@ -161,58 +160,6 @@ impl<P: Parts> State<P> {
     {
         self.owed.drop_wakes(task);
         self.owed.unqueue(task);
-    }
-
-    /// Takes a task out of all boundaries' holders.
-    fn release(&mut self, task: u64) -> Result<(), OutOfMemory>
-        ensures released { OnOk result ((g : _) → state_of g self.new ≡ record (state_of g self.old) {
-          scopes = scopes_of (map (let_go task) self.old.rows.table);
-        }) }
-    {
-        let count = self.rows.table.as_slice().len();
-        for index in 0..count {
-            self.release_at(index, task)?;
-        }
-        Ok(())
-    }
-
-    /// Takes a task out of the holders of the scope at an index.
-    fn release_at(&mut self, index: usize, task: u64) -> Result<(), OutOfMemory>
-        requires within { index < length self.old.rows.table }
-        ensures released { OnOk result ((d : ℕ × Scope P P.Component P.Props P.Value P.Handler P.TaskState P.Effect P.Payload)
-            → self.new.rows.table
-            ≡ slice_set self.old.rows.table index (let_go task (get_or self.old.rows.table index d))) }
-        ensures others { (g : _) → state_of g self.new ≡ record (state_of g self.old) {
-          scopes = scopes_of self.new.rows.table;
-        } }
-    {
-        if !self.is_held_at(index, task) {
-            return Ok(());
-        }
-        self.change_entry(
-            index,
-            |found: &mut Scope<P>| -> Result<(), OutOfMemory>
-                ensures changed { OnOk result (found.new ≡ record found.old {
-                  rest = record found.old.rest {
-                    holders = others found.old.rest.holders task;
-                  };
-                }) }
-                ensures stay { drawn_for found.new ≡ drawn_for found.old }
-            {
-                drop_holder(&mut found.rest.holders, task);
-                Ok(())
-            },
-        )
-    }
-
-    /// Whether a task holds the scope at an index.
-    fn is_held_at(&self, index: usize, task: u64) -> bool
-        requires within { index < length self.now.rows.table }
-        ensures { (d : ℕ × Scope P P.Component P.Props P.Value P.Handler P.TaskState P.Effect P.Payload)
-            → result ≡ model.holds (scope_of (get_or self.now.rows.table index d).1) task }
-    {
-        let entry = &self.rows.table.as_slice()[index];
-        holds(&entry.1, task)
     }
 
     /// Ends these tasks, one after another.
@@ -275,66 +222,17 @@ impl<P: Parts> State<P> {
         self.change_task(
             task,
             |row: &mut TaskRow<P>| -> Result<(), OutOfMemory>
-                ensures { OnOk result (row.new ≡ record row.old {
+                ensures changed { OnOk result (row.new ≡ record row.old {
                   state = Some state;
                   was = was;
                 }) }
+                ensures stay { task_scope row.new ≡ task_scope row.old }
             {
                 row.state = Some(state);
                 row.was = was;
                 Ok(())
             },
         )
-    }
-}
-
-/// Posts the marks of the boundaries that a task holds. They are entered.
-fn add_holding<P: Parts>(scopes: &[(u64, Scope<P>)], task: u64, owed: &mut Owed)
-    requires entered { numbers_of scopes.now ≡ owed.old.scopes }
-    ensures posted { owed.new ≡ record owed.old {
-      posted = owed.old.posted ++ holding (scopes_of scopes.now) task;
-    } }
-{
-    for entry in scopes {
-        add_held(entry, task, owed);
-    }
-}
-
-/// Posts the mark of an entered boundary, where the task holds it.
-fn add_held<P: Parts>(entry: &(u64, Scope<P>), task: u64, owed: &mut Owed)
-    requires entered { has owed.old.scopes entry.now.0 ≡ true }
-    ensures posted { owed.new ≡ record owed.old {
-      posted = owed.old.posted
-          ++ (if model.holds (scope_of entry.now.1) task then model.Mark entry.now.0 ∷ [] else []);
-    } }
-{
-    if !holds(&entry.1, task) {
-        return;
-    }
-    owed.post_mark(entry.0);
-}
-
-/// Where a task stands first among holders.
-fn holder_in(holders: &[(u64, u64)], task: u64) -> Option<usize>
-    ensures within { IfSome result (λ index. index < length holders.now) }
-    ensures own { IfSome result (λ index. (d : ℕ × ℕ) →
-        nat_eq (get_or holders.now index d).0 task ≡ true) }
-    ensures none { IfNone result (list_any (λ h. nat_eq h.0 task) holders.now ≡ false) }
-{
-    for index in 0..holders.len() {
-        if holders[index].0 == task {
-            return Some(index);
-        }
-    }
-    None
-}
-
-/// Takes a task out of holders wherever it stands.
-fn drop_holder(holders: &mut List<(u64, u64)>, task: u64)
-    ensures { holders.new ≡ others holders.old task }
-{
-    while let Some(index) = holder_in(holders.as_slice(), task) {
-        holders.remove(index);
     }
 }
 

@@ -1,7 +1,6 @@
 -- What the scope that was found provides.
-use Rattle.std.proofs.Common.{Some, None, ap, ◌∙◌, map}
-use Rattle.rt_model.specs.Lists.{at}
-use Rattle.rt_calls.specs.Kept.{provided_of, scope_of}
+use Rattle.std.proofs.Common.{Some, None, ◌∙◌}
+use Rattle.rt_calls.specs.Kept.{scope_of}
 use Rattle.rt_state.specs.Mirror.{state_of}
 use Rattle.rt_state.proofs.Each.{found-each}
 use Rattle.rt_queries.proofs.Asked.{provided_there, provided_gone}
@@ -13,7 +12,6 @@ returns-in-Some g c =
       provided =
           λ kept.
           c.of_kind.ensures
-          ∙ ap (λ ps. at (map provided_of ps) c.args.kind) c.as_slice.ensures.items
           ∙ provided_there (state_of kept c.args.scopes.now) c.args.scope c.args.kind (scope_of c.in-Some.found.now)
           (found-each scope_of (c.args.scopes.now.rows).table c.args.scope (Some c.in-Some.found.now) c.in-Some.ensures);
     }

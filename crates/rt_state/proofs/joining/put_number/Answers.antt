@@ -8,7 +8,7 @@ use Rattle.rt_state.proofs.joining.put_number.Goals as goal
 
 pub returns-clause-put : goal.returns-clause-put
 returns-clause-put g c =
-    put_told c.change.result _ scope_of (λ x. more_number (side_name_of c.args.side) (place_of c.args.place, kind_of c.args.kind, c.args.number) x) c.args.rows.now c.change.new.self c.args.scope c.change.ensures.changed
+    put_told c.change.result _ scope_of (λ x. more_number (side_name_of c.args.side) (place_of c.args.place.now, kind_of c.args.kind, c.args.number) x) c.args.rows.now c.change.new.self c.args.scope c.change.ensures.changed
     (λ x y ret. search rules)
 
 pub returns-clause-err : goal.returns-clause-err

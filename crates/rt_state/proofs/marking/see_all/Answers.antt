@@ -1,4 +1,5 @@
 use Rattle.std.proofs.Common.{◌∙◌, refl, sym, ap}
+use Rattle.rt_owed.specs.Lists.{numbers_of}
 use Rattle.rt_state.proofs.Entered.{row_entered}
 use Rattle.rt_state.proofs.SeenAll.{joins_end, joins_step, seen_once_more, with_owed_seen}
 use Rattle.rt_state.proofs.marking.see_all.Goals as goal
@@ -8,7 +9,7 @@ loop-entry-init g c = record { same = refl; left = refl }
 
 pub see-requires : goal.see-requires
 see-requires g c =
-    record { entered = row_entered c.args.scopes.now c.loop-entry.owed.scopes c.loop-entry.entry-index c.entry-item.result (c.requires.entered ∙ sym (ap (λ o. o.scopes) c.loop-entry.invariant.same)) c.loop-entry-test.true c.entry-item.is }
+    record { entered = row_entered c.args.scopes.now (numbers_of c.loop-entry.owed.scopes) c.loop-entry.entry-index c.entry-item.result (c.requires.entered ∙ sym (ap (λ o. numbers_of o.scopes) c.loop-entry.invariant.same)) c.loop-entry-test.true c.entry-item.is }
 
 pub loop-entry-preserved : goal.loop-entry-preserved
 loop-entry-preserved g c =

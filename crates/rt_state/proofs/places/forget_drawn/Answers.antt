@@ -1,15 +1,9 @@
-use Rattle.std.proofs.Common.{refl, drop, ◌+◌, sym, ◌∙◌}
-use Rattle.rt_state.proofs.Forgets.{all_gone, walk_more}
+-- Where none stays, all of them go.
+use Rattle.std.proofs.Common.{◌∙◌}
+use Rattle.rt_state.proofs.Behind.{none_stays}
 use Rattle.rt_state.proofs.places.forget_drawn.Goals as goal
 
-pub loop-pair-init : goal.loop-pair-init
-loop-pair-init c = refl
-
-pub loop-pair-preserved : goal.loop-pair-preserved
-loop-pair-preserved c =
-    walk_more c.args.nodes.now c.loop-pair.places c.forget_pair-next.new.places c.args.drawn.now (drop c.forget_pair-next.result c.args.stay.now) (drop c.loop-pair.next c.args.stay.now) c.loop-pair.pair-index (0, 0)
-    c.loop-pair-test.true (c.forget_pair-next.ensures (drop (c.loop-pair.pair-index + 1) c.args.drawn.now))
-    ∙ c.loop-pair.invariant
-
-pub returns : goal.returns
-returns c = sym (all_gone c.args.nodes.now c.loop-pair.places c.args.drawn.now (drop c.loop-pair.next c.args.stay.now) c.loop-pair.pair-index c.loop-pair-test.false) ∙ c.loop-pair.invariant
+pub returns-then-is_empty : goal.returns-then-is_empty
+returns-then-is_empty c =
+    c.forget_all.ensures
+    ∙ none_stays c.args.nodes.now c.args.places.now c.args.drawn.now c.args.stay.now c.is_empty.result c.is_empty.ensures c.if-is_empty.true

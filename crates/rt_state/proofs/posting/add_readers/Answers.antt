@@ -1,5 +1,6 @@
 use Rattle.std.proofs.Common.{◌∙◌, refl, sym, ap}
 use Rattle.rt_calls.specs.Calls.{source_of}
+use Rattle.rt_owed.specs.Lists.{numbers_of}
 use Rattle.rt_state.proofs.Entered.{row_entered}
 use Rattle.rt_state.proofs.Posts.{reader_step, reader_end, owed_twice, with_owed}
 use Rattle.rt_state.proofs.posting.add_readers.Goals as goal
@@ -9,7 +10,7 @@ loop-entry-init g c = record { same = refl; done = refl }
 
 pub add_reader-requires : goal.add_reader-requires
 add_reader-requires g c =
-    record { entered = row_entered c.args.scopes.now c.loop-entry.owed.scopes c.loop-entry.entry-index c.entry-item.result (c.requires.entered ∙ sym (ap (λ o. o.scopes) c.loop-entry.invariant.same)) c.loop-entry-test.true c.entry-item.is }
+    record { entered = row_entered c.args.scopes.now (numbers_of c.loop-entry.owed.scopes) c.loop-entry.entry-index c.entry-item.result (c.requires.entered ∙ sym (ap (λ o. numbers_of o.scopes) c.loop-entry.invariant.same)) c.loop-entry-test.true c.entry-item.is }
 
 pub loop-entry-preserved : goal.loop-entry-preserved
 loop-entry-preserved g c =

@@ -1,15 +1,24 @@
-use Rattle.std.proofs.Common.{rules, refl, ◌++◌, ◌∷◌, []}
+use Rattle.std.proofs.Common.{ℕ, List, ◌∙◌, ap, subst, sym}
+use Rattle.rt_calls.specs.Kept.{each, scope_of}
+use Rattle.rt_state.specs.Effects.{AreListed, has_pair}
+use Rattle.rt_state.proofs.Changed.{either_way, on_err, on_ok}
+use Rattle.rt_state.proofs.HeldPairs.{pair_more, pairs_more}
 use Rattle.rt_state.proofs.state.State.add_holder.Goals as goal
 
-pub returns : goal.returns
-returns g c =
-    c.change_scope.ensures
-    (record {
-      code = λ x. record x { rest = record (x.rest) { holders = (x.rest).holders ++ (c.args.task, c.args.origin) ∷ [] } };
-      model = λ x. record x { holders = x.holders ++ (c.args.task, c.args.origin) ∷ [] };
-      same = λ x. refl;
-    })
-    (λ x y ret. search rules)
+pub push_holder-requires : goal.push_holder-requires
+push_holder-requires g c = record { paired = ap (λ ps. has_pair ps c.args.task c.args.boundary) c.in_ok-push.ensures.ok ∙ pair_more c.args.self.now.held c.args.task c.args.boundary }
 
-pub change_scope-requires-clause-stay : goal.change_scope-requires-clause-stay
-change_scope-requires-clause-stay g c = λ x y done ret. search rules
+pub invariant_of-self-clause-listed : goal.invariant_of-self-clause-listed
+invariant_of-self-clause-listed g c =
+    either_way c.push.result
+    (
+    on_ok c.push.result c.push.ensures.ok
+    (λ is. pairs_more (each scope_of (c.args.self.now.rows).table) c.args.self.now.effects c.args.self.now.held c.push.new.self (c.args.task, c.args.boundary) is c.args.self.now.listed)
+    )
+    (
+    on_err c.push.result c.push.ensures.err
+    (λ is. subst (λ (ps : List (ℕ × ℕ)). AreListed (each scope_of (c.args.self.now.rows).table) c.args.self.now.effects ps) (sym is) c.args.self.now.listed)
+    )
+
+pub returns : goal.returns
+returns g c = c.push_holder.ensures

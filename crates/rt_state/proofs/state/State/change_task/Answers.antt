@@ -1,7 +1,8 @@
 use Rattle.std.proofs.Common.{◌∙◌}
 use Rattle.std.specs.Fn.{FnOnceReturnsAtMut}
 use Rattle.rt_state.proofs.Changed.{task_changed}
-use Rattle.rt_state.proofs.Unchanged.{numbers_changed}
+use Rattle.rt_state.specs.Heights.{task_scope}
+use Rattle.rt_state.proofs.Unchanged.{values_changed}
 use Rattle.rt_state.proofs.state.State.change_task.Goals as goal
 
 pub returns : goal.returns
@@ -22,5 +23,6 @@ returns g c =
 
 pub invariant_of-self-clause-known : goal.invariant_of-self-clause-known
 invariant_of-self-clause-known g c =
-    numbers_changed (λ x y. FnOnceReturnsAtMut g.F.FnOnce c.args.apply x c.change.result y) c.args.self.now.tasks c.change.new.self c.args.task c.change.ensures.absent c.change.ensures.changed
+    values_changed task_scope (λ x y. FnOnceReturnsAtMut g.F.FnOnce c.args.apply x c.change.result y) c.args.self.now.tasks c.change.new.self c.args.task c.change.ensures.absent c.change.ensures.changed
+    (λ x y ret. c.requires.stay x y c.change.result ret)
     ∙ c.args.self.now.known

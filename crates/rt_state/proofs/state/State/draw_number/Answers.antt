@@ -10,9 +10,9 @@ pub returns-in_default-clause-cut : goal.returns-in_default-clause-cut
 returns-in_default-clause-cut g c =
     λ what is kept.
     let same : IdsExhausted Elements ≡ what = cc in
-    rw (← same) (draw_cut (state_of kept c.args.self.now) c.args.scope (side_name_of c.args.side) (place_of c.args.place) (kind_of c.args.kind) c.in_default.ensures.end)
+    rw (← same) (draw_cut (state_of kept c.args.self.now) c.args.scope (side_name_of c.args.side) (place_of c.args.place.now) (kind_of c.args.kind) c.in_default.ensures.end)
 
 pub returns-clause-done : goal.returns-clause-done
 returns-clause-done g c =
     λ kept.
-    draw_done (state_of kept c.args.self.now) c.args.scope (side_name_of c.args.side) (place_of c.args.place) (kind_of c.args.kind) (state_of kept c.add_number.new.self) c.in-Some.next c.in-Some.ensures.next.0 c.in-Some.ensures.next.1 (c.in_ok-add_number.ensures kept)
+    draw_done (state_of kept c.args.self.now) c.args.scope (side_name_of c.args.side) (place_of c.args.place.now) (kind_of c.args.kind) (state_of kept c.add_number.new.self) c.in-Some.next c.in-Some.ensures.next.0 c.in-Some.ensures.next.1 (c.in_ok-add_number.ensures kept)

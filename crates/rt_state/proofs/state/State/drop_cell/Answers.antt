@@ -1,5 +1,6 @@
-use Rattle.std.proofs.Common.{sym, ◌∙◌}
+use Rattle.std.proofs.Common.{ap, sym, ◌∙◌}
 use Rattle.rt_state.proofs.Changed.{on_ok}
+use Rattle.rt_state.proofs.Known.{known_kept}
 use Rattle.rt_state.proofs.CellsKept.{cell_dropped, no_cell_dropped}
 use Rattle.rt_state.proofs.state.State.drop_cell.Goals as goal
 
@@ -9,3 +10,6 @@ returns-in-Some g c =
 
 pub returns-in-None : goal.returns-in-None
 returns-in-None g c = no_cell_dropped c.args.self.now c.args.cell c.drop_cell.new.self (sym c.in-None.is ∙ c.drop_cell.ensures.value) c.drop_cell.ensures.gone
+
+pub invariant_of-self-clause-readers : goal.invariant_of-self-clause-readers
+invariant_of-self-clause-readers g c = known_kept (c.args.self.now.rows).table (c.args.self.now.cells).reads (c.drop_cell.new.self).reads (ap (λ t. t.reads) c.drop_cell.ensures.dropped) c.args.self.now.readers

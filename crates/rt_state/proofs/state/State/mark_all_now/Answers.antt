@@ -3,11 +3,12 @@ use Rattle.rt_owed.specs.Lists.{joins, numbers_of}
 use Rattle.rt_owed.specs.Rooms.{Owing}
 use Rattle.rt_state.specs.Mirror.{state_of}
 use Rattle.rt_state.proofs.AllSeen.{all_seen}
+use Rattle.rt_state.proofs.Entered.{rows_entered}
 use Rattle.rt_state.proofs.Posts.{with_all}
 use Rattle.rt_state.proofs.state.State.mark_all_now.Goals as goal
 
 pub see_all-requires : goal.see_all-requires
-see_all-requires g c = let is = c.as_slice.ensures.rows in record { entered = rw is c.args.self.now.entered }
+see_all-requires g c = let is = c.as_slice.ensures.rows in record { entered = rw is (rows_entered c.args.self.now) }
 
 pub returns-clause-marked : goal.returns-clause-marked
 returns-clause-marked g c = λ kept.

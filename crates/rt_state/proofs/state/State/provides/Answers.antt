@@ -1,7 +1,6 @@
-use Rattle.std.proofs.Common.{◌≡◌, ◌∙◌, ap, sym, map}
+use Rattle.std.proofs.Common.{◌∙◌, ap}
 use Rattle.std.specs.Prelude.{Some, None}
-use Rattle.rt_model.specs.Lists.{at}
-use Rattle.rt_calls.specs.Kept.{provided_of, scope_of}
+use Rattle.rt_calls.specs.Kept.{scope_of}
 use Rattle.rt_state.specs.Provided.{is_provided}
 use Rattle.rt_state.specs.Mirror.{state_of}
 use Rattle.rt_state.proofs.Each.{found-each}
@@ -16,11 +15,11 @@ returns-in-Some-provided_in g c =
     λ app decides kept.
     provided_some app (state_of kept c.args.self.now) c.args.scope c.args.kind c.args.value.now (scope_of c.in-Some.found.now) c.same.result
     (found-each scope_of (c.args.self.now.rows).table c.args.scope (Some c.in-Some.found.now) c.in-Some.ensures)
-    (tested app decides c.same.result c.in-Some-provided_in.old.now c.args.value.now c.same.ensures.same ∙ ap (is_provided app c.args.value.now) c.in-Some-provided_in.ensures ∙ ap (λ ps. is_provided app c.args.value.now (at (map provided_of ps) c.args.kind)) c.as_slice.ensures.items)
+    (tested app decides c.same.result c.in-Some-provided_in.old.now c.args.value.now c.same.ensures.same ∙ ap (is_provided app c.args.value.now) c.in-Some-provided_in.ensures)
 
 pub returns-in-None : goal.returns-in-None
 returns-in-None g c =
     λ app decides kept.
     provided_some app (state_of kept c.args.self.now) c.args.scope c.args.kind c.args.value.now (scope_of c.in-Some.found.now) _
     (found-each scope_of (c.args.self.now.rows).table c.args.scope (Some c.in-Some.found.now) c.in-Some.ensures)
-    (ap (is_provided app c.args.value.now) c.in-None.ensures ∙ ap (λ ps. is_provided app c.args.value.now (at (map provided_of ps) c.args.kind)) c.as_slice.ensures.items)
+    (ap (is_provided app c.args.value.now) c.in-None.ensures)

@@ -1,7 +1,7 @@
 use Rattle.std.proofs.Common.{rules}
 use Rattle.rt_model.specs.Lists.{put}
 use Rattle.rt_calls.specs.Kept.{scope_of}
-use Rattle.rt_state.specs.Provided.{put_provided}
+use Rattle.rt_calls.specs.Provisions.{put_provided}
 use Rattle.rt_state.proofs.Provides.{put-mirrored}
 use Rattle.rt_state.proofs.state.State.put_context.Goals as goal
 

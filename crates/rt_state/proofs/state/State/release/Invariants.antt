@@ -1,5 +1,7 @@
-use Rattle.std.proofs.Common.{◌≡◌, ◌++◌, take, drop, map, length}
-use Rattle.rt_state.specs.Holders.{let_go}
+use Rattle.std.proofs.Common.{◌≡◌, true, drop}
+use Rattle.rt_model.specs.Commands.{released}
+use Rattle.rt_owed.specs.Lists.{numbers_of}
+use Rattle.rt_state.specs.Effects.{has_pair, holds_at}
 use Rattle.rt_state.specs.Mirror.{scopes_of, state_of}
 use Rattle.rt_state.proofs.Released.{scoped}
 use Rattle.rt_state.proofs.state.State.release.Given as goal
@@ -7,6 +9,8 @@ use Rattle.rt_state.proofs.state.State.release.Given as goal
 abbrev pub invariant-loop-index : goal.invariant-loop-index
 invariant-loop-index g l = record {
   same : (kept : _) → state_of kept l.self ≡ scoped (state_of kept l.fn.self) (scopes_of (l.self.rows).table);
-  count : length (l.self.rows).table ≡ length (l.fn.self.rows).table;
-  done : take l.index (l.self.rows).table ++ map (let_go l.task) (drop l.index (l.self.rows).table) ≡ map (let_go l.task) (l.fn.self.rows).table;
+  pairs : l.self.held ≡ l.fn.self.held;
+  done : released (scopes_of (l.self.rows).table) l.task ≡ released (scopes_of (l.fn.self.rows).table) l.task;
+  numbers : numbers_of (scopes_of (l.self.rows).table) ≡ numbers_of (scopes_of (l.fn.self.rows).table);
+  left : (s : _) → holds_at (scopes_of (l.self.rows).table) s l.task ≡ true → has_pair (drop l.index l.fn.self.held) l.task s ≡ true;
 }

@@ -6,7 +6,7 @@ use Rattle.rt_state.proofs.state.State.show.Goals as goal
 
 pub returns : goal.returns
 returns g c =
-    c.change_scope.ensures
+    c.turn_scope.ensures
     (record {
       code = λ x. record x { rest = record (x.rest) { shows = Some c.args.side } };
       model = λ x. record x { shows = Some (side_name_of c.args.side) };
@@ -14,5 +14,5 @@ returns g c =
     })
     (λ x y ret. search rules)
 
-pub change_scope-requires-clause-stay : goal.change_scope-requires-clause-stay
-change_scope-requires-clause-stay g c = λ x y done ret. search rules
+pub turn_scope-requires-clause-stay : goal.turn_scope-requires-clause-stay
+turn_scope-requires-clause-stay g c = λ x y done ret. search rules

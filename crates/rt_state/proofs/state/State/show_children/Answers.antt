@@ -1,22 +1,21 @@
-use Rattle.std.proofs.Common.{rules, [], refl}
+use Rattle.std.proofs.Common.{[], ◌∙◌, ap, refl, map}
 use Rattle.std.specs.Prelude.{Some}
-use Rattle.rt_places.specs.declared.side.SideName.TheVariants.{Children}
 use Rattle.rt_model.specs.State as model
-use Rattle.rt_state.specs.Mirror.{forgets}
+use Rattle.rt_model.specs.State.{change}
+use Rattle.rt_calls.specs.Calls.{source_of}
+use Rattle.rt_state.specs.Mirror.{forgets, state_of}
 use Rattle.rt_state.proofs.Changed.{on_ok}
+use Rattle.rt_state.proofs.Rereads.{changed_twice}
 use Rattle.rt_state.proofs.state.State.show_children.Goals as goal
 
 pub returns : goal.returns
 returns g c =
-    on_ok c.change_scope.result
-    (c.change_scope.ensures
-    (record {
-      code = λ x. record x { rest = record (x.rest) { shows = Some Children; reads = [] } };
-      model = λ x. record x { shows = Some model.ChildrenSide; reads = [] };
-      same = λ x. refl;
-    })
-    (λ x y ret. search rules))
-    (λ changed kept. changed (forgets kept c.args.boundary))
-
-pub change_scope-requires-clause-stay : goal.change_scope-requires-clause-stay
-change_scope-requires-clause-stay g c = λ x y done ret. search rules
+    on_ok c.put_reads.result c.put_reads.ensures
+    (
+    λ read kept.
+    read (forgets kept c.args.boundary)
+    ∙ ap (λ xs. change (state_of (forgets kept c.args.boundary) c.show.new.self) c.args.boundary (λ x. record x { reads = map source_of xs })) c.new.ensures.empty
+    ∙ ap (λ w. change w c.args.boundary (λ x. record x { reads = [] })) (c.in_ok-show.ensures (forgets kept c.args.boundary))
+    ∙ changed_twice (state_of (forgets kept c.args.boundary) c.args.self.now) c.args.boundary (λ x. record x { shows = Some model.ChildrenSide }) (λ x. record x { reads = [] })
+    (λ x. record x { shows = Some model.ChildrenSide; reads = [] }) (λ x. refl)
+    )

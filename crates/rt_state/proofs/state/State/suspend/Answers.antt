@@ -8,3 +8,6 @@ returns g c =
     c.change_task.ensures
     (record { code = λ x. record x { kind = Suspended }; model = λ x. record x { kind = SuspendedTask }; same = λ x. refl })
     (λ x y ret. search rules)
+
+pub change_task-requires-clause-stay : goal.change_task-requires-clause-stay
+change_task-requires-clause-stay g c = λ x y done ret. search rules

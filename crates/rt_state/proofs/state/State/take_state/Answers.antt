@@ -1,6 +1,7 @@
-use Rattle.std.proofs.Common.{◌∙◌, sym}
+use Rattle.std.proofs.Common.{◌∙◌, refl, sym}
 use Rattle.rt_state.proofs.Polls.{if_none, if_some, none_held, taken_out, taken_own}
-use Rattle.rt_state.proofs.Unchanged.{numbers_replaced}
+use Rattle.rt_state.specs.Heights.{task_scope}
+use Rattle.rt_state.proofs.Unchanged.{values_replaced}
 use Rattle.rt_state.proofs.state.State.take_state.Goals as goal
 
 pub returns-in-Some-replace-clause-left : goal.returns-in-Some-replace-clause-left
@@ -23,5 +24,5 @@ returns-in-None-clause-left g c = absurd (cc (c.in-Some.ensures.value ∙ sym c.
 
 pub invariant_of-self-clause-known : goal.invariant_of-self-clause-known
 invariant_of-self-clause-known g c =
-    numbers_replaced c.replace.result c.args.self.now.tasks c.replace.new.self c.args.task _ c.replace.ensures.former c.replace.ensures.put c.replace.ensures.absent
+    values_replaced task_scope c.replace.result c.args.self.now.tasks c.replace.new.self c.args.task _ c.in-Some.row.now (sym c.in-Some.ensures.value) refl c.replace.ensures.former c.replace.ensures.put c.replace.ensures.absent
     ∙ c.args.self.now.known

@@ -7,22 +7,23 @@ use Rattle.rt_calls.specs.Kept.{each}
 use Rattle.rt_owed.specs.Rooms.{Owing}
 use Rattle.rt_state.specs.Mirror.{context_of, scopes_of, state_of}
 use Rattle.rt_state.specs.declared.state.ContextRow.{ContextRow}
+use Rattle.rt_state.proofs.Entered.{rows_entered}
 use Rattle.rt_state.proofs.Posts.{told_first, told_step, told_end, with_all, with_posts}
 use Rattle.rt_state.proofs.state.State.tell.Goals as goal
 
-pub add_readers-requires : goal.add_readers-requires
-add_readers-requires g c = let is = c.as_slice.ensures.rows in record { entered = rw is c.args.self.now.entered }
+pub add_marks-requires : goal.add_marks-requires
+add_marks-requires g c = record { known = c.args.self.now.readers; entered = rows_entered c.args.self.now }
 
 pub loop-index-init : goal.loop-index-init
 loop-index-init g c =
-    let now : c.add_readers.new.owed.posted ≡ c.args.self.now.owed.posted ++ readers (source_of c.args.source) (scopes_of (c.args.self.now.rows).table) =
-    ap (λ o. o.posted) c.add_readers.ensures.posted ∙ ap (λ es. c.args.self.now.owed.posted ++ readers (source_of c.args.source) (scopes_of es)) c.as_slice.ensures.rows in
+    let now : c.add_marks.new.owed.posted ≡ c.args.self.now.owed.posted ++ readers (source_of c.args.source) (scopes_of (c.args.self.now.rows).table) =
+    ap (λ o. o.posted) c.add_marks.ensures.posted in
     record {
       contexts = refl;
       told = λ kept.
-          ap (λ o. tell_contexts (source_of c.args.source) (each context_of c.args.self.now.contexts) (with_all (state_of kept c.args.self.now) o)) c.add_readers.ensures.posted
-          ∙ ap (λ ps. tell_contexts (source_of c.args.source) (each context_of c.args.self.now.contexts) (with_posts (state_of kept c.args.self.now) ps)) (sym (ap (λ o. o.posted) c.add_readers.ensures.posted))
-          ∙ told_first kept c.args.self.now (source_of c.args.source) c.add_readers.new.owed.posted now;
+          ap (λ o. tell_contexts (source_of c.args.source) (each context_of c.args.self.now.contexts) (with_all (state_of kept c.args.self.now) o)) c.add_marks.ensures.posted
+          ∙ ap (λ ps. tell_contexts (source_of c.args.source) (each context_of c.args.self.now.contexts) (with_posts (state_of kept c.args.self.now) ps)) (sym (ap (λ o. o.posted) c.add_marks.ensures.posted))
+          ∙ told_first kept c.args.self.now (source_of c.args.source) c.add_marks.new.owed.posted now;
     }
 
 pub tell_context-requires : goal.tell_context-requires
@@ -54,7 +55,7 @@ returns-clause-told g c =
     told_end c.args.self.now.contexts c.loop-index.index (source_of c.args.source) _ _ (rw is at c.loop-index-test.false) (c.loop-index.invariant.told kept)
 
 pub invariant_of-self-clause-entered : goal.invariant_of-self-clause-entered
-invariant_of-self-clause-entered g c = c.args.self.now.entered ∙ sym (ap (λ (o : Owing). o.scopes) c.add_readers.ensures.posted)
+invariant_of-self-clause-entered g c = c.args.self.now.entered ∙ sym (ap (λ (o : Owing). o.scopes) c.add_marks.ensures.posted)
 
 pub invariant_of-self-clause-known : goal.invariant_of-self-clause-known
-invariant_of-self-clause-known g c = c.args.self.now.known ∙ sym (ap (λ (o : Owing). o.tasks) c.add_readers.ensures.posted)
+invariant_of-self-clause-known g c = c.args.self.now.known ∙ sym (ap (λ (o : Owing). o.tasks) c.add_marks.ensures.posted)

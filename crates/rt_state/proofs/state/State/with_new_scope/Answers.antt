@@ -1,12 +1,13 @@
-use Rattle.std.proofs.Common.{◌≡◌, refl, sym, ap}
-use Rattle.std.specs.Prelude.{Some, None}
+use Rattle.std.proofs.Common.{◌≡◌, ◌+◌, refl, sym, ap, ◌∙◌}
+use Rattle.std.specs.Prelude.{Some, None, nat_lt}
 use Rattle.rt_mirror.specs.Sealed.{component_of}
 use Rattle.rt_places.specs.Places.{place_of, side_name_of}
 use Rattle.rt_calls.specs.Kept.{scope_of}
-use Rattle.rt_named.specs.Standings.{drawn_in}
-use Rattle.rt_state.specs.Mirror.{state_of}
+use Rattle.rt_state.specs.Mirror.{at_first, state_of}
+use Rattle.rt_state.specs.Sides.{more_child}
 use Rattle.rt_state.proofs.Each.{found-each}
-use Rattle.rt_state.proofs.Starts.{newly_made}
+use Rattle.rt_state.proofs.Starts.{newly_made, next_stays}
+use Rattle.rt_state.proofs.Waiting.{row_below}
 use Rattle.rt_state.proofs.state.State.with_new_scope.Goals as goal
 
 pub returns-in_default-clause-gone : goal.returns-in_default-clause-gone
@@ -24,9 +25,18 @@ returns-clause-made g c =
       number = sym same;
       made =
           newly_made kept c.args.self.now c.add_child_at.new.self c.args.parent (side_name_of c.args.side) (place_of c.args.place) (component_of c.args.component) (scope_of c.in-Some.found.now)
-          (state_of kept c.push_scope.new.self) c.new_scope-scope.result c.in-Some-next_number.height c.in-Some-next_number-2.next
-          live (c.in_ok-add_child_at.ensures kept) (c.in_ok-push_scope.ensures.pushed kept) c.new_scope-scope.ensures c.in-Some-next_number.ensures.next.1 c.in-Some-next_number-2.ensures.next.1;
+          (state_of kept c.push_scope.new.self) c.in-Some-next_number.height c.in-Some-next_number-2.next
+          live (c.in_ok-add_child_at.ensures kept) (c.in_ok-push_scope.ensures kept) c.in-Some-next_number.ensures.next.1 c.in-Some-next_number-2.ensures.next.1;
     }
 
 pub push_scope-requires : goal.push_scope-requires
-push_scope-requires g c = record { bare = ap (λ x. drawn_in x) c.new_scope-scope.ensures }
+push_scope-requires g c =
+    let kept : (c.add_child_at.new.self).next_scope ≡ c.args.self.now.next_scope =
+    ap (λ w. w.next_scope) (c.in_ok-add_child_at.ensures at_first)
+    ∙ next_stays (state_of at_first c.args.self.now) c.args.parent (λ x. more_child (side_name_of c.args.side) (place_of c.args.place, c.args.self.now.next_scope) x) in
+    record {
+      next = c.in-Some-next_number-2.ensures.next.1 ∙ sym (ap (λ n. n + 1) kept);
+      above =
+          ap (λ n. nat_lt c.args.parent n) kept
+          ∙ row_below (c.args.self.now.rows).table c.args.self.now.fresh c.args.self.now.hidden c.args.self.now.next_scope c.args.parent c.in-Some.found.now c.args.self.now.waiting (sym c.in-Some.ensures);
+    }
