@@ -1,5 +1,5 @@
 -- What a change of the state came to, by other names.
-use Rattle.std.proofs.Common.{ℕ, true, false, List, [], ◌∷◌, ◌++◌, ◌≡◌, refl, sym, ap, ◌∙◌, subst, map, nat_eq, Result, Ok, Err}
+use Rattle.std.proofs.Common.{ℕ, Bool, true, false, List, [], ◌∷◌, ◌++◌, ◌≡◌, refl, sym, ap, ◌∙◌, subst, map, nat_eq, Result, Ok, Err}
 use Rattle.std.proofs.lemmas.List.{map-append, append-nil}
 use Rattle.std.specs.Prelude.{Option, Some, None, is_some, if◌then◌else◌, IfOk}
 use Rattle.rt_model.proofs.Maps.{pick_true, pick_false}
@@ -19,6 +19,8 @@ use Rattle.rt_state.specs.declared.names.Stop.TheVariants as stops
 use Rattle.rt_state.specs.Made.{IsMade}
 use Rattle.rt_state.specs.declared.names.Fault.TheVariants.{the_data as CodeFault}
 use Rattle.rt_fresh.specs.Turn.{again, and_then, turn_of}
+use Rattle.rt_machine.specs.Changes.{changes_of, changes_of_fed}
+use Rattle.rt_machine.specs.Feeds.{child_fed, fed_changes, fed_entries, fed_outcome, feeds}
 use Rattle.rt_machine.specs.Notes.{NotedBy}
 
 -- a copy that was made is the value itself
@@ -53,23 +55,37 @@ module _ {K : Types} (app : Application K) where
   abbrev entries_by : State K → VComponent K → Option ℕ → List Entry
   entries_by w c o = elim o as (λ z. List Entry) [ None ↦ [] | Some t ↦ (if keeps app w t c then Kept t else Fed t) ∷ [] ]
 
-  pub feed_found : (w : State K) (s : ℕ) (side : SideName) (p : Place) (c : VComponent K) (o : Option ℕ) → fed_child w s side p ≡ o → outcome_of app w (Feed s side p c) ≡ fed_by w c o
-  feed_found w s side p c o is = ap (λ z. fed_by w c z) is
+  -- what is known of the child that is fed tells what comes of it
+  outcome_by : (w : State K) (c : VComponent K) (child : Option ℕ) → fed_by w c child ≡ fed_outcome app w c (child_fed app w c child)
+  outcome_by w c None = refl
+  outcome_by w c (Some t) = refl
 
-  pub feed_entries : (w : State K) (s : ℕ) (side : SideName) (p : Place) (c : VComponent K) (o : Option ℕ) → fed_child w s side p ≡ o → entry_of app w (Feed s side p c) ≡ entries_by w c o
-  feed_entries w s side p c o is = ap (λ z. entries_by w c z) is
+  entry_by : (w : State K) (c : VComponent K) (child : Option ℕ) → entries_by w c child ≡ fed_entries (child_fed app w c child)
+  entry_by w c None = refl
+  entry_by w c (Some t) = refl
 
-  pub handed_kept : (w : State K) (t : ℕ) (c : VComponent K) → keeps app w t c ≡ true → handed app w t c ≡ Done (with_props app w t c) []
-  handed_kept w t c h = pick_true (Done (with_props app w t c) []) (run app (with_props app w t c) t) h
+  changes_by : (w : State K) (c : VComponent K) (child : Option ℕ) → changes_of_fed app w c child ≡ fed_changes (child_fed app w c child)
+  changes_by w c None = refl
+  changes_by w c (Some t) = refl
 
-  pub handed_fed : (w : State K) (t : ℕ) (c : VComponent K) → keeps app w t c ≡ false → handed app w t c ≡ run app (with_props app w t c) t
-  handed_fed w t c h = pick_false (Done (with_props app w t c) []) (run app (with_props app w t c) t) h
+  pub feed_found : (w : State K) (s : ℕ) (side : SideName) (p : Place) (c : VComponent K) (fed : Option (ℕ × Bool)) → fed ≡ feeds app w (Feed s side p c)
+      → outcome_of app w (Feed s side p c) ≡ fed_outcome app w c fed
+  feed_found w s side p c fed is = outcome_by w c (fed_child w s side p) ∙ ap (λ z. fed_outcome app w c z) (sym is)
 
-  pub entry_kept : (w : State K) (t : ℕ) (c : VComponent K) → keeps app w t c ≡ true → (if keeps app w t c then Kept t else Fed t) ∷ [] ≡ Kept t ∷ []
-  entry_kept w t c h = ap (λ e. e ∷ []) (pick_true (Kept t) (Fed t) h)
+  pub feed_entries : (w : State K) (s : ℕ) (side : SideName) (p : Place) (c : VComponent K) (fed : Option (ℕ × Bool)) → fed ≡ feeds app w (Feed s side p c)
+      → entry_of app w (Feed s side p c) ≡ fed_entries fed
+  feed_entries w s side p c fed is = entry_by w c (fed_child w s side p) ∙ ap (λ z. fed_entries z) (sym is)
 
-  pub entry_fed : (w : State K) (t : ℕ) (c : VComponent K) → keeps app w t c ≡ false → (if keeps app w t c then Kept t else Fed t) ∷ [] ≡ Fed t ∷ []
-  entry_fed w t c h = ap (λ e. e ∷ []) (pick_false (Kept t) (Fed t) h)
+  pub feed_changes : (w : State K) (s : ℕ) (side : SideName) (p : Place) (c : VComponent K) (fed : Option (ℕ × Bool)) → fed ≡ feeds app w (Feed s side p c)
+      → changes_of app w (Feed s side p c) ≡ fed_changes fed
+  feed_changes w s side p c fed is = changes_by w c (fed_child w s side p) ∙ ap (λ z. fed_changes z) (sym is)
+
+  -- a child that keeps its output, and one that doesn't
+  pub handed_kept : (w : State K) (t : ℕ) (c : VComponent K) (kept : Bool) → kept ≡ true → fed_outcome app w c (Some (t, kept)) ≡ Done (with_props app w t c) []
+  handed_kept w t c kept h = pick_true (Done (with_props app w t c) []) (run app (with_props app w t c) t) h
+
+  pub handed_fed : (w : State K) (t : ℕ) (c : VComponent K) (kept : Bool) → kept ≡ false → fed_outcome app w c (Some (t, kept)) ≡ run app (with_props app w t c) t
+  handed_fed w t c kept h = pick_false (Done (with_props app w t c) []) (run app (with_props app w t c) t) h
 
   abbrev made_by : State K → ℕ → SideName → Place → VComponent K → Option (Scope K) → Outcome K
   made_by w s side p c o = elim o as (λ z. Outcome K) [ None ↦ Done w [] | Some x ↦ made_in app w s side p c x ]
@@ -114,6 +130,12 @@ module _ {K : Types} (app : Application K) where
 
 pub gone_entry : {K : Types} (w : State K) (t leaf : ℕ) → leaf ≡ next_removed w t → Removed (next_removed w t) ∷ [] ≡ Removed leaf ∷ []
 gone_entry w t leaf is = ap (λ n. Removed n ∷ []) (sym is)
+
+pub entry_kept : (t : ℕ) (kept : Bool) → kept ≡ true → fed_entries (Some (t, kept)) ≡ Kept t ∷ []
+entry_kept t kept h = ap (λ e. e ∷ []) (pick_true (Kept t) (Fed t) h)
+
+pub entry_fed : (t : ℕ) (kept : Bool) → kept ≡ false → fed_entries (Some (t, kept)) ≡ Fed t ∷ []
+entry_fed t kept h = ap (λ e. e ∷ []) (pick_false (Kept t) (Fed t) h)
 
 -- what was noted, by other names
 pub noted_as : {A : Type 0} (before after : List CodeEntry) (es fs : List Entry) (result : Result A Stop) → es ≡ fs → NotedBy before after fs result → NotedBy before after es result

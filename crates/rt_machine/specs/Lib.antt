@@ -3,6 +3,7 @@ pub mod Short
 pub mod Turns
 pub mod Notes
 pub mod Changes
+pub mod Feeds
 pub mod Hearings
 pub mod Machines
 pub mod Counting

@@ -1,5 +1,5 @@
 //! The items of open work, each served in its turn.
-ghost use Rattle.std.specs.Prelude.{◌≡◌, ◌<◌, ◌+◌, ◌∷◌, [], Some, true, if◌then◌else◌, option_map, IfOk, IfSome, OnOk};
+ghost use Rattle.std.specs.Prelude.{◌≡◌, ◌<◌, ◌+◌, ◌∷◌, [], Some, true, option_map, IfOk, IfSome, OnOk};
 ghost use Rattle.rt_model.specs.Causes as causes;
 ghost use Rattle.rt_model.specs.State as model;
 ghost use Rattle.rt_model.specs.Replay as replay;
@@ -13,10 +13,10 @@ ghost use Rattle.rt_state.specs.Mirror.{state_of};
 ghost use Rattle.rt_fresh.specs.Turn.{again, turn_of, entries_at};
 ghost use Rattle.rt_work.specs.Items.{item_of, work_of};
 ghost use Rattle.rt_machine.specs.Counting.{CountsChange};
+ghost use Rattle.rt_machine.specs.Feeds.{fed_entries, fed_outcome, feeds};
 ghost use Rattle.rt_machine.specs.Notes.{NotedBy};
 
 use crate::course::Course;
-use crate::keeping::keeps;
 use crate::turn::sum;
 use rt_boundary::boundary_step;
 use rt_calls::{App, Calls};
@@ -24,7 +24,7 @@ use rt_nodes::VComponent;
 use rt_parts::Parts;
 use rt_places::{Kind, Place, SideName};
 use rt_reports::{Entry, Limits};
-use rt_scopes::{Scopes, fed_child, next_removed};
+use rt_scopes::{Scopes, next_removed};
 use rt_state::{State, Stop};
 use rt_values::{List, OutOfMemory, Part, ScopeId, both};
 use rt_work::Item;
@@ -62,14 +62,17 @@ fn above(height: u64, limits: Limits) -> Result<Option<u64>, OutOfMemory>
 }
 
 /// One turn at an item of open work: it is served, and of a drop one scope goes. The work that it
-/// leads to.
+/// leads to, where this is the child that it feeds.
 pub(crate) fn turn_at<A: App>(
     scopes: &mut Scopes<A>,
     app: &A,
     calls: &mut Calls,
     course: &mut Course,
     item: &Item<A>,
+    fed: Option<(u64, bool)>,
 ) -> Result<List<Item<A>>, Stop>
+    requires fed { (g : _) →
+        fed ≡ feeds (A.meaning app.now) (state_of g scopes.old.state) (item_of item.now) }
     ensures turned { StateComes (λ w. turn_of (A.meaning app.now) w (item_of item.now))
         scopes.old.state scopes.new.state work_of result }
     ensures noted { (g : _) → NotedBy course.old.entries course.new.entries
@@ -87,12 +90,7 @@ pub(crate) fn turn_at<A: App>(
             kind,
         } => draw(scopes, *scope, *side, place, *kind),
         Item::Row { boundary, step } => boundary_step(scopes, app, calls, *boundary, *step),
-        Item::Feed {
-            scope,
-            side,
-            place,
-            component,
-        } => feed(scopes, app, calls, course, *scope, *side, place, component),
+        Item::Feed { component, .. } => feed(scopes, app, calls, course, fed, component),
         Item::Make {
             scope,
             side,
@@ -117,61 +115,54 @@ fn draw<A: App>(
         replay.draw_number w scope (side_name_of side) (place_of place.now) (kind_of kind))
         scopes.old.state scopes.new.state work_of result }
 {
-    let place = place.copy(scopes.alloc)?;
     scopes
         .state
         .draw_number(scopes.alloc, scope, side, place, kind)?;
     Ok(List::new(scopes.alloc))
 }
 
-/// Hands the child at a place a component.
+/// Hands the child that is fed a component.
 fn feed<A: App>(
     scopes: &mut Scopes<A>,
     app: &A,
     calls: &mut Calls,
     course: &mut Course,
-    scope: u64,
-    side: SideName,
-    place: &Place,
+    fed: Option<(u64, bool)>,
     component: &VComponent<A>,
 ) -> Result<List<Item<A>>, Stop>
-    ensures fed { StateComes (λ w. replay.outcome_of (A.meaning app.now) w
-        (model.Feed scope (side_name_of side) (place_of place.now) (component_of component.now)))
+    ensures fed { StateComes (λ w.
+        fed_outcome (A.meaning app.now) w (component_of component.now) fed)
         scopes.old.state scopes.new.state work_of result }
-    ensures noted { (g : _) → NotedBy course.old.entries course.new.entries
-        (replay.entry_of (A.meaning app.now) (state_of g scopes.old.state)
-        (model.Feed scope (side_name_of side) (place_of place.now) (component_of component.now)))
-        result }
-    ensures counted { OnOk result (CountsChange (λ w. replay.outcome_of (A.meaning app.now) w
-        (model.Feed scope (side_name_of side) (place_of place.now) (component_of component.now)))
+    ensures noted { NotedBy course.old.entries course.new.entries (fed_entries fed) result }
+    ensures counted { OnOk result (CountsChange (λ w.
+        fed_outcome (A.meaning app.now) w (component_of component.now) fed)
         scopes.old.state calls.old calls.new) }
 {
-    match fed_child(&scopes.state, scope, side, place.as_slice()) {
-        Some(child) => hand(scopes, app, calls, course, child, component),
+    match fed {
+        Some(fed) => hand(scopes, app, calls, course, fed.0, fed.1, component),
         None => Ok(List::new(scopes.alloc)),
     }
 }
 
-/// Hands a scope a component. It keeps its output where that means the same, else it is run.
+/// Hands a scope a component. It keeps its output, or it is run.
 fn hand<A: App>(
     scopes: &mut Scopes<A>,
     app: &A,
     calls: &mut Calls,
     course: &mut Course,
     child: u64,
+    kept: bool,
     component: &VComponent<A>,
 ) -> Result<List<Item<A>>, Stop>
     ensures handed { StateComes (λ w.
-        replay.handed (A.meaning app.now) w child (component_of component.now))
+        fed_outcome (A.meaning app.now) w (component_of component.now) (Some (child, kept)))
         scopes.old.state scopes.new.state work_of result }
-    ensures noted { (g : _) → NotedBy course.old.entries course.new.entries
-        ((if replay.keeps (A.meaning app.now) (state_of g scopes.old.state) child
-        (component_of component.now) then replay.Kept child else replay.Fed child) ∷ []) result }
+    ensures noted { NotedBy course.old.entries course.new.entries
+        (fed_entries (Some (child, kept))) result }
     ensures counted { OnOk result (CountsChange (λ w.
-        replay.handed (A.meaning app.now) w child (component_of component.now))
+        fed_outcome (A.meaning app.now) w (component_of component.now) (Some (child, kept)))
         scopes.old.state calls.old calls.new) }
 {
-    let kept = keeps(app, &scopes.state, child, component);
     let component = component.copy(scopes.alloc)?;
     if kept {
         course.note(Entry::Kept(ScopeId(child)))?;

@@ -1,15 +1,19 @@
-//! When a component that is fed keeps its output.
+//! Which child an item feeds, and when it keeps its output.
 ghost use Rattle.std.specs.Prelude.{◌≡◌};
 ghost use Rattle.rt_model.specs.Replay as replay;
 ghost use Rattle.rt_model.specs.Tree.{Own};
 ghost use Rattle.rt_model.specs.Values as values;
 ghost use Rattle.rt_mirror.specs.Sealed.{component_of};
 ghost use Rattle.rt_state.specs.Mirror.{state_of};
+ghost use Rattle.rt_work.specs.Items.{item_of};
+ghost use Rattle.rt_machine.specs.Feeds as feeds;
 
 use rt_calls::{App, Calls};
 use rt_nodes::VComponent;
+use rt_scopes::fed_child;
 use rt_state::State;
 use rt_values::Part;
+use rt_work::Item;
 
 /// Whether a component that is fed new props keeps its output: an error boundary never, a component
 /// of the application where the application memoizes it, the others where their props are equal.
@@ -49,17 +53,53 @@ fn keeps_own<A: App>(
 }
 
 /// Whether a scope that is handed a component keeps its output.
-pub(crate) fn keeps<A: App>(
-    app: &A,
-    state: &State<A>,
-    scope: u64,
-    component: &VComponent<A>,
-) -> bool
+fn keeps<A: App>(app: &A, state: &State<A>, scope: u64, component: &VComponent<A>) -> bool
     ensures { (g : _) → result
         ≡ replay.keeps (A.meaning app.now) (state_of g state.now) scope (component_of component.now) }
 {
     match state.scope(scope) {
         Some(found) => keeps_output(app, &found.rest.component, component),
         None => false,
+    }
+}
+
+/// The child that an item feeds, and whether it keeps its output. None where it is an item of
+/// another kind, or no child is there.
+pub(crate) fn fed_by<A: App>(app: &A, state: &State<A>, item: &Item<A>) -> Option<(u64, bool)>
+    ensures { (g : _) → result
+        ≡ feeds.feeds (A.meaning app.now) (state_of g state.now) (item_of item.now) }
+{
+    match item {
+        Item::Draw { .. } => None,
+        Item::Row { .. } => None,
+        Item::Feed {
+            scope,
+            side,
+            place,
+            component,
+        } => child_fed(
+            app,
+            state,
+            fed_child(state, *scope, *side, place),
+            component,
+        ),
+        Item::Make { .. } => None,
+        Item::Drop { .. } => None,
+    }
+}
+
+/// A child that is fed a component, and whether it keeps its output.
+fn child_fed<A: App>(
+    app: &A,
+    state: &State<A>,
+    child: Option<u64>,
+    component: &VComponent<A>,
+) -> Option<(u64, bool)>
+    ensures { (g : _) → result ≡ feeds.child_fed (A.meaning app.now) (state_of g state.now)
+        (component_of component.now) child }
+{
+    match child {
+        Some(child) => Some((child, keeps(app, state, child, component))),
+        None => None,
     }
 }

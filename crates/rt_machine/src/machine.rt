@@ -14,7 +14,7 @@ use rt_reports::{Entry, Report, bodies_in, units_in};
 use rt_scopes::Scopes;
 use rt_shown::{Listener, Stood};
 use rt_table::Table;
-use rt_values::{List, OutOfMemory};
+use rt_values::{Boxed, List, OutOfMemory};
 use rt_work::Item;
 use std::alloc::Global;
 use std::mem;
@@ -41,7 +41,7 @@ pub struct Machine<A: App> {
     /// The entry that began the build or the unit at work.
     pub first: Option<Entry>,
     /// What the scopes that a rerun has changed were before it, with none for each that it made.
-    pub stood: Table<Option<Stood<A>>>,
+    pub stood: Table<Option<Boxed<Stood<A>>>>,
     /// How many scopes were live before it.
     pub lived: u64,
     /// Of the report on its way: its entries after the first, its units, and whether no listener
@@ -55,6 +55,9 @@ pub struct Machine<A: App> {
 pub(crate) fn stack<T: Drop>(onto: &mut List<T>, items: List<T>) -> Result<(), OutOfMemory>
     ensures { OnOk result (onto.new ≡ onto.old ++ reverse items) }
 {
+    if items.is_empty() {
+        return Ok(());
+    }
     let mut items = items.into_vec();
     items.reverse();
     onto.append(List::from_vec(items))
@@ -79,21 +82,7 @@ impl<A: App> Machine<A> {
             elements: FIRST,
             errors: FIRST,
         };
-        let root = app.root(alloc)?;
-        let (mut scopes, calls) = Scopes::new(alloc, firsts)?;
-        scopes.state.add_root(alloc, root, props)?;
-        let machine = Machine {
-            scopes,
-            work: List::new(alloc),
-            hearing: None,
-            first: None,
-            stood: Table::new(alloc),
-            lived: 0,
-            course: Course::new(alloc),
-            units: 0,
-            default_enabled: true,
-        };
-        Ok((machine, calls))
+        Machine::start_from(alloc, app, props, firsts)
     }
 
     /// The report of what was done since the last one, opened by an entry, with so many edits.

@@ -9,6 +9,7 @@ ghost use Rattle.rt_machine.specs.Machines.{KeepsLow, KeepsOn, Serves, ServesLow
 
 use crate::agenda::{too_deep, turn_at};
 use crate::ended::Ended;
+use crate::keeping::fed_by;
 use crate::machine::{Machine, stack};
 use crate::standing::keep_where;
 use rt_calls::{App, Calls};
@@ -60,15 +61,16 @@ impl<A: App> Machine<A> {
           course = self.new.course;
         } }
     {
+        let fed = fed_by(app, &self.scopes.state, item);
         keep_where(
             self.is_compared(),
             self.scopes.alloc,
-            app,
             &self.scopes.state,
             item,
+            fed,
             &mut self.stood,
         )?;
-        let work = turn_at(&mut self.scopes, app, calls, &mut self.course, item)?;
+        let work = turn_at(&mut self.scopes, app, calls, &mut self.course, item, fed)?;
         Ok(stack(&mut self.work, work)?)
     }
 }

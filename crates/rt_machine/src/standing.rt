@@ -1,25 +1,25 @@
 //! What the scopes that a rerun changes were before it.
 ghost use Rattle.std.specs.Prelude.{◌≡◌, ℕ, true, is_some, option_map, IfOk, OnOk};
 ghost use Rattle.rt_model.specs.Lists.{at};
-ghost use Rattle.rt_mirror.specs.Sealed.{component_of};
+ghost use Rattle.rt_model.specs.OneLog.{types};
+ghost use Rattle.rt_model.specs.World.{Application};
 ghost use Rattle.rt_calls.specs.Calls.{number_of};
 ghost use Rattle.rt_state.specs.Mirror.{scopes_of, state_of};
 ghost use Rattle.rt_shown.specs.Look as looks;
 ghost use Rattle.rt_shown.specs.Stands.{Stands};
 ghost use Rattle.rt_state.specs.Names.{work_of};
 ghost use Rattle.rt_work.specs.Items.{item_of};
-ghost use Rattle.rt_machine.specs.Changes.{AllKept, KeepsFor, changes_of, changes_of_fed, unless};
+ghost use Rattle.rt_machine.specs.Changes.{AllKept, KeepsFor, changes_of, unless};
+ghost use Rattle.rt_machine.specs.Feeds.{fed_changes, feeds};
 
-use crate::keeping::keeps;
-use rt_calls::{App, Scope};
-use rt_nodes::VComponent;
+use rt_calls::Scope;
 use rt_parts::Parts;
 use rt_places::Side;
-use rt_scopes::{fed_child, next_removed};
+use rt_scopes::next_removed;
 use rt_shown::Stood;
 use rt_state::{State, Work};
 use rt_table::Table;
-use rt_values::{OutOfMemory, Part, ScopeId};
+use rt_values::{Boxed, OutOfMemory, Part, ScopeId};
 use rt_work::Item;
 use std::alloc::Global;
 
@@ -51,10 +51,10 @@ fn number_of(parent: Option<ScopeId>) -> Option<u64>
 }
 
 /// What shows of a scope, as it stands.
-fn standing<P: Parts>(alloc: Global, scope: &Scope<P>) -> Result<Stood<P>, OutOfMemory>
+fn standing<P: Parts>(alloc: Global, scope: &Scope<P>) -> Result<Boxed<Stood<P>>, OutOfMemory>
     ensures { IfOk result (λ stood. stood ≡ looks.standing scope.now) }
 {
-    Ok(Stood {
+    let stood = Stood {
         parent: number_of(scope.row.parent),
         height: scope.rest.height,
         below: scope.rest.below,
@@ -62,7 +62,8 @@ fn standing<P: Parts>(alloc: Global, scope: &Scope<P>) -> Result<Stood<P>, OutOf
         main_side: copy_side(alloc, &scope.rest.main_side)?,
         children_side: copy_side(alloc, &scope.rest.children_side)?,
         fallback_side: copy_side(alloc, &scope.rest.fallback_side)?,
-    })
+    };
+    Ok(Boxed::new(alloc, stood)?)
 }
 
 /// What shows of a scope now, none where it isn't live.
@@ -70,7 +71,7 @@ fn shown_now<P: Parts>(
     alloc: Global,
     state: &State<P>,
     scope: u64,
-) -> Result<Option<Stood<P>>, OutOfMemory>
+) -> Result<Option<Boxed<Stood<P>>>, OutOfMemory>
     ensures { IfOk result (λ stood.
         option_map looks.sight_in stood
         ≡ option_map looks.sight_of (at (scopes_of state.now.rows.table) scope)) }
@@ -82,7 +83,7 @@ fn shown_now<P: Parts>(
 }
 
 /// Whether it is kept what a scope was.
-fn is_kept<P: Parts>(stood: &Table<Option<Stood<P>>>, scope: u64) -> bool
+fn is_kept<P: Parts>(stood: &Table<Option<Boxed<Stood<P>>>>, scope: u64) -> bool
     ensures { result ≡ is_some (at stood.now scope) }
 {
     stood.get(scope).is_some()
@@ -93,7 +94,7 @@ pub(crate) fn keep<P: Parts>(
     alloc: Global,
     state: &State<P>,
     scope: u64,
-    stood: &mut Table<Option<Stood<P>>>,
+    stood: &mut Table<Option<Boxed<Stood<P>>>>,
 ) -> Result<(), OutOfMemory>
     ensures kept { OnOk result (is_some (at stood.new scope) ≡ true) }
     ensures others { OnOk result ((other : ℕ) →
@@ -109,16 +110,19 @@ pub(crate) fn keep<P: Parts>(
     stood.push(scope, shown)
 }
 
-/// Keeps what shows of the scopes that a turn at an item may change.
-pub(crate) fn keep_for<A: App>(
+/// Keeps what shows of the scopes that a turn at an item may change, where this is the child that
+/// it feeds.
+pub(crate) fn keep_for<P: Parts>(
     alloc: Global,
-    app: &A,
-    state: &State<A>,
-    item: &Item<A>,
-    stood: &mut Table<Option<Stood<A>>>,
+    state: &State<P>,
+    item: &Item<P>,
+    fed: Option<(u64, bool)>,
+    stood: &mut Table<Option<Boxed<Stood<P>>>>,
 ) -> Result<(), OutOfMemory>
-    ensures kept { OnOk result ((g : _) →
-        AllKept stood.new (changes_of (A.meaning app.now) (state_of g state.now) (item_of item.now))) }
+    ensures kept { OnOk result ((app : Application
+        (types P.Component P.Props P.Value P.Handler P.TaskState P.Effect P.Payload)) (g : _) →
+        fed ≡ feeds app (state_of g state.now) (item_of item.now) →
+        AllKept stood.new (changes_of app (state_of g state.now) (item_of item.now))) }
     ensures stands { OnOk result ((was : _) →
         Stands stood.old was (scopes_of state.now.rows.table) →
         Stands stood.new was (scopes_of state.now.rows.table)) }
@@ -126,15 +130,7 @@ pub(crate) fn keep_for<A: App>(
     match item {
         Item::Draw { scope, .. } => keep(alloc, state, *scope, stood),
         Item::Row { boundary, .. } => keep(alloc, state, *boundary, stood),
-        Item::Feed {
-            scope,
-            side,
-            place,
-            component,
-        } => {
-            let child = fed_child(state, *scope, *side, place.as_slice());
-            keep_fed(alloc, app, state, child, component, stood)
-        }
+        Item::Feed { .. } => keep_fed(alloc, state, fed, stood),
         Item::Make { scope, .. } => {
             keep(alloc, state, *scope, stood)?;
             keep(alloc, state, state.next_scope, stood)
@@ -148,28 +144,19 @@ pub(crate) fn keep_for<A: App>(
 
 /// Keeps what shows of a scope that is fed, where there is one. One that keeps its output shows what
 /// it did.
-fn keep_fed<A: App>(
+fn keep_fed<P: Parts>(
     alloc: Global,
-    app: &A,
-    state: &State<A>,
-    child: Option<u64>,
-    component: &VComponent<A>,
-    stood: &mut Table<Option<Stood<A>>>,
+    state: &State<P>,
+    fed: Option<(u64, bool)>,
+    stood: &mut Table<Option<Boxed<Stood<P>>>>,
 ) -> Result<(), OutOfMemory>
-    ensures kept { OnOk result ((g : _) → AllKept stood.new
-        (changes_of_fed (A.meaning app.now) (state_of g state.now) (component_of component.now) child)) }
+    ensures kept { OnOk result (AllKept stood.new (fed_changes fed)) }
     ensures stands { OnOk result ((was : _) →
         Stands stood.old was (scopes_of state.now.rows.table) →
         Stands stood.new was (scopes_of state.now.rows.table)) }
 {
-    match child {
-        Some(child) => keep_run(
-            alloc,
-            state,
-            keeps(app, state, child, component),
-            child,
-            stood,
-        ),
+    match fed {
+        Some(fed) => keep_run(alloc, state, fed.1, fed.0, stood),
         None => Ok(()),
     }
 }
@@ -180,7 +167,7 @@ fn keep_run<P: Parts>(
     state: &State<P>,
     kept: bool,
     child: u64,
-    stood: &mut Table<Option<Stood<P>>>,
+    stood: &mut Table<Option<Boxed<Stood<P>>>>,
 ) -> Result<(), OutOfMemory>
     ensures kept { OnOk result (AllKept stood.new (unless kept child)) }
     ensures stands { OnOk result ((was : _) →
@@ -194,22 +181,24 @@ fn keep_run<P: Parts>(
 }
 
 /// Keeps it where the scopes before and after are compared.
-pub(crate) fn keep_where<A: App>(
+pub(crate) fn keep_where<P: Parts>(
     compared: bool,
     alloc: Global,
-    app: &A,
-    state: &State<A>,
-    item: &Item<A>,
-    stood: &mut Table<Option<Stood<A>>>,
+    state: &State<P>,
+    item: &Item<P>,
+    fed: Option<(u64, bool)>,
+    stood: &mut Table<Option<Boxed<Stood<P>>>>,
 ) -> Result<(), OutOfMemory>
-    ensures kept { OnOk result (compared ≡ true → (g : _) →
-        AllKept stood.new (changes_of (A.meaning app.now) (state_of g state.now) (item_of item.now))) }
+    ensures kept { OnOk result (compared ≡ true → (app : Application
+        (types P.Component P.Props P.Value P.Handler P.TaskState P.Effect P.Payload)) (g : _) →
+        fed ≡ feeds app (state_of g state.now) (item_of item.now) →
+        AllKept stood.new (changes_of app (state_of g state.now) (item_of item.now))) }
     ensures stands { OnOk result ((was : _) →
         Stands stood.old was (scopes_of state.now.rows.table) →
         Stands stood.new was (scopes_of state.now.rows.table)) }
 {
     if compared {
-        keep_for(alloc, app, state, item, stood)
+        keep_for(alloc, state, item, fed, stood)
     } else {
         Ok(())
     }
@@ -220,7 +209,7 @@ pub(crate) fn first_kept<P: Parts>(
     alloc: Global,
     state: &State<P>,
     work: Work,
-) -> Result<Table<Option<Stood<P>>>, OutOfMemory>
+) -> Result<Table<Option<Boxed<Stood<P>>>>, OutOfMemory>
     ensures { IfOk result (λ stood.
         KeepsFor (work_of work) stood (scopes_of state.now.rows.table)) }
 {

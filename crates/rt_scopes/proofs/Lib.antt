@@ -17,3 +17,4 @@ pub mod TreeTests
 pub mod TreesAnswered
 pub mod Settled
 pub mod RunKinds
+pub mod Staying

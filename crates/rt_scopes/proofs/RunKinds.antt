@@ -6,7 +6,7 @@ use Rattle.rt_model.specs.Tree.{Types, VComponent, Own, Root, Fragment, ErrorBou
 use Rattle.rt_model.specs.World.{Application, before_render_kind}
 use Rattle.rt_model.specs.State.{State, Scope, Done, RowStep, hooks_of, is_held, onward}
 use Rattle.rt_model.specs.Run.{after_answer, after_hooks, boundary_run, call_body, hooks_called, row_items, row_of, run, run_as, runs_fallback, unmarked}
-use Rattle.rt_scopes.specs.Runs.{run_by, run_on}
+use Rattle.rt_scopes.specs.Runs.{body_run, run_by, run_on, steps_run}
 
 module _ {K : Types} (app : Application K) where
   run_kind : (v : State K) (s : ℕ) (x : Scope K) (c : VComponent K) → run_as app v s x c ≡ run_on app v s c (row_of x.shows (is_held x))
@@ -32,12 +32,16 @@ module _ {K : Types} (app : Application K) where
   run_gone w s gone = ap (λ (o : Option (Scope K)). elim o [ None ↦ Done w [] | Some y ↦ onward (hooks_called app before_render_kind (unmarked w s) s y.hooks) (λ v. run_as app v s y y.component) ]) gone
 
   -- a suspense boundary's run
-  pub run_suspense : (w : State K) (s : ℕ) (c : VComponent K) (steps : List RowStep) (b : Bool) → b ≡ is_suspense_boundary c → b ≡ true → run_on app w s c steps ≡ boundary_run app w s steps
-  run_suspense w s c steps b is true_is = ap (λ t. if t then boundary_run app w s steps else call_body app w s c (λ v answer. after_answer app v s answer)) (sym is ∙ true_is)
+  pub run_suspense : (w : State K) (s : ℕ) (c : VComponent K) (steps : List RowStep) (b : Bool) → b ≡ is_suspense_boundary c → b ≡ true → run_by app w s c steps ≡ steps_run app w s steps
+  run_suspense w s c steps b is true_is =
+      ap (λ t. onward (hooks_called app before_render_kind (unmarked w s) s (hooks_of (unmarked w s) s)) (λ v. if t then boundary_run app v s steps else call_body app v s c (λ u answer. after_answer app u s answer)))
+      (sym is ∙ true_is)
 
   -- the run of another component
-  pub run_other : (w : State K) (s : ℕ) (c : VComponent K) (steps : List RowStep) (b : Bool) → b ≡ is_suspense_boundary c → b ≡ false → run_on app w s c steps ≡ call_body app w s c (λ v answer. after_answer app v s answer)
-  run_other w s c steps b is false_is = ap (λ t. if t then boundary_run app w s steps else call_body app w s c (λ v answer. after_answer app v s answer)) (sym is ∙ false_is)
+  pub run_other : (w : State K) (s : ℕ) (c : VComponent K) (steps : List RowStep) (b : Bool) → b ≡ is_suspense_boundary c → b ≡ false → run_by app w s c steps ≡ body_run app w s c
+  run_other w s c steps b is false_is =
+      ap (λ t. onward (hooks_called app before_render_kind (unmarked w s) s (hooks_of (unmarked w s) s)) (λ v. if t then boundary_run app v s steps else call_body app v s c (λ u answer. after_answer app u s answer)))
+      (sym is ∙ false_is)
 
   -- a run that calls the fallback
   pub run_held : (w : State K) (b : ℕ) (steps : List RowStep) (t : Bool) → t ≡ runs_fallback steps → t ≡ true → boundary_run app w b steps ≡ Done w (row_items b steps)

@@ -15,3 +15,13 @@ module _ {K : Types} (app : Application K) where
   abbrev pub run_by : State K → ℕ → VComponent K → List RowStep → Outcome K
   run_by w s c steps =
       onward (hooks_called app before_render_kind (unmarked w s) s (hooks_of (unmarked w s) s)) (λ v. run_on v s c steps)
+
+  -- a run of these steps of a suspense boundary, and one of the body of another component
+  abbrev pub steps_run : State K → ℕ → List RowStep → Outcome K
+  steps_run w s steps =
+      onward (hooks_called app before_render_kind (unmarked w s) s (hooks_of (unmarked w s) s)) (λ v. boundary_run app v s steps)
+
+  abbrev pub body_run : State K → ℕ → VComponent K → Outcome K
+  body_run w s c =
+      onward (hooks_called app before_render_kind (unmarked w s) s (hooks_of (unmarked w s) s)) (λ v.
+      call_body app v s c (λ u answer. after_answer app u s answer))

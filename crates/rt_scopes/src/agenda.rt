@@ -18,11 +18,12 @@ use rt_parts::Parts;
 use rt_places::{Nodes, Seats, Side, SideName};
 use rt_state::{State, side_of};
 use rt_values::{List, OutOfMemory};
-use rt_work::{Item, Patched, walk_both};
+use rt_work::{Item, Patched, all_stay, walk_both};
 use std::alloc::Global;
 
 /// A tree becomes the kept output of a side of a live scope, which keeps the numbers and children
-/// that match. The answer is its agenda: numbers, feeds and makes, then drops.
+/// that match. The answer is its agenda: numbers, feeds and makes, then drops. Where all nodes stay
+/// and no component is fed the side isn't made anew.
 pub fn start_agenda<P: Parts>(
     alloc: Global,
     state: &mut State<P>,
@@ -39,7 +40,12 @@ pub fn start_agenda<P: Parts>(
     let Some(found) = state.scope(scope) else {
         return Ok(List::new(alloc));
     };
-    let (work, side) = patched_side(alloc, scope, name, tree, side_of(found, name))?;
+    let was = side_of(found, name);
+    if all_stay(was, &tree) {
+        state.put_output(scope, name, tree)?;
+        return Ok(List::new(alloc));
+    }
+    let (work, side) = patched_side(alloc, scope, name, tree, was)?;
     state.put_side(scope, name, side);
     Ok(work)
 }

@@ -137,7 +137,7 @@ impl<A: App> Scopes<A> {
             → result ≡ Err stops.OutOfMemory }
     {
         let asked = self.after_call(left)?;
-        self.state.keep_reads(scope, reads)?;
+        self.state.keep_reads(self.alloc, scope, reads)?;
         if !answer_fits(answer) {
             return Err(Stop::Fault(Fault::BadNode { scope }));
         }

@@ -10,7 +10,7 @@ ghost use Rattle.rt_state.specs.Mirror.{state_of};
 ghost use Rattle.rt_scopes.specs.Sides.{child_here, fallback_scopes_in};
 
 use rt_parts::Parts;
-use rt_places::{Side, SideName, Spot, Step, spots};
+use rt_places::{Place, Side, SideName, Spot, spots};
 use rt_state::{State, side_of};
 use rt_values::{List, OutOfMemory};
 use std::alloc::Global;
@@ -47,9 +47,7 @@ fn add_child<P: Parts>(
 {
     match spot {
         Spot::Node { .. } => Ok(()),
-        Spot::Component { place, .. } => {
-            add_live(state, side.child_at(place.as_slice()), scopes)
-        }
+        Spot::Component { place, .. } => { add_live(state, side.child_at(place), scopes) }
     }
 }
 
@@ -119,7 +117,7 @@ pub fn fed_child<P: Parts>(
     state: &State<P>,
     scope: u64,
     side: SideName,
-    place: &[Step],
+    place: &Place,
 ) -> Option<u64>
     ensures { (g : _) → result
         ≡ child_fed (state_of g state.now) scope (side_name_of side) (place_of place.now) }

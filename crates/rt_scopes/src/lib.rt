@@ -19,8 +19,8 @@ mod trees;
 pub use agenda::start_agenda;
 pub use children::{children_below, drop_fallback, fed_child, next_removed, side_scopes};
 pub use rt_calls::{
-    App, BodyCx, BodyTurn, Calls, Command, Counter, Cx, CxFault, Firsts, Hook, Provided, Rows,
-    ScopeRow, TaskStep, Turn, TurnParts, World,
+    App, BodyCx, BodyTurn, Calls, Command, Counter, Cx, CxFault, Firsts, Hook, Provided,
+    Provisions, Rows, ScopeRow, TaskStep, Turn, TurnParts, World,
 };
 pub use rt_reports::Fault;
 pub use rt_state::{NotBuilt, ScopeState, get_scope};

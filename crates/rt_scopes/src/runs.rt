@@ -7,7 +7,7 @@ ghost use Rattle.rt_mirror.specs.Sealed.{component_of};
 ghost use Rattle.rt_places.specs.Places.{side_name_of};
 ghost use Rattle.rt_work.specs.Items.{row_step_of, work_of};
 ghost use Rattle.rt_scopes.specs.Outcomes.{Comes};
-ghost use Rattle.rt_scopes.specs.Runs.{run_by, run_on};
+ghost use Rattle.rt_scopes.specs.Runs.{body_run, steps_run};
 
 use crate::scopes::Scopes;
 use rt_calls::{App, Calls};
@@ -84,48 +84,48 @@ impl<A: App> Scopes<A> {
         let Some(found) = self.state.scope(scope.0) else {
             return Ok(List::new(self.alloc));
         };
+        if is_suspense_boundary(&found.rest.component) {
+            let steps = row_of(found.rest.shows, is_held(found));
+            return self.run_steps(app, calls, scope.0, steps);
+        }
         let component = found.rest.component.copy(self.alloc)?;
-        let steps = row_of(found.rest.shows, is_held(found));
-        self.run_component(app, calls, scope.0, &component, steps)
+        self.run_component(app, calls, scope.0, &component)
     }
 
-    /// Runs a scope with this component: its marks go, the before-render hooks are called, then its
-    /// body, or these steps of a suspense boundary.
+    /// Runs these steps of a suspense boundary: its marks go, and the before-render hooks are called
+    /// first.
+    fn run_steps(
+        &mut self,
+        app: &A,
+        calls: &mut Calls,
+        boundary: u64,
+        steps: &[RowStep],
+    ) -> Result<List<Item<A>>, Stop>
+        ensures run { Comes (λ w. steps_run (A.meaning app.now) w boundary
+            (map row_step_of steps.now))
+            self.old.state calls.old self.new.state calls.new work_of result }
+    {
+        self.state.unmark(boundary);
+        self.call_hooks(app, calls, ScopeId(boundary), false)?;
+        self.run_boundary(app, calls, boundary, steps)
+    }
+
+    /// Runs the body of another component: the marks of its scope go, and the before-render hooks are
+    /// called first.
     fn run_component(
         &mut self,
         app: &A,
         calls: &mut Calls,
         scope: u64,
         component: &VComponent<A>,
-        steps: &[RowStep],
     ) -> Result<List<Item<A>>, Stop>
-        ensures run { Comes (λ w. run_by (A.meaning app.now) w scope
-            (component_of component.now) (map row_step_of steps.now))
+        ensures run { Comes (λ w. body_run (A.meaning app.now) w scope
+            (component_of component.now))
             self.old.state calls.old self.new.state calls.new work_of result }
     {
         self.state.unmark(scope);
         self.call_hooks(app, calls, ScopeId(scope), false)?;
-        self.run_kind(app, calls, scope, component, steps)
-    }
-
-    /// Runs a body, or these steps of a suspense boundary.
-    fn run_kind(
-        &mut self,
-        app: &A,
-        calls: &mut Calls,
-        scope: u64,
-        component: &VComponent<A>,
-        steps: &[RowStep],
-    ) -> Result<List<Item<A>>, Stop>
-        ensures run { Comes (λ w. run_on (A.meaning app.now) w scope
-            (component_of component.now) (map row_step_of steps.now))
-            self.old.state calls.old self.new.state calls.new work_of result }
-    {
-        if is_suspense_boundary(component) {
-            self.run_boundary(app, calls, scope, steps)
-        } else {
-            self.run_body(app, calls, scope, component)
-        }
+        self.run_body(app, calls, scope, component)
     }
 
     /// Calls a body, and does what follows its answer.

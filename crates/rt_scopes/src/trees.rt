@@ -30,11 +30,7 @@ fn block_of<P: Parts>(
 {
     let path = List::from_slice(alloc, path)?;
     Ok(VNode {
-        template: Template {
-            roots: Shared::one(alloc, root)?,
-            node_paths: Shared::one(alloc, path)?,
-            attr_paths: Shared::empty(),
-        },
+        template: Template::of_one(alloc, root, path)?,
         dynamic_nodes: Shared::one(alloc, value)?,
         dynamic_attrs: Shared::empty(),
     })

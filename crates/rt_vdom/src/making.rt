@@ -11,7 +11,7 @@ ghost use Rattle.rt_vdom.specs.Runs.{Builds, BuildsToList, Prebuilt, PrebuiltSto
 
 use crate::dom::{Stage, VirtualDom};
 use crate::refusal::DomFault;
-use rt_calls::{App, Firsts};
+use rt_calls::{App, Calls, Firsts};
 use rt_edits::{Mutations, NoOpMutations, WriteMutations};
 use rt_machine::{Ended, Machine};
 use rt_reports::{Fault, Limits, Report};
@@ -183,12 +183,34 @@ impl<A: App> VirtualDom<A> {
         } = self;
         let mut calls = calls;
         let mut machine = machine;
-        match stage {
-            Stage::Failed => Ok(app),
-            _ => match close(&mut machine, &app, &mut calls) {
-                Ok(()) => Ok(app),
-                Err(stop) => Err(Ended::Run(stop).fault()),
-            },
-        }
+        close_all(&mut machine, app, &mut calls, stage)
+    }
+}
+
+/// The same of a dom's parts.
+fn close_all<A: App>(
+    machine: &mut Machine<A>,
+    app: A,
+    calls: &mut Calls,
+    stage: Stage,
+) -> Result<A, Fault>
+    ensures handed { IfOk result (λ handed. handed ≡ app) }
+    ensures failed { stage ≡ Stage.Failed → result ≡ Ok app }
+    ensures closed { (limits : _) → Closes (λ app. A.meaning app) (record {
+      app = app;
+      calls = calls.old;
+      machine = machine.old;
+      limits = limits;
+      stage = stage;
+    })
+        result }
+    ensures caused { (limits : _) → IfErr result (λ fault. Causes limits 0 0 fault) }
+{
+    match stage {
+        Stage::Failed => Ok(app),
+        _ => match close(machine, &app, calls) {
+            Ok(()) => Ok(app),
+            Err(stop) => Err(Ended::Run(stop).fault()),
+        },
     }
 }

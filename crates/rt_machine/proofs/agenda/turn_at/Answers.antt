@@ -7,8 +7,9 @@ use Rattle.rt_state.specs.Mirror.{state_of}
 use Rattle.rt_fresh.specs.Turn.{turn_of, entries_at}
 use Rattle.rt_work.specs.Items.{item_of, row_step_of, work_of}
 use Rattle.rt_machine.specs.Counting.{calls_after}
-use Rattle.rt_machine.proofs.Arms.{came_as, noted_as}
-use Rattle.rt_machine.proofs.Counting.{change_silent, draw_calls, on_any, on_comes, on_item}
+use Rattle.rt_machine.specs.Feeds.{fed_outcome, feeds}
+use Rattle.rt_machine.proofs.Arms.{came_as, feed_entries, feed_found, noted_as}
+use Rattle.rt_machine.proofs.Counting.{change_silent, draw_calls, on_any, on_as, on_comes, on_item}
 use Rattle.rt_machine.proofs.agenda.turn_at.Goals as goal
 
 pub returns-in-Draw-clause-turned : goal.returns-in-Draw-clause-turned
@@ -26,13 +27,27 @@ returns-in-Row-clause-turned g c =
 pub returns-in-Feed-clause-turned : goal.returns-in-Feed-clause-turned
 returns-in-Feed-clause-turned g c =
     λ kept.
-    let came = c.feed.ensures.fed kept in
-    (came.0, came_as _ _ _ _ _ (ap (λ i. turn_of (g.A.App.meaning c.args.app.now) (state_of kept c.args.scopes.now.state) (item_of i)) c.in-Feed.is) came.1)
+    let app = g.A.App.meaning c.args.app.now in
+    let w = state_of kept c.args.scopes.now.state in
+    let came = c.feed.ensures.fed kept in (
+      came.0,
+      came_as _ _ _ _ _
+          (ap (λ i. turn_of app w (item_of i)) c.in-Feed.is
+          ∙ feed_found app w c.in-Feed.scope (side_name_of c.in-Feed.side) (place_of c.in-Feed.place) (component_of c.in-Feed.component) c.args.fed
+          (c.requires.fed kept ∙ ap (λ i. feeds app w (item_of i)) c.in-Feed.is))
+          came.1,
+    )
 
 pub returns-in-Feed-clause-noted : goal.returns-in-Feed-clause-noted
 returns-in-Feed-clause-noted g c =
     λ kept.
-    noted_as _ _ _ _ _ (ap (λ i. entries_at (g.A.App.meaning c.args.app.now) (state_of kept c.args.scopes.now.state) (item_of i)) c.in-Feed.is) (c.feed.ensures.noted kept)
+    let app = g.A.App.meaning c.args.app.now in
+    let w = state_of kept c.args.scopes.now.state in
+    noted_as _ _ _ _ _
+    (ap (λ i. entries_at app w (item_of i)) c.in-Feed.is
+    ∙ feed_entries app w c.in-Feed.scope (side_name_of c.in-Feed.side) (place_of c.in-Feed.place) (component_of c.in-Feed.component) c.args.fed
+    (c.requires.fed kept ∙ ap (λ i. feeds app w (item_of i)) c.in-Feed.is))
+    c.feed.ensures.noted
 
 pub returns-in-Make-clause-turned : goal.returns-in-Make-clause-turned
 returns-in-Make-clause-turned g c =
@@ -76,8 +91,20 @@ returns-in-Row-clause-counted g c =
 
 pub returns-in-Feed-clause-counted : goal.returns-in-Feed-clause-counted
 returns-in-Feed-clause-counted g c =
-    on_item (g.A.App.meaning c.args.app.now) (item_of c.args.item.now) (Feed c.in-Feed.scope (side_name_of c.in-Feed.side) (place_of c.in-Feed.place) (component_of c.in-Feed.component)) c.args.scopes.now.state c.args.calls.now c.feed.new.calls c.feed.result
-    (ap (λ i. item_of i) (sym c.in-Feed.is)) c.feed.ensures.counted
+    let app = g.A.App.meaning c.args.app.now in
+    let fed = Feed c.in-Feed.scope (side_name_of c.in-Feed.side) (place_of c.in-Feed.place) (component_of c.in-Feed.component) in
+    on_item app (item_of c.args.item.now) fed c.args.scopes.now.state c.args.calls.now c.feed.new.calls c.feed.result
+    (ap (λ i. item_of i) (sym c.in-Feed.is))
+    (on_as (λ w. turn_of app w fed) (λ w. fed_outcome app w (component_of c.in-Feed.component) c.args.fed)
+    c.args.scopes.now.state c.args.scopes.now.state c.args.calls.now c.feed.new.calls c.feed.result
+    (
+    λ kept.
+    let w = state_of kept c.args.scopes.now.state in
+    sym
+    (feed_found app w c.in-Feed.scope (side_name_of c.in-Feed.side) (place_of c.in-Feed.place) (component_of c.in-Feed.component) c.args.fed
+    (c.requires.fed kept ∙ ap (λ i. feeds app w (item_of i)) c.in-Feed.is))
+    )
+    c.feed.ensures.counted)
 
 pub returns-in-Make-clause-counted : goal.returns-in-Make-clause-counted
 returns-in-Make-clause-counted g c =

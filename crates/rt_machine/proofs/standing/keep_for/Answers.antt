@@ -1,10 +1,11 @@
 use Rattle.std.proofs.Common.{◌∙◌, ◌∷◌, [], ap, sym, subst}
 use Rattle.rt_mirror.specs.Sealed.{component_of}
-use Rattle.rt_model.specs.Replay.{fed_child}
 use Rattle.rt_places.specs.Places.{place_of, side_name_of}
 use Rattle.rt_state.specs.Mirror.{state_of}
 use Rattle.rt_work.specs.Items.{item_of}
-use Rattle.rt_machine.specs.Changes.{AllKept, changes_of, changes_of_fed}
+use Rattle.rt_machine.specs.Changes.{AllKept, changes_of}
+use Rattle.rt_machine.specs.Feeds.{feeds}
+use Rattle.rt_machine.proofs.Arms.{feed_changes}
 use Rattle.rt_machine.proofs.Keeps.{on_ok}
 use Rattle.rt_machine.proofs.standing.keep_for.Goals as goal
 
@@ -12,23 +13,24 @@ pub returns-in-Feed-clause-kept : goal.returns-in-Feed-clause-kept
 returns-in-Feed-clause-kept g c =
     on_ok c.keep_fed.result c.keep_fed.ensures.kept
     (
-    λ h kept.
+    λ h app kept is.
+    let w = state_of kept c.args.state.now in
     subst (λ ss. AllKept c.keep_fed.new.stood ss)
     (sym
-    (ap (λ i. changes_of (g.A.App.meaning c.args.app.now) (state_of kept c.args.state.now) (item_of i)) c.in-Feed.is
-    ∙ ap (λ o. changes_of_fed (g.A.App.meaning c.args.app.now) (state_of kept c.args.state.now) (component_of c.in-Feed.component) o)
-    (ap (λ p. fed_child (state_of kept c.args.state.now) c.in-Feed.scope (side_name_of c.in-Feed.side) (place_of p)) (sym c.as_slice.ensures.items) ∙ sym (c.fed_child-child.ensures kept))))
-    (h kept)
+    (ap (λ i. changes_of app w (item_of i)) c.in-Feed.is
+    ∙ feed_changes app w c.in-Feed.scope (side_name_of c.in-Feed.side) (place_of c.in-Feed.place) (component_of c.in-Feed.component) c.args.fed
+    (is ∙ ap (λ i. feeds app w (item_of i)) c.in-Feed.is)))
+    h
     )
 
 pub returns-in_ok-leaf-in-Drop-clause-kept : goal.returns-in_ok-leaf-in-Drop-clause-kept
 returns-in_ok-leaf-in-Drop-clause-kept g c =
     on_ok c.keep-in-Drop.result c.keep-in-Drop.ensures.kept
     (
-    λ h kept.
+    λ h app kept is.
     subst (λ ss. AllKept c.keep-in-Drop.new.stood ss)
     (sym
-    (ap (λ i. changes_of (g.A.App.meaning c.args.app.now) (state_of kept c.args.state.now) (item_of i)) c.in-Drop.is
+    (ap (λ i. changes_of app (state_of kept c.args.state.now) (item_of i)) c.in-Drop.is
     ∙ ap (λ n. n ∷ []) (sym (c.in_ok-leaf-in-Drop.ensures kept))))
     (h, tt)
     )

@@ -10,6 +10,7 @@ use Rattle.rt_state.specs.Mirror.{state_of}
 use Rattle.rt_state.proofs.Each.{found-each}
 use Rattle.rt_scopes.proofs.Agendas.{begins, not_started}
 use Rattle.rt_scopes.proofs.KeptLess.{fewer_on}
+use Rattle.rt_scopes.proofs.Staying.{stays_on}
 use Rattle.rt_scopes.proofs.agenda.start_agenda.Goals as goal
 
 pub returns-in_default : goal.returns-in_default
@@ -19,13 +20,20 @@ returns-in_default g c = λ app tests kept.
 
 pub returns : goal.returns
 returns g c = λ app tests kept.
-    begins app (state_of kept c.args.state.now) (state_of kept c.put_side.new.self) c.args.scope c.args.name c.args.tree c.side_of.result.now (scope_of c.in-Some.found.now) _ _
+    begins app (state_of kept c.args.state.now) (state_of kept c.put_side.new.self) c.args.scope c.args.name c.args.tree c.side_of-was.result.now (scope_of c.in-Some.found.now) _ _
     (found-each scope_of (c.args.state.now.rows).table c.args.scope (Some c.in-Some.found.now) c.in-Some.ensures)
-    c.side_of.ensures (c.in_ok-work.ensures.patches app tests) (c.put_side.ensures.put kept)
+    c.side_of-was.ensures (c.in_ok-work.ensures.patches app tests) (c.put_side.ensures.put kept)
 
 pub put_side-requires : goal.put_side-requires
 put_side-requires g c =
     record {
-      fewer = λ x live. fewer_on c.args.name c.in-Some.found.now x c.side_of.result.now (c.in-Some.ensures ∙ live) c.side_of.ensures c.in_ok-work.ensures.fewer;
+      fewer = λ x live. fewer_on c.args.name c.in-Some.found.now x c.side_of-was.result.now (c.in-Some.ensures ∙ live) c.side_of-was.ensures c.in_ok-work.ensures.fewer;
       known = c.in_ok-work.ensures.known;
     }
+
+pub returns-then-all_stay : goal.returns-then-all_stay
+returns-then-all_stay g c = λ app tests kept.
+    stays_on app (state_of kept c.args.state.now) (state_of kept c.put_output.new.self) c.args.scope c.args.name c.args.tree c.side_of-was.result.now (scope_of c.in-Some.found.now)
+    (found-each scope_of (c.args.state.now.rows).table c.args.scope (Some c.in-Some.found.now) c.in-Some.ensures)
+    c.side_of-was.ensures (c.all_stay.ensures c.if-all_stay.true) (c.in_ok-put_output.ensures kept)
+    ∙ ap (λ work. Done (state_of kept c.put_output.new.self) (work_of work)) (sym c.new-then-all_stay.ensures.empty)

@@ -1,8 +1,6 @@
 -- The child at a component's place.
 use Rattle.std.proofs.Common.{◌++◌, sym, ap, ◌∙◌, append-nil}
 use Rattle.rt_model.specs.Boundary.{live_child}
-use Rattle.rt_places.specs.Places.{place_of}
-use Rattle.rt_places.specs.Sides.{child_in}
 use Rattle.rt_state.specs.Mirror.{state_of}
 use Rattle.rt_state.proofs.Changed.{on_ok}
 use Rattle.rt_scopes.proofs.Spots.{node_has_none, component_has}
@@ -16,5 +14,5 @@ pub returns-in-Component : goal.returns-in-Component
 returns-in-Component g c =
     on_ok c.add_live.result c.add_live.ensures (λ is kept.
     is kept
-    ∙ ap (λ o. c.args.scopes.now ++ live_child (state_of kept c.args.state.now) o) (c.child_at.ensures ∙ ap (λ p. child_in c.args.side.now (place_of p)) c.as_slice.ensures.items)
+    ∙ ap (λ o. c.args.scopes.now ++ live_child (state_of kept c.args.state.now) o) c.child_at.ensures
     ∙ ap (λ xs. c.args.scopes.now ++ xs) (sym (component_has (state_of kept c.args.state.now) c.args.side.now c.args.spot.now _ _ c.in-Component.is)))

@@ -34,7 +34,7 @@ returns-clause-remembers g c =
     still_remembers (g.A.App.meaning c.args.app.now) (item_of c.args.item.now) c.args.self.now
     (record c.args.self.now { scopes = c.turn_at.new.scopes; course = c.turn_at.new.course; stood = c.keep_where.new.stood; work = c.stack.new.onto })
     kept came.0 was refl refl
-    (λ rerun. c.in_ok-keep_where.ensures.kept (c.is_compared.ensures ∙ rerun) kept)
+    (λ rerun. c.in_ok-keep_where.ensures.kept (c.is_compared.ensures ∙ rerun) (g.A.App.meaning c.args.app.now) kept (c.fed_by-fed.ensures kept))
     (c.in_ok-keep_where.ensures.stands was)
     (done_state _ _ _ came.1)
 
@@ -47,7 +47,7 @@ returns-in_err-work-clause-remembers g c =
     (
     λ what is kept was.
     still_remembers (g.A.App.meaning c.args.app.now) (item_of c.args.item.now) c.args.self.now new kept (c.in_err-work.ensures.turned kept).0 was refl refl
-    (λ rerun. c.in_ok-keep_where.ensures.kept (c.is_compared.ensures ∙ rerun) kept)
+    (λ rerun. c.in_ok-keep_where.ensures.kept (c.is_compared.ensures ∙ rerun) (g.A.App.meaning c.args.app.now) kept (c.fed_by-fed.ensures kept))
     (c.in_ok-keep_where.ensures.stands was)
     (stopped_state _ _ c.in_err-work.field-0.0 what is (c.in_err-work.ensures.turned kept).1)
     ))

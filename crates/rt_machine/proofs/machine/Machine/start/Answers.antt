@@ -1,10 +1,11 @@
--- The root wrapper alone.
-use Rattle.std.proofs.Common.{◌≡◌, subst}
-use Rattle.rt_model.specs.Replay.{first_state, ones}
-use Rattle.rt_state.specs.Mirror.{at_first, state_of}
+-- A start from ones.
 use Rattle.rt_machine.proofs.machine.Machine.start.Goals as goal
 
+pub returns-clause-fresh : goal.returns-clause-fresh
+returns-clause-fresh g c = c.start_from.ensures.fresh
+
 pub returns-clause-state : goal.returns-clause-state
-returns-clause-state g c =
-    subst (λ r. state_of at_first c.add_root.new.self ≡ first_state r c.args.props ones) c.in_ok-root.ensures.means
-    (c.in_ok-add_root.ensures _ c.in_ok-scopes.ensures.empty)
+returns-clause-state g c = c.start_from.ensures.state
+
+pub returns-clause-uncalled : goal.returns-clause-uncalled
+returns-clause-uncalled g c = c.start_from.ensures.uncalled

@@ -1,19 +1,14 @@
 -- What the removal of all scopes came to.
-use Rattle.std.proofs.Common.{Some, sym, ap, ◌∙◌}
-use Rattle.rt_vdom.proofs.Ran.{closed_cut}
 use Rattle.rt_vdom.proofs.dom.VirtualDom.close.Goals as goal
 
-pub returns-in-Ok-clause-closed : goal.returns-in-Ok-clause-closed
-returns-in-Ok-clause-closed g c = λ opened kept. let came = c.in-Ok.ensures.closed kept in (_, came.1)
+pub returns-clause-handed : goal.returns-clause-handed
+returns-clause-handed g c = c.close_all.ensures.handed
 
-pub returns-in-Err-clause-closed : goal.returns-in-Err-clause-closed
-returns-in-Err-clause-closed g c =
-    λ opened fault why kept.
-    let came = c.in-Err.ensures.closed kept in
-    closed_cut _ _ c.in-Err.stop fault came.1 (sym c.fault.ensures.of ∙ why)
+pub returns-clause-failed : goal.returns-clause-failed
+returns-clause-failed g c = c.close_all.ensures.failed
 
-pub returns-in-Failed-clause-closed : goal.returns-in-Failed-clause-closed
-returns-in-Failed-clause-closed g c = λ opened. absurd (opened c.in-Failed.is)
+pub returns-clause-closed : goal.returns-clause-closed
+returns-clause-closed g c = c.close_all.ensures.closed c.args.self.limits
 
-pub returns-in-Err-clause-caused : goal.returns-in-Err-clause-caused
-returns-in-Err-clause-caused g c = c.fault.ensures.causes c.args.self.limits 0 0 tt
+pub returns-clause-caused : goal.returns-clause-caused
+returns-clause-caused g c = c.close_all.ensures.caused c.args.self.limits
