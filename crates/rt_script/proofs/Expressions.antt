@@ -1,5 +1,5 @@
 -- What each form of expression means, and a list of arguments, one after another.
-use Rattle.std.proofs.Common.{ℕ, Bool, true, false, List, [], ◌∷◌, ◌++◌, ◌≡◌, refl, sym, ap, ◌∙◌, rules, not, ◌+◌, ◌<◌, ◌≤◌, length, get_or, drop, add-one, drop-cons}
+use Rattle.std.proofs.Common.{ℕ, Bool, true, false, List, [], ◌∷◌, ◌++◌, ◌≡◌, refl, sym, ap, ◌∙◌, rules, not, ◌+◌, ◌<◌, ◌≤◌, length, get_or, drop, add-one, drop-cons, arith}
 use Rattle.std.proofs.Math.ListN.{drop_of_length-le}
 use Rattle.std.proofs.lemmas.List.{append_assoc}
 use Rattle.std.specs.Prelude.{None, if◌then◌else◌}
@@ -264,5 +264,15 @@ pub values_end : (w : World SourceTypes) (by : Caller) (held : List Value) (es :
 unfolding then_values
 values_end w by held es i values c end =
     no_argument w by held es i (then_values values) c end ∙ at_done w (values ++ []) c ∙ ap (λ t. reached t c) (append_nil values)
+
+-- one value alone
+pub values_one : (w : World SourceTypes) (by : Caller) (held : List Value) (es : List Expression) (e : Expression) (v : Value) (c d : Call SourceTypes)
+    → length es ≡ 1 → e ≡ get_or es 0 e
+    → came w (evaluate by held (expression_of e)) c ≡ reached v d
+    → came w (evaluate_all by held (arguments_of es)) c ≡ reached (v ∷ []) d
+values_one w by held es e v c d one is h =
+    values_start w by held es c
+    ∙ values_more w by held es 0 e [] (v ∷ []) v c d (omega (arith, one)) is h refl
+    ∙ values_end w by held es 1 (v ∷ []) d (omega (arith, one))
 
 pub ruleset evaluating = (on, at_done, at_scope, at_task, at_error, at_consume_context, e-Say, e-Get, e-Read, e-Cat, e-Add, e-Multiply, e-Equal, e-Less, e-Not, e-IsAbsent, e-If, e-Parse, e-LookUp, e-OwnScope, e-Generation, e-NearestError, e-Payload, e-Me, text_start, values_start)

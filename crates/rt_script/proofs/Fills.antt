@@ -4,7 +4,7 @@ use Rattle.std.proofs.Math.ListN.{drop_of_length-le}
 use Rattle.std.proofs.lemmas.List.{append_assoc}
 use Rattle.std.specs.Prelude.{Option, Some, None, option_map, is_none, pos, Result, Ok, if◌then◌else◌}
 use Rattle.rt_parts.specs.declared.error.RenderError.{RenderError}
-use Rattle.rt_parts.specs.declared.template.Template.{Template}
+use Rattle.rt_parts.specs.declared.template.TemplateParts.{TemplateParts as Template}
 use Rattle.rt_nodes.specs.declared.vnode.DynamicNode.TheVariants as nodes
 use Rattle.rt_nodes.specs.declared.vnode.DynamicNode.TheOpen.{VComponent-F}
 use Rattle.rt_nodes.specs.declared.vnode.DynamicNode.TheFolds.{fold-roll-VComponent, fold-roll-FragmentProps, fold-roll-ErrorBoundaryProps, fold-roll-SuspenseBoundaryProps}

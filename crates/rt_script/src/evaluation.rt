@@ -1,5 +1,5 @@
 //! The values of expressions. Operands are evaluated from left to right.
-ghost use Rattle.std.specs.Prelude.{◌≡◌, None, IfOk, option_map};
+ghost use Rattle.std.specs.Prelude.{◌≡◌, None, true, length, IfOk, option_map};
 ghost use Rattle.rt_calls.specs.Calls.{world_of, call_of};
 ghost use Rattle.rt_mirror.specs.Mirror.{error_of};
 ghost use Rattle.rt_language.specs.Expressions as meanings;
@@ -17,7 +17,7 @@ use rt_bodies::remembered;
 use rt_calls::Cx;
 use rt_parts::CapturedError;
 use rt_script_views::{
-    Content, Value, add, equal, is_absent, less, multiply, not, parse, put_text,
+    Content, Props, Value, add, equal, is_absent, less, multiply, not, parse, put_text,
 };
 use rt_syntax::{Expression, Literal};
 use rt_values::{List, OutOfMemory, Part, Task, Text};
@@ -130,12 +130,62 @@ pub(crate) fn evaluate_all<K>(
         (meanings.evaluate_all (caller_of frame.now.by) frame.now.held (arguments_of expressions.now)) values) }
     ensures world { cx.new.world ≡ cx.old.world }
 {
-    let mut values = List::new(alloc);
+    let mut values = List::with_room(alloc, expressions.len())?;
     for expression in expressions {
         let value = evaluate(alloc, cx, frame, expression)?;
         values.push(value)?;
     }
     Ok(values)
+}
+
+/// What a component is handed, whose params have the values of these expressions. One alone takes
+/// no list.
+#[tactic(auto, using(crate::proofs::Expressions::evaluating))]
+pub(crate) fn props_of<K>(
+    alloc: Global,
+    cx: &mut Cx<'_, Script, K>,
+    frame: &Frame<'_>,
+    expressions: &[Expression],
+) -> Result<Props, OutOfMemory>
+    requires renders { SeesRenders (world_of cx.old.world) frame.now.by }
+    ensures came { IfOk result (λ props. Comes cx.old cx.new
+        (meanings.evaluate_all (caller_of frame.now.by) frame.now.held (arguments_of expressions.now)) props) }
+    ensures world { cx.new.world ≡ cx.old.world }
+{
+    if is_one(expressions) {
+        let value = found_or_evaluated(alloc, cx, frame, &expressions[0])?;
+        let props = Props::one(alloc, value)?;
+        return Ok(props);
+    }
+    let values = evaluate_all(alloc, cx, frame, expressions)?;
+    let props = Props::new(alloc, values)?;
+    Ok(props)
+}
+
+/// The value of an expression. That of a variable is looked up at once.
+#[tactic(auto, using(crate::proofs::Expressions::evaluating))]
+fn found_or_evaluated<K>(
+    alloc: Global,
+    cx: &mut Cx<'_, Script, K>,
+    frame: &Frame<'_>,
+    expression: &Expression,
+) -> Result<Value, OutOfMemory>
+    requires renders { SeesRenders (world_of cx.old.world) frame.now.by }
+    ensures came { IfOk result (λ value. Comes cx.old cx.new
+        (meanings.evaluate (caller_of frame.now.by) frame.now.held (expression_of expression.now)) value) }
+    ensures world { cx.new.world ≡ cx.old.world }
+{
+    match expression {
+        Expression::Get(variable) => held_by(alloc, frame.held.as_slice(), *variable),
+        _ => evaluate(alloc, cx, frame, expression),
+    }
+}
+
+/// Whether there is one expression.
+fn is_one(expressions: &[Expression]) -> bool
+    ensures { result ≡ true → length expressions.now ≡ 1 }
+{
+    expressions.len() == 1
 }
 
 /// The value of the cell that a variable holds, none where it holds no cell or the cell is gone.

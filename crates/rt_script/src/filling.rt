@@ -17,7 +17,7 @@ ghost use Rattle.rt_script.specs.Seen.{caller_of, SeesRenders};
 
 use crate::attributes::{attribute_value, slot_with};
 use crate::caller::Frame;
-use crate::evaluation::{evaluate, evaluate_all};
+use crate::evaluation::{evaluate, evaluate_all, props_of};
 use crate::rounds::{error_boundary, fragment, suspense_boundary};
 use crate::script::Script;
 use rt_calls::BodyCx;
@@ -50,9 +50,10 @@ pub(crate) fn tree_of(
     ensures world { cx.new.world ≡ cx.old.world }
     ensures frame { OnOk result (frame.new ≡ frame.old) }
 {
+    let (attributes, nodes) = slots_in(&plan.template);
     let mut filling = Filling {
-        attributes: List::new(alloc),
-        nodes: List::new(alloc),
+        attributes: List::with_room(alloc, attributes)?,
+        nodes: List::with_room(alloc, nodes)?,
     };
     for fill in plan.fills.as_slice() {
         put(alloc, cx, frame, &mut filling, fill)?;
@@ -63,6 +64,14 @@ pub(crate) fn tree_of(
             let tree = filled_tree(alloc, template, filling)?;
             Ok(tree)
         }
+    }
+}
+
+/// How many attribute slots and node slots a template has, if there is one.
+fn slots_in(template: &Option<Template>) -> (usize, usize) {
+    match template {
+        Some(template) => (template.attr_paths().len(), template.node_paths().len()),
+        None => (0, 0),
     }
 }
 
@@ -192,8 +201,7 @@ fn used_node(
         (mirror.slot_of node)) }
     ensures world { cx.new.world ≡ cx.old.world }
 {
-    let values = evaluate_all(alloc, cx, frame, used.props.as_slice())?;
-    let props = Props::new(alloc, values)?;
+    let props = props_of(alloc, cx, frame, used.props.as_slice())?;
     let component = used.component;
     Ok(DynamicNode::Component(VComponent::App { component, props }))
 }
@@ -283,7 +291,7 @@ fn items(
     ensures frame { OnOk result (frame.new ≡ frame.old) }
 {
     let bound = frame.held.len();
-    let mut trees = List::new(alloc);
+    let mut trees = List::with_room(alloc, count as usize)?;
     for number in 0..count {
         frame.bind(numbered(number))?;
         let tree = tree_of(alloc, cx, frame, item)?;
@@ -340,8 +348,7 @@ fn handed(
 {
     match component {
         Some(used) => {
-            let values = evaluate_all(alloc, cx, frame, used.props.as_slice())?;
-            let props = Props::new(alloc, values)?;
+            let props = props_of(alloc, cx, frame, used.props.as_slice())?;
             Ok(Some((used.component, props)))
         }
         None => Ok(None),
