@@ -12,35 +12,44 @@ const LIMITS: Limits = Limits {
     drain: 16,
 };
 
-/// A built runtime whose task was polled, so that its memo is computed.
-fn settled(alloc: Global) -> Result<VirtualDom<Bodied<Memo>>, DomFault> {
-    let mut dom = match VirtualDom::new(alloc, Bodied { bodies: Memo }, LIMITS) {
-        Ok(dom) => dom,
-        Err(fault) => return Err(DomFault::Run(fault)),
-    };
+/// The runtime of the application.
+type Kept = VirtualDom<Bodied<Memo>>;
+
+/// A runtime that isn't built yet.
+fn made(alloc: Global) -> Result<Kept, DomFault> {
+    match VirtualDom::new(alloc, Bodied { bodies: Memo }, LIMITS) {
+        Ok(dom) => Ok(dom),
+        Err(fault) => Err(DomFault::Run(fault)),
+    }
+}
+
+/// It is built, and its task is polled, so that its memo is computed.
+fn settle(dom: &mut Kept) -> Result<(), DomFault> {
     dom.rebuild_in_place()?;
     dom.settle(&mut NoOpMutations)?;
-    Ok(dom)
+    Ok(())
 }
 
 /// The units of what a write of a cell leads to.
-fn units_after(
-    dom: &mut VirtualDom<Bodied<Memo>>,
-    cell: u64,
-    number: u64,
-) -> Result<u64, DomFault> {
+fn units_after(dom: &mut Kept, cell: u64, number: u64) -> Result<u64, DomFault> {
     dom.write(cell, number)?;
     let report = dom.settle(&mut NoOpMutations)?;
     Ok(report.units)
 }
 
 /// The units after each of three writes, in which the first cell is 1 and the second one is 2.
-fn units(alloc: Global) -> Result<[u64; 3], DomFault> {
-    let mut dom = settled(alloc)?;
-    let unread = units_after(&mut dom, 2, 5)?;
-    let first = units_after(&mut dom, 1, 1)?;
-    let second = units_after(&mut dom, 2, 6)?;
+fn units_of(dom: &mut Kept) -> Result<[u64; 3], DomFault> {
+    settle(dom)?;
+    let unread = units_after(dom, 2, 5)?;
+    let first = units_after(dom, 1, 1)?;
+    let second = units_after(dom, 2, 6)?;
     Ok([unread, first, second])
+}
+
+/// The same of a runtime that is made for them.
+fn units(alloc: Global) -> Result<[u64; 3], DomFault> {
+    let mut dom = made(alloc)?;
+    units_of(&mut dom)
 }
 
 #[test]

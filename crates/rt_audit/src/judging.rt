@@ -1,5 +1,5 @@
 //! The verdict on a recorded log.
-ghost use Rattle.std.specs.Prelude.{◌≡◌, ℕ, suc, ◌+◌, ◌<◌, ◌∷◌, length, map, IfOk, IfNone};
+ghost use Rattle.std.specs.Prelude.{◌≡◌, ℕ, suc, ◌+◌, ◌<◌, ◌∷◌, length, map, drop, IfOk, IfNone};
 ghost use Rattle.rt_model.specs.Replay.{first_state, ones, start};
 ghost use Rattle.rt_machine.specs.Machines.{IsFresh};
 ghost use Rattle.rt_machine.specs.Stands.{Follows};
@@ -160,9 +160,29 @@ pub fn audit<A: App>(
         return Ok(Verdict::Accepted);
     };
     let (mut machine, mut calls) = Machine::start(alloc, app, props)?;
-    let stops = judge_build(&mut machine, app, &mut calls, list)?;
+    judge_all(&mut machine, app, &mut calls, inputs, list, log)
+}
+
+/// The verdict on all lists, by a machine that was started; that of the build is the first one.
+fn judge_all<A: App>(
+    machine: &mut Machine<A>,
+    app: &A,
+    calls: &mut Calls,
+    inputs: List<Input<A>>,
+    list: &[Entry],
+    log: &[List<Entry>],
+) -> Result<Verdict, OutOfMemory>
+    ensures judged { (props : _) → IsFresh machine.old →
+        state_of at_first machine.old.scopes.state
+        ≡ first_state (A.meaning app.now).root props ones →
+        drop 0 (map (map entry_of) log.now)
+        ≡ map entry_of list.now ∷ drop 1 (map (map entry_of) log.now) →
+        IfOk result (λ found. verdict_of found
+        ≡ verdict (A.meaning app.now) props (map input_of inputs) (map (map entry_of) log.now)) }
+{
+    let stops = judge_build(machine, app, calls, list)?;
     match stops {
         Some(entry) => Ok(Verdict::Refused { report: 0, entry }),
-        None => judge_inputs(&mut machine, app, &mut calls, inputs, log),
+        None => judge_inputs(machine, app, calls, inputs, log),
     }
 }

@@ -10,6 +10,7 @@ use rt_sources::read_source;
 use rt_values::OutOfMemory;
 use rt_vdom::{DomFault, Fault, Limits, VirtualDom};
 use std::alloc::Global;
+use std::str::Split;
 
 /// A dom as these words say: `limits U H` and how it is made.
 fn made(
@@ -40,40 +41,88 @@ fn made(
     })
 }
 
-/// One more call. The dom, unless the call ended it.
+/// The dom is closed.
+fn close(
+    alloc: Global,
+    out: &mut String,
+    kept: &mut Option<VirtualDom<Script>>,
+) -> Result<(), OutOfMemory> {
+    let Some(dom) = kept.take() else {
+        return Ok(());
+    };
+    match dom.close() {
+        Ok(_app) => out.push_str("closed\n")?,
+        Err(fault) => put_fault(alloc, out, DomFault::Run(fault))?,
+    }
+    Ok(())
+}
+
+/// The root wrapper of the dom provides a value. A refusal ends the dom.
+fn provide(
+    alloc: Global,
+    out: &mut String,
+    kept: &mut Option<VirtualDom<Script>>,
+    words: &[&str],
+) -> Result<(), OutOfMemory> {
+    let value = value_of(alloc, word(words, 2))?;
+    let Some(dom) = kept.take() else {
+        return Ok(());
+    };
+    match dom.with_root_context(small(words, 1), value) {
+        Ok(dom) => {
+            *kept = Some(dom);
+            out.push_str("ok\n")?;
+        }
+        Err(fault) => put_fault(alloc, out, DomFault::Run(fault))?,
+    }
+    Ok(())
+}
+
+/// One more call on the dom, which may end it.
 fn step(
     alloc: Global,
     out: &mut String,
-    dom: VirtualDom<Script>,
+    kept: &mut Option<VirtualDom<Script>>,
     words: &[&str],
-) -> Result<Option<VirtualDom<Script>>, OutOfMemory> {
-    let mut dom = dom;
+) -> Result<(), OutOfMemory> {
     match word(words, 0) {
-        "close" => {
-            match dom.close() {
-                Ok(_app) => out.push_str("closed\n")?,
-                Err(fault) => put_fault(alloc, out, DomFault::Run(fault))?,
-            }
-            Ok(None)
+        "close" => close(alloc, out, kept),
+        "with" => provide(alloc, out, kept, words),
+        _ => match kept {
+            Some(dom) => call(alloc, out, dom, words),
+            None => Ok(()),
+        },
+    }
+}
+
+/// The calls of these lines, up to one that ends the dom.
+fn call_all(
+    alloc: Global,
+    out: &mut String,
+    kept: &mut Option<VirtualDom<Script>>,
+    lines: Split<'_, &str>,
+) -> Result<(), OutOfMemory> {
+    for line in lines {
+        if !line.is_empty() {
+            let words = words_of(alloc, line)?;
+            step(alloc, out, kept, words.as_slice())?;
         }
-        "with" => {
-            let value = value_of(alloc, word(words, 2))?;
-            match dom.with_root_context(small(words, 1), value) {
-                Ok(dom) => {
-                    out.push_str("ok\n")?;
-                    Ok(Some(dom))
-                }
-                Err(fault) => {
-                    put_fault(alloc, out, DomFault::Run(fault))?;
-                    Ok(None)
-                }
-            }
-        }
-        _ => {
-            call(alloc, out, &mut dom, words)?;
-            Ok(Some(dom))
+        if kept.is_none() {
+            return Ok(());
         }
     }
+    Ok(())
+}
+
+/// The same, on a dom that goes behind them.
+fn drive_dom(
+    alloc: Global,
+    out: &mut String,
+    dom: VirtualDom<Script>,
+    lines: Split<'_, &str>,
+) -> Result<(), OutOfMemory> {
+    let mut kept = Some(dom);
+    call_all(alloc, out, &mut kept, lines)
 }
 
 /// The source in the first line, how the dom is made in the second, and then the calls.
@@ -87,21 +136,9 @@ fn drive_one(alloc: Global, text: &str) -> Result<String, OutOfMemory> {
     };
     let script = Script::new(alloc, described)?;
     let how = words_of(alloc, lines.next().unwrap_or(""))?;
-    let mut dom = match made(alloc, script, how.as_slice())? {
-        Ok(dom) => dom,
-        Err(fault) => {
-            put_fault(alloc, &mut out, DomFault::Run(fault))?;
-            return Ok(out);
-        }
-    };
-    for line in lines {
-        if !line.is_empty() {
-            let words = words_of(alloc, line)?;
-            dom = match step(alloc, &mut out, dom, words.as_slice())? {
-                Some(dom) => dom,
-                None => return Ok(out),
-            };
-        }
+    match made(alloc, script, how.as_slice())? {
+        Ok(dom) => drive_dom(alloc, &mut out, dom, lines)?,
+        Err(fault) => put_fault(alloc, &mut out, DomFault::Run(fault))?,
     }
     Ok(out)
 }

@@ -27,17 +27,22 @@ fn built(rt: &impl Abort, alloc: Global) -> VirtualDom<Script> {
     dom.ok().expect(rt, "memory for a dom")
 }
 
+/// Its scopes are marked, and its task is woken, paused and resumed.
+fn mark(rt: &impl Abort, dom: &mut VirtualDom<Script>) {
+    assert!(rt; dom.mark_dirty(ScopeId(3)).is_ok(), "a scope is marked");
+    assert!(rt; Task(1).wake(dom).is_ok(), "a task is woken");
+    assert!(rt; dom.mark_all_dirty().is_ok(), "all scopes are marked");
+    assert!(rt; Task(1).pause(dom).is_ok(), "a task is paused");
+    assert!(rt; Task(1).wake(dom).is_ok(), "a paused task is woken");
+    assert!(rt; Task(1).resume(dom).is_ok(), "a task is resumed");
+    assert!(rt; dom.mark_dirty(ScopeId(5)).is_ok(), "a child is marked");
+}
+
 #[test]
 fn marks_take_no_memory(rt: HostRuntime) {
     let alloc = rt.alloc();
     let mut dom = built(&rt, alloc);
-    assert!(rt; dom.mark_dirty(ScopeId(3)).is_ok(), "a scope is marked");
-    assert!(rt; Task(1).wake(&mut dom).is_ok(), "a task is woken");
-    assert!(rt; dom.mark_all_dirty().is_ok(), "all scopes are marked");
-    assert!(rt; Task(1).pause(&mut dom).is_ok(), "a task is paused");
-    assert!(rt; Task(1).wake(&mut dom).is_ok(), "a paused task is woken");
-    assert!(rt; Task(1).resume(&mut dom).is_ok(), "a task is resumed");
-    assert!(rt; dom.mark_dirty(ScopeId(5)).is_ok(), "a child is marked");
+    mark(&rt, &mut dom);
     let mut after = List::new(alloc);
     assert!(rt; after.push(1u8).is_ok(), "memory after the marks");
 }

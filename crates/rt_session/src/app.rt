@@ -2,6 +2,6 @@
 
 pub use rt_calls::{
     App, BodyCx, BodyTurn, Calls, Command, Cx, CxFault, Firsts, Hook, InBody, Plain, Provided,
-    Rows, ScopeRow, TaskStep, Turn, TurnParts, World,
+    Provisions, Rows, ScopeRow, TaskStep, Turn, TurnParts, World,
 };
 pub use rt_cells::{Cells, Source};

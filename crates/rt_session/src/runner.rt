@@ -2,14 +2,17 @@
 ghost use Rattle.std.specs.Prelude.{◌≡◌, ◌≤◌, [], None, Some, map, IfOk, IfErr, OnOk};
 ghost use Rattle.rt_headline.specs.Carried.{CarriesAnew};
 ghost use Rattle.rt_model.specs.Causes.{IsValid};
+ghost use Rattle.rt_model.specs.Replay.{first_state, ones};
 ghost use Rattle.rt_reports.specs.Seen.{fault_of, input_of, limits_of, report_of};
 ghost use Rattle.rt_reports.specs.Counted.{edits_in};
+ghost use Rattle.rt_state.specs.Mirror.{at_first, state_of};
 ghost use Rattle.rt_machine.specs.Ends.{Causes, Took, Ends};
+ghost use Rattle.rt_machine.specs.Machines.{IsFresh};
 ghost use Rattle.rt_machine.specs.Sessions.{Broken, CameAt, Headlined};
 ghost use Rattle.rt_machine.specs.Short.{PartOf};
 ghost use Rattle.rt_machine.specs.Stands.{RunsAs};
 
-use rt_calls::App;
+use rt_calls::{App, Calls};
 use rt_edits::WriteMutations;
 use rt_headline::{finished_hold, headlines_carry_anew, ran_is_headline, ran_to_is_came_to};
 use rt_machine::{Ended, Machine};
@@ -136,11 +139,34 @@ fn run_all<A: App, M: WriteMutations>(
         (M.taken sink.old) (M.taken sink.new) reports.new result }
 {
     let (mut machine, mut calls) = Machine::start(alloc, app, root_props)?;
-    let built = machine.first_report(app, &mut calls, limits, sink)?;
+    run_on(app, &mut machine, &mut calls, inputs, sink, limits, reports)
+}
+
+/// The same on a machine that was started.
+fn run_on<A: App, M: WriteMutations>(
+    app: &A,
+    machine: &mut Machine<A>,
+    calls: &mut Calls,
+    inputs: List<Input<A>>,
+    sink: &mut M,
+    limits: Limits,
+    reports: &mut List<Report>,
+) -> Result<(), Ended>
+    requires empty { reports.old ≡ [] }
+    ensures took { OnOk result (Took (M.taken sink.old) (M.taken sink.new)
+        (M.faults sink.old) (M.faults sink.new) (edits_in reports.new)) }
+    ensures err { IfErr result (λ ended. Ends limits (edits_in reports.new)
+        (M.taken sink.old) (M.taken sink.new) (M.faults sink.old) (M.faults sink.new) ended) }
+    ensures runs { (props : _) → IsFresh machine.old
+        → state_of at_first machine.old.scopes.state ≡ first_state (A.meaning app.now).root props ones
+        → RunsAs (A.meaning app.now) (limits_of limits) props (map input_of inputs)
+        (M.taken sink.old) (M.taken sink.new) reports.new result }
+{
+    let built = machine.first_report(app, calls, limits, sink)?;
     reports.push(built)?;
     let mut taken = 0u64;
     for input in inputs.into_vec() {
-        taken = machine.take_one(app, &mut calls, taken, input, limits, sink, reports)?;
+        taken = machine.take_one(app, calls, taken, input, limits, sink, reports)?;
     }
     Ok(())
 }
