@@ -1,4 +1,5 @@
 pub mod Made
+pub mod Reading
 pub mod Puts
 pub mod RowPuts
 pub mod Picturing

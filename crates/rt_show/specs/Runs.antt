@@ -150,6 +150,10 @@ ReadsFor Lack left after before now stops.Words = ⊥
 ReadsFor Lack left after before now stops.Fault = ⊥
 ReadsFor Lack left after before now stops.Out = ⊥
 
+-- what reading comes to where the bytes weren't had, whatever they would say
+abbrev pub ReadsAny : (left after : Option (List ℕ)) → (before now : ℕ) → Stop → Type 0
+ReadsAny left after before now stop = ReadsFor (λ bytes. ⊥) left after before now stop
+
 -- what reading a source comes to
 abbrev pub Reads : (left after : Option (List ℕ)) → (before now : ℕ) → Stop → Type 0
 Reads left after before now stop = ReadsFor SaysNone left after before now stop

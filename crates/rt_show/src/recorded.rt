@@ -8,10 +8,10 @@ ghost use Rattle.rt_show.specs.Runs.{ReadsFor, Prints};
 ghost use Rattle.rt_show.specs.declared.words.Wish.TheVariants as wishes;
 
 use crate::reason::Stop;
-use crate::top::{Prepared, prepare, said, said_where};
+use crate::top::{Prepared, bytes_of, prepare, said_where};
 use rt_audit::{Verdict, audit};
-use rt_logs::{Run, read_run, refusal_of_run, too_long};
-use rt_streams::{Out, ReadError, Source, read_all};
+use rt_logs::{Run, read_run, refusal_of_run};
+use rt_streams::{Out, Source};
 use rt_values::{OutOfMemory, Text};
 use std::alloc::{AllocError, Global};
 
@@ -26,15 +26,7 @@ pub(crate) fn read_recorded<S: Source>(
     ensures reads { IfErr result (λ stop. ReadsFor RecordsNone (S.left source.old) (S.left source.new)
         (S.faults source.old) (S.faults source.new) stop) }
 {
-    let bytes = match read_all(alloc, source) {
-        Ok(bytes) => bytes,
-        Err(ReadError::Failed) => return Err(Stop::Source),
-        Err(ReadError::TooLong) => {
-            *line = said(too_long(alloc));
-            return Err(Stop::Form);
-        }
-        Err(ReadError::OutOfMemory) => return Err(Stop::OutOfMemory),
-    };
+    let bytes = bytes_of(alloc, source, line)?;
     match read_run(alloc, bytes.as_slice()) {
         Ok(Some(run)) => Ok(run),
         Ok(None) => {

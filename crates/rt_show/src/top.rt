@@ -8,7 +8,8 @@ ghost use Rattle.rt_machine.specs.Sessions.{CameAt, Headlined};
 ghost use Rattle.rt_show.specs.declared.words.Wish.TheVariants as wishes;
 ghost use Rattle.rt_show.specs.Asked.{alone};
 ghost use Rattle.rt_show.specs.Ready.{MadeOf};
-ghost use Rattle.rt_show.specs.Runs.{DescribedBy, HasHeadline, Reads, Prints};
+ghost use Rattle.rt_streams.specs.Reads.{IsWhole};
+ghost use Rattle.rt_show.specs.Runs.{DescribedBy, HasHeadline, Reads, ReadsAny, Prints};
 ghost use Rattle.rt_show.specs.Words.{usual};
 ghost use Rattle.rt_show.specs.Statuses.{Comes, ReadsAsked, Shows};
 
@@ -52,6 +53,27 @@ pub(crate) fn said(line: Result<String, OutOfMemory>) -> Option<String> {
     }
 }
 
+/// All bytes of a source. Where there are too many, `line` says so.
+pub(crate) fn bytes_of<S: Source>(
+    alloc: Global,
+    source: &mut S,
+    line: &mut Option<String>,
+) -> Result<List<u8>, Stop>
+    ensures whole { IfOk result (λ bytes. IsWhole bytes (S.left source.old) (S.left source.new)) }
+    ensures reads { IfErr result (λ stop. ReadsAny (S.left source.old) (S.left source.new)
+        (S.faults source.old) (S.faults source.new) stop) }
+{
+    match read_all(alloc, source) {
+        Ok(bytes) => Ok(bytes),
+        Err(ReadError::Failed) => Err(Stop::Source),
+        Err(ReadError::TooLong) => {
+            *line = said(too_long(alloc));
+            Err(Stop::Form)
+        }
+        Err(ReadError::OutOfMemory) => Err(Stop::OutOfMemory),
+    }
+}
+
 /// The application that a source describes. Where it is in another form, `line` says why.
 pub(crate) fn read_application<S: Source>(
     alloc: Global,
@@ -63,15 +85,7 @@ pub(crate) fn read_application<S: Source>(
     ensures reads { IfErr result (λ stop. Reads (S.left source.old) (S.left source.new)
         (S.faults source.old) (S.faults source.new) stop) }
 {
-    let bytes = match read_all(alloc, source) {
-        Ok(bytes) => bytes,
-        Err(ReadError::Failed) => return Err(Stop::Source),
-        Err(ReadError::TooLong) => {
-            *line = said(too_long(alloc));
-            return Err(Stop::Form);
-        }
-        Err(ReadError::OutOfMemory) => return Err(Stop::OutOfMemory),
-    };
+    let bytes = bytes_of(alloc, source, line)?;
     match read_source(alloc, bytes.as_slice()) {
         Ok(Some(described)) => Ok(described),
         Ok(None) => {

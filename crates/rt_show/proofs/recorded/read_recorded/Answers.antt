@@ -1,8 +1,9 @@
 -- Bytes that are no recorded run describe none.
-use Rattle.std.proofs.Common.{rules, ◌≡◌, ℕ, List, Option, None, subst, inr}
+use Rattle.std.proofs.Common.{rules, ◌≡◌, ℕ, List, Option, None, Err, subst, inr}
 use Rattle.rt_logs.specs.Runs.{ReadsBytes}
 use Rattle.rt_logs.specs.declared.reading.Run.{Run}
 use Rattle.rt_show.specs.Asked.{RecordsNone}
+use Rattle.rt_show.proofs.Reading.{for_any}
 use Rattle.rt_show.proofs.recorded.read_recorded.Goals as goal
 
 unsaid : (given bytes : List ℕ) (read : Option Run) → given ≡ bytes → read ≡ None → ReadsBytes given read → RecordsNone bytes
@@ -10,7 +11,14 @@ unsaid given bytes read same none h = subst (λ (b : List ℕ). RecordsNone b) s
 
 pub returns-in-Ok-None-clause-reads : goal.returns-in-Ok-None-clause-reads
 returns-in-Ok-None-clause-reads g c = inr (record {
-  bytes = c.in-Ok.bytes;
+  bytes = c.in_ok-bytes.bytes;
   whole = search rules;
-  none = unsaid c.as_slice.result.now c.in-Ok.bytes c.in-Ok-None.field-0 (search rules) c.in-Ok-None.field-0-is c.in-Ok-None.ensures.described;
+  none = unsaid c.as_slice.result.now c.in_ok-bytes.bytes c.in-Ok-None.field-0 (search rules) c.in-Ok-None.field-0-is c.in-Ok-None.ensures.described;
 })
+
+pub returns-in_err-bytes-clause-reads : goal.returns-in_err-bytes-clause-reads
+returns-in_err-bytes-clause-reads g c =
+    let stopped : c.from_residual.result ≡ Err c.in_err-bytes.field-0.0 = search rules in
+    rw stopped (for_any RecordsNone (g.S.Source.left c.args.source.now) (g.S.Source.left c.bytes_of.new.source)
+    (g.S.Source.faults c.args.source.now) (g.S.Source.faults c.bytes_of.new.source) c.in_err-bytes.field-0.0
+    c.in_err-bytes.ensures.reads)
