@@ -1,7 +1,7 @@
 -- What stands in a slot, and a node of a template, case by case; and templates that mirror to one are equal.
 use Rattle.std.proofs.Common.{ℕ, List, [], ◌∷◌, ◌≡◌, map, refl, sym, ap, ◌∙◌, subst, rules}
 use Rattle.std.specs.Prelude.{Option}
-use Rattle.rt_parts.specs.declared.template.Template.{Template}
+use Rattle.rt_parts.specs.declared.template.TemplateParts.{TemplateParts as Template}
 use Rattle.rt_parts.specs.declared.template.TemplateAttribute.{TemplateAttribute}
 use Rattle.rt_parts.specs.declared.template.TemplateAttribute.TheVariants as attributes
 use Rattle.rt_parts.specs.declared.template.TemplateNode.{TemplateNode, the_lemmas as node_lemmas}

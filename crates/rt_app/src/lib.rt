@@ -24,7 +24,7 @@ pub use rt_nodes::{
 };
 pub use rt_parts::{
     Attribute, AttributeValue, CapturedError, Event, ListenerCallback, Parts, RenderError,
-    SuspendedFuture, Template, TemplateAttribute, TemplateNode,
+    SuspendedFuture, Template, TemplateAttribute, TemplateNode, TemplateParts,
 };
 pub use rt_programs::{
     coded_tests, current_pages_show, first_pages_show, heard_from_below, memoized_are_lawful,

@@ -5,7 +5,7 @@ use Rattle.rt_parts.specs.declared.attribute.Attribute.{Attribute}
 use Rattle.rt_parts.specs.declared.attribute.AttributeValue.{AttributeValue}
 use Rattle.rt_parts.specs.declared.attribute.AttributeValue.TheVariants as values
 use Rattle.rt_parts.specs.declared.error.CapturedError.{CapturedError}
-use Rattle.rt_parts.specs.declared.template.Template.{Template}
+use Rattle.rt_parts.specs.declared.template.TemplateParts.{TemplateParts as Template}
 use Rattle.rt_parts.specs.declared.error.RenderError.{RenderError}
 use Rattle.rt_parts.specs.declared.error.RenderError.TheVariants as errors
 use Rattle.rt_nodes.specs.declared.vnode.ErrorHandler.{ErrorHandler}

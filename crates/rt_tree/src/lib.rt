@@ -27,7 +27,7 @@ pub use rt_nodes::{
 };
 pub use rt_parts::{
     Attribute, AttributeValue, CapturedError, Event, ListenerCallback, Parts, RenderError,
-    SuspendedFuture, Template, TemplateAttribute, TemplateNode,
+    SuspendedFuture, Template, TemplateAttribute, TemplateNode, TemplateParts,
 };
 pub use rt_plan::{Place, Step};
 pub use rt_values::ElementId;

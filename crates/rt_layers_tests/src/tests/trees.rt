@@ -30,7 +30,7 @@ fn is_placeholder(alloc: Global, answer: Element<Numbers>) -> Result<bool, OutOf
     let placeholder = VNode::placeholder(alloc)?;
     let kept = LastRenderedNode::new(alloc, answer)?;
     let tree = kept.as_vnode();
-    Ok(tree.same(&placeholder) & fits(tree) & (tree.template.roots.len() == 1))
+    Ok(tree.same(&placeholder) & fits(tree) & (tree.template.roots().len() == 1))
 }
 
 #[test]

@@ -3,6 +3,7 @@
 use rt_nodes::{DynamicNode, VComponent, VNode};
 use rt_parts::{
     Attribute, AttributeValue, ListenerCallback, Parts, Template, TemplateAttribute, TemplateNode,
+    TemplateParts,
 };
 use rt_values::{List, ScopeId, Shared, Text};
 use std::alloc::Global;
@@ -81,6 +82,21 @@ fn only<T: Drop>(rt: &impl Abort, alloc: Global, item: T) -> Shared<T> {
     Shared::one(alloc, item).expect(rt, "memory for a list")
 }
 
+fn template(
+    rt: &impl Abort,
+    alloc: Global,
+    root: TemplateNode,
+    node_paths: List<List<u8>>,
+    attr_paths: List<List<u8>>,
+) -> Template {
+    let parts = TemplateParts {
+        roots: one(rt, alloc, root),
+        node_paths,
+        attr_paths,
+    };
+    Template::new(alloc, parts).expect(rt, "memory for a template")
+}
+
 fn path(rt: &impl Abort, alloc: Global, path: &[u8]) -> List<u8> {
     List::from_slice(alloc, path).expect(rt, "memory for a path")
 }
@@ -111,12 +127,9 @@ fn around(rt: &impl Abort, alloc: Global, tag: &str, values: List<Value>) -> Tre
     for index in 0..values.len().min(255) {
         push(rt, &mut node_paths, path(rt, alloc, &[0, index as u8]));
     }
+    let root = element(rt, alloc, tag, 0, slots);
     VNode {
-        template: Template {
-            roots: only(rt, alloc, element(rt, alloc, tag, 0, slots)),
-            node_paths: shared(rt, alloc, node_paths),
-            attr_paths: Shared::empty(),
-        },
+        template: template(rt, alloc, root, node_paths, List::new(alloc)),
         dynamic_nodes: shared(rt, alloc, values),
         dynamic_attrs: Shared::empty(),
     }
@@ -124,12 +137,10 @@ fn around(rt: &impl Abort, alloc: Global, tag: &str, values: List<Value>) -> Tre
 
 // A tree that is one slot with this value.
 fn alone(rt: &impl Abort, alloc: Global, value: Value) -> Tree {
+    let node_paths = one(rt, alloc, path(rt, alloc, &[0]));
+    let root = TemplateNode::Dynamic { id: 0 };
     VNode {
-        template: Template {
-            roots: only(rt, alloc, TemplateNode::Dynamic { id: 0 }),
-            node_paths: only(rt, alloc, path(rt, alloc, &[0])),
-            attr_paths: Shared::empty(),
-        },
+        template: template(rt, alloc, root, node_paths, List::new(alloc)),
         dynamic_nodes: only(rt, alloc, value),
         dynamic_attrs: Shared::empty(),
     }
@@ -214,12 +225,9 @@ fn slots(rt: &impl Abort, alloc: Global, first: Named, second: Named) -> Tree {
     push(rt, &mut dynamic_attrs, slot(rt, alloc, second));
     let mut attr_paths = one(rt, alloc, path(rt, alloc, &[0]));
     push(rt, &mut attr_paths, path(rt, alloc, &[0]));
+    let root = element(rt, alloc, "p", 2, 0);
     VNode {
-        template: Template {
-            roots: only(rt, alloc, element(rt, alloc, "p", 2, 0)),
-            node_paths: Shared::empty(),
-            attr_paths: shared(rt, alloc, attr_paths),
-        },
+        template: template(rt, alloc, root, List::new(alloc), attr_paths),
         dynamic_nodes: Shared::empty(),
         dynamic_attrs: shared(rt, alloc, dynamic_attrs),
     }
