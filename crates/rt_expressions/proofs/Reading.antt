@@ -1,7 +1,5 @@
 -- Expressions and keys by the levels that are left; one more name, one more item.
-use Rattle.std.proofs.Common.{◌≡◌, ◌<◌, ◌-◌, ◌+◌, ℕ, zero, suc, List, [], ◌∷◌, length, drop, drop-cons, add-one, slice_index_or, Option, Some, None, if◌then◌else◌, bytes_eq, refl, ap, arith}
-use Rattle.std.specs.Ordering.{nat_cmp, match_ordering}
-use Rattle.std.specs.Cmp.Lexicographic.{slice_cmp}
+use Rattle.std.proofs.Common.{◌≡◌, ◌<◌, ◌-◌, ◌+◌, ℕ, zero, suc, List, length, drop, drop-cons, add-one, slice_index_or, Some, None, if◌then◌else◌, bytes_eq, refl, ap, arith}
 use Rattle.serde_json.specs.Data.{Data}
 use Rattle.serde_json.specs.View.{view, items_view}
 use Rattle.serde_json.specs.declared.value.Value.{Value}
@@ -9,7 +7,7 @@ use Rattle.rt_expressions.specs.declared.signatures.Names.{Names}
 use Rattle.rt_expressions.specs.declared.signatures.Signature.{Signature}
 use Rattle.rt_expressions.specs.Signatures.{signature_from}
 use Rattle.rt_expressions.specs.Expressions.{expression_of, expression_step}
-use Rattle.rt_expressions.specs.Kinds.{place_from, put_found, found_in_items, found_below, found_in}
+use Rattle.rt_expressions.specs.Kinds.{put_found, found_in_items, found_below, found_in}
 
 -- no level is left
 pub expression_none : (levels : ℕ) (names : Names) (variables : List (List ℕ)) (d : Data) → levels ≡ 0 → expression_of levels names variables d ≡ None
@@ -34,14 +32,6 @@ signature_next name signatures at next below is =
     let one : at + 1 ≡ suc at = omega arith in
     let rest : drop (at + 1) signatures ≡ drop (suc at) signatures = ap (λ n. drop n signatures) one in
     rw (rest, drop-cons signatures at next, ← is) refl
-
--- the key at a place decides, or those behind it do
-pub place_among_next : (key : List ℕ) (keys : List (List ℕ)) (at : ℕ) (next : List ℕ) → at < length keys → next ≡ slice_index_or keys at next →
-    place_from at key (drop at keys) ≡ match_ordering (slice_cmp nat_cmp key next) (Some at) None (place_from (at + 1) key (drop (at + 1) keys))
-place_among_next key keys at next below is =
-    let one : at + 1 ≡ suc at = omega arith in
-    let rest : drop (at + 1) keys ≡ drop (suc at) keys = ap (λ n. drop n keys) one in
-    rw (rest, drop-cons keys at next, ← is) refl
 
 -- no level is left for keys
 pub found_none : (levels : ℕ) (d : Data) (keys : List (List ℕ)) → levels ≡ 0 → found_in levels d keys ≡ keys

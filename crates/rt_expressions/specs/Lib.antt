@@ -1,6 +1,7 @@
 pub mod Keys
 pub mod Fields
 pub mod Names
+pub mod Ascending
 pub mod Lists
 pub mod Signatures
 pub mod Forms

@@ -1,6 +1,8 @@
 -- Names: which texts are one, where one is bound, and lists of names that differ.
-use Rattle.std.specs.Prelude.{ℕ, List, [], ◌∷◌, ◌++◌, ◌+◌, Bool, ◌&&◌, ◌||◌, ◌==◌, not, length, Option, Some, None, option_and_then, is_some, if◌then◌else◌, bytes_eq}
-use Rattle.std.specs.List.{list_all}
+use Rattle.std.specs.Prelude.{ℕ, List, [], ◌∷◌, ◌++◌, ◌+◌, Bool, ◌&&◌, ◌||◌, ◌==◌, not, length, map, Option, Some, None, option_and_then, is_some, if◌then◌else◌, bytes_eq}
+use Rattle.std.specs.List.{list_all, list_any}
+use Rattle.std.specs.Borrow.{Bor}
+use Rattle.std.specs.BTreeSet.{BTreeSet}
 use Rattle.std.specs.Char.{is_ascii_alphanumeric}
 use Rattle.serde_json.specs.Data.{Data, Items}
 use Rattle.serde_json.specs.Find.{as_str}
@@ -22,6 +24,14 @@ place_from at name (next ∷ names) before = place_from (at + 1) name names (if 
 -- the last place of a name, from 0
 unfoldable pub place_of : List (List ℕ) → List ℕ → Option ℕ
 place_of names name = place_from 0 name names None
+
+-- the texts of a set, ascending by their bytes
+abbrev pub texts_of : BTreeSet (Bor (List ℕ)) → List (List ℕ)
+texts_of texts = map (λ t. t.now) texts.keys
+
+-- a text is one of those that were seen
+abbrev pub is_seen : BTreeSet (Bor (List ℕ)) → List ℕ → Bool
+is_seen seen text = list_any (λ t. bytes_eq text t.now) seen.keys
 
 -- one more text, which isn't among those before it
 abbrev pub one_more_text : List (List ℕ) → Data → Option (List (List ℕ))

@@ -27,9 +27,9 @@ fn attribute(
     if !is_name(name) {
         return Ok(None);
     }
-    let name = Text::from_str(alloc, name)?;
+    let name = Text::shared(alloc, name)?;
     if let Some(text) = value.as_str() {
-        let value = Text::from_str(alloc, text)?;
+        let value = Text::shared(alloc, text)?;
         return Ok(Some(ViewAttribute::Static { name, value }));
     }
     match read_expression(alloc, names, variables, value)? {
@@ -56,7 +56,7 @@ fn listener(
         return Ok(None);
     };
     Ok(Some(ViewAttribute::Listener {
-        name: Text::from_str(alloc, name)?,
+        name: Text::shared(alloc, name)?,
         action,
         arguments,
     }))

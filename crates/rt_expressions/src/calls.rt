@@ -3,6 +3,7 @@ ghost use Rattle.std.specs.Prelude.{◌≡◌, IfOk};
 ghost use Rattle.serde_json.specs.View.{view, items_view};
 ghost use Rattle.rt_expressions.specs.Calls.{expression_at, variable_at, call_in, call_at};
 
+use crate::context_keys::ContextKeys;
 use crate::expressions::{read_expression, read_expressions};
 use crate::fields::{list_at, text_at};
 use crate::names::place_of;
@@ -35,6 +36,16 @@ pub fn variable_at(variables: &[Text], value: &Value, key: &str) -> Option<u64>
 {
     match text_at(value, key) {
         Some(name) => place_of(variables, name),
+        None => None,
+    }
+}
+
+/// The kind of the key of contexts that is named at a key.
+pub fn kind_at(kinds: &ContextKeys, value: &Value, key: &str) -> Option<u64>
+    ensures kind { result ≡ variable_at kinds.now key.now (view value.now) }
+{
+    match text_at(value, key) {
+        Some(name) => kinds.place_of(name),
         None => None,
     }
 }

@@ -6,6 +6,7 @@ ghost use Rattle.rt_expressions.specs.Lists.{read_each};
 ghost use Rattle.rt_expressions.specs.Names.{place_of};
 ghost use Rattle.rt_expressions.specs.Expressions.{expression_of, formed, row, expression_in};
 
+use crate::context_keys::ContextKeys;
 use crate::fields::is_zero;
 use crate::forms::{Form, form_of};
 use crate::keys::only_member;
@@ -67,7 +68,7 @@ fn formed(
     match form {
         Form::Get => Ok(place(variables, value).map(Expression::Get)),
         Form::Read => Ok(place(variables, value).map(Expression::Read)),
-        Form::LookUp => Ok(place(names.kinds.as_slice(), value).map(Expression::LookUp)),
+        Form::LookUp => Ok(kind(&names.kinds, value).map(Expression::LookUp)),
         Form::Said(word) => {
             if is_zero(value) {
                 Ok(Some(said(word)))
@@ -117,6 +118,14 @@ fn place(names: &[Text], value: &Value) -> Option<u64>
 {
     let name = value.as_str()?;
     place_of(names, name)
+}
+
+/// The kind of the key that a text is.
+fn kind(kinds: &ContextKeys, value: &Value) -> Option<u64>
+    ensures kind { result ≡ option_and_then (place_of kinds.now) (as_str (view value.now)) }
+{
+    let name = value.as_str()?;
+    kinds.place_of(name)
 }
 
 #[cycle(expression)]

@@ -4,6 +4,7 @@
 
 mod attributes;
 mod calls;
+mod context_keys;
 mod expressions;
 mod fields;
 mod forms;
@@ -16,7 +17,8 @@ mod signatures;
 mod view_forms;
 mod views;
 
-pub use calls::{call_at, expression_at, read_call, variable_at};
+pub use calls::{call_at, expression_at, kind_at, read_call, variable_at};
+pub use context_keys::ContextKeys;
 pub use expressions::{read_expression, read_expressions};
 pub use fields::{is_zero, is_zero_at, list_at, list_or_empty, text_at, whole, whole_at};
 pub use keys::{is_object_of, only_member};

@@ -1,11 +1,12 @@
 //! Names: which texts are one, where one is bound, and lists of names that differ.
-ghost use Rattle.std.specs.Prelude.{◌≡◌, IfOk, option_map};
+ghost use Rattle.std.specs.Prelude.{◌≡◌, ◌||◌, ℕ, List, not, bytes_eq, IfOk, OnOk, option_map};
 ghost use Rattle.serde_json.specs.View.{items_view};
-ghost use Rattle.rt_expressions.specs.Names.{is_name, place_of, distinct_texts};
+ghost use Rattle.rt_expressions.specs.Names.{is_name, is_seen, place_of, distinct_texts};
 
 use rt_values::{OutOfMemory, Text};
 use serde_json::Value;
 use std::alloc::Global;
+use std::collections::BTreeSet;
 
 /// Whether a text is ASCII letters, digits, `-` and `_`, at least one of them.
 pub fn is_name(text: &str) -> bool
@@ -43,14 +44,25 @@ pub fn distinct_texts(alloc: Global, values: &[Value]) -> Result<Option<Vec<Text
         ≡ distinct_texts (items_view values.now)) }
 {
     let mut texts = Vec::new(alloc);
+    let mut seen = BTreeSet::new(alloc);
     for value in values {
         let Some(text) = value.as_str() else {
             return Ok(None);
         };
-        if place_of(&texts, text).is_some() {
+        let fresh = see(&mut seen, text)?;
+        if !fresh {
             return Ok(None);
         }
         texts.push(Text::from_str(alloc, text)?)?;
     }
     Ok(Some(texts))
+}
+
+// Puts a text among those that were seen, and answers whether it wasn't one of them.
+fn see<'a>(seen: &mut BTreeSet<&'a str>, text: &'a str) -> Result<bool, OutOfMemory>
+    ensures fresh { IfOk result (λ fresh. fresh ≡ not (is_seen seen.old text.now)) }
+    ensures more { OnOk result ((other : List ℕ) → is_seen seen.new other
+        ≡ (bytes_eq other text.now || is_seen seen.old other)) }
+{
+    Ok(seen.insert(text)?)
 }

@@ -106,7 +106,7 @@ pub fn namespace_in(alloc: Global, value: &Value) -> Result<Option<Option<Text>>
     if !is_name(name) {
         return Ok(None);
     }
-    Ok(Some(Some(Text::from_str(alloc, name)?)))
+    Ok(Some(Some(Text::shared(alloc, name)?)))
 }
 
 /// The names in reach with one more.

@@ -2,6 +2,7 @@
 ghost use Rattle.std.specs.Prelude.{◌≡◌};
 ghost use Rattle.rt_expressions.specs.Signatures.{signature_of};
 
+use crate::context_keys::ContextKeys;
 use rt_values::{List, Text};
 
 /// What is used by its name, and with how many values.
@@ -14,7 +15,7 @@ pub struct Signature {
 /// The names that a whole source has: keys of contexts, components, actions and tasks, each in order.
 #[derive(Debug, Drop)]
 pub struct Names {
-    pub kinds: List<Text>,
+    pub kinds: ContextKeys,
     pub components: List<Signature>,
     pub actions: List<Signature>,
     pub tasks: List<Signature>,

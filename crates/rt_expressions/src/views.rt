@@ -37,7 +37,7 @@ fn node(
         return Ok(None);
     }
     if let Some(text) = value.as_str() {
-        return Ok(Some(ViewNode::Text(Text::from_str(alloc, text)?)));
+        return Ok(Some(ViewNode::Text(Text::shared(alloc, text)?)));
     }
     let Some(form) = form_in(value) else {
         return Ok(None);
@@ -117,7 +117,7 @@ fn element(
         return Ok(None);
     };
     Ok(Some(ViewNode::Element {
-        tag: Text::from_str(alloc, tag)?,
+        tag: Text::shared(alloc, tag)?,
         namespace,
         attributes,
         kids: List::from_vec(kids),

@@ -6,7 +6,7 @@ ghost use Rattle.rt_sources.specs.Readings.{plain_in};
 
 use crate::forms::{Calling, Plain, Word};
 use rt_expressions::{
-    Names, call_at, expression_at, is_object_of, is_zero_at, text_at, variable_at,
+    Names, call_at, expression_at, is_object_of, is_zero_at, kind_at, text_at, variable_at,
 };
 use rt_syntax::{Expression, HookTime, Simple, Statement, TaskAct};
 use rt_values::{List, OutOfMemory, Text};
@@ -119,7 +119,7 @@ fn provided(
     if !is_object_of(value, &["provide", "be"]) {
         return Ok(None);
     }
-    let Some(kind) = variable_at(names.kinds.as_slice(), value, "provide") else {
+    let Some(kind) = kind_at(&names.kinds, value, "provide") else {
         return Ok(None);
     };
     let Some(given) = expression_at(alloc, names, variables, value, "be")? else {

@@ -4,7 +4,7 @@ ghost use Rattle.serde_json.specs.View.{view, members_view};
 ghost use Rattle.rt_expressions.specs.Lists.{read_members};
 ghost use Rattle.rt_sources.specs.Signatures.{params_in, signature_in, signatures_at, names_in};
 
-use rt_expressions::{Names, Signature, distinct_texts, kinds_in, list_or_empty};
+use rt_expressions::{ContextKeys, Names, Signature, distinct_texts, kinds_in, list_or_empty};
 use rt_values::{List, OutOfMemory, Text};
 use serde_json::{Map, Value};
 use std::alloc::Global;
@@ -81,7 +81,7 @@ pub fn names_in(alloc: Global, value: &Value) -> Result<Option<Names>, OutOfMemo
     };
     let kinds = kinds_in(alloc, value)?;
     Ok(Some(Names {
-        kinds: List::from_vec(kinds),
+        kinds: ContextKeys::from_vec(kinds),
         components: List::from_vec(components),
         actions: List::from_vec(actions),
         tasks: List::from_vec(tasks),

@@ -1,6 +1,7 @@
 -- The levels fall from a value to what is below it; what is found so far is put among by what comes behind.
 use Rattle.std.proofs.Common.{◌≡◌, ◌+◌, ◌*◌, drop}
 use Rattle.serde_json.specs.View.{items_view, members_view}
+use Rattle.rt_expressions.specs.Names.{texts_of}
 use Rattle.rt_expressions.specs.Kinds.{found_in, found_in_items, found_in_members, found_in_each}
 use Rattle.rt_expressions.proofs.kinds.+found.Given as goal
 
@@ -24,12 +25,12 @@ decreases-found_below l = 5 * l.levels + 4
 
 abbrev pub invariant-found_in_items-loop-value : goal.invariant-found_in_items-loop-value
 invariant-found_in_items-loop-value l =
-    found_in_items (found_in l.levels) (items_view l.values) l.fn.keys.items ≡ found_in_items (found_in l.levels) (items_view (drop l.value-index l.values)) l.keys.items
+    found_in_items (found_in l.levels) (items_view l.values) (texts_of l.fn.keys) ≡ found_in_items (found_in l.levels) (items_view (drop l.value-index l.values)) (texts_of l.keys)
 
 abbrev pub invariant-found_in_members-loop-key : goal.invariant-found_in_members-loop-key
 invariant-found_in_members-loop-key l =
-    found_in_members (found_in l.levels) (members_view l.members.entries) l.fn.keys.items ≡ found_in_members (found_in l.levels) (members_view l.key-iterator) l.keys.items
+    found_in_members (found_in l.levels) (members_view l.members.entries) (texts_of l.fn.keys) ≡ found_in_members (found_in l.levels) (members_view l.key-iterator) (texts_of l.keys)
 
 abbrev pub invariant-found_in_each-loop-key : goal.invariant-found_in_each-loop-key
 invariant-found_in_each-loop-key l =
-    found_in_each (found_in l.levels) (members_view l.members.entries) l.fn.keys.items ≡ found_in_each (found_in l.levels) (members_view l._key-iterator) l.keys.items
+    found_in_each (found_in l.levels) (members_view l.members.entries) (texts_of l.fn.keys) ≡ found_in_each (found_in l.levels) (members_view l._key-iterator) (texts_of l.keys)
