@@ -10,6 +10,7 @@ import shutil
 import subprocess
 import tempfile
 import time
+from collections.abc import Iterator
 
 COMMANDS = "chromium", "chromium-browser", "google-chrome"
 SECONDS = 120
@@ -146,3 +147,19 @@ class Browser:
         """Writes what is seen as a PNG."""
         taken = self.ask("Page.captureScreenshot", format="png", captureBeyondViewport=True)
         pathlib.Path(file).write_bytes(base64.b64decode(taken["data"]))
+
+
+@contextlib.contextmanager
+def served(words: list) -> Iterator[str]:
+    """The address at which a command serves, which is the first word that it prints."""
+    with tempfile.TemporaryFile("w+") as said:
+        ran = subprocess.Popen(words, stdout=subprocess.PIPE, stderr=said, text=True)
+        try:
+            line = ran.stdout.readline()
+            if not line:
+                said.seek(0)
+                raise Failed(said.read().strip())
+            yield line.split()[0]
+        finally:
+            ran.terminate()
+            ran.communicate()

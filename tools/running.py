@@ -1,8 +1,13 @@
-"""The processes of this machine, and what a run of the kit's command rt does in each of them."""
+"""The processes of this machine, and what a run of the kit's command rt does in each of them.
+
+    python3 tools/running.py NUMBER
+
+prints the processor time, in seconds, that a process and all below it have used."""
 import dataclasses
 import os
 import pathlib
 import re
+import sys
 from collections.abc import Iterator
 
 TICKS = os.sysconf("SC_CLK_TCK")
@@ -13,13 +18,15 @@ EDITED = re.compile(r"/rt-edits?-\d+-")
 
 @dataclasses.dataclass(frozen=True)
 class Process:
-    """A process: its age and processor time in seconds, its folder, the words of its command."""
+    """A process: its age and processor time in seconds, that of children that ended, its folder,
+    the words of its command."""
 
     number: int
     parent: int
     begun: int
     age: float
     used: float
+    ended: float
     folder: str
     words: str
 
@@ -56,9 +63,9 @@ def processes() -> Iterator[Process]:
             fields = (at / "stat").read_text(errors="replace").rpartition(")")[2].split()
         except OSError:
             continue
-        begun, used = int(fields[19]), (int(fields[11]) + int(fields[12])) / TICKS
-        age = now - begun / TICKS
-        yield Process(int(at.name), int(fields[1]), begun, age, used, folder, words)
+        begun, age = int(fields[19]), now - int(fields[19]) / TICKS
+        used, ended = (sum(map(int, fields[k : k + 2])) / TICKS for k in (11, 13))
+        yield Process(int(at.name), int(fields[1]), begun, age, used, ended, folder, words)
 
 
 def below(top: int) -> list[Process]:
@@ -71,3 +78,7 @@ def below(top: int) -> list[Process]:
     for number in numbers:
         numbers += children.get(number, ())
     return [found[number] for number in numbers if number in found]
+
+
+if __name__ == "__main__":
+    print(round(sum(it.used + it.ended for it in below(int(sys.argv[1])))))

@@ -3,7 +3,6 @@
 README.md of this folder says what each of them is. Nothing of them is proved."""
 import concurrent.futures
 import datetime
-import math
 import os
 import pathlib
 import resource
@@ -11,14 +10,14 @@ import shutil
 import subprocess
 import sys
 
+import loads
+
 HERE = pathlib.Path(__file__).resolve().parent
 LIBRARIES = {"react": "React", "preact": "Preact", "vue": "Vue"}
 # Where Debian's packages put modules for node.
 MODULES = "/usr/share/nodejs"
 # The size that a library is checked at, and callgrind's time in times of the run's own.
 SMALL, SLOWER = 20, 60
-# Of these the size is a depth or a count of inputs: what a run takes doesn't tell how it grows.
-NO_GROWTH = ("reader", "subtree")
 
 
 def native(folder):
@@ -68,15 +67,31 @@ def versions(count, known):
     return f"Measured on {datetime.date.today()}, with {', '.join(tools)}."
 
 
-def check(program, known, sources, folder):
-    """Stops where a library shows other than the program does after the build or an input."""
+def differing(program, known, load, source, folder):
+    """The libraries that show other than the program's edits make, after the build or an input."""
     lines = folder / "lines"
-    for load, source in sources.items() if known else ():
-        lines.write_bytes(printed([program], source))
-        wanted = printed([*script("edits", lines, ""), "--steps"], source)
-        for library in known:
-            if not wanted or printed([*script(library, load, SMALL), "--steps"], source) != wanted:
-                sys.exit(f"bench: {LIBRARIES[library]} shows other than the program on {load}")
+    lines.write_bytes(printed([program], source))
+    wanted = printed([*script("edits", lines, ""), "--steps"], source) if known else b""
+    for library in known:
+        if not wanted or printed([*script(library, load, SMALL), "--steps"], source) != wanted:
+            yield LIBRARIES[library]
+
+
+def check(program, known, sources, folder):
+    """Stops where a library shows other than the program does."""
+    for load, source in sources.items():
+        for library in differing(program, known, load, source, folder):
+            sys.exit(f"bench: {library} shows other than the program on {load}")
+
+
+def differences(program, known, sources, folder):
+    """Of each load what differs: plain Rust by what it prints, libraries by what they show."""
+    plain = native(folder)
+    for load, source in sources.items():
+        said = printed([program], source)
+        is_same = said and printed([plain], source) == said
+        found = [] if is_same else ["plain Rust"]
+        yield load, [*found, *differing(program, known, load, source, folder)]
 
 
 def milliseconds(command, source):
@@ -131,33 +146,34 @@ def counted(count, programs, sources, least, patience):
 
 
 def instructions(programs, sources, counts):
-    """The table of instructions and of memory."""
-    heads = "plain Rust", "the program", "times", "its memory", "the program's", "times"
-    yield row("load", "size", *heads)
-    yield row("---", *["---:"] * 7)
+    """The table of instructions, and of the exponents by which they grow from the least size on."""
+    yield row("load", "size", "plain Rust", "the program", "times", "its growth", "the program's")
+    yield row("---", *["---:"] * 6)
+    firsts = {}
     for (load, size), source in sources.items():
         said = [printed([it], source) for it in programs.values()]
-        both = [counts[name, (load, size)] for name in ("native", "ours")]
-        room = [peak(programs[name], source) for name in ("native", "ours")]
+        both = [counts[name, (load, size)] for name in programs]
         cells = [in_digits(it) if it else "" for it in both]
         cells.append(in_digits(both[1] / both[0]) if all(both) else "")
-        cells += [f"{it:,}" if it else "" for it in room]
-        cells.append(in_digits(room[1] / room[0]) if all(room) else "")
+        for name, it in zip(programs, both):
+            first = firsts.setdefault((name, load), (size, it))
+            grown = loads.growth(load, first, (size, it))
+            cells.append("" if grown is None else f"{grown:.2f}")
         yield row(load if said[0] == said[1] else f"{load} (other output)", f"{size:,}", *cells)
 
 
-def growth(counts, loads, sizes):
-    """The exponents of the size by which instructions grow from the least size to the largest."""
-    yield row("growth of", "between", "plain Rust", "the program")
-    yield row("---", "---:", "---:", "---:")
-    for load in (it for it in loads if it not in NO_GROWTH):
-        known = [it for it in sizes if counts["native", (load, it)] and counts["ours", (load, it)]]
-        if len(known) < 2:
-            continue
-        low, high = known[0], known[-1]
-        times = [counts[it, (load, high)] / counts[it, (load, low)] for it in ("native", "ours")]
-        by = (math.log(it) / math.log(high / low) for it in times)
-        yield row(load, f"{low:,} and {high:,}", *(f"{it:.2f}" for it in by))
+def taken(programs, sources, calls, least):
+    """The table of memory and of calls of the system, of the start and of each load."""
+    heads = "plain Rust's memory", "the program's", "times", "plain Rust's calls"
+    yield row("load", "size", *heads, "the program's", "times")
+    yield row("---", *["---:"] * 7)
+    for (load, size), source in {("start", ""): least, **sources}.items():
+        cells = []
+        for measured in peak, calls:
+            both = [measured(it, source) for it in programs.values()]
+            cells += [f"{it:,}" if it else "" for it in both]
+            cells.append(in_digits(both[1] / both[0]) if all(both) else "")
+        yield row(load, f"{size:,}" if size else "", *cells)
 
 
 def side_by_side(programs, known, sources, least, repeats=5):
@@ -182,17 +198,17 @@ def side_by_side(programs, known, sources, least, repeats=5):
         yield row(load, f"{size:,}", *(in_digits(max(it, 0)) for it in least_of))
 
 
-def tables(program, count, sources, small, least, folder, patience):
+def tables(program, measures, sources, small, least, folder, patience):
     """All tables, line by line. Sources stand under load and size, small ones under the load."""
     programs = {"native": native(folder), "ours": program}
     known = libraries()
     check(program, known, small, folder)
-    sizes, loads = sorted({size for _, size in sources}), dict.fromkeys(it for it, _ in sources)
+    count, calls = measures
     counts = counted(count, programs, sources, least, patience)
     yield versions(count, known)
     yield ""
     yield from instructions(programs, sources, counts)
     yield ""
-    yield from growth(counts, loads, sizes)
+    yield from taken(programs, sources, calls, least)
     yield ""
     yield from side_by_side(programs, known, sources, least)

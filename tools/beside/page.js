@@ -161,15 +161,28 @@ function click(element) {
   element.dispatchEvent({ ...event, preventDefault: nothing, stopPropagation: nothing });
 }
 
+// What loads in all libraries ask for: the buttons that an event's element is, and texts.
+const buttonOfList = (top) => (element) => top().childNodes[element === 1 ? 0 : 1];
+const buttonOfField = (top) => (element) =>
+  top().firstChild.childNodes[(element - 3) / 10].firstChild;
+const begun = (place) =>
+  `Paragraph ${place} begins with words that stay, as most words of a page do, `;
+const apart = "some of them set apart";
+const hundreds = (nodes) =>
+  Array.from({ length: Math.ceil(nodes.length / 100) }, (_, it) =>
+    nodes.slice(100 * it, 100 * it + 100));
+
 globalThis.window = globalThis;
 globalThis.navigator ??= { userAgent: "" };
 globalThis.Node = Node;
 globalThis.document = new Document(9, "#document");
 globalThis.HTMLIFrameElement = class {};
+// Of events there are clicks alone.
+globalThis.HTMLElement = class { onclick() {} };
 const html = document.appendChild(document.createElement("html"));
 document.documentElement = html;
 document.body = document.activeElement = html.appendChild(document.createElement("body"));
 document.defaultView = window;
 const root = document.body.appendChild(document.createElement("div"));
 
-module.exports = { root, shown, click };
+module.exports = { root, shown, click, buttonOfList, buttonOfField, begun, apart, hundreds };

@@ -37,7 +37,7 @@ async function run() {
   const top = made.top ?? (() => page.root);
   step(top());
   for (const input of source.inputs ?? []) {
-    if (input.event) page.click(made.buttons()[input.element === 1 ? 0 : 1]);
+    if (input.event) page.click(made.button(input.element));
     else if (input.wake) made.wake(input.wake - 1);
     else made.write(input.write - 1, input.be);
     await made.settled();

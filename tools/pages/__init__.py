@@ -1,24 +1,23 @@
 """Pages that show a run in a browser: the recording of one, and an application that one can use."""
-import argparse
+import base64
+import hashlib
 import html
 import json
 import pathlib
 import string
 
 HERE = pathlib.Path(__file__).resolve().parent
+# What a page may do: its own script runs, and no other. A source may show pictures and sounds.
+POLICY = (
+    "default-src 'none'; script-src 'sha256-{}'; style-src 'unsafe-inline'; connect-src 'self'; "
+    "img-src * data: blob:; media-src * data: blob:; font-src * data:; "
+    "base-uri 'none'; form-action 'none'"
+)
 
 
 def text(name: str) -> str:
     """The text of a file of this folder."""
     return (HERE / name).read_text(encoding="utf-8")
-
-
-def source_of(word: str) -> pathlib.Path:
-    """The source that a word of a command names."""
-    file = pathlib.Path(word)
-    if not file.exists():
-        raise argparse.ArgumentTypeError(f"there is no file {word}")
-    return file
 
 
 def style_of(source: pathlib.Path) -> str:
@@ -30,10 +29,12 @@ def style_of(source: pathlib.Path) -> str:
 def page(kind: str, source: pathlib.Path, run: dict, **words: str) -> str:
     """A page of this kind, replay or live, which needs no other file."""
     data = json.dumps({"name": source.name, "style": style_of(source), **run})
-    script = f"const RUN = {data};\n".replace("<", "\\u003c")
+    script = f"\nconst RUN = {data};\n".replace("<", "\\u003c")
     script += text("document.js") + text(f"{kind}.js")
     words |= {"name": source.stem.replace("_", " "), "file": source.name}
     parts = {name: html.escape(word) for name, word in words.items()}
     body = string.Template(text(f"{kind}.html")).substitute(parts)
+    digest = base64.b64encode(hashlib.sha256(script.encode()).digest()).decode()
     whole = {"body": body, "style": text("style.css"), "script": script}
+    whole["policy"] = POLICY.format(digest)
     return string.Template(text("page.html")).substitute(parts, **whole)

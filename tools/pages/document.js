@@ -1,7 +1,27 @@
 // Reads the printed lines of a run, and makes their edits in a real DOM.
 "use strict";
 
-const SPACES = { svg: "http://www.w3.org/2000/svg", math: "http://www.w3.org/1998/Math/MathML" };
+const SPACES = new Map([
+  ["svg", "http://www.w3.org/2000/svg"], ["math", "http://www.w3.org/1998/Math/MathML"],
+]);
+// Events that browsers make, of which an element has no property.
+const BARE = new Set(["focusin", "focusout", "compositionstart", "compositionupdate",
+  "compositionend", "touchstart", "touchmove", "touchend", "touchcancel", "DOMContentLoaded"]);
+
+// Whether browsers make events of this name.
+function isMade(event) {
+  return BARE.has(event) || `on${event}` in HTMLElement.prototype || `on${event}` in window;
+}
+
+// What is to be told of a listener's name whose event no browser makes, or nothing.
+function noteOnListener(name) {
+  const event = name.slice(2);
+  if (isMade(event)) return undefined;
+  const meant = [name, name.toLowerCase(), event.toLowerCase()].find(isMade);
+  const told = event ? `hears the event “${event}”, which no browser makes` : "hears no event";
+  const way = event && "; it may be sent as an input";
+  return `The listener “${name}” ${told}${meant ? `: “${meant}” is heard by “on${meant}”` : way}.`;
+}
 
 // A line of an edit, read from its start to its end.
 class Reader {
@@ -45,15 +65,32 @@ class Reader {
   }
 }
 
+// Whether an element is a box that is ticked, or one of several of which one is.
+function isBox(element) {
+  return element.localName === "input" && ["checkbox", "radio"].includes(element.type);
+}
+
+// Puts a text in a field, and leaves the place where someone types in it.
+function putText(field, text) {
+  if (field.value === text) return;
+  const isTyped = field.getRootNode().activeElement === field && field.selectionStart !== null;
+  const at = isTyped ? Math.min(field.selectionStart, text.length) : 0;
+  field.value = text;
+  if (isTyped) field.setSelectionRange(at, at);
+}
+
 // What a run shows: DOM nodes by their numbers, of which 0 is the root container.
 class Shown {
-  // isBusy says of a field that someone types in it just now, so that its text is left alone.
-  constructor(root, isBusy = () => false) {
+  // isFree says of a field that what stands in it is the visitor's own, and is left alone.
+  constructor(root, isFree = () => false) {
     this.root = root;
-    this.isBusy = isBusy;
+    this.isFree = isFree;
     this.nodes = new Map([[0, root]]);
     this.numbers = new Map([[root, 0]]);
     this.listeners = new Map();
+    // Fields of which the document gave the text, and what this browser did otherwise.
+    this.fields = new Set();
+    this.notes = new Set();
     root.replaceChildren();
   }
 
@@ -74,6 +111,27 @@ class Shown {
     const texts = [];
     while (walker.nextNode()) texts.push(" " + JSON.stringify(walker.currentNode.data));
     return texts.join("");
+  }
+
+  // The fields and boxes that are shown: the number of each, and what it holds.
+  held() {
+    const all = [...this.root.querySelectorAll("input, select, textarea")];
+    const told = (it) => (isBox(it) ? it.checked : this.fields.has(it) ? it.value : null);
+    return all.map((it) => [this.numbers.get(it), told(it)]).filter(([, value]) => value !== null);
+  }
+
+  // Puts fields and boxes back to what the document says of them.
+  putBack() {
+    for (const field of this.root.querySelectorAll("input, select, textarea")) {
+      if (this.isFree(field)) continue;
+      if (isBox(field)) field.checked = field.hasAttribute("checked");
+      else if (field.hasAttribute("value")) putText(field, field.getAttribute("value"));
+      else if (this.fields.has(field)) putText(field, "");
+    }
+  }
+
+  note(text) {
+    if (text) this.notes.add(text);
   }
 
   // The nodes to the end of what stands here, each after a space.
@@ -97,8 +155,7 @@ class Shown {
   builtElement(reader) {
     reader.take(/\(/);
     const { space, name } = reader.name();
-    const uri = SPACES[space];
-    const element = uri ? document.createElementNS(uri, name) : document.createElement(name);
+    const element = this.made(SPACES.get(space), name);
     this.enter(reader.number(), element);
     while (reader.sees(" ")) {
       reader.take(/ /);
@@ -112,6 +169,16 @@ class Shown {
     }
     reader.take(/\)/);
     return element;
+  }
+
+  // An element of this name. Where the browser refuses the name another one stands for it.
+  made(uri, name) {
+    try {
+      return uri ? document.createElementNS(uri, name) : document.createElement(name);
+    } catch {
+      this.note(`This browser refuses elements of the name “${name}”: “x-refused” stands for it.`);
+      return document.createElement("x-refused");
+    }
   }
 
   enter(number, node) {
@@ -128,6 +195,7 @@ class Shown {
       this.nodes.delete(number);
       this.numbers.delete(node);
       this.listeners.delete(node);
+      this.fields.delete(node);
     }
   }
 
@@ -176,17 +244,19 @@ class Shown {
   listen(element, name) {
     if (!this.listeners.has(element)) this.listeners.set(element, new Set());
     this.listeners.get(element).add(name);
+    this.note(noteOnListener(name));
   }
 
   setAttribute(element, { space, name }, value) {
-    if (space === "style") return element.style.setProperty(name, value ?? "");
+    if (space === "style") return element.style?.setProperty(name, value ?? "");
     const whole = space === null ? name : `${space}:${name}`;
-    if (value === null) element.removeAttribute(whole);
-    else element.setAttribute(whole, value);
-    if (whole === "checked" && "checked" in element) element.checked = value !== null;
-    const text = value ?? "";
-    const isField = whole === "value" && "value" in element && element.value !== text;
-    if (isField && !this.isBusy(element)) element.value = text;
+    try {
+      if (value === null) element.removeAttribute(whole);
+      else element.setAttribute(whole, value);
+    } catch {
+      return this.note(`This browser refuses attributes of the name “${whole}”: it is left out.`);
+    }
+    if (whole === "value" && "value" in element && !isBox(element)) this.fields.add(element);
   }
 }
 
@@ -194,6 +264,7 @@ class Shown {
 function stage(host, style) {
   const shadow = host.attachShadow({ mode: "open" });
   const sheet = Object.assign(document.createElement("style"), { textContent: style });
+  sheet.id = "style";
   const root = Object.assign(document.createElement("div"), { id: "document" });
   shadow.append(sheet, root);
   return root;
@@ -246,17 +317,24 @@ function steps(lines) {
   return fault ? [...all, { report: fault, edits, isFault: true }] : all;
 }
 
-// An input in words.
-function said(input) {
-  if (input === undefined) return "the build";
-  const kind = Object.keys(input)[0];
-  const value = (it) => (it === undefined ? "" : ` ${JSON.stringify(it)}`);
-  switch (kind) {
+// The value of a text of JSON, with whole numbers as they are written.
+function exact(text) {
+  const isWhole = (it) => /^-?\d+$/.test(it?.source);
+  return JSON.parse(text, (key, value, it) => (isWhole(it) ? BigInt(it.source) : value));
+}
+
+// An input, which is a text, in words.
+function said(text) {
+  if (text === undefined) return "the build";
+  const input = exact(text);
+  const told = (it) => (typeof it === "bigint" ? String(it) : JSON.stringify(it));
+  const value = (it) => (it === undefined ? "" : ` ${told(it)}`);
+  switch (Object.keys(input)[0]) {
     case "event": return `${input.event}${value(input.payload)} at #${input.element}`;
     case "wake": return `task ${input.wake} is woken`;
     case "write": return `cell ${input.write} becomes${value(input.be)}`;
     case "mark": return `scope ${input.mark} is marked`;
-    default: return JSON.stringify(input);
+    default: return text;
   }
 }
 
@@ -270,4 +348,10 @@ function rowOf(input, step) {
   if (step.edits.length === 0 && !step.isFault) add("em", "none", "no edit");
   add("small", step.isFault ? "fault" : "report", step.report);
   return row;
+}
+
+// Lists what this browser did otherwise than the document says.
+function showNotes(list, notes) {
+  const row = (textContent) => Object.assign(document.createElement("li"), { textContent });
+  list.replaceChildren(...[...notes].map(row));
 }

@@ -1,5 +1,11 @@
 // Shows an application that one can use: each event is an input, for which the program runs again.
+// Inputs are texts of JSON all the way, so that each number stays as it was written.
 "use strict";
+
+// The page asks so often, in milliseconds, whether the source was edited.
+const LOOK = 1500;
+// A run that lasts longer than this is told of.
+const SOON = 200;
 
 // The value that an event has for a listener; undefined is none.
 function payloadOf({ type, target, key }) {
@@ -17,22 +23,59 @@ function payloadOf({ type, target, key }) {
   return undefined;
 }
 
+// The inputs of this visit, which a reload of the page finds again.
+class Visit {
+  constructor({ name, visit }) {
+    this.key = `${name} ${visit}`;
+    this.isKept = true;
+    // Where they could not be kept the browser asks before the page goes.
+    addEventListener("beforeunload", (event) => this.isKept || event.preventDefault());
+  }
+
+  inputs() {
+    try {
+      return JSON.parse(sessionStorage.getItem(this.key));
+    } catch {
+      return null;
+    }
+  }
+
+  keep(inputs) {
+    try {
+      sessionStorage.setItem(this.key, JSON.stringify(inputs));
+      this.isKept = true;
+    } catch {
+      this.isKept = inputs.length === 0;
+    }
+  }
+}
+
 class Live {
-  constructor({ inputs, style }) {
-    this.first = inputs;
-    this.root = stage(document.getElementById("stage"), style);
+  constructor(run) {
+    this.visit = new Visit(run);
+    this.root = stage(document.getElementById("stage"), run.style);
     this.marks = new Marks(document.getElementById("marks"));
     this.list = document.getElementById("steps");
-    this.queue = [];
-    this.work = Promise.resolve();
-    this.heard = new Set();
-    // The page is to stay: no link is followed and no form is sent.
-    this.root.addEventListener("submit", (event) => event.preventDefault());
-    this.root.addEventListener("click", (event) => {
-      if (event.target.closest("a")) event.preventDefault();
-    });
+    [this.inputs, this.queue, this.work, this.waiting] = [[], [], Promise.resolve(), 0];
+    [this.heard, this.own, this.composed] = [new Set(), new Set(), null];
+    this.staying();
     this.controls();
-    this.restart(this.first);
+    this.restart(this.visit.inputs() ?? run.inputs);
+    setInterval(() => this.look(), LOOK);
+  }
+
+  // The page is to stay: no link is followed and no form is sent. What is typed in a field and not
+  // heard by the application is the visitor's own.
+  staying() {
+    const on = (type, call) => this.root.addEventListener(type, call, { capture: true });
+    on("submit", (event) => event.preventDefault());
+    on("click", (event) => event.target.closest("a, area") && event.preventDefault());
+    on("input", ({ target }) => {
+      const events = isBox(target) ? ["click", "input", "change"] : ["input"];
+      if (!events.some((event) => this.isHeard(target, event, true))) this.own.add(target);
+    });
+    on("compositionstart", ({ target }) => (this.composed = target));
+    on("compositionend", () => (this.composed = null));
   }
 
   controls() {
@@ -40,43 +83,94 @@ class Live {
     on("again", "click", () => this.restart([]));
     on("undo", "click", () => this.restart(this.inputs.slice(0, -1)));
     on("dismiss", "click", () => this.complain(""));
-    on("save", "click", () => this.save());
+    on("save", "click", () => this.after(() => this.save()));
     on("other", "submit", (event) => {
       event.preventDefault();
       this.sendText(document.getElementById("text").value);
     });
+    const failed = ({ message, reason }) => this.complain(reason?.message ?? message);
+    for (const type of ["error", "unhandledrejection"]) addEventListener(type, failed);
+  }
+
+  // Does a job after those that came before it. One that fails is told, and the next is done.
+  after(job) {
+    this.busy(1);
+    const failed = (error) => {
+      this.isBroken = true;
+      this.complain(`The page could not show that (${error.message}): start again.`);
+    };
+    this.work = this.work.then(job).catch(failed).finally(() => this.busy(-1));
+  }
+
+  // Tells that the program runs, once it has run for a while.
+  busy(change) {
+    this.waiting += change;
+    const place = document.getElementById("busy");
+    if (this.waiting === 0) {
+      clearTimeout(this.timer);
+      [this.timer, place.hidden] = [undefined, true];
+    } else if (!this.timer) {
+      const begun = Date.now();
+      const show = () => {
+        place.hidden = false;
+        place.textContent = `The program runs: ${Math.round((Date.now() - begun) / 1000)} s`;
+        this.timer = setTimeout(show, 1000);
+      };
+      this.timer = setTimeout(show, SOON);
+    }
   }
 
   // Runs the program on these inputs, and shows the document from nothing.
   restart(inputs) {
     this.queue.length = 0;
-    this.work = this.work.then(async () => {
+    this.after(async () => {
       const answer = await this.run(inputs);
       if (!answer) return;
-      const isBusy = (field) => this.queue.some(({ element }) => element === field);
-      [this.shown, this.inputs, this.edits] = [new Shown(this.root, isBusy), [], 0];
-      this.list.replaceChildren();
+      this.begin();
       this.take(inputs, answer);
       this.marks.show([]);
     });
   }
 
+  // Empties the document and the list of steps.
+  begin() {
+    const isQueued = (field) => this.queue.some(({ element }) => element === field);
+    const isFree = (it) => this.own.has(it) || this.composed === it || isQueued(it);
+    this.own.clear();
+    this.shown = new Shown(this.root, isFree);
+    this.isBroken = false;
+    this.list.replaceChildren();
+  }
+
+  // What is answered to a question to tools/live, or nothing where it is refused.
+  async ask(path, inputs) {
+    const headers = { "Content-Type": "application/json" };
+    const answer = await fetch(path, { method: "POST", headers, body: JSON.stringify(inputs) });
+    if (answer.ok) return answer;
+    this.complain(await answer.text());
+    return undefined;
+  }
+
   // What the program answers of these inputs, or nothing where it refuses them.
   async run(inputs) {
-    const body = JSON.stringify(inputs);
-    const headers = { "Content-Type": "application/json" };
     try {
-      const answer = await (await fetch("run", { method: "POST", headers, body })).json();
+      const answer = await (await this.ask("run", inputs))?.json();
+      if (!answer) return undefined;
       this.complain(answer.complaint);
-      return answer.lines && answer;
+      const isNew = this.tag !== answer.tag;
+      this.tag = answer.tag;
+      return answer.lines && { ...answer, isNew };
     } catch (error) {
       this.complain(`tools/live does not answer (${error.message}); start it again`);
       return undefined;
     }
   }
 
-  // Makes the edits that are new, and lists the steps that they belong to.
-  take(inputs, { lines }) {
+  // Makes the edits that are new, and lists the steps that they belong to. Where the source was
+  // edited, or an edit failed, all of them are new.
+  take(inputs, { lines, isNew, style }) {
+    if (isNew || this.isBroken || !this.shown) this.begin();
+    this.root.getRootNode().getElementById("style").textContent = style;
     const all = steps(lines);
     const from = this.list.children.length;
     const touched = [];
@@ -85,13 +179,21 @@ class Live {
       this.list.append(rowOf(inputs[from + k - 1], step));
     }
     this.inputs = inputs;
-    this.hasEnded = all.at(-1)?.isFault;
+    this.fault = all.find((step) => step.isFault)?.report;
     for (const names of this.shown.listeners.values()) names.forEach((name) => this.hear(name));
+    this.shown.putBack();
     this.marks.show(touched);
+    this.tell();
+  }
+
+  // Tells what stands beside the document.
+  tell() {
+    showNotes(document.getElementById("notes"), this.shown.notes);
     this.list.lastElementChild?.scrollIntoView({ block: "nearest" });
-    document.getElementById("undo").disabled = inputs.length === 0;
-    const count = inputs.length === 1 ? "1 input" : `${inputs.length} inputs`;
+    document.getElementById("undo").disabled = this.inputs.length === 0;
+    const count = this.inputs.length === 1 ? "1 input" : `${this.inputs.length} inputs`;
     document.getElementById("place").textContent = count;
+    this.visit.keep(this.inputs);
   }
 
   // Listens at the root to events of a listener's name, which has two letters before the event's.
@@ -102,40 +204,58 @@ class Live {
     this.root.addEventListener(event, (it) => this.happen(it), { capture: true });
   }
 
+  // Whether a listener of the application hears an event at an element.
+  isHeard(target, type, bubbles) {
+    for (let at = target; at && at !== this.root; at = bubbles && at.parentNode) {
+      if (this.shown.hears(at, type)) return true;
+    }
+    return false;
+  }
+
   // Makes an input of an event, where a listener of the application hears it.
   happen(event) {
     const { type, target, bubbles } = event;
-    const path = [];
-    for (let at = target; at && at !== this.root; at = bubbles && at.parentNode) path.push(at);
-    if (!path.some((element) => this.shown.hears(element, type))) return;
+    if (!this.isHeard(target, type, bubbles)) return;
     const input = { event: type, element: this.shown.numbers.get(target) };
     const payload = payloadOf(event);
     if (payload !== undefined) input.payload = payload;
     if (!bubbles) input.bubbles = 0;
-    this.send(input, target);
+    // What the application hears of a field it decides.
+    if (type === "input" || type === "change") this.own.delete(target);
+    this.send(JSON.stringify(input), target);
   }
 
   // One input after another is run, in the order in which they came.
   send(input, element) {
     this.queue.push({ input, element });
-    this.work = this.work.then(async () => {
+    this.after(async () => {
       const next = this.queue.shift();
       if (!next) return;
-      if (this.hasEnded) {
-        return this.complain("The run has ended in a fault: take back, or start again.");
+      if (this.fault) {
+        this.complain(`The run has ended in a fault (${this.fault}): take back, or start again.`);
+        return;
       }
       const inputs = [...this.inputs, next.input];
       const answer = await this.run(inputs);
       if (answer) this.take(inputs, answer);
+      else this.shown?.putBack();
     });
   }
 
   sendText(text) {
     try {
-      this.send(JSON.parse(text));
+      JSON.parse(text);
+      this.send(text.trim());
     } catch (error) {
       this.complain(`That is no JSON: ${error.message}`);
     }
+  }
+
+  // Runs the source anew where it was edited.
+  async look() {
+    if (this.waiting || document.hidden) return;
+    const tag = await fetch("tag").then((it) => it.text(), () => this.tag);
+    if (!this.waiting && tag !== this.tag) this.restart(this.inputs);
   }
 
   // Waits until all is shown that was sent.
@@ -150,9 +270,9 @@ class Live {
 
   // Gives the source with the inputs so far as a file.
   async save() {
-    const source = await (await fetch("source.json")).json();
-    const text = JSON.stringify({ ...source, inputs: this.inputs }, null, 2) + "\n";
-    const href = URL.createObjectURL(new Blob([text], { type: "application/json" }));
+    const answer = await this.ask("source", this.inputs);
+    if (!answer) return;
+    const href = URL.createObjectURL(await answer.blob());
     Object.assign(document.createElement("a"), { href, download: RUN.name }).click();
     URL.revokeObjectURL(href);
   }

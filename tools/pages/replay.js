@@ -36,6 +36,8 @@ class Recording {
     while (this.at < place) {
       touched = this.steps[++this.at].edits.map((edit) => this.shown.apply(edit));
     }
+    this.shown.putBack();
+    showNotes(document.getElementById("notes"), this.shown.notes);
     this.marks.show(place === 0 ? [] : touched);
     this.rows.forEach((row, k) => row.classList.toggle("now", k === place));
     this.rows[place].scrollIntoView({ block: "nearest" });

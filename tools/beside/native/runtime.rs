@@ -42,7 +42,7 @@ struct Cell<V> { value: V, readers: BTreeSet<usize> }
 struct Task<A: App> { state: A::Task, scope: usize, live: bool, holds: Vec<usize> }
 #[derive(Clone, Copy)] pub enum Word { Build, Input(u64), Rerun(usize), Fed(usize), Made(usize), Kept(usize), Removed(usize), Heard(usize), Poll(usize) }
 #[derive(Default)] pub struct Report { pub units: u64, pub bodies: u64, pub edits: u64, pub log: Vec<Word> }
-pub struct Rt<A: App> { app: Rc<A>, scopes: Vec<Option<Scope<A>>>, cells: Vec<Cell<A::Val>>, work: BTreeSet<(u32, usize, bool, usize)>, tasks: Vec<Task<A>>, listeners: HashMap<u64, (usize, A::Handler)>, next_el: u64, sink: Box<dyn Sink>, mute: bool, pub rep: Report }
+pub struct Rt<A: App> { app: Rc<A>, scopes: Vec<Option<Scope<A>>>, cells: Vec<Cell<A::Val>>, work: BTreeSet<(u32, usize, bool, usize)>, tasks: Vec<Task<A>>, listeners: HashMap<u64, (usize, A::Handler)>, next_el: u64, sink: Box<dyn Sink>, mute: bool, gone: Vec<Block>, pub rep: Report }
 pub struct Cx<'a, A: App> { pub rt: &'a mut Rt<A>, pub scope: usize, hook: usize, reads: Vec<usize> }
 const NO: usize = usize::MAX;
 impl<A: App> Cx<'_, A> {
@@ -64,7 +64,7 @@ impl<A: App> Cx<'_, A> {
 }
 impl<A: App> Rt<A> {
     pub fn new(app: Rc<A>, root: A::Body, props: Vec<A::Val>, sink: Box<dyn Sink>) -> Rt<A> {
-        let mut rt = Rt { app, scopes: vec![], cells: vec![], work: BTreeSet::new(), tasks: vec![], listeners: HashMap::new(), next_el: 1, sink, mute: false, rep: Report::default() };
+        let mut rt = Rt { app, scopes: vec![], cells: vec![], work: BTreeSet::new(), tasks: vec![], listeners: HashMap::new(), next_el: 1, sink, mute: false, gone: vec![], rep: Report::default() };
         rt.rep.log.push(Word::Build);
         let (_, nodes) = rt.make(Kind::Body(root), props, 0, 0, NO); rt.put(Edit::Append(0, nodes)); rt
     }
@@ -123,12 +123,12 @@ impl<A: App> Rt<A> {
         let Ok(v) = self.call(id, body) else { return };
         let hid = self.hidden(id); let before = std::mem::replace(&mut self.mute, hid);
         let mut b = self.scope_mut(id).block.take().unwrap(); let bound = self.scope(id).bound;
-        self.patch(&mut b, v, id, bound); self.scope_mut(id).block = Some(b); self.mute = before;
+        let gone = self.gone.len(); self.patch(&mut b, v, id, bound); self.drop_from(gone); self.scope_mut(id).block = Some(b); self.mute = before;
     }
     fn run_bound(&mut self, id: usize) {
         self.work.remove(&(self.scope(id).height, id, true, 0)); self.rep.bodies += 1;
         let outer_hidden = self.hidden(id); let before = std::mem::replace(&mut self.mute, outer_hidden);
-        let (held, was) = (!self.bound(id).held.is_empty(), self.bound(id).hidden); let outer = self.scope(id).bound;
+        let (held, was) = (!self.bound(id).held.is_empty(), self.bound(id).hidden); let (outer, gone) = (self.scope(id).bound, self.gone.len());
         let mut b = self.scope_mut(id).block.take().unwrap();
         if held {
             let mut old = vec![]; if !was { self.roots(&b, &mut old) }
@@ -136,7 +136,7 @@ impl<A: App> Rt<A> {
             else { let n = self.fallback(id); self.swap(old, n); self.bound(id).hidden = true }
         }
         self.mute = outer_hidden || self.bound(id).hidden;
-        let kids = self.bound(id).kids.clone(); self.patch(&mut b, kids, id, id); self.mute = outer_hidden;
+        let kids = self.bound(id).kids.clone(); self.patch(&mut b, kids, id, id); self.drop_from(gone); self.mute = outer_hidden;
         if was && !held {
             let s = self.bound(id).shown.take().unwrap(); let mut old = vec![]; self.roots(&s, &mut old); self.bound(id).hidden = false;
             let n = self.nodes(&b); self.swap(old, n); self.drop_block(s)
@@ -185,7 +185,7 @@ impl<A: App> Rt<A> {
     fn patch(&mut self, b: &mut Block, v: VNode<A>, scope: usize, bound: usize) {
         if !std::ptr::eq(b.tpl, v.tpl) {
             let mut old = vec![]; self.roots(b, &mut old);
-            let (nb, n) = self.build(v, scope, bound); self.swap(old, n); let ob = std::mem::replace(b, nb); return self.drop_block(ob)
+            let (nb, n) = self.build(v, scope, bound); self.swap(old, n); let ob = std::mem::replace(b, nb); return self.gone.push(ob)
         }
         for (l, s) in b.slots.iter_mut().zip(v.slots) { self.patch_slot(l, s, scope, bound) }
     }
@@ -201,13 +201,14 @@ impl<A: App> Rt<A> {
                 let (n, m) = (old.len(), new.len()); let mut it = new.into_iter();
                 for b in old.iter_mut() { match it.next() { Some(v) => self.patch(b, v, scope, bound), None => break } }
                 if n == 0 && m > 0 { let mut nodes = vec![]; for v in it { let (b, x) = self.build(v, scope, bound); nodes.extend(x); old.push(b) } self.put(Edit::Replace(*hole, nodes)) }
-                else if n > 0 && m == 0 { let mut r = vec![]; for b in old.iter() { self.roots(b, &mut r) } *hole = self.el(); self.swap(r, vec![Node::Hole(*hole)]); for b in old.drain(..) { self.drop_block(b) } }
+                else if n > 0 && m == 0 { let mut r = vec![]; for b in old.iter() { self.roots(b, &mut r) } *hole = self.el(); self.swap(r, vec![Node::Hole(*hole)]); self.gone.append(old) }
                 else if n < m { let mut r = vec![]; self.roots(&old[n - 1], &mut r); let mut nodes = vec![]; for v in it { let (b, x) = self.build(v, scope, bound); nodes.extend(x); old.push(b) } self.put(Edit::After(*r.last().unwrap(), nodes)) }
-                else { for b in old.drain(m..).collect::<Vec<_>>() { let mut r = vec![]; self.roots(&b, &mut r); for i in r { self.put(Edit::Remove(i)) } self.drop_block(b) } }
+                else { for b in old.drain(m..).collect::<Vec<_>>() { let mut r = vec![]; self.roots(&b, &mut r); for i in r { self.put(Edit::Remove(i)) } self.gone.push(b) } }
             }
-            (_, s) => { let mut old = vec![]; self.slot_roots(l, &mut old); let mut n = vec![]; let nl = self.build_slot(s, scope, bound, &mut n); self.swap(old, n); let ol = std::mem::replace(l, nl); self.drop_live(ol) }
+            (_, s) => { let mut old = vec![]; self.slot_roots(l, &mut old); let mut n = vec![]; let nl = self.build_slot(s, scope, bound, &mut n); self.swap(old, n); let ol = std::mem::replace(l, nl); self.gone.push(Block { tpl: &[], ids: vec![], slots: vec![ol] }) }
         }
     }
+    fn drop_from(&mut self, k: usize) { if self.gone.len() > k { for b in self.gone.split_off(k) { self.drop_block(b) } } }   // what a patch took away goes once it is done
     fn drop_block(&mut self, b: Block) { for i in &b.ids { self.listeners.remove(i); } for l in b.slots { self.drop_live(l) } }
     fn drop_live(&mut self, l: Live) { match l {
         Live::Text(..) => {} Live::Frag(v, _) => for b in v { self.drop_block(b) },
