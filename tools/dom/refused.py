@@ -1,4 +1,4 @@
-"""A refusal for want of memory leaves all: refused.py make DIR, then `rt try --fail-alloc N --cases DIR/cases > OUT` in crates/rt_dom_tests (the N-th allocation fails; some thousands fall into the calls),
+"""A refusal for want of memory leaves all: refused.py make DIR, then `rt try --fail-alloc N --cases DIR/cases > OUT` in crates/test_doms (the N-th allocation fails; some thousands fall into the calls),
 then refused.py compare DIR OUT: what such a program writes is what the reference writes of the program without the call that was refused. Not run yet."""
 import sys, json, random, pickle, re, os
 import calls_ref as c

@@ -2,8 +2,8 @@
 use Rattle.std.proofs.Common.{zero, suc, refl}
 use Rattle.std.specs.Prelude.{ℕ, ◌+◌, ◌≡◌, codes, decimal, min, nat_eq, List, [], ◌∷◌, Option, Some, None}
 use Rattle.std.specs.List.{slice_get}
-use Rattle.rt_app.specs.Words.{AllDecide, Event, Keeping, Nothing, Page, Paged, Pages, Reply, Types, VNode}
-use Rattle.rt_app.specs.Words.{child, clickable_over, coded_tests, labelled, last_number, placeholder_tree, plain_tests, tree_of, types}
+use Rattle.rt_author.specs.Words.{AllDecide, Event, Keeping, Nothing, Page, Paged, Pages, Reply, Types, VNode}
+use Rattle.rt_author.specs.Words.{child, clickable_over, coded_tests, labelled, last_number, placeholder_tree, plain_tests, tree_of, types}
 use Rattle.examples_counter.specs.declared.counter.Component.{Component}
 use Rattle.examples_counter.specs.declared.counter.Component.TheVariants.{Top, Shown}
 use Rattle.examples_counter.specs.declared.counter.Counter.{Counter}

@@ -3,7 +3,7 @@ ghost use Rattle.std.specs.Prelude.{◌≡◌, IfOk};
 ghost use Rattle.std.specs.Option.{option_copied};
 ghost use Rattle.examples_counter.specs.Meaning as meaning;
 
-use rt_app::{
+use rt_author::{
     Event, KeepsCells, List, Nothing, OutOfMemory, Paged, Pages, Part, Parts, ScopeId, Text, VNode,
     child, clickable_over, labelled, one,
 };

@@ -1,13 +1,16 @@
 //! A runtime that a program keeps: a counter is built, told of a click, rendered, written to, settled,
-//! looked at and closed. What it writes comes as lines.
+//! looked at and closed. What it writes comes as lines. Beside it a memo, of which units are counted.
 #![tactic(auto)]
 
+mod memo;
+
 use examples_counter::Counter;
+pub use memo::woken;
 use rt_app::dom::{DomFault, VirtualDom};
 use rt_app::{
     Edit, ElementId, Event, Fault, Limits, List, Mutations, Nothing, OutOfMemory, Paged, ScopeId,
 };
-use rt_print::edit_line;
+use show_print::edit_line;
 use std::alloc::Global;
 
 /// What a call may do at most.

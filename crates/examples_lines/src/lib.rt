@@ -4,7 +4,7 @@
 use rt_app::{
     App, ElementId, Input, Limits, List, Mutations, OutOfMemory, SessionFault, Text, session,
 };
-use rt_print::{edit_line, fault_line, report_line};
+use show_print::{edit_line, fault_line, report_line};
 use std::alloc::Global;
 
 /// What the program of the JSON language allows a session, where its words ask for nothing else.

@@ -1,11 +1,10 @@
 -- What the calls are, and that the tests decide.
 use Rattle.std.proofs.Common.{refl}
 use Rattle.std.specs.Prelude.{ℕ, Bool, true, false, nat_eq, Option, Some, None}
-use Rattle.rt_app.specs.Words.{Bodied, Element, Keeping as Keeps, Nothing, Program, Programs, ProgramsDecide, ReactiveContext, TaskStep, Types, VNode}
-use Rattle.rt_app.specs.Words.{done, go_on, leave, nothing, pending, placeholder_tree, plain_tests, ready, rendered}
-use Rattle.rt_app.specs.Words.{reset_and_run_in, tree_of, types}
-use Rattle.examples_signal.specs.Signals.{get, own_pair, spawn_once, still_waking}
-use Rattle.examples_signal.specs.declared.signal.Pair.{Pair}
+use Rattle.rt_author.specs.Words.{Bodied, Element, Keeping as Keeps, Nothing, Pair, Program, Programs, ProgramsDecide, ReactiveContext, TaskStep, Types, VNode}
+use Rattle.rt_author.specs.Words.{done, go_on, leave, nothing, pending, placeholder_tree, plain_tests, ready, rendered}
+use Rattle.rt_author.specs.Words.{reset_and_run_in, tree_of, types}
+use Rattle.rt_author.specs.Signals.{get, own_pair, spawn_once, still_waking}
 use Rattle.examples_memo.specs.declared.memo.Keeping.{Keeping}
 use Rattle.examples_memo.specs.declared.memo.Memo.{Memo}
 

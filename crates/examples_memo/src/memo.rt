@@ -2,13 +2,12 @@
 //! computed in a reactive context that wakes the task, so that the second cell wakes it only while it
 //! was read.
 ghost use Rattle.std.specs.Prelude.{◌≡◌, IfOk, OnOk};
-ghost use Rattle.rt_app.specs.Words.{Comes, ComesIfRemembered, element_of, step_of};
+ghost use Rattle.rt_author.specs.Words.{Comes, ComesIfRemembered, element_of, step_of};
 ghost use Rattle.examples_memo.specs.Meaning as meaning;
 
-use examples_signal::{Pair, Signal, own_pair, spawn_once, still_waking};
-use rt_app::{
-    Bodied, Bodies, BodyCx, Cx, Element, Event, KeepsCells, Nothing, OutOfMemory, Parts,
-    ReactiveContext, TaskStep, VNode, remembered,
+use rt_author::{
+    Bodied, Bodies, BodyCx, Cx, Element, Event, KeepsCells, Nothing, OutOfMemory, Pair, Parts,
+    ReactiveContext, Signal, TaskStep, VNode, own_pair, remembered, spawn_once, still_waking,
 };
 use std::alloc::Global;
 
@@ -28,7 +27,7 @@ pub struct Keeping {
 }
 
 /// A scope that shows nothing and has the cells: its task is spawned at the first run.
-#[tactic(auto, using(rt_app::proofs::Rules::hooking))]
+#[tactic(auto, using(rt_author::proofs::Rules::hooking))]
 fn empty(alloc: Global, cx: &mut BodyCx<'_, Memos>) -> Result<Element<Memos>, OutOfMemory>
     ensures came { IfOk result (λ answer.
         ComesIfRemembered cx.old cx.new meaning.empty (element_of answer)) }
@@ -48,7 +47,7 @@ fn empty(alloc: Global, cx: &mut BodyCx<'_, Memos>) -> Result<Element<Memos>, Ou
 }
 
 /// The number in a cell, unless it isn't asked for: then 0, and the cell isn't read.
-#[tactic(auto, using(rt_app::proofs::Rules::hooking))]
+#[tactic(auto, using(rt_author::proofs::Rules::hooking))]
 fn get_unless(
     alloc: Global,
     cx: &mut Cx<'_, Memos>,
@@ -66,7 +65,7 @@ fn get_unless(
 }
 
 /// What the memo is; none where a cell is gone.
-#[tactic(auto, using(rt_app::proofs::Rules::hooking))]
+#[tactic(auto, using(rt_author::proofs::Rules::hooking))]
 fn chosen(alloc: Global, cx: &mut Cx<'_, Memos>, pair: Pair) -> Result<Option<u64>, OutOfMemory>
     ensures came { IfOk result (λ value. Comes cx.old cx.new (meaning.chosen pair) value) }
     ensures fault { OnOk result (cx.new.fault ≡ cx.old.fault) }
@@ -79,7 +78,7 @@ fn chosen(alloc: Global, cx: &mut Cx<'_, Memos>, pair: Pair) -> Result<Option<u6
 }
 
 /// The same, computed in a reactive context that has no other source from then on.
-#[tactic(auto, using(rt_app::proofs::Rules::reacting))]
+#[tactic(auto, using(rt_author::proofs::Rules::reacting))]
 fn chosen_in(
     alloc: Global,
     cx: &mut Cx<'_, Memos>,
@@ -98,7 +97,7 @@ fn chosen_in(
 }
 
 /// A step of the task: the memo is computed in its context, or in one that is made for it.
-#[tactic(auto, using(rt_app::proofs::Rules::reacting))]
+#[tactic(auto, using(rt_author::proofs::Rules::reacting))]
 fn keep(
     alloc: Global,
     cx: &mut Cx<'_, Memos>,
@@ -188,7 +187,7 @@ impl Bodies for Memo {
         keep(alloc, cx, state)
     }
 
-    #[tactic(auto, using(rt_app::proofs::Rules::hooking))]
+    #[tactic(auto, using(rt_author::proofs::Rules::hooking))]
     fn effect(
         &self,
         _alloc: Global,
@@ -198,7 +197,7 @@ impl Bodies for Memo {
         Ok(())
     }
 
-    #[tactic(auto, using(rt_app::proofs::Rules::hooking))]
+    #[tactic(auto, using(rt_author::proofs::Rules::hooking))]
     fn hear(
         &self,
         _alloc: Global,

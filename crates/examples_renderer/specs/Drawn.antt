@@ -1,8 +1,8 @@
 -- What a renderer draws.
 use Rattle.std.specs.Prelude.{◌≡◌, ℕ, List, [], Option, Some}
 use Rattle.rt_app.specs.Edit.{Edit}
-use Rattle.rt_app.specs.Mirror.{forest_of}
-use Rattle.rt_documents.specs.Cuts.{LeadsTo}
+use Rattle.rt_app.specs.Documents.{forest_of}
+use Rattle.tree_documents.specs.Cuts.{LeadsTo}
 use Rattle.rt_text.specs.Layout.{layout}
 use Rattle.rt_text.specs.Screens.{nodes_of, rows_of}
 use Rattle.rt_text.specs.declared.screen.Screen.{Screen}

@@ -1,10 +1,10 @@
 -- What the router shows, what its calls are, and that its tests decide.
 use Rattle.std.proofs.Common.{zero, suc, refl}
 use Rattle.std.specs.Prelude.{ℕ, false, List, [], ◌∷◌, codes, nat_eq, ◌≡◌, Option, Some, None, if◌then◌else◌}
-use Rattle.rt_app.specs.Words.{Bodied, Element, Event, Keeping, Nothing, Program, Programs, ProgramsDecide, Types, VNode}
-use Rattle.rt_app.specs.Words.{block, child, clickable, coded_tests, consume_context, current_scope, done, go_on, labelled}
-use Rattle.rt_app.specs.Words.{nothing, own_cell, placeholder_tree, plain_tests, provide, read, ready, rendered, slot, tree_of}
-use Rattle.rt_app.specs.Words.{types, write}
+use Rattle.rt_author.specs.Words.{Bodied, Element, Event, Keeping, Nothing, Program, Programs, ProgramsDecide, Types, VNode}
+use Rattle.rt_author.specs.Words.{block, child, clickable, coded_tests, consume_context, current_scope, done, go_on, labelled}
+use Rattle.rt_author.specs.Words.{nothing, own_cell, placeholder_tree, plain_tests, provide, read, ready, rendered, slot, tree_of}
+use Rattle.rt_author.specs.Words.{types, write}
 use Rattle.examples_router.specs.declared.router.Component.{Component}
 use Rattle.examples_router.specs.declared.router.Component.TheVariants.{Top, Link, Page}
 use Rattle.examples_router.specs.declared.router.Router.{Router}

@@ -1,11 +1,11 @@
 //! The router's components and its links.
 ghost use Rattle.std.specs.Prelude.{◌≡◌, IfOk};
-ghost use Rattle.rt_app.specs.Words.{ComesIfRemembered, element_of};
+ghost use Rattle.rt_author.specs.Words.{ComesIfRemembered, element_of};
 ghost use Rattle.examples_router.specs.Meaning as meaning;
 ghost use Rattle.examples_router.specs.Meaning.{body, programs, decides};
 ghost use Rattle.examples_router.specs.declared.router.Component.TheVariants as components;
 
-use rt_app::{
+use rt_author::{
     Bodied, Bodies, BodyCx, Cx, Element, Event, KeepsCells, List, Nothing, OutOfMemory, Part,
     Parts, ScopeId, TaskStep, Text, VNode, block, child, clickable, labelled, own_cell, path,
     remembered, slot, two,
@@ -83,7 +83,7 @@ fn heading(alloc: Global, route: u64) -> Result<VNode<Routed>, OutOfMemory>
 }
 
 /// The body at the top.
-#[tactic(auto, using(rt_app::proofs::Rules::hooking, rt_app::proofs::Rules::looking))]
+#[tactic(auto, using(rt_author::proofs::Rules::hooking, rt_author::proofs::Rules::looking))]
 fn top(alloc: Global, cx: &mut BodyCx<'_, Routed>) -> Result<Element<Routed>, OutOfMemory>
     ensures came { IfOk result (λ answer.
         ComesIfRemembered cx.old cx.new (body components.Top 0) (element_of answer)) }
@@ -97,7 +97,7 @@ fn top(alloc: Global, cx: &mut BodyCx<'_, Routed>) -> Result<Element<Routed>, Ou
 }
 
 /// The body of the page.
-#[tactic(auto, using(rt_app::proofs::Rules::hooking, rt_app::proofs::Rules::looking))]
+#[tactic(auto, using(rt_author::proofs::Rules::hooking, rt_author::proofs::Rules::looking))]
 fn page(alloc: Global, cx: &mut BodyCx<'_, Routed>) -> Result<Element<Routed>, OutOfMemory>
     ensures came { IfOk result (λ answer.
         ComesIfRemembered cx.old cx.new (body components.Page 0) (element_of answer)) }
@@ -162,7 +162,7 @@ impl Bodies for Router {
         Ok(0)
     }
 
-    #[tactic(auto, using(rt_app::proofs::Rules::hooking, rt_app::proofs::Rules::looking))]
+    #[tactic(auto, using(rt_author::proofs::Rules::hooking, rt_author::proofs::Rules::looking))]
     fn body(
         &self,
         alloc: Global,
@@ -180,7 +180,7 @@ impl Bodies for Router {
         }
     }
 
-    #[tactic(auto, using(rt_app::proofs::Rules::hooking))]
+    #[tactic(auto, using(rt_author::proofs::Rules::hooking))]
     fn step(
         &self,
         _alloc: Global,
@@ -190,7 +190,7 @@ impl Bodies for Router {
         Ok(TaskStep::Ready)
     }
 
-    #[tactic(auto, using(rt_app::proofs::Rules::hooking))]
+    #[tactic(auto, using(rt_author::proofs::Rules::hooking))]
     fn effect(
         &self,
         _alloc: Global,
@@ -200,7 +200,7 @@ impl Bodies for Router {
         Ok(())
     }
 
-    #[tactic(auto, using(rt_app::proofs::Rules::hooking, rt_app::proofs::Rules::looking))]
+    #[tactic(auto, using(rt_author::proofs::Rules::hooking, rt_author::proofs::Rules::looking))]
     fn hear(
         &self,
         alloc: Global,

@@ -1,11 +1,10 @@
 -- What the calls are, and that the tests decide.
 use Rattle.std.proofs.Common.{refl}
 use Rattle.std.specs.Prelude.{ℕ, ◌+◌, true, List, codes, min, nat_eq, nat_lt, Option, Some, None, if◌then◌else◌}
-use Rattle.rt_app.specs.Words.{Bodied, Element, Event, Keeping, Nothing, Program, Programs, ProgramsDecide, TaskStep, Types, VNode}
-use Rattle.rt_app.specs.Words.{clickable, current_scope, done, go_on, last_number, nothing, pending}
-use Rattle.rt_app.specs.Words.{placeholder_tree, plain_tests, ready, rendered, tree_of, types}
-use Rattle.examples_signal.specs.Signals.{get, set, set_unless, follow, own_pair, spawn_once}
-use Rattle.examples_signal.specs.declared.signal.Pair.{Pair}
+use Rattle.rt_author.specs.Words.{Bodied, Element, Event, Keeping, Nothing, Pair, Program, Programs, ProgramsDecide, TaskStep, Types, VNode}
+use Rattle.rt_author.specs.Words.{clickable, current_scope, done, go_on, last_number, nothing, pending}
+use Rattle.rt_author.specs.Words.{placeholder_tree, plain_tests, ready, rendered, tree_of, types}
+use Rattle.rt_author.specs.Signals.{get, set, set_unless, follow, own_pair, spawn_once}
 use Rattle.examples_tally.specs.declared.tally.Deriving.{Deriving}
 use Rattle.examples_tally.specs.declared.tally.Tally.{Tally}
 

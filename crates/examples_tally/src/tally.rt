@@ -1,13 +1,12 @@
 //! A button that raises a count and says whether it is many. A task derives that of the count, and is
 //! woken when the count is set; the button is run again only where what it says is another.
 ghost use Rattle.std.specs.Prelude.{◌≡◌, IfOk};
-ghost use Rattle.rt_app.specs.Words.{ComesIfRemembered, element_of, step_of};
+ghost use Rattle.rt_author.specs.Words.{ComesIfRemembered, element_of, step_of};
 ghost use Rattle.examples_tally.specs.Meaning as meaning;
 
-use examples_signal::{Pair, Signal, own_pair, spawn_once};
-use rt_app::{
-    Bodied, Bodies, BodyCx, Cx, Element, Event, KeepsCells, Nothing, OutOfMemory, Parts,
-    ReactiveContext, ScopeId, TaskStep, Text, VNode, clickable,
+use rt_author::{
+    Bodied, Bodies, BodyCx, Cx, Element, Event, KeepsCells, Nothing, OutOfMemory, Pair, Parts,
+    ReactiveContext, ScopeId, Signal, TaskStep, Text, VNode, clickable, own_pair, spawn_once,
 };
 use std::alloc::Global;
 
@@ -27,7 +26,7 @@ pub struct Deriving {
 }
 
 /// The button: its task is spawned at the first run.
-#[tactic(auto, using(rt_app::proofs::Rules::hooking, rt_app::proofs::Rules::looking))]
+#[tactic(auto, using(rt_author::proofs::Rules::hooking, rt_author::proofs::Rules::looking))]
 fn button(alloc: Global, cx: &mut BodyCx<'_, Tallied>) -> Result<Element<Tallied>, OutOfMemory>
     ensures came { IfOk result (λ answer.
         ComesIfRemembered cx.old cx.new meaning.button (element_of answer)) }
@@ -81,7 +80,7 @@ fn derived(count: u64) -> u64
 }
 
 /// A step of the task: the count is read, and its derived signal is set.
-#[tactic(auto, using(rt_app::proofs::Rules::hooking))]
+#[tactic(auto, using(rt_author::proofs::Rules::hooking))]
 fn derive(
     alloc: Global,
     cx: &mut Cx<'_, Tallied>,
@@ -171,7 +170,7 @@ impl Bodies for Tally {
         derive(alloc, cx, state)
     }
 
-    #[tactic(auto, using(rt_app::proofs::Rules::hooking))]
+    #[tactic(auto, using(rt_author::proofs::Rules::hooking))]
     fn effect(
         &self,
         _alloc: Global,
@@ -181,7 +180,7 @@ impl Bodies for Tally {
         Ok(())
     }
 
-    #[tactic(auto, using(rt_app::proofs::Rules::hooking))]
+    #[tactic(auto, using(rt_author::proofs::Rules::hooking))]
     fn hear(
         &self,
         alloc: Global,

@@ -2,8 +2,8 @@
 use Rattle.std.proofs.Common.{refl}
 use Rattle.std.specs.Prelude.{ℕ, ◌+◌, true, codes, decimal, min, nat_eq, List, [], ◌∷◌, Option, Some, None}
 use Rattle.std.specs.List.{slice_get}
-use Rattle.rt_app.specs.Words.{AllDecide, Event, Keeping, Nothing, Page, Paged, Pages, Reply, Types, VNode}
-use Rattle.rt_app.specs.Words.{clickable, last_number, placeholder_tree, plain_tests, tree_of, types}
+use Rattle.rt_author.specs.Words.{AllDecide, Event, Keeping, Nothing, Page, Paged, Pages, Reply, Types, VNode}
+use Rattle.rt_author.specs.Words.{clickable, last_number, placeholder_tree, plain_tests, tree_of, types}
 use Rattle.examples_template.specs.declared.application.Application.{Application}
 
 abbrev pub OwnTypes : Types

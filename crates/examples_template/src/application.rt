@@ -3,7 +3,7 @@ ghost use Rattle.std.specs.Prelude.{◌≡◌, IfOk};
 ghost use Rattle.std.specs.Option.{option_copied};
 ghost use Rattle.examples_template.specs.Meaning as meaning;
 
-use rt_app::{
+use rt_author::{
     Event, KeepsCells, List, Nothing, OutOfMemory, Paged, Pages, Parts, ScopeId, Text, VNode,
     clickable, one,
 };

@@ -1,7 +1,7 @@
-pub use Rattle.rt_programs.proofs.Lawful
-pub use Rattle.rt_programs.proofs.Steps
-pub use Rattle.rt_bodies.proofs.Meant
-pub use Rattle.rt_bodies.proofs.Refused
-pub use Rattle.rt_bodies.proofs.Contexts
-pub use Rattle.rt_bodies.proofs.Following
+pub use Rattle.rt_author.proofs.Lawful
+pub use Rattle.rt_author.proofs.Steps
+pub use Rattle.rt_author.proofs.Meant
+pub use Rattle.rt_author.proofs.Refused
+pub use Rattle.rt_author.proofs.Contexts
+pub use Rattle.rt_author.proofs.Following
 pub mod Rules

@@ -2,7 +2,8 @@
 //! post.
 
 pub use rt_boundary::NotBuilt;
+pub use rt_session::{Posted, PostedFault, session_posted};
 pub use rt_vdom::{
-    DomFault, Drained, ErrorContext, Place, Poll, Posted, PostedFault, ScopeState, Scopes, Step,
-    SuspenseContext, TaskCalls, VirtualDom, session_posted, task_new,
+    DomFault, Drained, ErrorContext, Place, Poll, ScopeState, Scopes, Step, SuspenseContext,
+    TaskCalls, VirtualDom, task_new,
 };

@@ -15,19 +15,19 @@ use Rattle.rt_model.specs.Replay.{Entry, Input, Machine, is_quiet, rows_left, se
 use Rattle.rt_model.specs.Causes.{Limits, depth_refused, next_height, turns_refused, refusal}
 use Rattle.rt_model.proofs.OneLogOnly.{is_due-same, fork}
 use Rattle.rt_model.proofs.ToldReplayed.{replay-append, within-replays}
-use Rattle.rt_moves.specs.Moves.{Move, Logged, entries, IsSettled, Leads}
-use Rattle.rt_moves.proofs.Acceptance.{moves_are_accepted}
-use Rattle.rt_moves.proofs.Fuel.{fuel_suffices}
-use Rattle.rt_moves.proofs.Joins.{entries-append, Leads-append}
-use Rattle.rt_moves.proofs.Logs.{settles}
-use Rattle.rt_moves.proofs.Settling.{settled_stays}
-use Rattle.rt_fresh.specs.Underway.{Rests, Works, Refused}
-use Rattle.rt_state.specs.Names.{fault_of}
-use Rattle.rt_state.specs.declared.names.Fault.{Fault}
-use Rattle.rt_state.specs.declared.names.Fault.TheVariants as faults
-use Rattle.rt_machine.specs.Machines.{machine_of, noted, first_in}
-use Rattle.rt_machine.specs.Stands.{Going, StandsFor, StandsAt, Settled}
-use Rattle.rt_machine.specs.declared.machine.Machine.{Machine as Code}
+use Rattle.law_moves.specs.Moves.{Move, Logged, entries, IsSettled, Leads}
+use Rattle.law_moves.proofs.Acceptance.{moves_are_accepted}
+use Rattle.law_moves.proofs.Fuel.{fuel_suffices}
+use Rattle.law_moves.proofs.Joins.{entries-append, Leads-append}
+use Rattle.law_moves.proofs.Logs.{settles}
+use Rattle.law_moves.proofs.Settles.{settled_stays}
+use Rattle.law_moves.specs.Underway.{Rests, Works, Refused}
+use Rattle.run_state.specs.Names.{fault_of}
+use Rattle.run_state.specs.declared.names.Fault.{Fault}
+use Rattle.run_state.specs.declared.names.Fault.TheVariants as faults
+use Rattle.run_machine.specs.Machines.{machine_of, noted, first_in}
+use Rattle.run_machine.specs.Stands.{Going, StandsFor, StandsAt, Settled}
+use Rattle.run_machine.specs.declared.machine.Machine.{Machine as Code}
 use Rattle.rt_audit.specs.Fronts.{IsFront}
 use Rattle.rt_audit.proofs.Fronts.{none_front}
 

@@ -2,7 +2,7 @@
 use Rattle.std.proofs.Common.{ℕ, ◌+◌, true, false, inl, inr, List, [], ◌∷◌, ◌++◌, ◌≡◌, refl, sym, ap, ◌∙◌, subst, length, map, take}
 use Rattle.std.specs.Prelude.{Option, Some, None, Result, Ok, Err, IfOk, nat_eq, if◌then◌else◌}
 use Rattle.rt_edits.specs.declared.edit.Edit.{Edit}
-use Rattle.rt_mirror.specs.Mirror.{edit_of}
+use Rattle.tree_edits.specs.Documents.{edit_of}
 use Rattle.rt_model.specs.Document as doc
 use Rattle.rt_model.specs.OneLog.{types}
 use Rattle.rt_model.specs.World.{Application}
@@ -12,18 +12,19 @@ use Rattle.rt_model.specs.Replay.{Entry, replay_on}
 use Rattle.rt_model.specs.Causes as causes
 use Rattle.rt_model.specs.Reports.{is_opening}
 use Rattle.rt_model.specs.Told.{count_entries, is_settled}
-use Rattle.rt_fresh.proofs.Sessions.{rest_owes_none}
-use Rattle.rt_reports.specs.Seen.{entry_of}
-use Rattle.rt_reports.specs.declared.entry.Entry.{Entry as Noted}
-use Rattle.rt_state.specs.Names.{fault_of}
-use Rattle.rt_state.specs.declared.names.Fault.{Fault}
-use Rattle.rt_state.specs.declared.names.Stop.TheVariants as stops
-use Rattle.rt_machine.specs.Machines.{machine_of, noted, fault_in}
-use Rattle.rt_machine.specs.Stands.{Going, StandsAt, CameTo, TurnsAs}
-use Rattle.rt_machine.specs.declared.ended.Ended.{Ended}
-use Rattle.rt_machine.specs.declared.ended.Ended.TheVariants as ends
-use Rattle.rt_machine.specs.declared.machine.Machine.{Machine}
-use Rattle.rt_rows.specs.Verdicts.{Verdict, Refused, opening, verdict_on}
+use Rattle.law_moves.proofs.Sessions.{rest_owes_none}
+use Rattle.run_reports.specs.Seen.{entry_of}
+use Rattle.run_reports.specs.declared.entry.Entry.{Entry as Noted}
+use Rattle.run_state.specs.Names.{fault_of}
+use Rattle.run_state.specs.declared.names.Fault.{Fault}
+use Rattle.run_state.specs.declared.names.Stop.TheVariants as stops
+use Rattle.run_machine.specs.Machines.{machine_of, noted}
+use Rattle.run_outside.specs.Ends.{fault_in}
+use Rattle.run_machine.specs.Stands.{Going, StandsAt, CameTo, TurnsAs}
+use Rattle.run_outside.specs.declared.ended.Ended.{Ended}
+use Rattle.run_outside.specs.declared.ended.Ended.TheVariants as ends
+use Rattle.run_machine.specs.declared.machine.Machine.{Machine}
+use Rattle.lang_rows.specs.Verdicts.{Verdict, Refused, opening, verdict_on}
 use Rattle.rt_audit.specs.Fronts.{IsFront, PartsAt, GoesOn}
 use Rattle.rt_audit.specs.Finding.{ComesTo, IsBehind, Says, Fell, Rests, TurnsTo, Keeps, at_rest}
 use Rattle.rt_audit.specs.Judging.{StopsIn, PassesTo, FindsIn}

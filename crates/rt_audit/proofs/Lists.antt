@@ -12,21 +12,21 @@ use Rattle.rt_model.specs.Heard.{Listener}
 use Rattle.rt_model.specs.Replay as replay
 use Rattle.rt_model.specs.Replay.{Entry, Build, Taken, if_live, due_heard, due_work, due, is_due, step, accepts, replay_on, first_state, ones, start, take_next}
 use Rattle.rt_model.specs.Causes as causes
-use Rattle.rt_reports.specs.Seen.{entry_of}
-use Rattle.rt_reports.specs.declared.entry.Entry.{Entry as Noted}
-use Rattle.rt_fresh.specs.Turn.{unit_of}
-use Rattle.rt_fresh.proofs.Beginnings.{due_at_rest}
-use Rattle.rt_state.specs.Mirror.{Unkept, at_first, state_of}
-use Rattle.rt_state.specs.Names.{fault_of}
-use Rattle.rt_state.specs.declared.names.Fault.{Fault}
-use Rattle.rt_state.specs.declared.names.Stop.{Stop}
-use Rattle.rt_state.specs.declared.names.Stop.TheVariants as stops
-use Rattle.rt_machine.specs.Machines.{machine_of, noted, first_in, IsFresh, Did, WasCut, Builds}
-use Rattle.rt_machine.specs.Stands.{Follows}
-use Rattle.rt_machine.specs.declared.course.Course.{Course}
-use Rattle.rt_machine.specs.declared.machine.Machine.{Machine}
-use Rattle.rt_machine.proofs.Opening.{building, taking, stands_built, built_refused, stands_taken}
-use Rattle.rt_rows.specs.Verdicts.{Verdict, Accepted, Refused, opening, is_placed, verdict_on, verdict_from, verdict}
+use Rattle.run_reports.specs.Seen.{entry_of}
+use Rattle.run_reports.specs.declared.entry.Entry.{Entry as Noted}
+use Rattle.law_moves.specs.Turn.{unit_of}
+use Rattle.law_moves.proofs.Begins.{due_at_rest}
+use Rattle.run_state.specs.Mirror.{Unkept, at_first, state_of}
+use Rattle.run_state.specs.Names.{fault_of}
+use Rattle.run_state.specs.declared.names.Fault.{Fault}
+use Rattle.run_state.specs.declared.names.Stop.{Stop}
+use Rattle.run_state.specs.declared.names.Stop.TheVariants as stops
+use Rattle.run_machine.specs.Machines.{machine_of, noted, first_in, IsFresh, Did, WasCut, Builds}
+use Rattle.run_machine.specs.Stands.{Follows}
+use Rattle.run_turns.specs.declared.course.Course.{Course}
+use Rattle.run_machine.specs.declared.machine.Machine.{Machine}
+use Rattle.run_machine.proofs.Opening.{building, taking, stands_built, built_refused, stands_taken}
+use Rattle.lang_rows.specs.Verdicts.{Verdict, Accepted, Refused, opening, is_placed, verdict_on, verdict_from, verdict}
 use Rattle.rt_audit.specs.Finding.{Keeps}
 use Rattle.rt_audit.specs.Fronts.{begins_with}
 use Rattle.rt_audit.specs.Judging.{verdict_of, ended, AfterFault, JudgesOf, ListJudged, Reaches}

@@ -4,8 +4,8 @@ use Rattle.std.proofs.lemmas.List.{drop-map, drop_all, length-map}
 use Rattle.rt_model.specs.Replay as replay
 use Rattle.rt_model.specs.Replay.{same_entry}
 use Rattle.rt_model.proofs.OneLogOnly.{same_entry-true}
-use Rattle.rt_reports.specs.Seen.{entry_of}
-use Rattle.rt_reports.specs.declared.entry.Entry.{Entry}
+use Rattle.run_reports.specs.Seen.{entry_of}
+use Rattle.run_reports.specs.declared.entry.Entry.{Entry}
 use Rattle.rt_audit.specs.Fronts.{begins_with, IsFront, PartsAt}
 use Rattle.rt_audit.proofs.Fronts.{Next, next_in, front_next, parts_here, front_all}
 

@@ -8,7 +8,7 @@ use Rattle.rt_model.specs.Replay.{Entry, Input, Machine, replay_on, start}
 use Rattle.rt_model.specs.Reports.{OpensWith, InputsFrom, OneEach, logs_of}
 use Rattle.rt_model.specs.Told.{Told, telling, told_by, is_settled, tell_reports}
 use Rattle.rt_model.proofs.ToldReplayed.{log-replays, first-of}
-use Rattle.rt_rows.specs.Verdicts.{Verdict, Accepted, opening, verdict_on, verdict_from}
+use Rattle.lang_rows.specs.Verdicts.{Verdict, Accepted, opening, verdict_on, verdict_from}
 use Rattle.rt_audit.specs.Runs.{RunsAreAccepted}
 use Rattle.rt_audit.proofs.Stopping.{good_ends}
 

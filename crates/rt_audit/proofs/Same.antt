@@ -5,10 +5,10 @@ use Rattle.rt_model.specs.Replay as replay
 use Rattle.rt_model.specs.Replay.{same_entry}
 use Rattle.rt_model.proofs.Maps.{by_test}
 use Rattle.rt_model.proofs.OneLogOnly.{same_entry-true}
-use Rattle.rt_moves.proofs.Acceptance.{same_as_itself}
-use Rattle.rt_reports.specs.Seen.{entry_of}
-use Rattle.rt_reports.specs.declared.entry.Entry.{Entry}
-use Rattle.rt_reports.specs.declared.entry.Entry.TheVariants as entries
+use Rattle.law_moves.proofs.Acceptance.{same_as_itself}
+use Rattle.run_reports.specs.Seen.{entry_of}
+use Rattle.run_reports.specs.declared.entry.Entry.{Entry}
+use Rattle.run_reports.specs.declared.entry.Entry.TheVariants as entries
 
 -- the entry of code that is one of the definitions
 abbrev code_of : replay.Entry → Entry

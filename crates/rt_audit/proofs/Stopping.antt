@@ -11,8 +11,8 @@ use Rattle.rt_model.specs.Reports.{is_opening}
 use Rattle.rt_model.specs.Told.{count_entries, is_settled}
 use Rattle.rt_model.proofs.Maps.{by_test}
 use Rattle.rt_model.proofs.OneLogOnly.{same_entry-true, fork}
-use Rattle.rt_moves.proofs.Acceptance.{same_as_itself}
-use Rattle.rt_rows.specs.Verdicts.{Verdict, Refused, opening, is_placed, is_some_entry, allowed, may_end, verdict_on}
+use Rattle.law_moves.proofs.Acceptance.{same_as_itself}
+use Rattle.lang_rows.specs.Verdicts.{Verdict, Refused, opening, is_placed, is_some_entry, allowed, may_end, verdict_on}
 use Rattle.rt_audit.specs.Fronts.{begins_with}
 
 -- where an index stands after a list

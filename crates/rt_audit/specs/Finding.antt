@@ -7,13 +7,13 @@ use Rattle.rt_model.specs.State as model
 use Rattle.rt_model.specs.Replay as replay
 use Rattle.rt_model.specs.Replay.{Entry}
 use Rattle.rt_model.specs.Causes as causes
-use Rattle.rt_reports.specs.declared.limits.Limits.{Limits}
-use Rattle.rt_state.specs.declared.names.Stop.TheVariants as stops
-use Rattle.rt_machine.specs.Machines.{noted}
-use Rattle.rt_machine.specs.Stands.{Going, StandsAt, Settled}
-use Rattle.rt_machine.specs.declared.ended.Ended.{Ended}
-use Rattle.rt_machine.specs.declared.ended.Ended.TheVariants as ends
-use Rattle.rt_machine.specs.declared.machine.Machine.{Machine}
+use Rattle.run_reports.specs.declared.limits.Limits.{Limits}
+use Rattle.run_state.specs.declared.names.Stop.TheVariants as stops
+use Rattle.run_machine.specs.Machines.{noted}
+use Rattle.run_machine.specs.Stands.{Going, StandsAt, Settled}
+use Rattle.run_outside.specs.declared.ended.Ended.{Ended}
+use Rattle.run_outside.specs.declared.ended.Ended.TheVariants as ends
+use Rattle.run_machine.specs.declared.machine.Machine.{Machine}
 use Rattle.rt_audit.specs.Fronts.{IsFront, PartsAt, GoesOn}
 use Rattle.rt_audit.specs.declared.following.Turn.{Turn}
 use Rattle.rt_audit.specs.declared.following.Turn.TheVariants as turns

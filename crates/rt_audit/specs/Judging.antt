@@ -5,13 +5,13 @@ use Rattle.rt_model.specs.World.{Application}
 use Rattle.rt_model.specs.Replay as replay
 use Rattle.rt_model.specs.Replay.{Entry}
 use Rattle.rt_model.specs.Causes as causes
-use Rattle.rt_state.specs.declared.names.Stop.{Stop}
-use Rattle.rt_state.specs.declared.names.Stop.TheVariants as stops
-use Rattle.rt_machine.specs.Machines.{noted}
-use Rattle.rt_machine.specs.Stands.{Going, Follows}
-use Rattle.rt_machine.specs.declared.machine.Machine.{Machine}
-use Rattle.rt_rows.specs.Verdicts as verdicts
-use Rattle.rt_rows.specs.Verdicts.{opening, verdict_on, verdict_from}
+use Rattle.run_state.specs.declared.names.Stop.{Stop}
+use Rattle.run_state.specs.declared.names.Stop.TheVariants as stops
+use Rattle.run_machine.specs.Machines.{noted}
+use Rattle.run_machine.specs.Stands.{Going, Follows}
+use Rattle.run_machine.specs.declared.machine.Machine.{Machine}
+use Rattle.lang_rows.specs.Verdicts as verdicts
+use Rattle.lang_rows.specs.Verdicts.{opening, verdict_on, verdict_from}
 use Rattle.rt_audit.specs.Finding.{Keeps, Rests}
 use Rattle.rt_audit.specs.declared.following.Found.{Found}
 use Rattle.rt_audit.specs.declared.following.Found.TheVariants as found

@@ -7,7 +7,7 @@ use Rattle.rt_model.specs.Document.{Edit}
 use Rattle.rt_model.specs.Causes.{Limits}
 use Rattle.rt_model.specs.Reports.{Report, logs_of}
 use Rattle.rt_model.specs.Headline.{Headline}
-use Rattle.rt_rows.specs.Verdicts.{Accepted, verdict}
+use Rattle.lang_rows.specs.Verdicts.{Accepted, verdict}
 
 module _ {K : Types} (app : Application K) where
   -- the logs of reports that are the headline of a session

@@ -1,11 +1,11 @@
 //! Entries that were noted, beside those of a list.
 ghost use Rattle.std.specs.Prelude.{◌≡◌, ℕ, suc, ◌+◌, ◌<◌, ◌≤◌, ◌∷◌, false, length, map, take, drop, IfOk, MatchOption};
 ghost use Rattle.rt_model.specs.Replay.{same_entry};
-ghost use Rattle.rt_reports.specs.Seen.{entry_of};
+ghost use Rattle.run_reports.specs.Seen.{entry_of};
 ghost use Rattle.rt_audit.specs.Fronts.{IsFront, PartsAt, begins_with};
 
-use rt_reports::Entry;
 use rt_values::{List, OutOfMemory, Part};
+use run_reports::Entry;
 
 /// Whether two entries are the same.
 fn same(a: Entry, b: Entry) -> bool

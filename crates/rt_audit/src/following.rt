@@ -1,18 +1,19 @@
 //! The runtime beside a list, turn by turn.
 ghost use Rattle.std.specs.Prelude.{◌≡◌, map, take, IfOk};
-ghost use Rattle.rt_reports.specs.Seen.{entry_of, limits_of};
-ghost use Rattle.rt_machine.specs.Stands.{StandsAt, without_count};
+ghost use Rattle.run_reports.specs.Seen.{entry_of, limits_of};
+ghost use Rattle.run_machine.specs.Stands.{StandsAt, without_count};
 ghost use Rattle.rt_audit.specs.Fronts.{IsFront};
 ghost use Rattle.rt_audit.specs.Finding.{boundless, ComesTo, IsBehind, Says, TurnsTo, Keeps, at_rest};
 ghost use Rattle.rt_audit.specs.Judging.{FindsIn, JudgesOf};
 
 use crate::comparing::{number_behind, parted};
-use rt_calls::{App, Calls};
+use author_calls::{App, Calls};
 use rt_edits::NoOpMutations;
-use rt_machine::{Ended, Machine};
-use rt_reports::{Entry, Limits};
-use rt_state::Stop;
 use rt_values::OutOfMemory;
+use run_machine::Machine;
+use run_outside::Ended;
+use run_reports::{Entry, Limits};
+use run_state::Stop;
 
 /// How far a run goes: no count of units and no height ends it.
 const BOUNDLESS: Limits = Limits {

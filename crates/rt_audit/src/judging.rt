@@ -1,22 +1,22 @@
 //! The verdict on a recorded log.
 ghost use Rattle.std.specs.Prelude.{◌≡◌, ℕ, suc, ◌+◌, ◌<◌, ◌∷◌, length, map, drop, IfOk, IfNone};
 ghost use Rattle.rt_model.specs.Replay.{first_state, ones, start};
-ghost use Rattle.rt_machine.specs.Machines.{IsFresh};
-ghost use Rattle.rt_machine.specs.Stands.{Follows};
-ghost use Rattle.rt_reports.specs.Seen.{entry_of, input_of, limits_of};
-ghost use Rattle.rt_state.specs.Mirror.{at_first, state_of};
-ghost use Rattle.rt_rows.specs.Verdicts.{verdict};
+ghost use Rattle.run_machine.specs.Machines.{IsFresh};
+ghost use Rattle.run_machine.specs.Stands.{Follows};
+ghost use Rattle.run_reports.specs.Seen.{entry_of, input_of, limits_of};
+ghost use Rattle.run_state.specs.Mirror.{at_first, state_of};
+ghost use Rattle.lang_rows.specs.Verdicts.{verdict};
 ghost use Rattle.rt_audit.specs.Finding.{boundless};
 ghost use Rattle.rt_audit.specs.Judging.{verdict_of, ended, AfterFault, ListJudged, Reaches, StepsOn};
 
 use crate::comparing::{list_at, opened};
 use crate::following::follow;
 use crate::verdict::Verdict;
-use rt_calls::{App, Calls};
-use rt_machine::Machine;
-use rt_reports::{Entry, Input};
-use rt_state::Stop;
+use author_calls::{App, Calls};
 use rt_values::{List, OutOfMemory};
+use run_machine::Machine;
+use run_reports::{Entry, Input};
+use run_state::Stop;
 use std::alloc::Global;
 
 /// Where the build's own call stopped: at a fault, its entry is the last one that can be right.

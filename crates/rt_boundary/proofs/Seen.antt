@@ -1,6 +1,6 @@
 -- What is seen of a scope's row, at the mirror.
 use Rattle.std.proofs.Common.{◌≡◌, ℕ, Option, Some, None, ap, sym}
-use Rattle.rt_state.proofs.Outputs.{mapped-output}
+use Rattle.run_state.proofs.Outputs.{mapped-output}
 use Rattle.rt_model.specs.Lists.{at}
 use Rattle.rt_model.specs.Tree.{Types}
 use Rattle.rt_model.specs.State.{Scope, State, values_of}

@@ -1,18 +1,18 @@
 -- One step of a boundary's run, by what was found of the boundary.
 use Rattle.std.proofs.Common.{◌≡◌, ℕ, ◌++◌, true, false, [], ◌∷◌, Option, Some, None, refl, ap, sym, subst, ◌∙◌}
 use Rattle.std.specs.Prelude.{IfSome, is_some, is_ok, Result, Ok, Err}
-use Rattle.rt_parts.specs.declared.error.RenderError.{RenderError}
-use Rattle.rt_parts.specs.declared.error.RenderError.TheVariants as errors
-use Rattle.rt_nodes.specs.declared.vnode.VNode.{VNode}
+use Rattle.tree_nodes.specs.declared.error.RenderError.{RenderError}
+use Rattle.tree_nodes.specs.declared.error.RenderError.TheVariants as errors
+use Rattle.tree_nodes.specs.declared.vnode.VNode.{VNode}
 use Rattle.rt_model.specs.OneLog.{types}
-use Rattle.rt_mirror.specs.Sealed.{element_of}
+use Rattle.tree_mirror.specs.Sealed.{element_of}
 use Rattle.rt_model.specs.Lists.{at, drop_number, without}
 use Rattle.rt_model.specs.Tree.{Types, Element, SuspenseBoundary}
 use Rattle.rt_model.specs.World.{Application}
 use Rattle.rt_model.specs.State.{ChildrenSide, FallbackSide, RowStep, ShowFallback, ShowChildren, DropFallback, Resolve, Scope, State, Done, change, empty_side, is_live}
 use Rattle.rt_model.specs.Boundary.{boundary_step, called_back, counts_render, drop_items, row_step, side_scopes}
 use Rattle.rt_scopes.specs.Sides.{fallback_scopes_in}
-use Rattle.rt_state.specs.Effects.{callbacks_of}
+use Rattle.run_state.specs.Effects.{callbacks_of}
 
 -- what holds of the row that was found holds of the one that is there
 pub if_found : {A : Type 0} {o : Option A} (x : A) → Some x ≡ o → (P : A → Type 0) → P x → IfSome o P

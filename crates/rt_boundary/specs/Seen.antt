@@ -1,9 +1,9 @@
 -- What is seen of a live scope and of a boundary from outside, by the row that was found under its number.
 use Rattle.std.specs.Prelude.{ℕ, Bool, false, List, [], Option, Some, None, Result, if◌then◌else◌}
-use Rattle.rt_parts.specs.declared.error.RenderError.{RenderError}
-use Rattle.rt_nodes.specs.declared.vnode.VNode.{VNode}
-use Rattle.rt_nodes.specs.declared.vnode.FragmentProps.{FragmentProps}
-use Rattle.rt_nodes.specs.declared.vnode.DynamicNode.TheViews.{out-FragmentProps}
+use Rattle.tree_nodes.specs.declared.error.RenderError.{RenderError}
+use Rattle.tree_nodes.specs.declared.vnode.VNode.{VNode}
+use Rattle.tree_nodes.specs.declared.vnode.FragmentProps.{FragmentProps}
+use Rattle.tree_nodes.specs.declared.vnode.DynamicNode.TheViews.{out-FragmentProps}
 use Rattle.rt_model.specs.Tree.{Types, Tree}
 use Rattle.rt_model.specs.State.{FallbackSide, Scope, is_held, is_side}
 

@@ -3,18 +3,17 @@ ghost use Rattle.std.specs.Prelude.{◌≡◌, IsSome, IfSome};
 ghost use Rattle.std.specs.Option.{option_copied};
 ghost use Rattle.rt_model.specs.Lists.{at};
 ghost use Rattle.rt_model.specs.Run.{call_body};
-ghost use Rattle.rt_mirror.specs.Sealed.{component_of, element_of};
+ghost use Rattle.tree_mirror.specs.Sealed.{component_of, element_of};
 ghost use Rattle.rt_model.specs.Tree as model;
-ghost use Rattle.rt_nodes.specs.declared.vnode.VComponent.TheVariants as components;
+ghost use Rattle.tree_nodes.specs.declared.vnode.VComponent.TheVariants as components;
 ghost use Rattle.rt_scopes.specs.Bodies.{Answers};
 ghost use Rattle.rt_boundary.specs.Seen.{children_in};
 
-use rt_calls::{App, Calls};
-use rt_nodes::{Element, FragmentProps};
-use rt_parts::Parts;
+use author_calls::{App, Calls};
 use rt_scopes::Scopes;
-use rt_state::Stop;
 use rt_values::ScopeId;
+use run_state::Stop;
+use tree_nodes::{Element, FragmentProps, Parts};
 
 /// The body of a fragment, which answers its children.
 pub fn Fragment<P: Parts>(props: FragmentProps<P>) -> Element<P>

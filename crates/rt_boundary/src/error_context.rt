@@ -2,12 +2,12 @@
 ghost use Rattle.std.specs.Prelude.{◌≡◌, option_map};
 ghost use Rattle.std.specs.Option.{option_copied};
 ghost use Rattle.rt_model.specs.State.{error_context, values_of};
-ghost use Rattle.rt_mirror.specs.Mirror.{error_of};
-ghost use Rattle.rt_state.specs.Mirror.{state_of};
+ghost use Rattle.tree_mirror.specs.Mirror.{error_of};
+ghost use Rattle.run_state.specs.Mirror.{state_of};
 
-use rt_parts::{CapturedError, Parts};
-use rt_state::State;
 use rt_values::ScopeId;
+use run_state::State;
+use tree_nodes::{CapturedError, Parts};
 
 /// An error boundary, which keeps the first error that was thrown below it.
 #[derive(Clone, Copy, Debug, PartialEq, Eq)]

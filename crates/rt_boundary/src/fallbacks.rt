@@ -8,18 +8,18 @@ ghost use Rattle.rt_model.specs.Run as run;
 ghost use Rattle.rt_model.specs.Run.{after_hooks, start_agenda};
 ghost use Rattle.rt_model.specs.Boundary as model;
 ghost use Rattle.rt_model.specs.Boundary.{counted_render, tree_or_placeholder};
-ghost use Rattle.rt_mirror.specs.Sealed.{component_of, element_of};
-ghost use Rattle.rt_work.specs.Items.{work_of};
+ghost use Rattle.tree_mirror.specs.Sealed.{component_of, element_of};
+ghost use Rattle.run_work.specs.Items.{work_of};
 ghost use Rattle.rt_scopes.specs.Outcomes.{Comes, no_work};
 
 use crate::parts::counts_render;
-use rt_calls::{App, Calls};
-use rt_nodes::{Element, VComponent};
-use rt_places::SideName;
+use author_calls::{App, Calls};
 use rt_scopes::{Scopes, placeholder_or};
-use rt_state::Stop;
 use rt_values::{List, ScopeId};
-use rt_work::Item;
+use run_places::SideName;
+use run_state::Stop;
+use run_work::Item;
+use tree_nodes::{Element, VComponent};
 
 /// Runs the fallback. Its answer is neither thrown nor held.
 pub(crate) fn call_fallback<A: App>(

@@ -11,6 +11,6 @@ mod suspense_context;
 
 pub use built_in::{Fragment, answer};
 pub use error_context::ErrorContext;
-pub use rt_state::{NotBuilt, ScopeState, get_scope};
+pub use run_state::{NotBuilt, ScopeState, get_scope};
 pub use steps::boundary_step;
 pub use suspense_context::SuspenseContext;

@@ -3,19 +3,18 @@ ghost use Rattle.std.specs.Prelude.{◌≡◌, IfOk};
 ghost use Rattle.rt_model.specs.Boundary as model;
 ghost use Rattle.rt_model.specs.Boundary.{tree_or_placeholder};
 ghost use Rattle.rt_model.specs.Tree.{SuspenseBoundary};
-ghost use Rattle.rt_mirror.specs.Mirror.{fallback_of};
-ghost use Rattle.rt_mirror.specs.Sealed.{component_of, element_of, tree_of};
-ghost use Rattle.rt_places.specs.Places.{side_name_of};
-ghost use Rattle.rt_work.specs.Items.{work_of};
+ghost use Rattle.tree_mirror.specs.Mirror.{fallback_of};
+ghost use Rattle.tree_mirror.specs.Sealed.{component_of, element_of, tree_of};
+ghost use Rattle.run_places.specs.Places.{side_name_of};
+ghost use Rattle.run_work.specs.Items.{work_of};
 ghost use Rattle.rt_boundary.specs.Rows.{made_items};
 
-use rt_nodes::{Element, Fallback, VComponent, VNode};
-use rt_parts::Parts;
-use rt_places::SideName;
 use rt_scopes::row_items;
 use rt_values::{List, OutOfMemory};
-use rt_work::{Item, RowStep};
+use run_places::SideName;
+use run_work::{Item, RowStep};
 use std::alloc::Global;
+use tree_nodes::{Element, Fallback, Parts, VComponent, VNode};
 
 /// A copy of the tree of a suspense boundary's children, one placeholder where they are none.
 pub(crate) fn children_of<P: Parts>(

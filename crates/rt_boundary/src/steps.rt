@@ -5,17 +5,17 @@ ghost use Rattle.rt_model.specs.Laws.{Tests};
 ghost use Rattle.rt_model.specs.OneLog.{types};
 ghost use Rattle.rt_model.specs.World.{Application};
 ghost use Rattle.rt_model.specs.State as steps;
-ghost use Rattle.rt_work.specs.Items.{row_step_of, work_of};
+ghost use Rattle.run_work.specs.Items.{row_step_of, work_of};
 ghost use Rattle.rt_scopes.specs.Outcomes.{Comes};
 
 use crate::fallbacks::call_fallback;
 use crate::parts::{children_of, drop_items, made_items};
-use rt_calls::{App, Calls};
-use rt_places::SideName;
+use author_calls::{App, Calls};
 use rt_scopes::{Scopes, drop_fallback};
-use rt_state::{Stop, is_held};
 use rt_values::{List, ScopeId};
-use rt_work::{Item, RowStep};
+use run_places::SideName;
+use run_state::{Stop, is_held};
+use run_work::{Item, RowStep};
 
 /// Does one step of a boundary's run. The work that comes before the rest of the run; none of a
 /// boundary that is gone.

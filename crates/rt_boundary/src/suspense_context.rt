@@ -3,18 +3,17 @@ ghost use Rattle.std.specs.Prelude.{◌≡◌, ◌↔◌, true, IsSome, IfSome, 
 ghost use Rattle.std.specs.Option.{option_copied};
 ghost use Rattle.rt_model.specs.Lists.{at};
 ghost use Rattle.rt_model.specs.State.{FallbackSide, is_boundary};
-ghost use Rattle.rt_mirror.specs.Sealed.{tree_of};
-ghost use Rattle.rt_calls.specs.Kept.{scope_of};
-ghost use Rattle.rt_state.specs.Climbs.{shows_side};
-ghost use Rattle.rt_state.specs.Mirror.{state_of};
+ghost use Rattle.tree_mirror.specs.Sealed.{tree_of};
+ghost use Rattle.run_records.specs.Kept.{scope_of};
+ghost use Rattle.run_state.specs.Climbs.{shows_side};
+ghost use Rattle.run_state.specs.Mirror.{state_of};
 ghost use Rattle.rt_boundary.specs.Seen.{frozen_in, held_in, hidden_in, hidden_output, holders_in};
 
-use rt_calls::Scope;
-use rt_nodes::VNode;
-use rt_parts::Parts;
-use rt_places::SideName;
-use rt_state::{State, is_held};
 use rt_values::ScopeId;
+use run_places::SideName;
+use run_records::Scope;
+use run_state::{State, is_held};
+use tree_nodes::{Parts, VNode};
 
 /// A suspense boundary, which hides its children while tasks hold it.
 #[derive(Clone, Copy, Debug, PartialEq, Eq)]

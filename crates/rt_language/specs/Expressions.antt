@@ -6,7 +6,7 @@ use Rattle.rt_model.specs.Program.{Program, done, current_scope, current_task, g
 use Rattle.rt_model.specs.OneLog.{types}
 use Rattle.rt_language.specs.Syntax.{Variable, Expression, Say, Get, Read, Cat, Add, Multiply, Equal, Less, Not, IsAbsent, If, Parse, LookUp, OwnScope, Generation, NearestError, Payload, Me, Expressions, NoExpressions, MoreExpressions}
 use Rattle.rt_language.specs.Values.{Value, NoValue, NumberValue, TextValue, CellValue, TaskValue, value_of, is_true, flag, counted, same_value, texts_of, added, multiplied, compared, is_absent, parsed}
-use Rattle.rt_programs.specs.Sequence.{go_on}
+use Rattle.author_programs.specs.Sequence.{go_on}
 
 -- an action with its arguments: what a listener, an effect, a clean-up or a callback does
 pub record Doing : Type 0 where

@@ -1,12 +1,13 @@
 pub mod Syntax
 pub mod Values
-pub use Rattle.rt_programs.specs.Sequence
+pub use Rattle.author_programs.specs.Sequence
 pub mod Expressions
 pub mod Statements
 pub mod Views
 pub mod Wide
 pub mod Meaning
 pub mod Lines
+pub mod Small
 pub mod Printed
 pub mod PrintedSays
 pub mod Shorthand

@@ -7,7 +7,7 @@ use Rattle.rt_model.specs.Program.{Program, done, Programs, application_of}
 use Rattle.rt_model.specs.Replay.{Post, MarkScope, WakeTask, AllDirty, Message, Input, EventAt, WakeOf, WriteOf, MarkOf, Drain}
 use Rattle.rt_language.specs.Syntax.{Literal, Statements, NoStatements, View, ComponentSource, PostSource, PostMark, PostWake, PostAll, InputSource, EventInput, WakeInput, WriteInput, MarkInput, DrainInput, Source}
 use Rattle.rt_language.specs.Values.{Value, NoValue, same_number, same_value, same_values, value_of, values_of}
-use Rattle.rt_programs.specs.Sequence.{go_on}
+use Rattle.author_programs.specs.Sequence.{go_on}
 use Rattle.rt_language.specs.Expressions.{Doing, Standing, SourceTypes, Caller, ABody, AListener, AnotherCall}
 use Rattle.rt_language.specs.Statements.{frame_of, Outcome, WentOn, EndedWith, WasRefused, Running, run_statements}
 use Rattle.rt_language.specs.Views.{fill, tree_of}

@@ -5,7 +5,7 @@ use Rattle.rt_model.specs.World.{clean_up_kind, before_render_kind, after_render
 use Rattle.rt_model.specs.Program.{Program, done, current_scope, new_cell, write, drop_cell, spawn, remove_future, wake, set_active, queue_effect, after_suspense_resolved, freeze, provide, needs_update, captured, throw, clear_errors, hook_is_new, use_hook, use_effect}
 use Rattle.rt_language.specs.Syntax.{HookTime, AtRemoval, BeforeRender, AfterRender, SpawnKind, Client, Isomorphic, Forever, TaskAct, WakeUp, Cancel, Pause, Resume, Statement, Let, UseCell, UseHook, SpawnTask, CallAt, EffectOf, OnResolved, FreezeBoundary, When, ProvideAs, WriteTo, Forget, ActOn, MarkScopeOf, ThrowText, ClearError, FailWith, SuspendOn, Stop, Prevent, Stay, Statements, NoStatements, MoreStatements}
 use Rattle.rt_language.specs.Values.{Value, NoValue, NumberValue, TextValue, CellValue, TaskValue, hook_kind, is_true, text_of}
-use Rattle.rt_programs.specs.Sequence.{go_on}
+use Rattle.author_programs.specs.Sequence.{go_on}
 use Rattle.rt_language.specs.Expressions.{Doing, Standing, SourceTypes, Caller, ABody, AListener, AnotherCall, held_by, Evaluation, evaluate, evaluate_all}
 
 -- a call at work: what its variables hold, and what its statements have asked for

@@ -5,7 +5,7 @@ use Rattle.rt_model.specs.Tree.{TemplateAttribute, fixed, from_slot, TemplateNod
 use Rattle.rt_model.specs.Program.{Program, done, current_scope}
 use Rattle.rt_language.specs.Syntax.{ComponentUse, ViewAttribute, StaticAttribute, SlotAttribute, ListenerAttribute, View, NoViews, TextView, ElementView, SlotView, ViewSlot, TextOf, UseOf, ListOf, PickOf, FragmentOf, ErrorBoundaryOf, SuspenseBoundaryOf, Hole}
 use Rattle.rt_language.specs.Values.{Value, NoValue, NumberValue, TextValue, CellValue, TaskValue, is_true, text_of, item_count}
-use Rattle.rt_programs.specs.Sequence.{go_on}
+use Rattle.author_programs.specs.Sequence.{go_on}
 use Rattle.rt_language.specs.Expressions.{SourceTypes, Caller, evaluate, evaluate_all}
 use Rattle.rt_language.specs.Statements.{doing}
 

@@ -4,8 +4,8 @@
 
 use rt_inbox::NoGate;
 use rt_show::{asks_for_posters, show_and_say, show_posted_and_say};
-use rt_streams::{StandardIn, StandardOut};
 use rt_values::Text;
+use show_streams::{StandardIn, StandardOut};
 use std::env;
 use std::io::{Error, ErrorKind, Read};
 use std::process::ExitCode;

@@ -1,8 +1,8 @@
 -- An effect, by what its call means.
 use Rattle.std.proofs.Common.{◌≡◌, ℕ, ◌+◌, ◌-◌, ◌^◌, Bool, List, [], ◌∷◌, ◌++◌, map, Some, None, true, false, refl, ap, sym, ◌∙◌}
 use Rattle.std.specs.Prelude.{nat_eq, min, if◌then◌else◌}
-use Rattle.rt_calls.specs.declared.rows.Hook.{Hook}
-use Rattle.rt_calls.specs.declared.rows.Hook.TheVariants as kinds
+use Rattle.run_records.specs.declared.rows.Hook.{Hook}
+use Rattle.run_records.specs.declared.rows.Hook.TheVariants as kinds
 use Rattle.rt_model.specs.OneLog.{types}
 use Rattle.rt_model.specs.Tree.{Types}
 use Rattle.rt_model.specs.World.{Application, Meaning, Nothing, CallFault}
@@ -12,20 +12,21 @@ use Rattle.rt_model.specs.Next.{look}
 use Rattle.rt_model.specs.Boundary.{called_back}
 use Rattle.rt_model.specs.Commands.{commands}
 use Rattle.rt_model.specs.Run.{acted, acted_by, called_once, with_next, fault_of, hooks_called}
-use Rattle.rt_calls.specs.Calls.{hook_of}
-use Rattle.rt_calls.specs.Answers.{no_answer}
-use Rattle.rt_calls.specs.Calls as calls
-use Rattle.rt_calls.specs.Calls.{meaning_of, refusal_of, command_of}
-use Rattle.rt_calls.specs.Turn as left
-use Rattle.rt_calls.specs.Turn.{Call, HadMemory, begun}
-use Rattle.rt_calls.specs.World.{CallWorld}
-use Rattle.rt_calls.specs.declared.command.Command.{Command}
-use Rattle.rt_calls.specs.declared.world.Firsts.{Firsts}
-use Rattle.rt_calls.specs.declared.faults.CxFault.{CxFault}
-use Rattle.rt_calls.specs.declared.faults.CxFault.TheVariants as refusals
-use Rattle.rt_state.specs.declared.names.Stop.{Stop}
-use Rattle.rt_state.specs.declared.state.State as code
-use Rattle.rt_state.specs.Mirror.{Unkept, counts, state_of}
+use Rattle.run_records.specs.Records.{hook_of}
+use Rattle.author_calls.specs.Answers.{no_answer}
+use Rattle.run_records.specs.Records as calls
+use Rattle.author_calls.specs.Calls.{meaning_of, refusal_of}
+use Rattle.run_records.specs.Records.{command_of}
+use Rattle.author_calls.specs.Turn as left
+use Rattle.author_calls.specs.Turn.{Call, HadMemory, begun}
+use Rattle.run_records.specs.World.{CallWorld}
+use Rattle.run_records.specs.declared.command.Command.{Command}
+use Rattle.run_records.specs.declared.world.Firsts.{Firsts}
+use Rattle.run_records.specs.declared.faults.CxFault.{CxFault}
+use Rattle.run_records.specs.declared.faults.CxFault.TheVariants as refusals
+use Rattle.run_state.specs.declared.names.Stop.{Stop}
+use Rattle.run_state.specs.declared.state.State as code
+use Rattle.run_state.specs.Mirror.{Unkept, counts, state_of}
 use Rattle.rt_scopes.specs.Counts.{Counts, CountsCut}
 use Rattle.rt_scopes.specs.Outcomes.{CutBy, stop_of}
 use Rattle.rt_scopes.proofs.Counted.{counted_once, counts_cut}

@@ -1,7 +1,7 @@
 -- The agenda of a tree on a side, put together from what the code finds.
 use Rattle.std.proofs.Common.{ℕ, List, [], ◌++◌, ◌≡◌, sym, ap, ◌∙◌, map}
 use Rattle.std.specs.Prelude.{Option, Some, None}
-use Rattle.rt_nodes.specs.declared.vnode.VNode.{VNode}
+use Rattle.tree_nodes.specs.declared.vnode.VNode.{VNode}
 use Rattle.rt_model.specs.OneLog.{types}
 use Rattle.rt_model.specs.World.{Application}
 use Rattle.rt_model.specs.Tree as model
@@ -10,19 +10,19 @@ use Rattle.rt_model.specs.Lists.{at}
 use Rattle.rt_model.specs.State as state
 use Rattle.rt_model.specs.State.{Outcome, Done, change, changed_scope, with_side}
 use Rattle.rt_model.specs.Run.{spots_of, serves, drops_of, kept_numbers, kept_children, start_agenda, patched}
-use Rattle.rt_mirror.specs.Sealed.{tree_of}
-use Rattle.rt_places.specs.declared.nodes.NodeAt.{NodeAt}
-use Rattle.rt_places.specs.declared.place.Step.{Step}
-use Rattle.rt_places.specs.declared.side.Side.{Side}
-use Rattle.rt_places.specs.declared.side.SideName.{SideName}
-use Rattle.rt_places.specs.Drawn.{moved}
-use Rattle.rt_places.specs.Places.{node_of, place_of, placed, seated, side_name_of, side_of}
-use Rattle.rt_places.proofs.Placed.{placed_moved, seated_moved}
-use Rattle.rt_work.specs.declared.item.Item.{Item}
-use Rattle.rt_work.specs.Items.{item_of, work_of}
-use Rattle.rt_work.specs.declared.patched.Patched.{Patched}
-use Rattle.rt_work.specs.Patches as patches_of
-use Rattle.rt_work.proofs.Walking.{mapped}
+use Rattle.tree_mirror.specs.Sealed.{tree_of}
+use Rattle.run_places.specs.declared.nodes.NodeAt.{NodeAt}
+use Rattle.run_places.specs.declared.place.Step.{Step}
+use Rattle.run_places.specs.declared.side.Side.{Side}
+use Rattle.run_places.specs.declared.side.SideName.{SideName}
+use Rattle.run_places.specs.Drawn.{moved}
+use Rattle.run_places.specs.Places.{node_of, place_of, placed, seated, side_name_of, side_of}
+use Rattle.run_places.proofs.Placed.{placed_moved, seated_moved}
+use Rattle.run_work.specs.declared.item.Item.{Item}
+use Rattle.run_work.specs.Items.{item_of, work_of}
+use Rattle.run_work.specs.declared.patched.Patched.{Patched}
+use Rattle.run_work.specs.Patches as patches_of
+use Rattle.run_work.proofs.Walking.{mapped}
 use Rattle.rt_scopes.specs.Agendas.{PatchesBy}
 
 module _ {P C Q V H T E L : Type 0} (app : Application (types C Q V H T E L)) where

@@ -1,25 +1,25 @@
 -- The built-in components at the mirror, with what their children and their handlers are; and components by what they are.
 use Rattle.std.proofs.Common.{ℕ, List, ◌≡◌, Result, Ok, Err, sym, ap, ◌∙◌, subst}
-use Rattle.rt_parts.specs.declared.error.RenderError.{RenderError}
-use Rattle.rt_parts.specs.declared.error.RenderError.TheVariants as errors
-use Rattle.rt_nodes.specs.declared.vnode.VNode.{VNode}
-use Rattle.rt_nodes.specs.declared.vnode.VComponent.{VComponent as CodeComponent}
-use Rattle.rt_nodes.specs.declared.vnode.VComponent.TheVariants as c
-use Rattle.rt_nodes.specs.declared.vnode.FragmentProps.{FragmentProps}
-use Rattle.rt_nodes.specs.declared.vnode.ErrorBoundaryProps.{ErrorBoundaryProps}
-use Rattle.rt_nodes.specs.declared.vnode.SuspenseBoundaryProps.{SuspenseBoundaryProps}
-use Rattle.rt_nodes.specs.declared.vnode.RootProps.{RootProps}
-use Rattle.rt_nodes.specs.declared.vnode.ErrorHandler.{ErrorHandler}
-use Rattle.rt_nodes.specs.declared.vnode.Fallback.{Fallback}
-use Rattle.rt_nodes.specs.declared.vnode.DynamicNode.{DynamicNode}
-use Rattle.rt_nodes.specs.declared.vnode.DynamicNode.TheVariants as s
-use Rattle.rt_nodes.specs.declared.vnode.DynamicNode.TheOpen.{DynamicNode-F, VComponent-F}
-use Rattle.rt_nodes.specs.declared.vnode.DynamicNode.TheViews.{out-DynamicNode, roll-DynamicNode, roll-out-DynamicNode, out-VComponent, roll-VComponent, roll-out-VComponent, out-FragmentProps, roll-FragmentProps, roll-out-FragmentProps, out-ErrorBoundaryProps, roll-ErrorBoundaryProps, roll-out-ErrorBoundaryProps, out-SuspenseBoundaryProps, roll-SuspenseBoundaryProps, roll-out-SuspenseBoundaryProps}
-use Rattle.rt_nodes.specs.declared.vnode.DynamicNode.TheFolds.{fold-FragmentProps, fold-ErrorBoundaryProps, fold-SuspenseBoundaryProps, fold-roll-VComponent, fold-roll-FragmentProps, fold-roll-ErrorBoundaryProps, fold-roll-SuspenseBoundaryProps}
+use Rattle.tree_nodes.specs.declared.error.RenderError.{RenderError}
+use Rattle.tree_nodes.specs.declared.error.RenderError.TheVariants as errors
+use Rattle.tree_nodes.specs.declared.vnode.VNode.{VNode}
+use Rattle.tree_nodes.specs.declared.vnode.VComponent.{VComponent as CodeComponent}
+use Rattle.tree_nodes.specs.declared.vnode.VComponent.TheVariants as c
+use Rattle.tree_nodes.specs.declared.vnode.FragmentProps.{FragmentProps}
+use Rattle.tree_nodes.specs.declared.vnode.ErrorBoundaryProps.{ErrorBoundaryProps}
+use Rattle.tree_nodes.specs.declared.vnode.SuspenseBoundaryProps.{SuspenseBoundaryProps}
+use Rattle.tree_nodes.specs.declared.vnode.RootProps.{RootProps}
+use Rattle.tree_nodes.specs.declared.vnode.ErrorHandler.{ErrorHandler}
+use Rattle.tree_nodes.specs.declared.vnode.Fallback.{Fallback}
+use Rattle.tree_nodes.specs.declared.vnode.DynamicNode.{DynamicNode}
+use Rattle.tree_nodes.specs.declared.vnode.DynamicNode.TheVariants as s
+use Rattle.tree_nodes.specs.declared.vnode.DynamicNode.TheOpen.{DynamicNode-F, VComponent-F}
+use Rattle.tree_nodes.specs.declared.vnode.DynamicNode.TheViews.{out-DynamicNode, roll-DynamicNode, roll-out-DynamicNode, out-VComponent, roll-VComponent, roll-out-VComponent, out-FragmentProps, roll-FragmentProps, roll-out-FragmentProps, out-ErrorBoundaryProps, roll-ErrorBoundaryProps, roll-out-ErrorBoundaryProps, out-SuspenseBoundaryProps, roll-SuspenseBoundaryProps, roll-out-SuspenseBoundaryProps}
+use Rattle.tree_nodes.specs.declared.vnode.DynamicNode.TheFolds.{fold-FragmentProps, fold-ErrorBoundaryProps, fold-SuspenseBoundaryProps, fold-roll-VComponent, fold-roll-FragmentProps, fold-roll-ErrorBoundaryProps, fold-roll-SuspenseBoundaryProps}
 use Rattle.rt_model.specs.OneLog.{types}
 use Rattle.rt_model.specs.Tree.{Tree, Slot, VComponent, Fragment, ErrorBoundary, SuspenseBoundary}
-use Rattle.rt_mirror.specs.Mirror.{slot_step, component_step, error_boundary_step, fragment_step, suspense_boundary_step, tree_step, handler_of, fallback_of}
-use Rattle.rt_mirror.specs.Sealed.{component_of, element_of, tree_of}
+use Rattle.tree_mirror.specs.Mirror.{slot_step, component_step, error_boundary_step, fragment_step, suspense_boundary_step, tree_step, handler_of, fallback_of}
+use Rattle.tree_mirror.specs.Sealed.{component_of, element_of, tree_of}
 
 module _ {P C Q V H T E L : Type 0} where
   value-layer : (R : DynamicNode P C Q V H T E L → Type 0) → ((text : List ℕ) → R (s.Text text)) → R s.Placeholder → ((component : CodeComponent P C Q V H T E L) → R (s.Component component)) → ((trees : List (VNode P C Q V H T E L)) → R (s.Fragment trees))

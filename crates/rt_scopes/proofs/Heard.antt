@@ -1,26 +1,27 @@
 -- A listener, by what its call means.
 use Rattle.std.proofs.Common.{◌≡◌, ℕ, ◌+◌, ◌-◌, ◌^◌, List, map, Some, None, refl, ap, sym, subst, ◌∙◌}
 use Rattle.std.specs.Prelude.{false, min}
-use Rattle.rt_parts.specs.declared.event.Event.{Event as CodeEvent}
+use Rattle.tree_nodes.specs.declared.event.Event.{Event as CodeEvent}
 use Rattle.rt_model.specs.OneLog.{types}
 use Rattle.rt_model.specs.World.{Application, Event, Meaning, CallFault}
 use Rattle.rt_model.specs.State.{world_of}
 use Rattle.rt_model.specs.Commands.{commands}
 use Rattle.rt_model.specs.Run as run
 use Rattle.rt_model.specs.Run.{called_once, with_next}
-use Rattle.rt_calls.specs.Answers.{event_of}
-use Rattle.rt_calls.specs.Calls as calls
-use Rattle.rt_calls.specs.Calls.{command_of, meaning_of, refusal_of}
-use Rattle.rt_calls.specs.Turn as left
-use Rattle.rt_calls.specs.Turn.{Call, HadMemory, begun}
-use Rattle.rt_calls.specs.World.{CallWorld}
-use Rattle.rt_calls.specs.declared.command.Command.{Command}
-use Rattle.rt_calls.specs.declared.faults.CxFault.{CxFault}
-use Rattle.rt_calls.specs.declared.faults.CxFault.TheVariants as refusals
-use Rattle.rt_calls.specs.declared.world.Firsts.{Firsts}
-use Rattle.rt_state.specs.declared.names.Stop.{Stop}
-use Rattle.rt_state.specs.declared.state.State as code
-use Rattle.rt_state.specs.Mirror.{Unkept, counts, state_of}
+use Rattle.author_calls.specs.Answers.{event_of}
+use Rattle.run_records.specs.Records as calls
+use Rattle.run_records.specs.Records.{command_of}
+use Rattle.author_calls.specs.Calls.{meaning_of, refusal_of}
+use Rattle.author_calls.specs.Turn as left
+use Rattle.author_calls.specs.Turn.{Call, HadMemory, begun}
+use Rattle.run_records.specs.World.{CallWorld}
+use Rattle.run_records.specs.declared.command.Command.{Command}
+use Rattle.run_records.specs.declared.faults.CxFault.{CxFault}
+use Rattle.run_records.specs.declared.faults.CxFault.TheVariants as refusals
+use Rattle.run_records.specs.declared.world.Firsts.{Firsts}
+use Rattle.run_state.specs.declared.names.Stop.{Stop}
+use Rattle.run_state.specs.declared.state.State as code
+use Rattle.run_state.specs.Mirror.{Unkept, counts, state_of}
 use Rattle.rt_scopes.specs.Counts.{Counts, CountsCut}
 use Rattle.rt_scopes.specs.Hearings.{Heard, HeardInPart, HearsAs, hearing}
 use Rattle.rt_scopes.specs.Outcomes.{stop_of}

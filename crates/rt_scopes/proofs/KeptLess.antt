@@ -4,19 +4,19 @@ use Rattle.std.specs.Prelude.{Option, Some, None, slice_get}
 use Rattle.rt_model.specs.OneLog.{types}
 use Rattle.rt_model.specs.State as state
 use Rattle.rt_model.specs.Tree.{Place, Kind}
-use Rattle.rt_calls.specs.Kept.{scope_of}
-use Rattle.rt_calls.specs.declared.rest.Scope.{Scope}
-use Rattle.rt_named.specs.Standings.{IsPicked, picked}
-use Rattle.rt_named.proofs.Around.{numbers_drawn}
-use Rattle.rt_places.specs.declared.nodes.NodeAt.{NodeAt}
-use Rattle.rt_places.specs.declared.side.Side.{Side}
-use Rattle.rt_places.specs.declared.side.SideName.{SideName}
-use Rattle.rt_places.specs.Drawn.{moved}
-use Rattle.rt_places.specs.Places.{node_of, placed, side_name_of, side_of}
-use Rattle.rt_places.proofs.Placed.{by_option, placed_none, placed_one}
-use Rattle.rt_work.specs.Goes.{NodesGo}
-use Rattle.rt_state.specs.Drawn.{numbers_at, numbers_in}
-use Rattle.rt_state.proofs.Placed.{numbers_are}
+use Rattle.run_records.specs.Kept.{scope_of}
+use Rattle.run_records.specs.declared.rest.Scope.{Scope}
+use Rattle.run_named.specs.Standings.{IsPicked, picked}
+use Rattle.run_named.proofs.Around.{numbers_drawn}
+use Rattle.run_places.specs.declared.nodes.NodeAt.{NodeAt}
+use Rattle.run_places.specs.declared.side.Side.{Side}
+use Rattle.run_places.specs.declared.side.SideName.{SideName}
+use Rattle.run_places.specs.Drawn.{moved}
+use Rattle.run_places.specs.Places.{node_of, placed, side_name_of, side_of}
+use Rattle.run_places.proofs.Placed.{by_option, placed_none, placed_one}
+use Rattle.run_work.specs.Goes.{NodesGo}
+use Rattle.run_state.specs.Drawn.{numbers_at, numbers_in}
+use Rattle.run_state.proofs.Placed.{numbers_are}
 
 -- a number whose index goes to another one, or nowhere
 moves_to : (to : List (Option ℕ)) (e : ℕ × ℕ) (es : List (ℕ × ℕ)) (o : Option ℕ) → get_or to e.0 None ≡ o

@@ -2,15 +2,15 @@
 use Rattle.std.proofs.Common.{◌≡◌, ℕ, List, sym, subst}
 use Rattle.std.proofs.Math.Logic.{∥∥₁_prop}
 use Rattle.std.specs.Coded.{Coded-set, coded×, coded_list, coded_ℕ}
-use Rattle.rt_calls.specs.Kept.{each, scope_of}
-use Rattle.rt_calls.specs.declared.world.Firsts.{Firsts}
-use Rattle.rt_named.specs.Standings.{IsPlaced}
-use Rattle.rt_state.specs.Effects.{AreListed}
-use Rattle.rt_state.specs.Heights.{heights_of, task_scopes}
-use Rattle.rt_state.specs.Mounts.{IsWaiting, ways_of}
-use Rattle.rt_state.specs.Readers.{AreKnown}
-use Rattle.rt_state.specs.declared.state.State.{State}
-use Rattle.rt_state.proofs.Unchanged.{one_known, one_listed}
+use Rattle.run_records.specs.Kept.{each, scope_of}
+use Rattle.run_records.specs.declared.world.Firsts.{Firsts}
+use Rattle.run_named.specs.Standings.{IsPlaced}
+use Rattle.run_state.specs.Effects.{AreListed}
+use Rattle.run_state.specs.Heights.{heights_of, task_scopes}
+use Rattle.run_state.specs.Mounts.{IsWaiting, ways_of}
+use Rattle.run_state.specs.Readers.{AreKnown}
+use Rattle.run_state.specs.declared.state.State.{State}
+use Rattle.run_state.proofs.Unchanged.{one_known, one_listed}
 
 -- an equation of lists of pairs of numbers has one proof
 one_proof : (xs ys : List (ℕ × ℕ)) (p q : xs ≡ ys) → p ≡ q

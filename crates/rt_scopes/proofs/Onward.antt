@@ -4,11 +4,11 @@ use Rattle.rt_model.specs.Tree.{Types}
 use Rattle.rt_model.specs.State.{State, Outcome, Done, Cut, Item, onward}
 use Rattle.rt_model.specs.Run as run
 use Rattle.rt_model.specs.World.{CallFault}
-use Rattle.rt_state.specs.declared.names.Stop.{Stop}
-use Rattle.rt_state.specs.declared.names.Stop.TheVariants as stops
-use Rattle.rt_calls.specs.Calls.{refusal_of}
-use Rattle.rt_calls.specs.declared.faults.CxFault.{CxFault}
-use Rattle.rt_calls.specs.declared.faults.CxFault.TheVariants as refusals
+use Rattle.run_state.specs.declared.names.Stop.{Stop}
+use Rattle.run_state.specs.declared.names.Stop.TheVariants as stops
+use Rattle.author_calls.specs.Calls.{refusal_of}
+use Rattle.run_records.specs.declared.faults.CxFault.{CxFault}
+use Rattle.run_records.specs.declared.faults.CxFault.TheVariants as refusals
 use Rattle.rt_scopes.specs.Outcomes.{CutBy, Came, stop_of}
 
 module _ {K : Types} where

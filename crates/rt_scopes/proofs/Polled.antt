@@ -12,23 +12,24 @@ use Rattle.rt_model.specs.Next.{is_active, look, scope_of_task}
 use Rattle.rt_model.specs.Run as run
 use Rattle.rt_model.specs.Run.{called_once, with_next}
 use Rattle.rt_model.specs.Replay.{is_ready, left_by_poll, poll_meant, polled, polled_apart, polled_apart_at, polled_apart_by, polled_at, polled_by, ready_at, ready_now}
-use Rattle.rt_calls.specs.Answers.{step_of}
-use Rattle.rt_calls.specs.Calls as calls
-use Rattle.rt_calls.specs.Calls.{command_of, firsts_of, meaning_of, refusal_of}
-use Rattle.rt_calls.specs.Turn as left
-use Rattle.rt_calls.specs.Turn.{Call, HadMemory, begun}
-use Rattle.rt_calls.specs.World.{CallWorld}
-use Rattle.rt_calls.specs.declared.application.TaskStep as code_step
-use Rattle.rt_calls.specs.declared.application.TaskStep.TheVariants as steps
-use Rattle.rt_calls.specs.declared.command.Command as code_command
-use Rattle.rt_calls.specs.declared.faults.CxFault.{CxFault}
-use Rattle.rt_calls.specs.declared.faults.CxFault.TheVariants as refusals
-use Rattle.rt_calls.specs.declared.world.Firsts.{Firsts}
-use Rattle.rt_state.specs.Names.{fault_of}
-use Rattle.rt_state.specs.declared.names.Stop.{Stop}
-use Rattle.rt_state.specs.declared.names.Stop.TheVariants as stops
-use Rattle.rt_state.specs.declared.state.State as code
-use Rattle.rt_state.specs.Mirror.{Unkept, change_task, changed_task, counts, state_of}
+use Rattle.author_calls.specs.Answers.{step_of}
+use Rattle.run_records.specs.Records as calls
+use Rattle.run_records.specs.Records.{command_of, firsts_of}
+use Rattle.author_calls.specs.Calls.{meaning_of, refusal_of}
+use Rattle.author_calls.specs.Turn as left
+use Rattle.author_calls.specs.Turn.{Call, HadMemory, begun}
+use Rattle.run_records.specs.World.{CallWorld}
+use Rattle.author_calls.specs.declared.application.TaskStep as code_step
+use Rattle.author_calls.specs.declared.application.TaskStep.TheVariants as steps
+use Rattle.run_records.specs.declared.command.Command as code_command
+use Rattle.run_records.specs.declared.faults.CxFault.{CxFault}
+use Rattle.run_records.specs.declared.faults.CxFault.TheVariants as refusals
+use Rattle.run_records.specs.declared.world.Firsts.{Firsts}
+use Rattle.run_state.specs.Names.{fault_of}
+use Rattle.run_state.specs.declared.names.Stop.{Stop}
+use Rattle.run_state.specs.declared.names.Stop.TheVariants as stops
+use Rattle.run_state.specs.declared.state.State as code
+use Rattle.run_state.specs.Mirror.{Unkept, change_task, changed_task, counts, state_of}
 use Rattle.rt_scopes.specs.Counts.{Counts, CountsCut}
 use Rattle.rt_scopes.specs.Outcomes.{CutBy, stop_of}
 use Rattle.rt_scopes.specs.Polls.{StandsWith}

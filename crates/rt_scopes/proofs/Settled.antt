@@ -2,9 +2,9 @@
 use Rattle.std.proofs.Common.{◌≡◌, ℕ, ◌++◌, ◌&&◌, true, false, List, [], ◌∷◌, map, Option, Some, None, Result, Ok, Err, refl, ap, sym, subst, ◌∙◌}
 use Rattle.std.specs.Prelude.{◌≢◌, is_some, option_map}
 use Rattle.rt_cells.specs.declared.sources.Source.{Source}
-use Rattle.rt_parts.specs.declared.error.RenderError.{RenderError}
-use Rattle.rt_parts.specs.declared.error.RenderError.TheVariants as errors
-use Rattle.rt_nodes.specs.declared.vnode.VNode.{VNode}
+use Rattle.tree_nodes.specs.declared.error.RenderError.{RenderError}
+use Rattle.tree_nodes.specs.declared.error.RenderError.TheVariants as errors
+use Rattle.tree_nodes.specs.declared.vnode.VNode.{VNode}
 use Rattle.rt_model.specs.OneLog.{types}
 use Rattle.rt_model.specs.Lists.{at}
 use Rattle.rt_model.specs.Tree as tree
@@ -15,26 +15,27 @@ use Rattle.rt_model.specs.State.{Outcome, Done, Cut, BadNode, change, world_of}
 use Rattle.rt_model.specs.Commands.{commands}
 use Rattle.rt_model.specs.Run as run
 use Rattle.rt_model.specs.Run.{also_read, answer_fits, answered_with, body_of, call_body, called_once, called_where, caught, is_own, kept_call, output_of, plain, with_next}
-use Rattle.rt_mirror.specs.Mirror.{error_of}
-use Rattle.rt_mirror.specs.Mirror as mirror
-use Rattle.rt_mirror.specs.Sealed.{element_of, tree_of}
-use Rattle.rt_calls.specs.Calls as calls
-use Rattle.rt_calls.specs.Calls.{command_of, firsts_of, gathered, in_front, meaning_of, newest_first, refusal_of, source_of}
-use Rattle.rt_calls.specs.Kept.{scope_of}
-use Rattle.rt_calls.specs.Turn as left
-use Rattle.rt_calls.specs.Turn.{Call, HadMemory, begun}
-use Rattle.rt_calls.specs.World.{CallWorld}
-use Rattle.rt_calls.specs.declared.faults.CxFault.{CxFault}
-use Rattle.rt_calls.specs.declared.faults.CxFault.TheVariants as refusals
-use Rattle.rt_calls.specs.declared.rest.Scope.{Scope}
-use Rattle.rt_calls.specs.declared.turn.TurnParts.{TurnParts}
-use Rattle.rt_calls.proofs.Gathered.{gathered-more, gathered-none}
-use Rattle.rt_state.proofs.Each.{at-each}
-use Rattle.rt_state.specs.declared.names.Fault.TheVariants as faults
-use Rattle.rt_state.specs.declared.names.Stop.{Stop}
-use Rattle.rt_state.specs.declared.names.Stop.TheVariants as stops
-use Rattle.rt_state.specs.declared.state.State as code
-use Rattle.rt_state.specs.Mirror.{Unkept, counts, recalls, state_of}
+use Rattle.tree_mirror.specs.Mirror.{error_of}
+use Rattle.tree_mirror.specs.Mirror as mirror
+use Rattle.tree_mirror.specs.Sealed.{element_of, tree_of}
+use Rattle.run_records.specs.Records as calls
+use Rattle.run_records.specs.Records.{command_of, firsts_of, gathered, in_front, newest_first, source_of}
+use Rattle.author_calls.specs.Calls.{meaning_of, refusal_of}
+use Rattle.run_records.specs.Kept.{scope_of}
+use Rattle.author_calls.specs.Turn as left
+use Rattle.author_calls.specs.Turn.{Call, HadMemory, begun}
+use Rattle.run_records.specs.World.{CallWorld}
+use Rattle.run_records.specs.declared.faults.CxFault.{CxFault}
+use Rattle.run_records.specs.declared.faults.CxFault.TheVariants as refusals
+use Rattle.run_records.specs.declared.rest.Scope.{Scope}
+use Rattle.author_calls.specs.declared.turn.TurnParts.{TurnParts}
+use Rattle.run_records.proofs.Gathered.{gathered-more, gathered-none}
+use Rattle.run_state.proofs.Each.{at-each}
+use Rattle.run_state.specs.declared.names.Fault.TheVariants as faults
+use Rattle.run_state.specs.declared.names.Stop.{Stop}
+use Rattle.run_state.specs.declared.names.Stop.TheVariants as stops
+use Rattle.run_state.specs.declared.state.State as code
+use Rattle.run_state.specs.Mirror.{Unkept, counts, recalls, state_of}
 use Rattle.rt_scopes.specs.Counts.{CountsOn, RaisesWhere, raised_where}
 use Rattle.rt_scopes.specs.Bodies.{Answered, Leaves, Settles, answer_in, error_kept, handled_by, meaning_left, plain_left}
 use Rattle.rt_scopes.specs.Outcomes.{stop_of}

@@ -3,8 +3,8 @@ use Rattle.std.proofs.Common.{ℕ, zero, suc, true, false, get_or, drop, append_
 use Rattle.std.specs.Prelude.{Option, Some, None, if◌then◌else◌}
 use Rattle.std.specs.List.{slice_get}
 use Rattle.std.proofs.Math.ListN.{drop_of_length-le}
-use Rattle.rt_nodes.specs.declared.vnode.VComponent.{VComponent}
-use Rattle.rt_nodes.specs.declared.vnode.VNode.{VNode}
+use Rattle.tree_nodes.specs.declared.vnode.VComponent.{VComponent}
+use Rattle.tree_nodes.specs.declared.vnode.VNode.{VNode}
 use Rattle.rt_model.specs.OneLog.{types}
 use Rattle.rt_model.specs.Lists.{at}
 use Rattle.rt_model.specs.Tree as model
@@ -15,15 +15,15 @@ use Rattle.rt_model.specs.Run.{child_at, spots_of}
 use Rattle.rt_model.specs.Boundary.{live_child, children_among, side_scopes}
 use Rattle.rt_model.specs.Removal.{children_below, first_leaf}
 use Rattle.rt_model.specs.Replay.{fed_child}
-use Rattle.rt_places.specs.declared.spot.Spot.{Spot}
-use Rattle.rt_places.specs.declared.spot.Spot.TheVariants as spots
-use Rattle.rt_places.specs.declared.place.Kind as kinds
-use Rattle.rt_places.specs.declared.place.Step as steps
-use Rattle.rt_places.specs.declared.side.Side.{Side}
-use Rattle.rt_places.specs.Places.{output_of, place_of, spot_of, side_of}
-use Rattle.rt_places.specs.Sides.{child_in}
-use Rattle.rt_places.specs.Spots.{tree_spots}
-use Rattle.rt_calls.specs.Kept.{each}
+use Rattle.run_places.specs.declared.spot.Spot.{Spot}
+use Rattle.run_places.specs.declared.spot.Spot.TheVariants as spots
+use Rattle.run_places.specs.declared.place.Kind as kinds
+use Rattle.run_places.specs.declared.place.Step as steps
+use Rattle.run_places.specs.declared.side.Side.{Side}
+use Rattle.run_places.specs.Places.{output_of, place_of, spot_of, side_of}
+use Rattle.run_places.specs.Sides.{child_in}
+use Rattle.run_places.specs.Spots.{tree_spots}
+use Rattle.run_records.specs.Kept.{each}
 use Rattle.rt_scopes.specs.Sides.{child_here, children_at, fallback_scopes_in}
 
 next_suc : {A : Type 0} (xs : List A) (i : ℕ) (x : A) → i < length xs → x ≡ get_or xs i x → drop i xs ≡ x ∷ drop (suc i) xs

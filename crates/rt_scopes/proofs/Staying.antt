@@ -1,7 +1,7 @@
 -- A side of which all nodes stay is patched by its new tree alone.
 use Rattle.std.proofs.Common.{ℕ, zero, suc, true, false, ◌&&◌, ◌||◌, List, [], ◌∷◌, ◌++◌, ◌≡◌, map, refl, sym, ap, ◌∙◌, subst}
 use Rattle.std.specs.Prelude.{Option, Some, slice_get}
-use Rattle.rt_nodes.specs.declared.vnode.VNode.{VNode}
+use Rattle.tree_nodes.specs.declared.vnode.VNode.{VNode}
 use Rattle.rt_model.specs.OneLog.{types}
 use Rattle.rt_model.specs.World.{Application}
 use Rattle.rt_model.specs.Tree as model
@@ -12,13 +12,13 @@ use Rattle.rt_model.specs.State.{Done, change, changed_scope, with_side}
 use Rattle.rt_model.specs.Run.{drops_of, has_node, kept_children, kept_numbers, serves, spots_of, start_agenda}
 use Rattle.rt_model.proofs.Among.{kind_same, place_same}
 use Rattle.rt_model.proofs.Maps.{pick_true}
-use Rattle.rt_mirror.specs.Sealed.{tree_of}
-use Rattle.rt_places.specs.declared.side.Side.{Side}
-use Rattle.rt_places.specs.declared.side.SideName.{SideName}
-use Rattle.rt_places.specs.Places.{node_of, place_of, placed, seated, side_name_of, side_of}
-use Rattle.rt_places.proofs.Placed.{by_option, placed_none, placed_one}
-use Rattle.rt_state.specs.Sides.{with_output}
-use Rattle.rt_work.specs.Stay.{AllStay, standing}
+use Rattle.tree_mirror.specs.Sealed.{tree_of}
+use Rattle.run_places.specs.declared.side.Side.{Side}
+use Rattle.run_places.specs.declared.side.SideName.{SideName}
+use Rattle.run_places.specs.Places.{node_of, place_of, placed, seated, side_name_of, side_of}
+use Rattle.run_places.proofs.Placed.{by_option, placed_none, placed_one}
+use Rattle.run_state.specs.Sides.{with_output}
+use Rattle.run_work.specs.Stay.{AllStay, standing}
 use Rattle.rt_scopes.proofs.Agendas.{started}
 
 or_true : (b : _) → (b || true) ≡ true

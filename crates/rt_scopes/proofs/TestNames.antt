@@ -6,9 +6,9 @@ use Rattle.std.specs.Str.{bytes_eq}
 use Rattle.std.specs.Cmp.Lexicographic.{pointwise}
 use Rattle.std.specs.Bool.{one_answer}
 use Rattle.std.proofs.lemmas.Bool.{leb-true, le-leb, eqb-true, eq-eqb}
-use Rattle.rt_parts.specs.Names as code
-use Rattle.rt_parts.specs.Names.{Name, distinct, names_of, names_in}
-use Rattle.rt_parts.specs.Slots as slots
+use Rattle.tree_nodes.specs.Names as code
+use Rattle.tree_nodes.specs.Names.{Name, distinct, names_of, names_in}
+use Rattle.tree_nodes.specs.Slots as slots
 use Rattle.rt_model.specs.Lists.{same_numbers, same_option, same_list}
 use Rattle.rt_model.specs.Tree.{paths_of}
 use Rattle.rt_model.specs.Fits.{counts_from, same_name, is_named, all_once}

@@ -2,23 +2,23 @@
 use Rattle.std.proofs.Common.{ℕ, suc, ◌+◌, Bool, true, false, ◌&&◌, List, [], ◌∷◌, ◌++◌, ◌≡◌, Option, map, length, refl, sym, ap, subst, ◌∙◌, add-one, append_assoc, arith}
 use Rattle.std.specs.Prelude.{nat_le}
 use Rattle.std.specs.List.{list_all, slice_index_or}
-use Rattle.rt_parts.specs.declared.template.TemplateAttribute.{TemplateAttribute}
-use Rattle.rt_parts.specs.declared.template.TemplateAttribute.TheVariants as attributes
-use Rattle.rt_parts.specs.declared.template.TemplateNode.{TemplateNode}
-use Rattle.rt_parts.specs.declared.template.TemplateNode.TheVariants as nodes
-use Rattle.rt_parts.specs.declared.template.TemplateNode.TheOpen.{TemplateNode-F}
-use Rattle.rt_parts.specs.declared.template.TemplateNode.TheViews.{roll-TemplateNode}
-use Rattle.rt_parts.specs.declared.template.TemplateNode.TheFolds.{fold-roll-TemplateNode, ind-TemplateNode, map-TemplateNode}
-use Rattle.rt_parts.specs.Met.{Met, AtElement, AtAttribute, AtText, AtSlot, met_attrs, met_among, met_step, met}
-use Rattle.rt_parts.specs.Names.{Name, distinct, names_in}
-use Rattle.rt_parts.specs.Slots as slots
-use Rattle.rt_parts.specs.BlockTest.{met_fits}
+use Rattle.tree_nodes.specs.declared.template.TemplateAttribute.{TemplateAttribute}
+use Rattle.tree_nodes.specs.declared.template.TemplateAttribute.TheVariants as attributes
+use Rattle.tree_nodes.specs.declared.template.TemplateNode.{TemplateNode}
+use Rattle.tree_nodes.specs.declared.template.TemplateNode.TheVariants as nodes
+use Rattle.tree_nodes.specs.declared.template.TemplateNode.TheOpen.{TemplateNode-F}
+use Rattle.tree_nodes.specs.declared.template.TemplateNode.TheViews.{roll-TemplateNode}
+use Rattle.tree_nodes.specs.declared.template.TemplateNode.TheFolds.{fold-roll-TemplateNode, ind-TemplateNode, map-TemplateNode}
+use Rattle.tree_nodes.specs.Met.{Met, AtElement, AtAttribute, AtText, AtSlot, met_attrs, met_among, met_step, met}
+use Rattle.tree_nodes.specs.Names.{Name, distinct, names_in}
+use Rattle.tree_nodes.specs.Slots as slots
+use Rattle.tree_nodes.specs.BlockTest.{met_fits}
 use Rattle.rt_model.specs.Tree as model
 use Rattle.rt_model.specs.Tree.{TemplateNodes, no_nodes, element_node, text_node, slot_node, fixed, from_slot, slots_among, node_slots, attribute_slots, attributes_in}
 use Rattle.rt_model.specs.Fits.{row_length, nodes_fit, all_once, element_names, given_names}
-use Rattle.rt_mirror.specs.Mirror.{attribute_in, all_before}
-use Rattle.rt_mirror.specs.Sealed.{node_before, nodes_of}
-use Rattle.rt_mirror.proofs.SealedNodes.{before_Element, before_Text, before_Dynamic}
+use Rattle.tree_mirror.specs.Mirror.{attribute_in, all_before}
+use Rattle.tree_mirror.specs.Sealed.{node_before, nodes_of}
+use Rattle.tree_mirror.proofs.SealedNodes.{before_Element, before_Text, before_Dynamic}
 use Rattle.rt_scopes.proofs.TestNames.{le_same, once_same}
 
 met_rolled : (x : TemplateNode-F TemplateNode) (path : List ℕ) → met (roll-TemplateNode x) path ≡ met_step (map-TemplateNode TemplateNode (List ℕ → List Met) met x) path

@@ -4,12 +4,12 @@ use Rattle.std.specs.Prelude.{IfErr, OnOk}
 use Rattle.rt_model.specs.OneLog.{types}
 use Rattle.rt_model.specs.State as model
 use Rattle.rt_model.specs.State.{Outcome, Done, Cut, Item}
-use Rattle.rt_state.specs.declared.names.Fault.{Fault}
-use Rattle.rt_state.specs.declared.names.Stop.{Stop}
-use Rattle.rt_state.specs.declared.names.Stop.TheVariants as stops
-use Rattle.rt_state.specs.declared.state.State.{State}
-use Rattle.rt_state.specs.Mirror.{Unkept, state_of}
-use Rattle.rt_state.specs.Names.{fault_of}
+use Rattle.run_state.specs.declared.names.Fault.{Fault}
+use Rattle.run_state.specs.declared.names.Stop.{Stop}
+use Rattle.run_state.specs.declared.names.Stop.TheVariants as stops
+use Rattle.run_state.specs.declared.state.State.{State}
+use Rattle.run_state.specs.Mirror.{Unkept, state_of}
+use Rattle.run_state.specs.Names.{fault_of}
 use Rattle.rt_scopes.specs.Outcomes.{Came, Comes, no_work}
 
 module _ {P C Q V H T E L : Type 0} where

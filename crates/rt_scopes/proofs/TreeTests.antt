@@ -4,37 +4,37 @@ use Rattle.std.specs.Prelude.{nat_le, nat_lt, nat_eq, ◌==◌, is_none}
 use Rattle.std.specs.List.{list_all, slice_index_or, enumerate_from}
 use Rattle.std.specs.Bool.{one_answer}
 use Rattle.std.proofs.lemmas.Bool.{leb-true, eqb-true}
-use Rattle.rt_parts.specs.declared.attribute.Attribute.{Attribute}
-use Rattle.rt_parts.specs.declared.attribute.AttributeValue.{AttributeValue}
-use Rattle.rt_parts.specs.declared.attribute.AttributeValue.TheVariants as values
-use Rattle.rt_parts.specs.declared.error.RenderError.{RenderError}
-use Rattle.rt_parts.specs.declared.error.RenderError.TheVariants as errors
-use Rattle.rt_parts.specs.Met.{Met, AtElement, AtAttribute, AtText, AtSlot, met_in}
-use Rattle.rt_parts.specs.Names.{Name, name_of, slot_names}
-use Rattle.rt_parts.specs.Slots as slots
-use Rattle.rt_parts.specs.BlockTest.{met_fits, value_fits, attribute_fits, block_fits}
-use Rattle.rt_nodes.specs.NodeTest as code
-use Rattle.rt_nodes.specs.NodeTest.{Test, fits_within, node_fits_within, component_fits_within, element_fits_within, all_fit, children_fit, node_step, component_step, error_boundary_step, fragment_step, suspense_boundary_step, tree_step}
-use Rattle.rt_nodes.specs.declared.vnode.VNode.{VNode}
-use Rattle.rt_nodes.specs.declared.vnode.VComponent.{VComponent as CodeComponent}
-use Rattle.rt_nodes.specs.declared.vnode.VComponent.TheVariants as c
-use Rattle.rt_nodes.specs.declared.vnode.FragmentProps.{FragmentProps}
-use Rattle.rt_nodes.specs.declared.vnode.ErrorBoundaryProps.{ErrorBoundaryProps}
-use Rattle.rt_nodes.specs.declared.vnode.SuspenseBoundaryProps.{SuspenseBoundaryProps}
-use Rattle.rt_nodes.specs.declared.vnode.RootProps.{RootProps}
-use Rattle.rt_nodes.specs.declared.vnode.DynamicNode.{DynamicNode, the_lemmas}
-use Rattle.rt_nodes.specs.declared.vnode.DynamicNode.TheVariants as s
-use Rattle.rt_nodes.specs.declared.vnode.DynamicNode.TheFolds.{fold_out-VNode}
+use Rattle.tree_nodes.specs.declared.attribute.Attribute.{Attribute}
+use Rattle.tree_nodes.specs.declared.attribute.AttributeValue.{AttributeValue}
+use Rattle.tree_nodes.specs.declared.attribute.AttributeValue.TheVariants as values
+use Rattle.tree_nodes.specs.declared.error.RenderError.{RenderError}
+use Rattle.tree_nodes.specs.declared.error.RenderError.TheVariants as errors
+use Rattle.tree_nodes.specs.Met.{Met, AtElement, AtAttribute, AtText, AtSlot, met_in}
+use Rattle.tree_nodes.specs.Names.{Name, name_of, slot_names}
+use Rattle.tree_nodes.specs.Slots as slots
+use Rattle.tree_nodes.specs.BlockTest.{met_fits, value_fits, attribute_fits, block_fits}
+use Rattle.tree_nodes.specs.NodeTest as code
+use Rattle.tree_nodes.specs.NodeTest.{Test, fits_within, node_fits_within, component_fits_within, element_fits_within, all_fit, children_fit, node_step, component_step, error_boundary_step, fragment_step, suspense_boundary_step, tree_step}
+use Rattle.tree_nodes.specs.declared.vnode.VNode.{VNode}
+use Rattle.tree_nodes.specs.declared.vnode.VComponent.{VComponent as CodeComponent}
+use Rattle.tree_nodes.specs.declared.vnode.VComponent.TheVariants as c
+use Rattle.tree_nodes.specs.declared.vnode.FragmentProps.{FragmentProps}
+use Rattle.tree_nodes.specs.declared.vnode.ErrorBoundaryProps.{ErrorBoundaryProps}
+use Rattle.tree_nodes.specs.declared.vnode.SuspenseBoundaryProps.{SuspenseBoundaryProps}
+use Rattle.tree_nodes.specs.declared.vnode.RootProps.{RootProps}
+use Rattle.tree_nodes.specs.declared.vnode.DynamicNode.{DynamicNode, the_lemmas}
+use Rattle.tree_nodes.specs.declared.vnode.DynamicNode.TheVariants as s
+use Rattle.tree_nodes.specs.declared.vnode.DynamicNode.TheFolds.{fold_out-VNode}
 use Rattle.rt_model.specs.OneLog.{types}
 use Rattle.rt_model.specs.Lists.{same_numbers, same_list}
 use Rattle.rt_model.specs.Tree as model
 use Rattle.rt_model.specs.Tree.{TemplateNodes, no_nodes, element_node, text_node, slot_node, node_slots, attribute_slots, attributes_in, paths_of, Tree, block, Slots, no_slots, more_slots, Slot, text_slot, placeholder_slot, component_slot, fragment_slot, Trees, no_trees, more_trees, VComponent, Own, Root, Fragment, ErrorBoundary, SuspenseBoundary, Element, rendered, failed, suspended}
 use Rattle.rt_model.specs.Fits.{counts_from, row_length, slot_count, given_names, is_plain, plain_listeners, all_plain, nodes_fit, element_names, all_once, template_fits, fits_at, slots_fit, slot_fits, items_fit, component_fits, element_fits, fits}
 use Rattle.rt_model.proofs.Conjunctions.{and-left, and-right}
-use Rattle.rt_mirror.specs.Mirror.{attribute_of, value_of, slots_from, trees_from}
-use Rattle.rt_mirror.specs.Sealed.{nodes_of, template_of, tree_of, slot_of, component_of, element_of}
-use Rattle.rt_mirror.proofs.SealedTrees.{tree_out, slot_Text, slot_Placeholder, slot_Component, slot_Fragment}
-use Rattle.rt_mirror.proofs.SealedComponents.{component_App, component_Root}
+use Rattle.tree_mirror.specs.Mirror.{attribute_of, value_of, slots_from, trees_from}
+use Rattle.tree_mirror.specs.Sealed.{nodes_of, template_of, tree_of, slot_of, component_of, element_of}
+use Rattle.tree_mirror.proofs.SealedTrees.{tree_out, slot_Text, slot_Placeholder, slot_Component, slot_Fragment}
+use Rattle.tree_mirror.proofs.SealedComponents.{component_App, component_Root}
 use Rattle.rt_scopes.proofs.TestNames.{numbered_same}
 use Rattle.rt_scopes.proofs.TestWalks.{Names, bare_fit, count_same, nodes_same, attrs_same, bare_same}
 use Rattle.rt_scopes.proofs.BuiltIns.{by-value, by-component, fragment_children, fragment_is, error_boundary_children, error_boundary_is, suspense_boundary_children, suspense_boundary_is}

@@ -1,14 +1,14 @@
 -- The trees that built-in components answer, at the mirror.
 use Rattle.std.proofs.Common.{◌≡◌, ℕ, List, [], ◌∷◌, map, Err, None, refl, ap, ◌∙◌}
-use Rattle.rt_parts.specs.declared.error.RenderError.{RenderError}
-use Rattle.rt_parts.specs.declared.error.RenderError.TheVariants as errors
-use Rattle.rt_parts.specs.declared.template.TemplateAttribute.{TemplateAttribute}
-use Rattle.rt_parts.specs.declared.template.TemplateNode.{TemplateNode}
-use Rattle.rt_parts.specs.declared.template.TemplateNode.TheVariants as nodes
-use Rattle.rt_nodes.specs.Shown as shown
-use Rattle.rt_nodes.specs.declared.vnode.VNode.{VNode}
-use Rattle.rt_nodes.specs.declared.vnode.DynamicNode.{DynamicNode}
-use Rattle.rt_nodes.specs.declared.vnode.DynamicNode.TheVariants as s
+use Rattle.tree_nodes.specs.declared.error.RenderError.{RenderError}
+use Rattle.tree_nodes.specs.declared.error.RenderError.TheVariants as errors
+use Rattle.tree_nodes.specs.declared.template.TemplateAttribute.{TemplateAttribute}
+use Rattle.tree_nodes.specs.declared.template.TemplateNode.{TemplateNode}
+use Rattle.tree_nodes.specs.declared.template.TemplateNode.TheVariants as nodes
+use Rattle.tree_nodes.specs.Shown as shown
+use Rattle.tree_nodes.specs.declared.vnode.VNode.{VNode}
+use Rattle.tree_nodes.specs.declared.vnode.DynamicNode.{DynamicNode}
+use Rattle.tree_nodes.specs.declared.vnode.DynamicNode.TheVariants as s
 use Rattle.rt_model.specs.OneLog.{types}
 use Rattle.rt_model.specs.Tree as model
 use Rattle.rt_model.specs.Tree.{Types, TemplateNodes, no_nodes, element_node, slot_node, Tree, block, Slot, Slots, more_slots, no_slots, placeholder_slot, Element, failed, suspended, one_slot}
@@ -16,10 +16,10 @@ use Rattle.rt_model.specs.World.{Application}
 use Rattle.rt_model.specs.State.{State, Done, MainSide}
 use Rattle.rt_model.specs.Boundary.{tree_or_placeholder}
 use Rattle.rt_model.specs.Run.{children_tree, has_output, new_output, start_agenda}
-use Rattle.rt_mirror.specs.Mirror.{attribute_in}
-use Rattle.rt_mirror.specs.Sealed.{element_of, nodes_of, slot_of, tree_of}
-use Rattle.rt_mirror.proofs.SealedNodes.{before_Dynamic, before_Element}
-use Rattle.rt_mirror.proofs.SealedTrees.{slot_Placeholder, tree_out}
+use Rattle.tree_mirror.specs.Mirror.{attribute_in}
+use Rattle.tree_mirror.specs.Sealed.{element_of, nodes_of, slot_of, tree_of}
+use Rattle.tree_mirror.proofs.SealedNodes.{before_Dynamic, before_Element}
+use Rattle.tree_mirror.proofs.SealedTrees.{slot_Placeholder, tree_out}
 use Rattle.std.specs.Prelude.{if◌then◌else◌}
 use Rattle.rt_scopes.specs.Bodies.{unanswered}
 

@@ -3,7 +3,7 @@ use Rattle.std.proofs.Common.{◌≡◌, ℕ, ◌+◌, ◌<◌, ◌≤◌, List,
 use Rattle.std.proofs.Math.ListN.{drop_of_length-le}
 use Rattle.rt_model.specs.Tree.{Types}
 use Rattle.rt_model.specs.State.{State, Outcome, Done, onward}
-use Rattle.rt_state.specs.declared.names.Stop.{Stop}
+use Rattle.run_state.specs.declared.names.Stop.{Stop}
 use Rattle.rt_scopes.specs.Outcomes.{CutBy}
 use Rattle.rt_scopes.specs.Hooks.{in_turn}
 use Rattle.rt_scopes.proofs.Onward.{cut_on, cut_as}

@@ -1,17 +1,17 @@
 -- The agenda of a new tree on a side, as the model has it.
 use Rattle.std.specs.Prelude.{◌≡◌, ℕ, List, [], ◌++◌, Some}
-use Rattle.rt_nodes.specs.declared.vnode.VNode.{VNode}
+use Rattle.tree_nodes.specs.declared.vnode.VNode.{VNode}
 use Rattle.rt_model.specs.OneLog.{types}
 use Rattle.rt_model.specs.World.{Application}
 use Rattle.rt_model.specs.Laws.{Tests}
 use Rattle.rt_model.specs.Tree.{spots}
 use Rattle.rt_model.specs.Run.{spots_of, serves, drops_of, kept_numbers, kept_children}
-use Rattle.rt_mirror.specs.Sealed.{tree_of}
-use Rattle.rt_places.specs.declared.side.Side.{Side}
-use Rattle.rt_places.specs.declared.side.SideName.{SideName}
-use Rattle.rt_places.specs.Places.{side_name_of, side_of}
-use Rattle.rt_work.specs.declared.item.Item.{Item}
-use Rattle.rt_work.specs.Items.{work_of}
+use Rattle.tree_mirror.specs.Sealed.{tree_of}
+use Rattle.run_places.specs.declared.side.Side.{Side}
+use Rattle.run_places.specs.declared.side.SideName.{SideName}
+use Rattle.run_places.specs.Places.{side_name_of, side_of}
+use Rattle.run_work.specs.declared.item.Item.{Item}
+use Rattle.run_work.specs.Items.{work_of}
 
 module _ {P C Q V H T E L : Type 0} where
   -- a side with another output: what it keeps, and the work that this leads to

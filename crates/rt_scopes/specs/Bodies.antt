@@ -1,9 +1,9 @@
 -- What a body's call leaves, and what follows it.
 use Rattle.std.specs.Prelude.{◌≡◌, ◌≢◌, ℕ, Bool, true, List, [], map, Option, Some, None, Result, Ok, Err}
-use Rattle.rt_nodes.specs.declared.vnode.VNode.{VNode}
-use Rattle.rt_parts.specs.declared.error.RenderError.{RenderError}
-use Rattle.rt_parts.specs.declared.error.RenderError.TheVariants as errors
-use Rattle.rt_parts.specs.declared.error.CapturedError.{CapturedError}
+use Rattle.tree_nodes.specs.declared.vnode.VNode.{VNode}
+use Rattle.tree_nodes.specs.declared.error.RenderError.{RenderError}
+use Rattle.tree_nodes.specs.declared.error.RenderError.TheVariants as errors
+use Rattle.tree_nodes.specs.declared.error.CapturedError.{CapturedError}
 use Rattle.rt_model.specs.OneLog.{types}
 use Rattle.rt_model.specs.Tree as tree
 use Rattle.rt_model.specs.Tree.{Types}
@@ -12,16 +12,17 @@ use Rattle.rt_model.specs.World.{Application}
 use Rattle.rt_model.specs.State as state
 use Rattle.rt_model.specs.State.{Outcome, world_of}
 use Rattle.rt_model.specs.Run.{answered_with, called_where, children_tree, error_tree, plain}
-use Rattle.rt_mirror.specs.Mirror.{error_of}
-use Rattle.rt_mirror.specs.Sealed.{element_of}
-use Rattle.rt_calls.specs.Calls.{command_of, firsts_of, newest_first, refusal_of, source_of}
-use Rattle.rt_calls.specs.declared.faults.CxFault.TheVariants.{OutOfMemory}
-use Rattle.rt_calls.specs.declared.rest.Scope.{Scope}
-use Rattle.rt_calls.specs.declared.turn.TurnParts.{TurnParts}
-use Rattle.rt_calls.specs.declared.world.Firsts.{Firsts}
-use Rattle.rt_state.specs.declared.names.Stop.{Stop}
-use Rattle.rt_state.specs.declared.state.State.{State}
-use Rattle.rt_state.specs.Mirror.{Unkept, state_of}
+use Rattle.tree_mirror.specs.Mirror.{error_of}
+use Rattle.tree_mirror.specs.Sealed.{element_of}
+use Rattle.run_records.specs.Records.{command_of, firsts_of, newest_first, source_of}
+use Rattle.author_calls.specs.Calls.{refusal_of}
+use Rattle.run_records.specs.declared.faults.CxFault.TheVariants.{OutOfMemory}
+use Rattle.run_records.specs.declared.rest.Scope.{Scope}
+use Rattle.author_calls.specs.declared.turn.TurnParts.{TurnParts}
+use Rattle.run_records.specs.declared.world.Firsts.{Firsts}
+use Rattle.run_state.specs.declared.names.Stop.{Stop}
+use Rattle.run_state.specs.declared.state.State.{State}
+use Rattle.run_state.specs.Mirror.{Unkept, state_of}
 use Rattle.rt_scopes.specs.Counts.{CountsOn, counts_where}
 use Rattle.rt_scopes.specs.Outcomes.{CutBy}
 

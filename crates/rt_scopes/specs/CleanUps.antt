@@ -7,11 +7,11 @@ use Rattle.rt_model.specs.State as model
 use Rattle.rt_model.specs.State.{Outcome, hooks_of, world_of}
 use Rattle.rt_model.specs.Run.{called_once}
 use Rattle.rt_model.specs.Removal.{clean_ups, cleaned_by, cleaned_in, stopped}
-use Rattle.rt_calls.specs.Calls.{command_of}
-use Rattle.rt_calls.specs.declared.command.Command.{Command as CodeCommand}
-use Rattle.rt_state.specs.declared.names.Stop.{Stop}
-use Rattle.rt_state.specs.Mirror.{Unkept, state_of}
-use Rattle.rt_state.specs.declared.state.State.{State}
+use Rattle.run_records.specs.Records.{command_of}
+use Rattle.run_records.specs.declared.command.Command.{Command as CodeCommand}
+use Rattle.run_state.specs.declared.names.Stop.{Stop}
+use Rattle.run_state.specs.Mirror.{Unkept, state_of}
+use Rattle.run_state.specs.declared.state.State.{State}
 use Rattle.rt_scopes.specs.Counts.{CountsOn}
 use Rattle.rt_scopes.specs.Outcomes.{CutBy}
 

@@ -4,10 +4,10 @@ use Rattle.rt_model.specs.Tree.{Types}
 use Rattle.rt_model.specs.OneLog.{types}
 use Rattle.rt_model.specs.World.{World}
 use Rattle.rt_model.specs.State.{world_of}
-use Rattle.rt_state.specs.declared.names.Stop.{Stop}
-use Rattle.rt_state.specs.declared.names.Stop.TheVariants as stops
-use Rattle.rt_state.specs.declared.state.State.{State}
-use Rattle.rt_state.specs.Mirror.{Unkept, counts, state_of}
+use Rattle.run_state.specs.declared.names.Stop.{Stop}
+use Rattle.run_state.specs.declared.names.Stop.TheVariants as stops
+use Rattle.run_state.specs.declared.state.State.{State}
+use Rattle.run_state.specs.Mirror.{Unkept, counts, state_of}
 
 -- a count stands for so many calls, up to its last value
 abbrev pub Counts : ℕ → ℕ → Type 0

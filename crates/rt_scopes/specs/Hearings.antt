@@ -1,6 +1,6 @@
 -- What a listener makes of an event.
 use Rattle.std.specs.Prelude.{◌≡◌, ℕ, false, None, Some, Result, Ok, Err}
-use Rattle.rt_parts.specs.declared.event.Event.{Event as CodeEvent}
+use Rattle.tree_nodes.specs.declared.event.Event.{Event as CodeEvent}
 use Rattle.rt_model.specs.Tree.{Types}
 use Rattle.rt_model.specs.OneLog.{types}
 use Rattle.rt_model.specs.World.{Application, CallFault, Event, Meaning}
@@ -9,12 +9,12 @@ use Rattle.rt_model.specs.State.{Fault, world_of}
 use Rattle.rt_model.specs.Commands.{commands}
 use Rattle.rt_model.specs.Run as run
 use Rattle.rt_model.specs.Run.{called_once, with_next}
-use Rattle.rt_calls.specs.Answers.{event_of}
-use Rattle.rt_state.specs.declared.names.Stop.{Stop}
-use Rattle.rt_state.specs.declared.names.Stop.TheVariants as stops
-use Rattle.rt_state.specs.Mirror.{Unkept, state_of}
-use Rattle.rt_state.specs.Names.{fault_of}
-use Rattle.rt_state.specs.declared.state.State.{State}
+use Rattle.author_calls.specs.Answers.{event_of}
+use Rattle.run_state.specs.declared.names.Stop.{Stop}
+use Rattle.run_state.specs.declared.names.Stop.TheVariants as stops
+use Rattle.run_state.specs.Mirror.{Unkept, state_of}
+use Rattle.run_state.specs.Names.{fault_of}
+use Rattle.run_state.specs.declared.state.State.{State}
 use Rattle.rt_scopes.specs.Counts.{CountsOn}
 
 module _ {K : Types} (app : Application K) where

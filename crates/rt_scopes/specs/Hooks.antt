@@ -4,8 +4,8 @@ use Rattle.rt_model.specs.Tree.{Types}
 use Rattle.rt_model.specs.World.{Application, after_render_kind, before_render_kind}
 use Rattle.rt_model.specs.State.{State, Outcome, Done, onward, is_live}
 use Rattle.rt_model.specs.Run.{acted}
-use Rattle.rt_calls.specs.declared.rows.Hook.{Hook}
-use Rattle.rt_calls.specs.declared.rows.Hook.TheVariants as hooks
+use Rattle.run_records.specs.declared.rows.Hook.{Hook}
+use Rattle.run_records.specs.declared.rows.Hook.TheVariants as hooks
 
 -- the kind of the hooks that are called after a run, or before it
 abbrev pub render_kind : Bool → ℕ

@@ -4,14 +4,14 @@ use Rattle.rt_model.specs.Tree.{Types}
 use Rattle.rt_model.specs.OneLog.{types}
 use Rattle.rt_model.specs.State as model
 use Rattle.rt_model.specs.State.{Outcome, Done, Cut, Item}
-use Rattle.rt_state.specs.declared.names.Stop.{Stop}
-use Rattle.rt_state.specs.declared.names.Stop.TheVariants as stops
-use Rattle.rt_state.specs.declared.state.State.{State}
-use Rattle.rt_state.specs.Mirror.{Unkept, state_of}
-use Rattle.rt_state.specs.Names.{fault_of}
-use Rattle.rt_calls.specs.declared.faults.CxFault.{CxFault}
-use Rattle.rt_calls.specs.declared.faults.CxFault.TheVariants as refusals
-use Rattle.rt_state.specs.declared.names.Fault.TheVariants as faults
+use Rattle.run_state.specs.declared.names.Stop.{Stop}
+use Rattle.run_state.specs.declared.names.Stop.TheVariants as stops
+use Rattle.run_state.specs.declared.state.State.{State}
+use Rattle.run_state.specs.Mirror.{Unkept, state_of}
+use Rattle.run_state.specs.Names.{fault_of}
+use Rattle.run_records.specs.declared.faults.CxFault.{CxFault}
+use Rattle.run_records.specs.declared.faults.CxFault.TheVariants as refusals
+use Rattle.run_state.specs.declared.names.Fault.TheVariants as faults
 use Rattle.rt_scopes.specs.Counts.{CountsOn}
 
 -- what a refusal of a call leads to

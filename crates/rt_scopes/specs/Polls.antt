@@ -8,9 +8,9 @@ use Rattle.rt_model.specs.State as model
 use Rattle.rt_model.specs.State.{world_of}
 use Rattle.rt_model.specs.Run.{called_once}
 use Rattle.rt_model.specs.Replay.{left_by_poll, polled_apart_by, polled_by}
-use Rattle.rt_state.specs.declared.names.Stop.{Stop}
-use Rattle.rt_state.specs.declared.state.State.{State}
-use Rattle.rt_state.specs.Mirror.{Unkept, state_of}
+use Rattle.run_state.specs.declared.names.Stop.{Stop}
+use Rattle.run_state.specs.declared.state.State.{State}
+use Rattle.run_state.specs.Mirror.{Unkept, state_of}
 use Rattle.rt_scopes.specs.Counts.{CountsOn}
 use Rattle.rt_scopes.specs.Outcomes.{Came, no_work}
 

@@ -5,9 +5,9 @@ use Rattle.rt_model.specs.OneLog.{types}
 use Rattle.rt_model.specs.State as state
 use Rattle.rt_model.specs.Lists.{at}
 use Rattle.rt_model.specs.Boundary.{children_among, side_scopes}
-use Rattle.rt_places.specs.declared.side.Side.{Side}
-use Rattle.rt_places.specs.declared.spot.Spot.{Spot}
-use Rattle.rt_places.specs.Places.{side_of, spot_of}
+use Rattle.run_places.specs.declared.side.Side.{Side}
+use Rattle.run_places.specs.declared.spot.Spot.{Spot}
+use Rattle.run_places.specs.Places.{side_of, spot_of}
 
 module _ {K : tree.Types} where
   -- the scopes on the fallback's side of a live boundary

@@ -5,21 +5,20 @@ ghost use Rattle.rt_model.specs.World.{Application};
 ghost use Rattle.rt_model.specs.Laws.{Tests};
 ghost use Rattle.rt_model.specs.State.{Done};
 ghost use Rattle.rt_model.specs.Run.{start_agenda as agenda_started};
-ghost use Rattle.rt_mirror.specs.Sealed.{tree_of};
-ghost use Rattle.rt_places.specs.Places.{side_name_of, side_of as side_in};
-ghost use Rattle.rt_named.specs.Standings.{IsPicked};
-ghost use Rattle.rt_work.specs.Items.{work_of};
-ghost use Rattle.rt_state.specs.Drawn.{numbers_at, numbers_in};
-ghost use Rattle.rt_state.specs.Mirror.{state_of};
+ghost use Rattle.tree_mirror.specs.Sealed.{tree_of};
+ghost use Rattle.run_places.specs.Places.{side_name_of, side_of as side_in};
+ghost use Rattle.run_named.specs.Standings.{IsPicked};
+ghost use Rattle.run_work.specs.Items.{work_of};
+ghost use Rattle.run_state.specs.Drawn.{numbers_at, numbers_in};
+ghost use Rattle.run_state.specs.Mirror.{state_of};
 ghost use Rattle.rt_scopes.specs.Agendas.{Patches};
 
-use rt_nodes::VNode;
-use rt_parts::Parts;
-use rt_places::{Nodes, Seats, Side, SideName};
-use rt_state::{State, side_of};
 use rt_values::{List, OutOfMemory};
-use rt_work::{Item, Patched, all_stay, walk_both};
+use run_places::{Nodes, Seats, Side, SideName};
+use run_state::{State, side_of};
+use run_work::{Item, Patched, all_stay, walk_both};
 use std::alloc::Global;
+use tree_nodes::{Parts, VNode};
 
 /// A tree becomes the kept output of a side of a live scope, which keeps the numbers and children
 /// that match. The answer is its agenda: numbers, feeds and makes, then drops. Where all nodes stay

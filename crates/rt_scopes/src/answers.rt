@@ -9,22 +9,21 @@ ghost use Rattle.rt_model.specs.State.{MainSide};
 ghost use Rattle.rt_model.specs.Commands.{throw_error};
 ghost use Rattle.rt_model.specs.Run as run;
 ghost use Rattle.rt_model.specs.Run.{settled_answer, after_hooks, start_agenda, has_output};
-ghost use Rattle.rt_mirror.specs.Mirror.{error_of};
-ghost use Rattle.rt_mirror.specs.Sealed.{element_of, tree_of};
-ghost use Rattle.rt_places.specs.Places.{side_name_of};
-ghost use Rattle.rt_work.specs.Items.{work_of};
+ghost use Rattle.tree_mirror.specs.Mirror.{error_of};
+ghost use Rattle.tree_mirror.specs.Sealed.{element_of, tree_of};
+ghost use Rattle.run_places.specs.Places.{side_name_of};
+ghost use Rattle.run_work.specs.Items.{work_of};
 ghost use Rattle.rt_scopes.specs.Bodies.{unanswered};
 ghost use Rattle.rt_scopes.specs.Outcomes.{Comes, no_work};
 
 use crate::agenda::start_agenda;
 use crate::scopes::Scopes;
-use rt_calls::{App, Calls};
-use rt_nodes::{Element, VNode};
-use rt_parts::{CapturedError, RenderError};
-use rt_places::SideName;
-use rt_state::Stop;
+use author_calls::{App, Calls};
 use rt_values::{List, ScopeId};
-use rt_work::Item;
+use run_places::SideName;
+use run_state::Stop;
+use run_work::Item;
+use tree_nodes::{CapturedError, Element, RenderError, VNode};
 
 impl<A: App> Scopes<A> {
     /// The answer settles, the after-render hooks are called, the output changes. The agenda.

@@ -5,12 +5,12 @@ ghost use Rattle.rt_model.specs.State.{world_of};
 ghost use Rattle.rt_model.specs.Replay as replay;
 ghost use Rattle.rt_scopes.specs.Outcomes.{Comes, no_work};
 ghost use Rattle.rt_scopes.specs.Polls.{PollsApart};
-ghost use Rattle.rt_state.specs.Mirror.{state_of};
+ghost use Rattle.run_state.specs.Mirror.{state_of};
 
 use crate::scopes::{Scopes, apart};
-use rt_calls::{App, Calls, Cx, Plain, TaskStep};
-use rt_state::Stop;
+use author_calls::{App, Calls, Cx, Plain, TaskStep};
 use rt_values::{ScopeId, Task};
+use run_state::Stop;
 
 impl<A: App> Scopes<A> {
     /// Polls a task without the look: its wakes are spent. Whether it is ready, as a task that isn't

@@ -7,23 +7,24 @@ ghost use Rattle.rt_model.specs.OneLog.{types};
 ghost use Rattle.rt_model.specs.World.{Application};
 ghost use Rattle.rt_model.specs.Run as run;
 ghost use Rattle.rt_model.specs.Tree as model;
-ghost use Rattle.rt_mirror.specs.Sealed.{component_of, element_of};
-ghost use Rattle.rt_mirror.specs.Mirror as mirror;
-ghost use Rattle.rt_mirror.specs.Mirror.{fallback_of, handler_of};
-ghost use Rattle.rt_calls.specs.declared.faults.CxFault.TheVariants as refusals;
-ghost use Rattle.rt_state.specs.declared.names.Stop.TheVariants as stops;
+ghost use Rattle.tree_mirror.specs.Sealed.{component_of, element_of};
+ghost use Rattle.tree_mirror.specs.Mirror as mirror;
+ghost use Rattle.tree_mirror.specs.Mirror.{fallback_of, handler_of};
+ghost use Rattle.run_records.specs.declared.faults.CxFault.TheVariants as refusals;
+ghost use Rattle.run_state.specs.declared.names.Stop.TheVariants as stops;
 ghost use Rattle.rt_scopes.specs.Counts.{RaisesWhere, raised_where};
 ghost use Rattle.rt_scopes.specs.Bodies.{Answers, Leaves, Settles, answer_in, error_kept, handled_by, plain_left, settled_result};
 
 use crate::scopes::{Left, Scopes};
 use crate::trees::{children_tree, copy_of, error_tree, root_tree};
-use rt_calls::{App, BodyCx, Calls, TurnParts};
+use author_calls::{App, BodyCx, Calls, TurnParts};
 use rt_cells::Source;
-use rt_fits::fits;
-use rt_nodes::{Element, ErrorHandler, Fallback, RootProps, VComponent, VNode};
-use rt_parts::{CapturedError, Parts};
-use rt_state::{Fault, State, Stop};
 use rt_values::{List, OutOfMemory, Part, ScopeId, Text};
+use run_state::{Fault, State, Stop};
+use tree_fits::fits;
+use tree_nodes::{
+    CapturedError, Element, ErrorHandler, Fallback, Parts, RootProps, VComponent, VNode,
+};
 
 /// Whether the node test lets an answer pass.
 fn answer_fits<P: Parts>(answer: &Element<P>) -> bool

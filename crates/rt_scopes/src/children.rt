@@ -5,15 +5,15 @@ ghost use Rattle.rt_model.specs.State.{change, empty_side};
 ghost use Rattle.rt_model.specs.Boundary.{side_scopes as scopes_on, live_child};
 ghost use Rattle.rt_model.specs.Removal.{children_below as all_below, next_removed as first_removed};
 ghost use Rattle.rt_model.specs.Replay.{fed_child as child_fed};
-ghost use Rattle.rt_places.specs.Places.{place_of, side_name_of, side_of};
-ghost use Rattle.rt_state.specs.Mirror.{state_of};
+ghost use Rattle.run_places.specs.Places.{place_of, side_name_of, side_of};
+ghost use Rattle.run_state.specs.Mirror.{state_of};
 ghost use Rattle.rt_scopes.specs.Sides.{child_here, fallback_scopes_in};
 
-use rt_parts::Parts;
-use rt_places::{Place, Side, SideName, Spot, spots};
-use rt_state::{State, side_of};
 use rt_values::{List, OutOfMemory};
+use run_places::{Place, Side, SideName, Spot, spots};
+use run_state::{State, side_of};
 use std::alloc::Global;
+use tree_nodes::Parts;
 
 /// The live child scopes of a side, in tree order.
 pub fn side_scopes<P: Parts>(

@@ -8,11 +8,12 @@ ghost use Rattle.rt_scopes.specs.Outcomes.{Comes, no_work};
 ghost use Rattle.rt_scopes.specs.Hooks.{effect_in, effects_in, in_turn, one_called, render_kind};
 
 use crate::scopes::{Scopes, apart};
-use rt_calls::{AFTER_RENDER, App, BEFORE_RENDER, Calls, Cx, Hook, Plain};
-use rt_parts::Parts;
-use rt_state::Stop;
+use author_calls::{App, Calls, Cx, Plain};
 use rt_values::{List, OutOfMemory, Part, ScopeId};
+use run_records::{AFTER_RENDER, BEFORE_RENDER, Hook};
+use run_state::Stop;
 use std::alloc::Global;
+use tree_nodes::Parts;
 
 /// Copies of the effects of a kind among these hooks, in order.
 fn effects_of_kind<P: Parts>(

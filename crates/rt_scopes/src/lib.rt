@@ -17,13 +17,13 @@ mod scopes;
 mod trees;
 
 pub use agenda::start_agenda;
+pub use author_calls::{App, BodyCx, BodyTurn, Calls, Cx, TaskStep, Turn, TurnParts};
 pub use children::{children_below, drop_fallback, fed_child, next_removed, side_scopes};
-pub use rt_calls::{
-    App, BodyCx, BodyTurn, Calls, Command, Counter, Cx, CxFault, Firsts, Hook, Provided,
-    Provisions, Rows, ScopeRow, TaskStep, Turn, TurnParts, World,
+pub use run_records::{
+    Command, Counter, CxFault, Firsts, Hook, Provided, Provisions, Rows, ScopeRow, World,
 };
-pub use rt_reports::Fault;
-pub use rt_state::{NotBuilt, ScopeState, get_scope};
+pub use run_reports::Fault;
+pub use run_state::{NotBuilt, ScopeState, get_scope};
 pub use runs::row_items;
 pub use scopes::{Left, Scopes};
 pub use trees::placeholder_or;

@@ -3,10 +3,10 @@ ghost use Rattle.std.specs.Prelude.{◌≡◌};
 ghost use Rattle.rt_scopes.specs.Hearings.{Hears};
 
 use crate::scopes::{Scopes, apart};
-use rt_calls::{App, Calls, Cx, Plain};
-use rt_parts::Event;
-use rt_state::Stop;
+use author_calls::{App, Calls, Cx, Plain};
 use rt_values::ScopeId;
+use run_state::Stop;
+use tree_nodes::Event;
 
 impl<A: App> Scopes<A> {
     /// Calls a listener's handler with an event, in the scope that it belongs to, and then does

@@ -4,15 +4,16 @@ ghost use Rattle.rt_model.specs.Laws.{Tests};
 ghost use Rattle.rt_model.specs.OneLog.{types};
 ghost use Rattle.rt_model.specs.World.{Application};
 ghost use Rattle.rt_model.specs.Replay.{polled};
-ghost use Rattle.rt_calls.specs.Answers.{step_of};
-ghost use Rattle.rt_calls.specs.Calls.{command_of};
+ghost use Rattle.author_calls.specs.Answers.{step_of};
+ghost use Rattle.run_records.specs.Records.{command_of};
 ghost use Rattle.rt_scopes.specs.Outcomes.{Comes, no_work};
 ghost use Rattle.rt_scopes.specs.Polls.{IsLeft, Polls};
 
 use crate::scopes::Scopes;
-use rt_calls::{App, Calls, Command, TaskStep};
-use rt_state::Stop;
+use author_calls::{App, Calls, TaskStep};
 use rt_values::{List, OutOfMemory, Task};
+use run_records::Command;
+use run_state::Stop;
 
 impl<A: App> Scopes<A> {
     /// Polls a task: its wakes are spent, and a task that has ended goes. A look follows.

@@ -5,9 +5,10 @@ ghost use Rattle.rt_scopes.specs.Outcomes.{Comes, no_work};
 ghost use Rattle.rt_scopes.specs.CleanUps.{ComesWaiting, one_cleaned, removed_where};
 
 use crate::scopes::{Scopes, apart};
-use rt_calls::{App, Calls, Command, Cx, Plain};
-use rt_state::{Stop, clean_ups};
+use author_calls::{App, Calls, Cx, Plain};
 use rt_values::{List, ScopeId};
+use run_records::Command;
+use run_state::{Stop, clean_ups};
 
 impl<A: App> Scopes<A> {
     /// Removes a scope that has no child left, in a patch or outside of one: its tasks end, its marks

@@ -3,21 +3,20 @@ ghost use Rattle.std.specs.Prelude.{◌≡◌, map, IfOk, option_map};
 ghost use Rattle.rt_model.specs.Run as run;
 ghost use Rattle.rt_model.specs.Run.{after_hooks, boundary_run, call_body};
 ghost use Rattle.rt_model.specs.State.{Done, onward};
-ghost use Rattle.rt_mirror.specs.Sealed.{component_of};
-ghost use Rattle.rt_places.specs.Places.{side_name_of};
-ghost use Rattle.rt_work.specs.Items.{row_step_of, work_of};
+ghost use Rattle.tree_mirror.specs.Sealed.{component_of};
+ghost use Rattle.run_places.specs.Places.{side_name_of};
+ghost use Rattle.run_work.specs.Items.{row_step_of, work_of};
 ghost use Rattle.rt_scopes.specs.Outcomes.{Comes};
 ghost use Rattle.rt_scopes.specs.Runs.{body_run, steps_run};
 
 use crate::scopes::Scopes;
-use rt_calls::{App, Calls};
-use rt_nodes::VComponent;
-use rt_parts::Parts;
-use rt_places::SideName;
-use rt_state::{Stop, is_held, is_suspense_boundary};
+use author_calls::{App, Calls};
 use rt_values::{List, OutOfMemory, ScopeId};
-use rt_work::{Item, RowStep};
+use run_places::SideName;
+use run_state::{Stop, is_held, is_suspense_boundary};
+use run_work::{Item, RowStep};
 use std::alloc::Global;
+use tree_nodes::{Parts, VComponent};
 
 /// The steps of a suspense boundary's run, by the side that shows and by whether it is held at its
 /// start.

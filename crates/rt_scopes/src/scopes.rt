@@ -5,17 +5,18 @@ ghost use Rattle.rt_model.specs.Laws.{Tests};
 ghost use Rattle.rt_model.specs.OneLog.{types};
 ghost use Rattle.rt_model.specs.World.{Application};
 ghost use Rattle.rt_model.specs.Commands.{commands as done_by_all};
-ghost use Rattle.rt_calls.specs.Calls.{command_of};
-ghost use Rattle.rt_calls.specs.declared.faults.CxFault.{CxFault};
-ghost use Rattle.rt_state.specs.Mirror.{state_of};
-ghost use Rattle.rt_state.specs.Starts.{IsEmpty};
+ghost use Rattle.run_records.specs.Records.{command_of};
+ghost use Rattle.run_records.specs.declared.faults.CxFault.{CxFault};
+ghost use Rattle.run_state.specs.Mirror.{state_of};
+ghost use Rattle.run_state.specs.Starts.{IsEmpty};
 ghost use Rattle.rt_scopes.specs.Outcomes.{stop_of};
 
-use rt_calls::{App, Calls, Command, CxFault, Firsts, TurnParts, no_calls};
-use rt_parts::Parts;
-use rt_state::{Fault, State, Stop};
+use author_calls::{App, Calls, TurnParts, no_calls};
 use rt_values::{List, OutOfMemory, ScopeId};
+use run_records::{Command, CxFault, Firsts};
+use run_state::{Fault, State, Stop};
 use std::alloc::Global;
+use tree_nodes::Parts;
 
 /// All that is kept between two calls of an application.
 #[derive(Drop)]

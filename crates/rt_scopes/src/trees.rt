@@ -1,19 +1,18 @@
 //! The trees that built-in components answer.
 ghost use Rattle.std.specs.Prelude.{◌≡◌, ◌∷◌, [], None, Some, IfOk};
-ghost use Rattle.rt_parts.specs.declared.template.TemplateAttribute.TheVariants as attributes;
-ghost use Rattle.rt_parts.specs.declared.template.TemplateNode.TheVariants as nodes;
+ghost use Rattle.tree_nodes.specs.declared.template.TemplateAttribute.TheVariants as attributes;
+ghost use Rattle.tree_nodes.specs.declared.template.TemplateNode.TheVariants as nodes;
 ghost use Rattle.rt_model.specs.Boundary.{tree_or_placeholder};
 ghost use Rattle.rt_model.specs.Run as run;
 ghost use Rattle.rt_model.specs.Tree as model;
-ghost use Rattle.rt_mirror.specs.Sealed.{element_of, slot_of, tree_of};
+ghost use Rattle.tree_mirror.specs.Sealed.{element_of, slot_of, tree_of};
 
-use rt_nodes::{
-    DynamicNode, Element, ErrorBoundaryProps, ErrorHandler, Fallback, SuspenseBoundaryProps,
-    VComponent, VNode,
-};
-use rt_parts::{Parts, Template, TemplateAttribute, TemplateNode};
 use rt_values::{Boxed, List, OutOfMemory, Shared, Text};
 use std::alloc::Global;
+use tree_nodes::{
+    DynamicNode, Element, ErrorBoundaryProps, ErrorHandler, Fallback, Parts, SuspenseBoundaryProps,
+    Template, TemplateAttribute, TemplateNode, VComponent, VNode,
+};
 
 /// The tree of this template, whose one slot has this value.
 fn block_of<P: Parts>(

@@ -9,7 +9,7 @@ use Rattle.rt_inbox.specs.declared.message.Msg.{Msg}
 use Rattle.rt_model.specs.Lists.{nth, or_else}
 use Rattle.rt_model.specs.Replay as replay
 use Rattle.rt_model.specs.Merge as model
-use Rattle.rt_reports.specs.Seen.{message_of, post_of}
+use Rattle.run_reports.specs.Seen.{message_of, post_of}
 use Rattle.rt_session.specs.Merges.{MergesAgree}
 
 one_more : (b : Bool) (m : Msg) (xs : List replay.Message) (ms : List Msg) → xs ≡ map message_of ms → (if b then message_of m ∷ xs else xs) ≡ map message_of (cond b (m ∷ ms) ms)

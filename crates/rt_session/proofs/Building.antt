@@ -3,17 +3,18 @@ use Rattle.std.proofs.Common.{◌≡◌, ℕ, List, [], ◌∷◌, ◌++◌, map
 use Rattle.std.specs.Prelude.{Option, Result, Ok, Err}
 use Rattle.rt_edits.specs.declared.edit.Edit.{Edit}
 use Rattle.rt_inbox.specs.declared.message.Msg.{Msg}
-use Rattle.rt_machine.specs.Ends.{Ends, Took}
-use Rattle.rt_machine.specs.Machines.{IsFresh, noted}
-use Rattle.rt_machine.specs.Runs.{Runs, Sofar}
-use Rattle.rt_machine.specs.Stands.{ReportsAs}
-use Rattle.rt_machine.specs.declared.ended.Ended.{Ended}
-use Rattle.rt_machine.specs.declared.ended.Ended.TheVariants as ends
-use Rattle.rt_machine.specs.declared.machine.Machine.{Machine}
-use Rattle.rt_machine.proofs.Opening.{building}
-use Rattle.rt_machine.proofs.Reporting.{runs_first, runs_first_cut, runs_first_wanting}
-use Rattle.rt_machine.proofs.Reports.{edits-first, sofar-begin}
-use Rattle.rt_machine.proofs.Sinks.{ends-low, run-after, took-same}
+use Rattle.run_outside.specs.Ends.{Ends, Took}
+use Rattle.run_machine.specs.Machines.{IsFresh, noted}
+use Rattle.run_machine.specs.Runs.{Runs}
+use Rattle.run_outside.specs.Sofar.{Sofar}
+use Rattle.run_machine.specs.Stands.{ReportsAs}
+use Rattle.run_outside.specs.declared.ended.Ended.{Ended}
+use Rattle.run_outside.specs.declared.ended.Ended.TheVariants as ends
+use Rattle.run_machine.specs.declared.machine.Machine.{Machine}
+use Rattle.run_machine.proofs.Opening.{building}
+use Rattle.run_machine.proofs.Reporting.{runs_first, runs_first_cut, runs_first_wanting}
+use Rattle.run_outside.proofs.Reports.{edits-first, sofar-begin}
+use Rattle.run_outside.proofs.Sinks.{ends-low, run-after, took-same}
 use Rattle.rt_model.specs.Merge.{AreSized, drained}
 use Rattle.rt_model.specs.OneLog.{types}
 use Rattle.rt_model.specs.Replay as replay
@@ -21,12 +22,12 @@ use Rattle.rt_model.specs.Replay.{first_state, ones}
 use Rattle.rt_model.specs.Reports.{OpensWith, is_opening}
 use Rattle.rt_model.specs.Told.{count_entries}
 use Rattle.rt_model.specs.World.{Application}
-use Rattle.rt_reports.specs.Counted.{CountsLog, edits_in}
-use Rattle.rt_reports.specs.Seen.{entry_of, limits_of}
-use Rattle.rt_reports.specs.declared.limits.Limits.{Limits}
-use Rattle.rt_reports.specs.declared.report.Report.{Report}
-use Rattle.rt_state.specs.Mirror.{at_first, state_of}
-use Rattle.rt_state.specs.declared.names.Stop.TheVariants as stops
+use Rattle.run_reports.specs.Counted.{CountsLog, edits_in}
+use Rattle.run_reports.specs.Seen.{entry_of, limits_of}
+use Rattle.run_reports.specs.declared.limits.Limits.{Limits}
+use Rattle.run_reports.specs.declared.report.Report.{Report}
+use Rattle.run_state.specs.Mirror.{at_first, state_of}
+use Rattle.run_state.specs.declared.names.Stop.TheVariants as stops
 use Rattle.rt_session.specs.Posted.{drains_of}
 use Rattle.rt_session.specs.Sittings.{Awaits, Ceases, IsUnbuilt}
 use Rattle.rt_session.specs.declared.sitting.Sitting.{Sitting}

@@ -12,7 +12,7 @@ use Rattle.rt_model.specs.Merge.{of_poster, IsPosted, IsMerge, IsPostedSoFar, Ha
 use Rattle.rt_model.specs.Replay as replay
 use Rattle.rt_model.specs.Tree.{Types}
 use Rattle.rt_model.specs.World.{Application}
-use Rattle.rt_reports.specs.Seen.{message_of, post_of}
+use Rattle.run_reports.specs.Seen.{message_of, post_of}
 use Rattle.rt_session.specs.Posted.{drains_of, lists_of}
 use Rattle.rt_session.proofs.Agreeing.{merges_agree}
 

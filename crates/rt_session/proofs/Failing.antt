@@ -7,17 +7,16 @@ use Rattle.rt_inbox.specs.Merge.{IsMerge}
 use Rattle.rt_inbox.specs.declared.message.Msg.{Msg}
 use Rattle.rt_inbox.specs.declared.message.Post.{Post}
 use Rattle.rt_inbox.specs.declared.taken.Taken.{Taken}
-use Rattle.rt_machine.specs.Ends.{Ends}
-use Rattle.rt_machine.specs.Machines.{fault_in}
-use Rattle.rt_machine.specs.Sessions.{BrokeOff, Finished, FinishedAt}
-use Rattle.rt_machine.specs.Short.{PartBy}
-use Rattle.rt_machine.specs.Stands.{RunsAs}
-use Rattle.rt_machine.specs.declared.ended.Ended.{Ended}
-use Rattle.rt_machine.specs.declared.ended.Ended.TheVariants as ends
-use Rattle.rt_machine.proofs.Reporting.{runs_ended, runs_none_wanting, wanting}
-use Rattle.rt_machine.proofs.Reports.{sofar-end}
-use Rattle.rt_machine.proofs.Short.{short_as}
-use Rattle.rt_machine.proofs.Sinks.{ends-run}
+use Rattle.run_outside.specs.Ends.{Ends, fault_in}
+use Rattle.run_outside.specs.Sessions.{BrokeOff, Finished, FinishedAt}
+use Rattle.run_outside.specs.Short.{PartBy}
+use Rattle.run_machine.specs.Stands.{RunsAs}
+use Rattle.run_outside.specs.declared.ended.Ended.{Ended}
+use Rattle.run_outside.specs.declared.ended.Ended.TheVariants as ends
+use Rattle.run_machine.proofs.Reporting.{runs_ended, runs_none_wanting, wanting}
+use Rattle.run_outside.proofs.Reports.{sofar-end}
+use Rattle.run_outside.proofs.Short.{short_as}
+use Rattle.run_outside.proofs.Sinks.{ends-run}
 use Rattle.rt_model.specs.Document as doc
 use Rattle.rt_model.specs.Lists.{joined}
 use Rattle.rt_model.specs.Merge.{AreSized, HasFronts, ValidOverCuts, drained}
@@ -26,11 +25,11 @@ use Rattle.rt_model.specs.Replay as replay
 use Rattle.rt_model.specs.Sentences.{IsFrontOf}
 use Rattle.rt_model.specs.State as model
 use Rattle.rt_model.specs.World.{Application}
-use Rattle.rt_reports.specs.Counted.{edits_in}
-use Rattle.rt_reports.specs.Seen.{limits_of, message_of, report_of}
-use Rattle.rt_reports.specs.declared.limits.Limits.{Limits}
-use Rattle.rt_reports.specs.declared.report.Report.{Report}
-use Rattle.rt_state.specs.declared.names.Stop.TheVariants as stops
+use Rattle.run_reports.specs.Counted.{edits_in}
+use Rattle.run_reports.specs.Seen.{limits_of, message_of, report_of}
+use Rattle.run_reports.specs.declared.limits.Limits.{Limits}
+use Rattle.run_reports.specs.declared.report.Report.{Report}
+use Rattle.run_state.specs.declared.names.Stop.TheVariants as stops
 use Rattle.rt_session.specs.Meetings.{AllTaken, Fails, Succeeds}
 use Rattle.rt_session.specs.Posted.{TookAll, drains_of, lists_of}
 use Rattle.rt_session.specs.Sittings.{Awaits, Ceases, IsUnbuilt, IsWanting, TakesIn}

@@ -4,22 +4,23 @@ use Rattle.std.proofs.lemmas.List.{length-map, map-append}
 use Rattle.std.specs.Prelude.{Option, Result, Ok, Err}
 use Rattle.rt_edits.specs.declared.edit.Edit.{Edit}
 use Rattle.rt_inbox.specs.declared.message.Msg.{Msg}
-use Rattle.rt_machine.specs.Ends.{Ends, Took}
-use Rattle.rt_machine.specs.Runs.{Runs, Sofar, StepsTo}
-use Rattle.rt_machine.specs.declared.ended.Ended.{Ended}
-use Rattle.rt_machine.specs.declared.ended.Ended.TheVariants as ends
-use Rattle.rt_machine.specs.declared.machine.Machine.{Machine}
-use Rattle.rt_machine.proofs.Reporting.{runs_wanting}
-use Rattle.rt_machine.proofs.Sinks.{run-after}
+use Rattle.run_outside.specs.Ends.{Ends, Took}
+use Rattle.run_machine.specs.Runs.{Runs, StepsTo}
+use Rattle.run_outside.specs.Sofar.{Sofar}
+use Rattle.run_outside.specs.declared.ended.Ended.{Ended}
+use Rattle.run_outside.specs.declared.ended.Ended.TheVariants as ends
+use Rattle.run_machine.specs.declared.machine.Machine.{Machine}
+use Rattle.run_machine.proofs.Reporting.{runs_wanting}
+use Rattle.run_outside.proofs.Sinks.{run-after}
 use Rattle.rt_model.specs.Merge.{AreSized, drained}
 use Rattle.rt_model.specs.OneLog.{types}
 use Rattle.rt_model.specs.Replay as replay
 use Rattle.rt_model.specs.World.{Application}
-use Rattle.rt_reports.specs.Counted.{edits_in}
-use Rattle.rt_reports.specs.Seen.{limits_of, message_of}
-use Rattle.rt_reports.specs.declared.limits.Limits.{Limits}
-use Rattle.rt_reports.specs.declared.report.Report.{Report}
-use Rattle.rt_state.specs.declared.names.Stop.TheVariants as stops
+use Rattle.run_reports.specs.Counted.{edits_in}
+use Rattle.run_reports.specs.Seen.{limits_of, message_of}
+use Rattle.run_reports.specs.declared.limits.Limits.{Limits}
+use Rattle.run_reports.specs.declared.report.Report.{Report}
+use Rattle.run_state.specs.declared.names.Stop.TheVariants as stops
 use Rattle.rt_session.specs.Posted.{drains_of}
 use Rattle.rt_session.specs.Sittings.{Awaits, Ceases, IsWanting}
 use Rattle.rt_session.specs.declared.sitting.Sitting.{Sitting}

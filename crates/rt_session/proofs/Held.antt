@@ -9,9 +9,9 @@ use Rattle.rt_model.specs.Replay.{Entry, Build, Taken, Input}
 use Rattle.rt_model.specs.Document.{Edit}
 use Rattle.rt_model.specs.Causes.{Limits}
 use Rattle.rt_model.specs.Reports.{Report, logs_of, OneEach, OpensWith, InputsFrom}
-use Rattle.rt_headline.specs.Sessions.{FinishedHold}
-use Rattle.rt_machine.specs.Sessions.{FinishedHeld}
-use Rattle.rt_machine.specs.Short.{RanShort}
+use Rattle.law_headline.specs.Sessions.{FinishedHold}
+use Rattle.run_outside.specs.Sessions.{FinishedHeld}
+use Rattle.run_outside.specs.Short.{RanShort}
 
 opened : (first : Entry) (log : List Entry) → OpensWith first log → log ≢ []
 opened first [] h = absurd h

@@ -7,7 +7,7 @@ use Rattle.std.specs.Prelude.{◌⊎◌, Result, Ok, Err}
 use Rattle.rt_inbox.specs.Ends.{taken_of}
 use Rattle.rt_inbox.specs.declared.message.Msg.{Msg}
 use Rattle.rt_inbox.specs.declared.owner.Owner.{Owner}
-use Rattle.rt_machine.specs.declared.ended.Ended.{Ended}
+use Rattle.run_outside.specs.declared.ended.Ended.{Ended}
 use Rattle.rt_model.specs.Lists.{joined}
 use Rattle.rt_session.specs.Sittings.{AddsMessage, IsWanting, KeepsAll, KeepsDrain, KeepsMessages}
 use Rattle.rt_session.proofs.Cuts.{joined-one}

@@ -8,12 +8,12 @@ use Rattle.rt_inbox.specs.declared.message.Msg.{Msg}
 use Rattle.rt_inbox.specs.declared.message.Post.{Post}
 use Rattle.rt_inbox.specs.declared.owner.Owner.{Owner}
 use Rattle.rt_inbox.specs.declared.taken.Taken.{Taken}
-use Rattle.rt_machine.specs.declared.ended.Ended.{Ended}
+use Rattle.run_outside.specs.declared.ended.Ended.{Ended}
 use Rattle.rt_model.specs.Lists.{joined}
 use Rattle.rt_model.specs.OneLog.{types}
 use Rattle.rt_model.specs.World.{Application}
-use Rattle.rt_reports.specs.declared.limits.Limits.{Limits}
-use Rattle.rt_reports.specs.declared.report.Report.{Report}
+use Rattle.run_reports.specs.declared.limits.Limits.{Limits}
+use Rattle.run_reports.specs.declared.report.Report.{Report}
 use Rattle.rt_session.specs.Meetings.{Fails, HasTaken, HoldsAs, OwnsAs, Succeeds}
 use Rattle.rt_session.specs.Sittings.{IsUnbuilt, IsWanting, TakesIn}
 use Rattle.rt_session.specs.declared.sitting.Sitting.{Sitting}

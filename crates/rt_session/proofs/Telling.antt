@@ -2,13 +2,13 @@
 use Rattle.std.proofs.Common.{◌≡◌, ◌≢◌, ℕ, List, map, refl, sym, ◌∙◌, subst, inl, inr}
 use Rattle.std.specs.Prelude.{◌⊎◌, Option}
 use Rattle.rt_edits.specs.declared.edit.Edit.{Edit}
-use Rattle.rt_headline.specs.Sessions.{FinishedHold}
+use Rattle.law_headline.specs.Sessions.{FinishedHold}
 use Rattle.rt_inbox.specs.declared.message.Msg.{Msg}
 use Rattle.rt_inbox.specs.declared.message.Post.{Post}
-use Rattle.rt_machine.specs.Sessions.{Broken, BrokeOff, CameAt, FinishedAt}
-use Rattle.rt_machine.specs.Short.{PartBy, PartOf}
-use Rattle.rt_machine.specs.declared.ended.Ended.{Ended}
-use Rattle.rt_machine.proofs.Short.{short_as}
+use Rattle.run_outside.specs.Sessions.{Broken, BrokeOff, CameAt, FinishedAt}
+use Rattle.run_outside.specs.Short.{PartBy, PartOf}
+use Rattle.run_outside.specs.declared.ended.Ended.{Ended}
+use Rattle.run_outside.proofs.Short.{short_as}
 use Rattle.rt_model.specs.Causes.{Limits}
 use Rattle.rt_model.specs.Document as doc
 use Rattle.rt_model.specs.Laws.{IsLawful}
@@ -18,8 +18,8 @@ use Rattle.rt_model.specs.Reports.{Report}
 use Rattle.rt_model.specs.State as model
 use Rattle.rt_model.specs.Tree.{Types}
 use Rattle.rt_model.specs.World.{Application}
-use Rattle.rt_reports.specs.declared.fault.Fault.{Fault}
-use Rattle.rt_reports.specs.declared.fault.Fault.TheVariants as faults
+use Rattle.run_reports.specs.declared.fault.Fault.{Fault}
+use Rattle.run_reports.specs.declared.fault.Fault.TheVariants as faults
 use Rattle.rt_session.specs.Posted.{BreaksOff, TookFronts, drains_of, lists_of}
 use Rattle.rt_session.specs.Sittings.{IsWanting}
 use Rattle.rt_session.proofs.Held.{held_of}

@@ -11,11 +11,10 @@ use Rattle.rt_inbox.specs.declared.message.Post.{Post}
 use Rattle.rt_inbox.specs.declared.notifier.Notifier.{Notifier}
 use Rattle.rt_inbox.specs.declared.owner.Owner.{Owner}
 use Rattle.rt_inbox.specs.declared.taken.Taken.{Taken}
-use Rattle.rt_machine.specs.Ends.{Ends}
-use Rattle.rt_machine.specs.Machines.{fault_in}
-use Rattle.rt_machine.specs.Sessions.{BrokeOff, Finished, FinishedAt}
-use Rattle.rt_machine.specs.Short.{PartBy}
-use Rattle.rt_machine.specs.declared.ended.Ended.{Ended}
+use Rattle.run_outside.specs.Ends.{Ends, fault_in}
+use Rattle.run_outside.specs.Sessions.{BrokeOff, Finished, FinishedAt}
+use Rattle.run_outside.specs.Short.{PartBy}
+use Rattle.run_outside.specs.declared.ended.Ended.{Ended}
 use Rattle.rt_model.specs.Lists.{joined}
 use Rattle.rt_model.specs.Merge.{AreSized, HasFronts, ValidOverCuts, drained}
 use Rattle.rt_model.specs.OneLog.{types}
@@ -23,10 +22,10 @@ use Rattle.rt_model.specs.State as model
 use Rattle.rt_model.specs.World.{Application}
 use Rattle.rt_inbox.specs.Posted.{AllPosted, AllReady}
 use Rattle.rt_inbox.specs.declared.posters.Poster.{Poster}
-use Rattle.rt_reports.specs.Counted.{edits_in}
-use Rattle.rt_reports.specs.Seen.{limits_of, report_of}
-use Rattle.rt_reports.specs.declared.limits.Limits.{Limits}
-use Rattle.rt_reports.specs.declared.report.Report.{Report}
+use Rattle.run_reports.specs.Counted.{edits_in}
+use Rattle.run_reports.specs.Seen.{limits_of, report_of}
+use Rattle.run_reports.specs.declared.limits.Limits.{Limits}
+use Rattle.run_reports.specs.declared.report.Report.{Report}
 use Rattle.rt_session.specs.Posted.{TookAll, drains_of, lists_of}
 use Rattle.rt_session.specs.Sittings.{Awaits, IsUnbuilt, IsWanting, TakesIn}
 use Rattle.rt_session.specs.declared.sitting.Sitting.{Sitting}

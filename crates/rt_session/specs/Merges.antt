@@ -4,7 +4,7 @@ use Rattle.rt_inbox.specs.Merge.{IsMerge}
 use Rattle.rt_inbox.specs.declared.message.Msg.{Msg}
 use Rattle.rt_inbox.specs.declared.message.Post.{Post}
 use Rattle.rt_model.specs.Merge as model
-use Rattle.rt_reports.specs.Seen.{message_of, post_of}
+use Rattle.run_reports.specs.Seen.{message_of, post_of}
 
 -- whatever the messages and the posts
 abbrev pub MergesAgree : Type 0

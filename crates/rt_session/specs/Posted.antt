@@ -5,8 +5,8 @@ use Rattle.rt_inbox.specs.Ends.{accepted_lists, left_list, taken_list}
 use Rattle.rt_inbox.specs.declared.message.Msg.{Msg}
 use Rattle.rt_inbox.specs.declared.message.Post.{Post}
 use Rattle.rt_inbox.specs.declared.taken.Taken.{Taken}
-use Rattle.rt_machine.specs.Sessions.{Broken, CameAt}
-use Rattle.rt_machine.specs.Short.{PartOf}
+use Rattle.run_outside.specs.Sessions.{Broken, CameAt}
+use Rattle.run_outside.specs.Short.{PartOf}
 use Rattle.rt_model.specs.Causes as causes
 use Rattle.rt_model.specs.Lists.{joined}
 use Rattle.rt_model.specs.Merge.{AreSized, HasFronts, IsCut}
@@ -15,9 +15,9 @@ use Rattle.rt_model.specs.Reports.{Report}
 use Rattle.rt_model.specs.State as model
 use Rattle.rt_model.specs.Tree.{Types}
 use Rattle.rt_model.specs.World.{Application}
-use Rattle.rt_reports.specs.Seen.{message_of, post_of}
-use Rattle.rt_reports.specs.declared.fault.Fault.{Fault}
-use Rattle.rt_reports.specs.declared.fault.Fault.TheVariants as faults
+use Rattle.run_reports.specs.Seen.{message_of, post_of}
+use Rattle.run_reports.specs.declared.fault.Fault.{Fault}
+use Rattle.run_reports.specs.declared.fault.Fault.TheVariants as faults
 
 -- drains as those of the definitions
 abbrev pub drains_of : List (List Msg) → List (List replay.Message)

@@ -2,23 +2,24 @@
 use Rattle.std.specs.Prelude.{◌≡◌, ◌⊎◌, ℕ, ◌<◌, List, [], ◌∷◌, ◌++◌, length, map, Option, Result, Ok, Err}
 use Rattle.rt_edits.specs.declared.edit.Edit.{Edit}
 use Rattle.rt_inbox.specs.declared.message.Msg.{Msg}
-use Rattle.rt_machine.specs.Ends.{Ends, Took}
-use Rattle.rt_machine.specs.Machines.{IsFresh}
-use Rattle.rt_machine.specs.Runs.{Runs, Sofar}
-use Rattle.rt_machine.specs.Stands.{RunsAs}
-use Rattle.rt_machine.specs.declared.ended.Ended.{Ended}
-use Rattle.rt_machine.specs.declared.ended.Ended.TheVariants as ends
+use Rattle.run_outside.specs.Ends.{Ends, Took}
+use Rattle.run_machine.specs.Machines.{IsFresh}
+use Rattle.run_machine.specs.Runs.{Runs}
+use Rattle.run_outside.specs.Sofar.{Sofar}
+use Rattle.run_machine.specs.Stands.{RunsAs}
+use Rattle.run_outside.specs.declared.ended.Ended.{Ended}
+use Rattle.run_outside.specs.declared.ended.Ended.TheVariants as ends
 use Rattle.rt_model.specs.Lists.{joined}
 use Rattle.rt_model.specs.Merge.{AreSized, drained}
 use Rattle.rt_model.specs.OneLog.{types}
 use Rattle.rt_model.specs.Replay as replay
 use Rattle.rt_model.specs.Replay.{first_state, ones}
 use Rattle.rt_model.specs.World.{Application}
-use Rattle.rt_reports.specs.Counted.{edits_in}
-use Rattle.rt_reports.specs.Seen.{limits_of}
-use Rattle.rt_reports.specs.declared.limits.Limits.{Limits}
-use Rattle.rt_state.specs.Mirror.{at_first, state_of}
-use Rattle.rt_state.specs.declared.names.Stop.TheVariants as stops
+use Rattle.run_reports.specs.Counted.{edits_in}
+use Rattle.run_reports.specs.Seen.{limits_of}
+use Rattle.run_reports.specs.declared.limits.Limits.{Limits}
+use Rattle.run_state.specs.Mirror.{at_first, state_of}
+use Rattle.run_state.specs.declared.names.Stop.TheVariants as stops
 use Rattle.rt_session.specs.Posted.{drains_of}
 use Rattle.rt_session.specs.declared.sitting.Sitting.{Sitting}
 

@@ -11,5 +11,5 @@ mod sitting;
 
 pub use merges::merges_agree;
 pub use posted::{Posted, PostedFault, session_posted};
-pub use rt_reports::{Counter, Entry, Fault, Input, Limits, Msg, Post, Report, SessionFault};
+pub use run_reports::{Counter, Entry, Fault, Input, Limits, Msg, Post, Report, SessionFault};
 pub use runner::session;

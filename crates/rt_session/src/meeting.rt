@@ -9,14 +9,14 @@ ghost use Rattle.rt_session.specs.Meetings.{AllTaken, Convened, HasTaken, HavePo
 ghost use Rattle.rt_session.specs.Sittings.{Awaits, IsUnbuilt, TakesIn};
 
 use crate::sitting::Sitting;
-use rt_calls::App;
+use author_calls::App;
 use rt_edits::WriteMutations;
 use rt_inbox::{
     Drained, Gate, Inbox, Notifier, Owner, Post, Poster, Taken, finish, post_lists, posters_for,
 };
-use rt_machine::Ended;
-use rt_reports::Limits;
 use rt_values::{List, OutOfMemory};
+use run_outside::Ended;
+use run_reports::Limits;
 use std::alloc::Global;
 use std::sync::Wait;
 use std::thread::{Threads, join_mut};

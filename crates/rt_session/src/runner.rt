@@ -1,24 +1,25 @@
 //! A session: the build of an application, and the inputs that follow it.
 ghost use Rattle.std.specs.Prelude.{◌≡◌, ◌≤◌, [], None, Some, map, IfOk, IfErr, OnOk};
-ghost use Rattle.rt_headline.specs.Carried.{CarriesAnew};
+ghost use Rattle.law_headline.specs.Carried.{CarriesAnew};
 ghost use Rattle.rt_model.specs.Causes.{IsValid};
 ghost use Rattle.rt_model.specs.Replay.{first_state, ones};
-ghost use Rattle.rt_reports.specs.Seen.{fault_of, input_of, limits_of, report_of};
-ghost use Rattle.rt_reports.specs.Counted.{edits_in};
-ghost use Rattle.rt_state.specs.Mirror.{at_first, state_of};
-ghost use Rattle.rt_machine.specs.Ends.{Causes, Took, Ends};
-ghost use Rattle.rt_machine.specs.Machines.{IsFresh};
-ghost use Rattle.rt_machine.specs.Sessions.{Broken, CameAt, Headlined};
-ghost use Rattle.rt_machine.specs.Short.{PartOf};
-ghost use Rattle.rt_machine.specs.Stands.{RunsAs};
+ghost use Rattle.run_reports.specs.Seen.{fault_of, input_of, limits_of, report_of};
+ghost use Rattle.run_reports.specs.Counted.{edits_in};
+ghost use Rattle.run_state.specs.Mirror.{at_first, state_of};
+ghost use Rattle.run_outside.specs.Ends.{Causes, Took, Ends};
+ghost use Rattle.run_machine.specs.Machines.{IsFresh};
+ghost use Rattle.run_outside.specs.Sessions.{Broken, CameAt, Headlined};
+ghost use Rattle.run_outside.specs.Short.{PartOf};
+ghost use Rattle.run_machine.specs.Stands.{RunsAs};
 
-use rt_calls::{App, Calls};
+use author_calls::{App, Calls};
+use law_headline::{finished_hold, headlines_carry_anew, ran_is_headline, ran_to_is_came_to};
 use rt_edits::WriteMutations;
-use rt_headline::{finished_hold, headlines_carry_anew, ran_is_headline, ran_to_is_came_to};
-use rt_machine::{Ended, Machine};
 use rt_model::ran_is_valid;
-use rt_reports::{Input, Limits, Report, SessionFault};
 use rt_values::List;
+use run_machine::Machine;
+use run_outside::Ended;
+use run_reports::{Input, Limits, Report, SessionFault};
 use std::alloc::Global;
 
 /// Builds an application and settles, and then takes in each input and settles. The edits go to the

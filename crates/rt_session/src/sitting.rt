@@ -2,12 +2,13 @@
 ghost use Rattle.std.specs.Prelude.{◌≡◌, ◌<◌, ◌≤◌, length, IfOk};
 ghost use Rattle.rt_session.specs.Sittings.{AddsMessage, Awaits, IsUnbuilt, KeepsAll, KeepsDrain, KeepsMessages, TakesIn};
 
-use rt_calls::{App, Calls};
+use author_calls::{App, Calls};
 use rt_edits::WriteMutations;
 use rt_inbox::Msg;
-use rt_machine::{Ended, Machine};
-use rt_reports::{Input, Limits, Report};
 use rt_values::{List, OutOfMemory, Part};
+use run_machine::Machine;
+use run_outside::Ended;
+use run_reports::{Input, Limits, Report};
 use std::alloc::Global;
 use std::mem;
 

@@ -1,15 +1,15 @@
 -- What the program comes to, by what its parts come to.
 use Rattle.std.proofs.Common.{◌≡◌, ◌≢◌, ◌⊎◌, ℕ, true, List, Option, Some, None, Result, Ok, Err, refl, sym, ◌∙◌, inl, inr}
 use Rattle.rt_language.specs.Generated.{generated}
-use Rattle.rt_show.specs.Asked.{Asked, Lacks, alone}
-use Rattle.rt_show.specs.Words.{wish_of, reads_source, AskForSource}
-use Rattle.rt_show.specs.Runs.{Chooses, ReadsFor, Prints, PrintsFront}
+use Rattle.show_words.specs.Asked.{Asked, Lacks, alone}
+use Rattle.show_words.specs.Words.{wish_of, reads_source, AskForSource}
+use Rattle.show_words.specs.Runs.{Chooses, ReadsFor, Prints, PrintsFront}
 use Rattle.rt_show.specs.Statuses.{Comes, Cut, ReadsAsked}
-use Rattle.rt_show.specs.declared.words.Wish.{Wish}
-use Rattle.rt_show.specs.declared.words.Wish.TheVariants.{Make}
-use Rattle.rt_show.specs.declared.reason.Stop.{Stop}
-use Rattle.rt_show.specs.declared.reason.Stop.TheVariants as stops
-use Rattle.rt_streams.specs.Writes.{Puts}
+use Rattle.show_words.specs.declared.words.Wish.{Wish}
+use Rattle.show_words.specs.declared.words.Wish.TheVariants.{Make}
+use Rattle.show_words.specs.declared.reason.Stop.{Stop}
+use Rattle.show_words.specs.declared.reason.Stop.TheVariants as stops
+use Rattle.show_streams.specs.Writes.{Puts}
 
 -- something is asked for, for which the source is read
 pub asks : (words : List (List ℕ)) (wish : Wish) → wish_of words ≡ Some wish → reads_source wish ≡ true → AskForSource words

@@ -1,14 +1,2 @@
-pub mod Made
-pub mod Reading
-pub mod Puts
-pub mod RowPuts
-pub mod Picturing
-pub mod Runs
-pub mod Viewing
-pub mod Shown
 pub mod Coming
-pub mod Messages
-pub mod Drained
-pub mod Postings
-pub mod Judged
-pub mod Agreed
+pub mod Shown

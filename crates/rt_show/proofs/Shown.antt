@@ -10,22 +10,23 @@ use Rattle.rt_model.specs.Document.{Edit}
 use Rattle.rt_model.specs.Reports.{Report}
 use Rattle.rt_model.specs.Causes.{IsValid}
 use Rattle.rt_model.specs.Headline.{CameTo}
-use Rattle.rt_reports.specs.Seen.{limits_of}
-use Rattle.rt_reports.specs.declared.limits.Limits.{Limits}
-use Rattle.rt_sources.specs.Describes.{Describes}
-use Rattle.rt_logs.specs.Recorded.{DescribesRun}
-use Rattle.rt_show.specs.Asked.{Asked, Lacks, RecordsNone}
-use Rattle.rt_show.specs.Judged.{RecordedBy, RecordedInput}
-use Rattle.rt_show.specs.Words.{wish_of, reads_source, usual, AskForSource}
-use Rattle.rt_show.specs.Runs.{DescribedBy, Chooses, IsRefused, IsUnfit, IsSafe, IsEndedText, HasCome, SafeInput, CanBeDone}
-use Rattle.rt_sources.specs.declared.reading.TheConstants.{SOURCE_LIMIT}
-use Rattle.rt_show.specs.Statuses.{Comes, Ended, ReadsAsked, status_of, Shows}
-use Rattle.rt_show.specs.declared.words.Wish.{Wish}
-use Rattle.rt_show.specs.declared.words.Wish.TheVariants.{Run, Make, Screen, Audit}
-use Rattle.rt_show.specs.declared.reason.Stop.{Stop}
-use Rattle.rt_show.specs.declared.reason.Stop.TheVariants as stops
-use Rattle.rt_show.proofs.Viewing.{came_before}
-use Rattle.rt_streams.specs.Writes.{Puts}
+use Rattle.run_reports.specs.Seen.{limits_of}
+use Rattle.run_reports.specs.declared.limits.Limits.{Limits}
+use Rattle.lang_sources.specs.Describes.{Describes}
+use Rattle.show_logs.specs.Recorded.{DescribesRun}
+use Rattle.show_words.specs.Asked.{Asked, Lacks, RecordsNone}
+use Rattle.show_words.specs.Judged.{RecordedBy, RecordedInput}
+use Rattle.show_words.specs.Words.{wish_of, reads_source, usual, AskForSource}
+use Rattle.show_words.specs.Runs.{DescribedBy, Chooses, IsRefused, IsUnfit, IsSafe, IsEndedText, HasCome, SafeInput, CanBeDone}
+use Rattle.lang_sources.specs.declared.reading.TheConstants.{SOURCE_LIMIT}
+use Rattle.rt_show.specs.Statuses.{Comes, Ended, ReadsAsked, Shows}
+use Rattle.show_words.specs.Outs.{status_of}
+use Rattle.show_words.specs.declared.words.Wish.{Wish}
+use Rattle.show_words.specs.declared.words.Wish.TheVariants.{Run, Make, Screen, Audit}
+use Rattle.show_words.specs.declared.reason.Stop.{Stop}
+use Rattle.show_words.specs.declared.reason.Stop.TheVariants as stops
+use Rattle.show_runs.proofs.Viewing.{came_before}
+use Rattle.show_streams.specs.Writes.{Puts}
 
 -- words that ask for something are known
 known_asked : (words : List (List ℕ)) (wish : Wish) → wish_of words ≡ Some wish → wish_of words ≢ None

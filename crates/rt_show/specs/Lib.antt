@@ -1,11 +1,1 @@
-pub mod Words
-pub mod Listed
-pub mod Texts
-pub mod Outs
-pub mod Ready
-pub mod Pictures
-pub mod Asked
-pub mod Judged
-pub mod Runs
 pub mod Statuses
-pub mod Posting

@@ -1,24 +1,14 @@
 -- What each status of the program says.
 use Rattle.std.specs.Prelude.{◌≡◌, ◌≢◌, ◌↔◌, ◌⊎◌, ℕ, ◌<◌, ◌≤◌, List, Option, Some, None, Result, Ok, Err}
-use Rattle.rt_show.specs.Asked.{Asked, Lacks}
-use Rattle.rt_streams.specs.Reads.{Advances}
-use Rattle.rt_streams.specs.declared.reading.TheConstants.{MOST_BYTES}
-use Rattle.rt_streams.specs.Writes.{Puts}
-use Rattle.rt_show.specs.Words.{wish_of, AskForSource}
-use Rattle.rt_show.specs.Runs.{CanBeDone, Chooses, IsUnfit, PrintsDone, PrintsEnded, PrintsFront}
-use Rattle.rt_show.specs.declared.words.Wish.{Wish}
-use Rattle.rt_show.specs.declared.reason.Stop.{Stop}
-use Rattle.rt_show.specs.declared.reason.Stop.TheVariants as stops
-
--- the status of what the program comes to
-abbrev pub status_of : Result (Unit {0}) Stop → ℕ
-status_of (Ok u) = 0
-status_of (Err stops.Words) = 2
-status_of (Err stops.Form) = 3
-status_of (Err stops.Fault) = 4
-status_of (Err stops.Source) = 5
-status_of (Err stops.Out) = 6
-status_of (Err stops.OutOfMemory) = 7
+use Rattle.show_words.specs.Asked.{Asked, Lacks}
+use Rattle.show_streams.specs.Reads.{Advances}
+use Rattle.show_streams.specs.declared.reading.TheConstants.{MOST_BYTES}
+use Rattle.show_streams.specs.Writes.{Puts}
+use Rattle.show_words.specs.Words.{wish_of, AskForSource}
+use Rattle.show_words.specs.Runs.{CanBeDone, Chooses, IsUnfit, PrintsDone, PrintsEnded, PrintsFront}
+use Rattle.show_words.specs.declared.words.Wish.{Wish}
+use Rattle.show_words.specs.declared.reason.Stop.{Stop}
+use Rattle.show_words.specs.declared.reason.Stop.TheVariants as stops
 
 -- what the words ask for was chosen and done, and its text was written
 pub record Done (words : List (List ℕ)) (left after : Option (List ℕ)) (old new : Puts) : Type 0 where

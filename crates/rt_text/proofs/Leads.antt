@@ -7,7 +7,7 @@ use Rattle.rt_edits.specs.declared.doc_node.DocNode.{DocNode}
 use Rattle.rt_edits.specs.declared.document.DocFault.{DocFault}
 use Rattle.rt_edits.specs.declared.document.DocFault.TheVariants as faults
 use Rattle.rt_edits.specs.declared.edit.Edit.{Edit}
-use Rattle.rt_documents.specs.Cuts.{LeadsTo}
+use Rattle.tree_documents.specs.Cuts.{LeadsTo}
 
 -- an edit stands before those behind it
 next_edit : (edits : List Edit) (at : ℕ) (edit : Edit) → at < length edits → edit ≡ get_or edits at edit → drop at edits ≡ edit ∷ drop (at + 1) edits

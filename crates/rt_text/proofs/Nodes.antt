@@ -2,8 +2,8 @@
 use Rattle.std.proofs.Common.{ℕ, List, ◌≡◌, refl}
 use Rattle.rt_edits.specs.declared.doc_node.DocKind.TheVariants.{Text, Placeholder}
 use Rattle.rt_model.specs.Document.{Empty, DocText, DocPlaceholder}
-use Rattle.rt_mirror.specs.Mirror.{content_of, forest_below, forest_in}
-use Rattle.rt_documents.proofs.Forests.{below_Element, content_Element}
+use Rattle.tree_edits.specs.Documents.{content_of, forest_below, forest_in}
+use Rattle.tree_documents.proofs.Forests.{below_Element, content_Element}
 
 pub below_Text : (text : List ℕ) → forest_below (Text text) ≡ Empty
 unfolding forest_below forest_in

@@ -1,6 +1,6 @@
 //! Just as many rows as a screen has.
 ghost use Rattle.std.specs.Prelude.{◌≡◌, IfOk};
-ghost use Rattle.rt_mirror.specs.Mirror.{forest_of};
+ghost use Rattle.tree_edits.specs.Documents.{forest_of};
 ghost use Rattle.rt_text.specs.Layout.{fitted, layout};
 
 use crate::laying::lay_all;

@@ -1,6 +1,6 @@
 //! The nodes of a document written to lines, each with all that stands below it.
 ghost use Rattle.std.specs.Prelude.{◌≡◌, OnOk};
-ghost use Rattle.rt_mirror.specs.Mirror.{content_of, forest_below, forest_of};
+ghost use Rattle.tree_edits.specs.Documents.{content_of, forest_below, forest_of};
 ghost use Rattle.rt_text.specs.Layout.{before, after, laid};
 
 use crate::lines::Writer;

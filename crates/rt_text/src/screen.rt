@@ -2,8 +2,8 @@
 ghost use Rattle.std.specs.Prelude.{◌≡◌, ◌≤◌, [], Ok, IfErr, IfOk, OnErr, OnOk};
 ghost use Rattle.rt_edits.specs.Document.{apply, MayFail};
 ghost use Rattle.rt_edits.specs.Laws.{IsNumbered};
-ghost use Rattle.rt_mirror.specs.Mirror.{forest_of};
-ghost use Rattle.rt_documents.specs.Cuts.{LeadsTo};
+ghost use Rattle.tree_edits.specs.Documents.{forest_of};
+ghost use Rattle.tree_documents.specs.Cuts.{LeadsTo};
 ghost use Rattle.rt_text.specs.Layout.{fitted, layout};
 ghost use Rattle.rt_text.specs.Screens.{nodes_of, rows_of, width_of, height_of};
 ghost use Rattle.rt_text.specs.Screens.{changed_rows, KeepsSize};

@@ -1,32 +1,32 @@
 -- A plan that makes all of a tree is one list of what is made, whether it is shown or not.
 use Rattle.std.proofs.Common.{◌≡◌, ℕ, zero, suc, ◌+◌, Bool, true, false, List, [], ◌∷◌, ◌++◌, map, append_assoc, append-nil, refl, sym, ap, ◌∙◌, subst}
 use Rattle.std.specs.List.{slice_index_or}
-use Rattle.rt_parts.specs.declared.attribute.Attribute.{Attribute}
-use Rattle.rt_parts.specs.declared.template.TemplateNode.{TemplateNode}
-use Rattle.rt_parts.specs.declared.template.TemplateNode.TheOpen.{TemplateNode-F}
-use Rattle.rt_parts.specs.declared.template.TemplateNode.TheViews.{roll-TemplateNode}
-use Rattle.rt_parts.specs.declared.template.TemplateNode.TheFolds.{fold-roll-TemplateNode, ind-TemplateNode, map-TemplateNode}
-use Rattle.rt_nodes.specs.declared.vnode.VNode.{VNode}
-use Rattle.rt_nodes.specs.declared.vnode.VComponent.{VComponent}
-use Rattle.rt_nodes.specs.declared.vnode.DynamicNode.{DynamicNode}
-use Rattle.rt_nodes.specs.declared.vnode.DynamicNode.TheVariants as s
-use Rattle.rt_nodes.specs.declared.vnode.ErrorBoundaryProps.{ErrorBoundaryProps}
-use Rattle.rt_nodes.specs.declared.vnode.FragmentProps.{FragmentProps}
-use Rattle.rt_nodes.specs.declared.vnode.SuspenseBoundaryProps.{SuspenseBoundaryProps}
-use Rattle.rt_nodes.specs.declared.vnode.DynamicNode.TheOpen.{DynamicNode-F, VNode-F}
-use Rattle.rt_nodes.specs.declared.vnode.DynamicNode.TheViews.{roll-VNode, roll-DynamicNode}
-use Rattle.rt_nodes.specs.declared.vnode.DynamicNode.TheFolds.{para-roll-VNode, ind-VNode, map-VNode, map-DynamicNode}
-use Rattle.rt_plan.specs.declared.instruction.Instruction.{Instruction}
-use Rattle.rt_plan.specs.declared.instruction.Instruction.TheVariants as i
-use Rattle.rt_plan.specs.declared.instruction.Shape.{Shape}
-use Rattle.rt_plan.specs.declared.instruction.Shape.TheVariants as shape
-use Rattle.rt_plan.specs.declared.pieces.Piece.{Piece}
-use Rattle.rt_plan.specs.declared.place.Step.{Step}
-use Rattle.rt_plan.specs.Pieces.{Pieces, closing, index_of, node_pieces, pieces_among, pieces_step}
-use Rattle.rt_plan.specs.Shapes.{shown_as, attrs_with, listeners_with}
-use Rattle.rt_plan.specs.Places.{step_to}
-use Rattle.rt_plan.specs.Making.{InSlot, InTree, nothing, plans_of, items_made, make_piece, make_pieces, make_tree, make_tree_step, make_value, make_value_step}
-use Rattle.rt_plan.proofs.MakingLemmas.{make_Text, make_Placeholder, make_Component, make_none, make_some}
+use Rattle.tree_nodes.specs.declared.attribute.Attribute.{Attribute}
+use Rattle.tree_nodes.specs.declared.template.TemplateNode.{TemplateNode}
+use Rattle.tree_nodes.specs.declared.template.TemplateNode.TheOpen.{TemplateNode-F}
+use Rattle.tree_nodes.specs.declared.template.TemplateNode.TheViews.{roll-TemplateNode}
+use Rattle.tree_nodes.specs.declared.template.TemplateNode.TheFolds.{fold-roll-TemplateNode, ind-TemplateNode, map-TemplateNode}
+use Rattle.tree_nodes.specs.declared.vnode.VNode.{VNode}
+use Rattle.tree_nodes.specs.declared.vnode.VComponent.{VComponent}
+use Rattle.tree_nodes.specs.declared.vnode.DynamicNode.{DynamicNode}
+use Rattle.tree_nodes.specs.declared.vnode.DynamicNode.TheVariants as s
+use Rattle.tree_nodes.specs.declared.vnode.ErrorBoundaryProps.{ErrorBoundaryProps}
+use Rattle.tree_nodes.specs.declared.vnode.FragmentProps.{FragmentProps}
+use Rattle.tree_nodes.specs.declared.vnode.SuspenseBoundaryProps.{SuspenseBoundaryProps}
+use Rattle.tree_nodes.specs.declared.vnode.DynamicNode.TheOpen.{DynamicNode-F, VNode-F}
+use Rattle.tree_nodes.specs.declared.vnode.DynamicNode.TheViews.{roll-VNode, roll-DynamicNode}
+use Rattle.tree_nodes.specs.declared.vnode.DynamicNode.TheFolds.{para-roll-VNode, ind-VNode, map-VNode, map-DynamicNode}
+use Rattle.tree_plan.specs.declared.instruction.Instruction.{Instruction}
+use Rattle.tree_plan.specs.declared.instruction.Instruction.TheVariants as i
+use Rattle.tree_plan.specs.declared.instruction.Shape.{Shape}
+use Rattle.tree_plan.specs.declared.instruction.Shape.TheVariants as shape
+use Rattle.tree_plan.specs.declared.pieces.Piece.{Piece}
+use Rattle.tree_nodes.specs.declared.place.Step.{Step}
+use Rattle.tree_plan.specs.Pieces.{Pieces, closing, index_of, node_pieces, pieces_among, pieces_step}
+use Rattle.tree_plan.specs.Shapes.{shown_as, attrs_with, listeners_with}
+use Rattle.tree_plan.specs.Places.{step_to}
+use Rattle.tree_plan.specs.Making.{InSlot, InTree, nothing, plans_of, items_made, make_piece, make_pieces, make_tree, make_tree_step, make_value, make_value_step}
+use Rattle.tree_plan.proofs.MakingLemmas.{make_Text, make_Placeholder, make_Component, make_none, make_some}
 
 -- one thing that is made
 pub data Making (Component : Type 0) : Type 0 where

@@ -2,11 +2,11 @@
 use Rattle.std.proofs.Common.{◌≡◌, Bool, true, false, List, [], ◌∷◌, ◌++◌, append_assoc, append-nil, refl, sym, ap, ◌∙◌, subst}
 use Rattle.rt_values.specs.declared.element.ElementId.{ElementId}
 use Rattle.rt_edits.specs.declared.edit.Edit.TheVariants as edit
-use Rattle.rt_nodes.specs.declared.vnode.VNode.{VNode}
-use Rattle.rt_nodes.specs.declared.vnode.VComponent.{VComponent}
-use Rattle.rt_plan.specs.declared.instruction.Instruction.TheVariants as i
-use Rattle.rt_plan.specs.Shapes.{shown_as}
-use Rattle.rt_plan.specs.Making.{make_tree}
+use Rattle.tree_nodes.specs.declared.vnode.VNode.{VNode}
+use Rattle.tree_nodes.specs.declared.vnode.VComponent.{VComponent}
+use Rattle.tree_plan.specs.declared.instruction.Instruction.TheVariants as i
+use Rattle.tree_plan.specs.Shapes.{shown_as}
+use Rattle.tree_plan.specs.Making.{make_tree}
 use Rattle.rt_tree.specs.declared.step.PatchStep.TheVariants as s
 use Rattle.rt_tree.specs.Building.{closed, nothing_built}
 use Rattle.rt_tree.specs.Gathered.{Kept, no_number, nothing_kept, drawing, making}

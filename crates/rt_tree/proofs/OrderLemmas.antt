@@ -3,8 +3,8 @@ use Rattle.std.proofs.Common.{ℕ, ◌≤◌, List, [], ◌∷◌, map, true, fa
 use Rattle.rt_values.specs.declared.names.ScopeId.{ScopeId}
 use Rattle.rt_values.specs.declared.element.ElementId.{ElementId}
 use Rattle.rt_edits.specs.declared.doc_node.DocNode.{DocNode}
-use Rattle.rt_plan.specs.declared.instruction.Instruction.{Instruction}
-use Rattle.rt_plan.specs.declared.instruction.Instruction.TheVariants as i
+use Rattle.tree_plan.specs.declared.instruction.Instruction.{Instruction}
+use Rattle.tree_plan.specs.declared.instruction.Instruction.TheVariants as i
 use Rattle.rt_tree.specs.declared.step.PatchStep.TheVariants as s
 use Rattle.rt_tree.specs.Order.{AreInOrder}
 use Rattle.rt_tree.specs.Gathered.{Kept}

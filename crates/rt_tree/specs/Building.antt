@@ -4,8 +4,8 @@ use Rattle.rt_values.specs.declared.element.ElementId.{ElementId}
 use Rattle.rt_edits.specs.declared.doc_node.DocNode.{DocNode}
 use Rattle.rt_edits.specs.declared.doc_node.DocKind.{DocKind}
 use Rattle.rt_edits.specs.declared.doc_node.DocKind.TheVariants.{Element, Text, Placeholder}
-use Rattle.rt_plan.specs.declared.instruction.Shape.{Shape}
-use Rattle.rt_plan.specs.declared.instruction.Shape.TheVariants as shape
+use Rattle.tree_plan.specs.declared.instruction.Shape.{Shape}
+use Rattle.tree_plan.specs.declared.instruction.Shape.TheVariants as shape
 use Rattle.rt_tree.specs.declared.builder.Frame.{Frame}
 
 -- what was built: the open elements from the outermost one inwards, and the nodes in the innermost one

@@ -1,7 +1,7 @@
 -- How many steps are left.
 use Rattle.std.specs.Prelude.{ℕ, suc, ◌+◌, true, false, if◌then◌else◌, List, [], ◌∷◌, Option, Some, None}
-use Rattle.rt_plan.specs.declared.instruction.Instruction.{Instruction}
-use Rattle.rt_plan.specs.declared.instruction.Instruction.TheVariants as i
+use Rattle.tree_plan.specs.declared.instruction.Instruction.{Instruction}
+use Rattle.tree_plan.specs.declared.instruction.Instruction.TheVariants as i
 use Rattle.rt_tree.specs.declared.step.PatchStep.{PatchStep}
 use Rattle.rt_tree.specs.declared.step.PatchStep.TheVariants as s
 

@@ -4,7 +4,7 @@ use Rattle.std.specs.List.{slice_index_or}
 use Rattle.rt_values.specs.declared.names.ScopeId.{ScopeId}
 use Rattle.rt_values.specs.declared.element.ElementId.{ElementId}
 use Rattle.rt_edits.specs.declared.doc_node.DocNode.{DocNode}
-use Rattle.rt_plan.specs.declared.instruction.Shape.{Shape}
+use Rattle.tree_plan.specs.declared.instruction.Shape.{Shape}
 use Rattle.rt_tree.specs.Building.{Built, nothing_built, with_shape, with_nodes, taken}
 
 -- the number of the root container, which no node has

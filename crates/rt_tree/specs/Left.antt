@@ -2,7 +2,7 @@
 use Rattle.std.specs.Prelude.{◌≡◌, ℕ, ◌+◌, List, [], ◌∷◌, ◌++◌, length}
 use Rattle.rt_values.specs.declared.names.ScopeId.{ScopeId}
 use Rattle.rt_values.specs.declared.element.ElementId.{ElementId}
-use Rattle.rt_plan.specs.declared.instruction.Instruction.{Instruction}
+use Rattle.tree_plan.specs.declared.instruction.Instruction.{Instruction}
 use Rattle.rt_tree.specs.declared.builder.Builder.{Builder}
 use Rattle.rt_tree.specs.declared.patch.Patch.{Patch}
 use Rattle.rt_tree.specs.declared.patch.Phase.{Phase}

@@ -2,10 +2,10 @@
 use Rattle.std.specs.Prelude.{true, List, [], ◌∷◌}
 use Rattle.rt_values.specs.declared.element.ElementId.{ElementId}
 use Rattle.rt_edits.specs.declared.doc_node.DocNode.{DocNode}
-use Rattle.rt_nodes.specs.declared.vnode.VNode.{VNode}
-use Rattle.rt_plan.specs.declared.instruction.Instruction.{Instruction}
-use Rattle.rt_plan.specs.declared.instruction.Instruction.TheVariants as i
-use Rattle.rt_plan.specs.Making.{make_tree}
+use Rattle.tree_nodes.specs.declared.vnode.VNode.{VNode}
+use Rattle.tree_plan.specs.declared.instruction.Instruction.{Instruction}
+use Rattle.tree_plan.specs.declared.instruction.Instruction.TheVariants as i
+use Rattle.tree_plan.specs.Making.{make_tree}
 use Rattle.rt_tree.specs.declared.rebuild.Rebuild.{Rebuild}
 use Rattle.rt_tree.specs.Building.{Built, nothing_built, with_shape, closed, with_nodes}
 use Rattle.rt_tree.specs.Gathered.{no_number, first_or, after_first}

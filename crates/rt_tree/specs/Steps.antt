@@ -6,10 +6,10 @@ use Rattle.rt_values.specs.declared.element.ElementId.{ElementId}
 use Rattle.rt_edits.specs.declared.doc_node.DocNode.{DocNode}
 use Rattle.rt_edits.specs.declared.edit.Edit.{Edit}
 use Rattle.rt_edits.specs.declared.edit.Edit.TheVariants as edit
-use Rattle.rt_plan.specs.declared.instruction.AttributeChange.{AttributeChange}
-use Rattle.rt_plan.specs.declared.instruction.AttributeChange.TheVariants as change
-use Rattle.rt_plan.specs.declared.instruction.Instruction.{Instruction}
-use Rattle.rt_plan.specs.declared.instruction.Instruction.TheVariants as i
+use Rattle.tree_plan.specs.declared.instruction.AttributeChange.{AttributeChange}
+use Rattle.tree_plan.specs.declared.instruction.AttributeChange.TheVariants as change
+use Rattle.tree_plan.specs.declared.instruction.Instruction.{Instruction}
+use Rattle.tree_plan.specs.declared.instruction.Instruction.TheVariants as i
 use Rattle.rt_tree.specs.declared.patch.Phase.{Phase}
 use Rattle.rt_tree.specs.declared.patch.Phase.TheVariants as phases
 use Rattle.rt_tree.specs.declared.step.PatchStep.{PatchStep}

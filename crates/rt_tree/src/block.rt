@@ -5,12 +5,11 @@ ghost use Rattle.std.specs.Prelude.{◌≡◌, length, IfOk};
 use crate::builder::Builder;
 use crate::rebuild::Rebuild;
 use rt_edits::DocNode;
-use rt_nodes::VNode;
-use rt_parts::Parts;
-use rt_plan::plan_nodes;
 use rt_values::{ElementId, List, OutOfMemory, ScopeId};
 use std::alloc::Global;
 use std::collections::VecDeque;
+use tree_nodes::{Parts, VNode};
+use tree_plan::plan_nodes;
 
 /// A mounted tree, with the number of each of its nodes and the child scope in each of its component
 /// slots, both in the order of the tree.

@@ -5,10 +5,10 @@ ghost use Rattle.rt_tree.specs.Building.{closed, nothing_built, taken, with_node
 ghost use Rattle.rt_tree.specs.Left.{built_of};
 
 use rt_edits::{DocAttr, DocKind, DocNode};
-use rt_plan::Shape;
 use rt_values::{ElementId, List, OutOfMemory, Text};
 use std::alloc::Global;
 use std::mem;
+use tree_plan::Shape;
 
 /// An element whose children aren't complete, and what was built before it.
 #[derive(Drop)]

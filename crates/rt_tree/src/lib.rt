@@ -20,15 +20,12 @@ pub use rt_edits::{
     DocAttr, DocFault, DocKind, DocNode, Document, Edit, FailingMutations, Mutations,
     NoOpMutations, SinkError, WriteMutations,
 };
-pub use rt_fits::fits;
-pub use rt_nodes::{
-    DynamicNode, Element, ErrorBoundaryProps, ErrorHandler, Fallback, FragmentProps,
-    LastRenderedNode, RootProps, SuspenseBoundaryProps, VComponent, VNode,
-};
-pub use rt_parts::{
-    Attribute, AttributeValue, CapturedError, Event, ListenerCallback, Parts, RenderError,
-    SuspendedFuture, Template, TemplateAttribute, TemplateNode, TemplateParts,
-};
-pub use rt_plan::{Place, Step};
 pub use rt_values::ElementId;
 pub use step::{PatchStep, TreeFault};
+pub use tree_fits::fits;
+pub use tree_nodes::{
+    Attribute, AttributeValue, CapturedError, DynamicNode, Element, ErrorBoundaryProps,
+    ErrorHandler, Event, Fallback, FragmentProps, LastRenderedNode, ListenerCallback, Parts, Place,
+    RenderError, RootProps, Step, SuspendedFuture, SuspenseBoundaryProps, Template,
+    TemplateAttribute, TemplateNode, TemplateParts, VComponent, VNode,
+};

@@ -1,7 +1,7 @@
 //! What a block shows that a build ends with.
 
 ghost use Rattle.std.specs.Prelude.{◌≡◌, ◌++◌, ◌∷◌, [], true, List as Items};
-ghost use Rattle.rt_plan.specs.Making.{make_tree};
+ghost use Rattle.tree_plan.specs.Making.{make_tree};
 ghost use Rattle.rt_tree.specs.Gathered.{no_number};
 ghost use Rattle.rt_tree.specs.Mounted.{AreFor, build, inserted_build, nodes_given, scopes_given};
 ghost use Rattle.rt_tree.specs.Rebuilding.{nodes_of_tree};
@@ -9,8 +9,7 @@ ghost use Rattle.rt_tree.specs.Steps.{Answer};
 
 use crate::step::PatchStep;
 use rt_edits::Edit;
-use rt_nodes::VNode;
-use rt_parts::Parts;
+use tree_nodes::{Parts, VNode};
 
 /// A build of a tree, shown or not, ends with a block whose child scopes are those that were given,
 /// in their order. And what `Block::nodes` answers of it for the nodes that were given for them is

@@ -7,8 +7,8 @@ ghost use Rattle.rt_tree.specs.Steps.{Answer, steps};
 ghost use Rattle.rt_values.specs.declared.element.ElementId.{ElementId as Number};
 ghost use Rattle.rt_values.specs.declared.names.ScopeId.{ScopeId as Scope};
 
-use rt_parts::Parts;
-use rt_plan::Instruction;
+use tree_nodes::Parts;
+use tree_plan::Instruction;
 
 /// Whatever is answered, what a plan makes, feeds, asks for, draws and edits comes before the scopes
 /// that go, and these before the numbers that go.

@@ -8,10 +8,9 @@ ghost use Rattle.rt_tree.specs.Steps.{adjusted, asking, asking_phase};
 use crate::patch::{Patch, Phase};
 use crate::step::PatchStep;
 use rt_edits::Edit;
-use rt_nodes::VComponent;
-use rt_parts::Parts;
-use rt_plan::AttributeChange;
 use rt_values::{ElementId, OutOfMemory, ScopeId, Text};
+use tree_nodes::{Parts, VComponent};
+use tree_plan::AttributeChange;
 
 impl<P: Parts> Patch<P> {
     ghost use Rattle.rt_tree.specs.Left.{kept};

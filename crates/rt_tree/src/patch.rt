@@ -10,12 +10,11 @@ use crate::block::Block;
 use crate::builder::Builder;
 use crate::step::{PatchStep, TreeFault};
 use rt_edits::{DocNode, Edit};
-use rt_nodes::VNode;
-use rt_parts::Parts;
-use rt_plan::{Instruction, plan_build, plan_over};
 use rt_values::{ElementId, List, OutOfMemory, ScopeId, Serials};
 use std::alloc::Global;
 use std::collections::VecDeque;
+use tree_nodes::{Parts, VNode};
+use tree_plan::{Instruction, plan_build, plan_over};
 
 /// What a patch waits for.
 #[derive(Clone, Copy, Debug, PartialEq, Eq)]
@@ -56,9 +55,9 @@ pub struct Patch<P: Parts> {
 
 impl<P: Parts> Patch<P> {
     ghost use Rattle.rt_tree.specs.Left.{IsDone, IsFor, awaited, awaits, due, left, named, no_answer, others, seen};
-    ghost use Rattle.rt_plan.specs.Alike.{Equality};
-    ghost use Rattle.rt_plan.specs.Making.{make_tree};
-    ghost use Rattle.rt_plan.specs.Pairing.{pair_tree};
+    ghost use Rattle.tree_plan.specs.Alike.{Equality};
+    ghost use Rattle.tree_plan.specs.Making.{make_tree};
+    ghost use Rattle.tree_plan.specs.Pairing.{pair_tree};
 
     /// The build of a first tree, at its start.
     pub fn build(alloc: Global, node: VNode<P>) -> Result<Patch<P>, OutOfMemory>

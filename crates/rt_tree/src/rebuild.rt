@@ -7,11 +7,11 @@ ghost use Rattle.rt_tree.specs.Rebuilding.{rebuilt_by, rebuilt_of};
 
 use crate::builder::Builder;
 use rt_edits::DocNode;
-use rt_parts::Parts;
-use rt_plan::Instruction;
 use rt_values::{ElementId, List, OutOfMemory};
 use std::alloc::Global;
 use std::collections::VecDeque;
+use tree_nodes::Parts;
+use tree_plan::Instruction;
 
 /// What was built so far, with the numbers and the child scopes' nodes that are left.
 #[derive(Drop)]

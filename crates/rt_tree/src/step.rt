@@ -3,11 +3,9 @@
 ghost use Rattle.std.specs.Prelude.{◌≡◌};
 
 use rt_edits::Edit;
-use rt_nodes::VComponent;
-use rt_parts::Parts;
-use rt_plan::Step;
 use rt_values::{ElementId, List, OutOfMemory, ScopeId};
 use std::alloc::AllocFailed;
+use tree_nodes::{Parts, Step, VComponent};
 
 /// One step of a patch. `Nodes` and `Edit` come only where the block is shown.
 #[derive(Drop)]

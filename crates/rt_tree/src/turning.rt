@@ -10,11 +10,10 @@ ghost use Rattle.rt_tree.specs.Told.{IfDone, IfDrawn, IfEdit, UnlessDrawn};
 use crate::patch::{Patch, Phase};
 use crate::step::{PatchStep, TreeFault};
 use rt_edits::Edit;
-use rt_nodes::VComponent;
-use rt_parts::Parts;
-use rt_plan::{Instruction, Shape, Step};
 use rt_values::{ElementId, List, ScopeId, Serials};
 use std::alloc::Global;
+use tree_nodes::{Parts, Step, VComponent};
+use tree_plan::{Instruction, Shape};
 
 impl<P: Parts> Patch<P> {
     ghost use Rattle.rt_tree.specs.Left.{ahead, awaited, awaits, built_of, due, due_ahead, kept, left, named, others, seen};

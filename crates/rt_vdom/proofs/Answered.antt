@@ -4,34 +4,35 @@ use Rattle.std.specs.Prelude.{Option, Some, None, Result, Ok, Err}
 use Rattle.rt_edits.specs.declared.edit.Edit.{Edit}
 use Rattle.rt_inbox.specs.declared.message.Drained.{Drained}
 use Rattle.rt_model.specs.Lists.{Text}
-use Rattle.rt_mirror.specs.Mirror.{edit_of}
+use Rattle.tree_edits.specs.Documents.{edit_of}
 use Rattle.rt_model.specs.OneLog.{types}
 use Rattle.rt_model.specs.View.{view}
 use Rattle.rt_model.specs.World.{Application, Firsts}
 use Rattle.rt_model.specs.Rendering.{suspended_remains}
 use Rattle.rt_model.specs.Replay as replay
 use Rattle.rt_model.specs.State as model
-use Rattle.rt_doms.specs.Doms.{Until, Events, Renders}
-use Rattle.rt_parts.specs.declared.event.Event.{Event}
-use Rattle.rt_reports.specs.Seen.{entry_of, limits_of}
-use Rattle.rt_reports.specs.declared.fault.Fault.{Fault}
-use Rattle.rt_reports.specs.declared.fault.Fault.TheVariants as faults
-use Rattle.rt_reports.specs.declared.limits.Limits.{Limits}
-use Rattle.rt_reports.specs.declared.report.Report.{Report}
-use Rattle.rt_state.specs.Mirror.{Unkept}
-use Rattle.rt_machine.specs.Short.{PartOf}
-use Rattle.rt_moves.proofs.Begun.{ones_above}
-use Rattle.rt_rounds.specs.Handled.{HeardUpTo}
-use Rattle.rt_rounds.specs.Rounds.{CallBroke}
-use Rattle.rt_rounds.specs.Suspended.{RenderBroke}
+use Rattle.law_behavior.specs.Doms.{Until, Events, Renders}
+use Rattle.tree_nodes.specs.declared.event.Event.{Event}
+use Rattle.run_reports.specs.Seen.{entry_of, limits_of}
+use Rattle.run_reports.specs.declared.fault.Fault.{Fault}
+use Rattle.run_reports.specs.declared.fault.Fault.TheVariants as faults
+use Rattle.run_reports.specs.declared.limits.Limits.{Limits}
+use Rattle.run_reports.specs.declared.report.Report.{Report}
+use Rattle.run_state.specs.Mirror.{Unkept}
+use Rattle.run_outside.specs.Short.{PartOf}
+use Rattle.law_moves.proofs.Begun.{ones_above}
+use Rattle.run_rounds.specs.Handled.{HeardUpTo}
+use Rattle.run_rounds.specs.Rounds.{CallBroke}
+use Rattle.run_rounds.specs.Suspended.{RenderBroke}
 use Rattle.rt_vdom.specs.Calls.{WantsMemory, ran_fault}
 use Rattle.rt_vdom.specs.Doms.{IsStarted, StateIn}
-use Rattle.rt_vdom.specs.Handles.{HandlesAs, PollCut, RenderCut, PolledFrom, PolledSuspended, PollsOnAs, PollsSuspendedAs, RendersSuspendedAs, Worked, WorksAs, answers, sees_none, taken_in}
+use Rattle.rt_vdom.specs.Handles.{HandlesAs, PollCut, RenderCut, PolledFrom, PolledSuspended, PollsOnAs, PollsSuspendedAs, RendersSuspendedAs, Worked, WorksAs, taken_in}
+use Rattle.run_answers.specs.Polls.{answers, sees_none}
 use Rattle.rt_vdom.specs.Runs.{Builds, BuildsToList, BuildStopped, HoldsBy, PrebuiltStopped, RendersToList, Runs, RunsAs, RunsOnce, Stopped, Went}
 use Rattle.rt_vdom.specs.declared.dom.VirtualDom.{VirtualDom}
-use Rattle.rt_vdom.specs.declared.poll.Poll.{Poll}
-use Rattle.rt_vdom.specs.declared.refusal.DomFault.{DomFault}
-use Rattle.rt_vdom.specs.declared.refusal.DomFault.TheVariants as refusals
+use Rattle.run_answers.specs.declared.poll.Poll.{Poll}
+use Rattle.run_answers.specs.declared.refusal.DomFault.{DomFault}
+use Rattle.run_answers.specs.declared.refusal.DomFault.TheVariants as refusals
 
 module _ {P C Q V H T E L : Type 0} (meaning : P → Application (types C Q V H T E L)) where
   -- what is said of a call that came to a fault, by what is answered

@@ -11,13 +11,13 @@ use Rattle.rt_model.specs.Replay as replay
 use Rattle.rt_model.specs.State as model
 use Rattle.rt_model.specs.Tree.{Types}
 use Rattle.rt_model.specs.World.{Application}
-use Rattle.rt_doms.specs.Doms.{Until, Events, Renders, Settles, LedTo, UnitRan, left_by}
-use Rattle.rt_doms.specs.Carries.{AllDrawn, CarriesOn}
-use Rattle.rt_doms.proofs.Carried.{asides_draw_none, calls_carry_anew, renders_carry_anew, suspended_carry_anew, still_drawn}
-use Rattle.rt_doms.proofs.Doms.{units_lead}
-use Rattle.rt_rounds.specs.Rounds.{RanBy}
-use Rattle.rt_rounds.specs.Steps.{Step, Stepped, StepsTold, UnitFrom}
-use Rattle.rt_rounds.specs.Suspended.{RendersTo}
+use Rattle.law_behavior.specs.Doms.{Until, Events, Renders, Settles, LedTo, UnitRan, left_by}
+use Rattle.law_behavior.specs.Carries.{AllDrawn, CarriesOn}
+use Rattle.law_behavior.proofs.Carried.{asides_draw_none, calls_carry_anew, renders_carry_anew, suspended_carry_anew, still_drawn}
+use Rattle.law_behavior.proofs.Doms.{units_lead}
+use Rattle.run_rounds.specs.Rounds.{RanBy}
+use Rattle.run_rounds.specs.Steps.{Step, Stepped, StepsTold, UnitFrom}
+use Rattle.run_rounds.specs.Suspended.{RendersTo}
 use Rattle.rt_vdom.specs.Carried.{StepsCarry, StepsCarryOn}
 
 module _ {K : Types} (app : Application K) (lawful : IsLawful K app) (limits : Limits) (props : K.Props) where

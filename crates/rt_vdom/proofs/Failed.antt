@@ -3,21 +3,21 @@ use Rattle.std.proofs.Common.{ℕ, Bool, true, false, ◌≡◌, refl, sym, ap, 
 use Rattle.std.specs.Prelude.{Option, Some, None, if◌then◌else◌}
 use Rattle.rt_model.specs.State as model
 use Rattle.rt_model.proofs.Maps.{pick_true, pick_false}
-use Rattle.rt_machine.specs.Machines.{fault_in}
-use Rattle.rt_machine.specs.declared.ended.Ended.{Ended}
-use Rattle.rt_machine.specs.declared.ended.Ended.TheVariants as ends
-use Rattle.rt_reports.specs.Seen.{fault_of}
-use Rattle.rt_reports.specs.declared.fault.Fault.{Fault}
-use Rattle.rt_reports.specs.declared.fault.Fault.TheVariants as faults
-use Rattle.rt_state.specs.declared.names.Fault.TheVariants as causes
-use Rattle.rt_state.specs.declared.names.Stop.{Stop}
-use Rattle.rt_state.specs.declared.names.Stop.TheVariants as stops
+use Rattle.run_outside.specs.Ends.{fault_in}
+use Rattle.run_outside.specs.declared.ended.Ended.{Ended}
+use Rattle.run_outside.specs.declared.ended.Ended.TheVariants as ends
+use Rattle.run_reports.specs.Seen.{fault_of}
+use Rattle.run_reports.specs.declared.fault.Fault.{Fault}
+use Rattle.run_reports.specs.declared.fault.Fault.TheVariants as faults
+use Rattle.run_state.specs.declared.names.Fault.TheVariants as causes
+use Rattle.run_state.specs.declared.names.Stop.{Stop}
+use Rattle.run_state.specs.declared.names.Stop.TheVariants as stops
 use Rattle.rt_vdom.specs.Calls.{FailsAt, Ran, RanNoUnit, ran_fault, spent_in}
-use Rattle.rt_vdom.specs.declared.dom.Stage.{Stage}
-use Rattle.rt_vdom.specs.declared.dom.Stage.TheVariants as stages
+use Rattle.run_answers.specs.declared.stage.Stage.{Stage}
+use Rattle.run_answers.specs.declared.stage.Stage.TheVariants as stages
 use Rattle.rt_vdom.specs.declared.dom.VirtualDom.{VirtualDom}
-use Rattle.rt_vdom.specs.declared.refusal.DomFault.{DomFault}
-use Rattle.rt_vdom.specs.declared.refusal.DomFault.TheVariants as refusals
+use Rattle.run_answers.specs.declared.refusal.DomFault.{DomFault}
+use Rattle.run_answers.specs.declared.refusal.DomFault.TheVariants as refusals
 
 -- a run's own end spends no units
 pub run_unspent : (stop : Stop) → false ≡ spent_in (fault_in (ends.Run stop))

@@ -1,4 +1,3 @@
-mod Looked
 mod Standing
 mod Carried
 mod Ran

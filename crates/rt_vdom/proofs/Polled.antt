@@ -13,25 +13,26 @@ use Rattle.rt_model.specs.Commands.{unqueued}
 use Rattle.rt_model.specs.Replay as replay
 use Rattle.rt_model.specs.State as model
 use Rattle.rt_model.proofs.Maps.{pick_true, pick_false}
-use Rattle.rt_doms.specs.Doms.{AsidesLead}
-use Rattle.rt_doms.proofs.Muted.{asides_show_nothing}
-use Rattle.rt_machine.specs.Machines.{fault_in}
-use Rattle.rt_machine.specs.declared.ended.Ended.TheVariants as ends
-use Rattle.rt_reports.specs.Seen.{limits_of}
+use Rattle.law_behavior.specs.Doms.{AsidesLead}
+use Rattle.law_behavior.proofs.Muted.{asides_show_nothing}
+use Rattle.run_outside.specs.Ends.{fault_in}
+use Rattle.run_outside.specs.declared.ended.Ended.TheVariants as ends
+use Rattle.run_reports.specs.Seen.{limits_of}
 use Rattle.rt_scopes.specs.Counts.{Counts}
 use Rattle.rt_scopes.specs.Outcomes.{CutBy}
 use Rattle.rt_scopes.specs.declared.scopes.Scopes.{Scopes}
-use Rattle.rt_state.specs.Mirror.{Unkept, state_of}
-use Rattle.rt_state.specs.Names.{fault_of as cause_of}
-use Rattle.rt_state.specs.declared.names.Stop.{Stop}
-use Rattle.rt_state.specs.declared.names.Stop.TheVariants as stops
-use Rattle.rt_vdom.specs.Calls.{PolledNow, PollsNowAs, ran_fault, told_by}
+use Rattle.run_state.specs.Mirror.{Unkept, state_of}
+use Rattle.run_state.specs.Names.{fault_of as cause_of}
+use Rattle.run_state.specs.declared.names.Stop.{Stop}
+use Rattle.run_state.specs.declared.names.Stop.TheVariants as stops
+use Rattle.rt_vdom.specs.Calls.{PolledNow, PollsNowAs, ran_fault}
+use Rattle.run_answers.specs.Polls.{told_by}
 use Rattle.rt_vdom.specs.Doms.{Stands, StateIn}
-use Rattle.rt_vdom.specs.declared.dom.Stage.TheVariants as stages
+use Rattle.run_answers.specs.declared.stage.Stage.TheVariants as stages
 use Rattle.rt_vdom.specs.declared.dom.VirtualDom.{VirtualDom}
-use Rattle.rt_vdom.specs.declared.poll.Poll.{Poll}
-use Rattle.rt_vdom.specs.declared.refusal.DomFault.{DomFault}
-use Rattle.rt_vdom.specs.declared.refusal.DomFault.TheVariants as refusals
+use Rattle.run_answers.specs.declared.poll.Poll.{Poll}
+use Rattle.run_answers.specs.declared.refusal.DomFault.{DomFault}
+use Rattle.run_answers.specs.declared.refusal.DomFault.TheVariants as refusals
 
 some_fault : (a b : model.Fault) → Some a ≡ Some b → a ≡ b
 some_fault a b h = cc

@@ -3,18 +3,18 @@ use Rattle.std.proofs.Common.{ℕ, Bool, true, false, List, ◌≡◌, inl, inr,
 use Rattle.std.specs.Prelude.{Option, Some, Result, Ok, Err, []}
 use Rattle.rt_model.specs.Document.{Forest, document_after}
 use Rattle.rt_model.specs.Lists.{Text}
-use Rattle.rt_state.specs.Names.{fault_of as cause_of}
-use Rattle.rt_state.specs.declared.names.Stop.{Stop}
-use Rattle.rt_state.specs.declared.names.Stop.TheVariants as stops
-use Rattle.rt_machine.specs.Machines.{fault_in}
-use Rattle.rt_machine.specs.Short.{Short, PartBy, PartOf}
-use Rattle.rt_machine.specs.declared.ended.Ended.{Ended}
-use Rattle.rt_machine.specs.declared.ended.Ended.TheVariants as ends
-use Rattle.rt_machine.specs.declared.machine.Machine.{Machine}
+use Rattle.run_state.specs.Names.{fault_of as cause_of}
+use Rattle.run_state.specs.declared.names.Stop.{Stop}
+use Rattle.run_state.specs.declared.names.Stop.TheVariants as stops
+use Rattle.run_outside.specs.Ends.{fault_in}
+use Rattle.run_outside.specs.Short.{Short, PartBy, PartOf}
+use Rattle.run_outside.specs.declared.ended.Ended.{Ended}
+use Rattle.run_outside.specs.declared.ended.Ended.TheVariants as ends
+use Rattle.run_machine.specs.declared.machine.Machine.{Machine}
 use Rattle.rt_scopes.specs.Outcomes.{CutBy}
-use Rattle.rt_rounds.specs.Handled.{HearsOn, HeardUpTo}
+use Rattle.run_rounds.specs.Handled.{HearsOn, HeardUpTo}
 use Rattle.rt_edits.specs.declared.edit.Edit.{Edit}
-use Rattle.rt_mirror.specs.Mirror.{edit_of}
+use Rattle.tree_edits.specs.Documents.{edit_of}
 use Rattle.rt_model.specs.Document as document
 use Rattle.rt_model.specs.OneLog.{types}
 use Rattle.rt_model.specs.Tree.{Types}
@@ -23,24 +23,24 @@ use Rattle.rt_model.specs.Laws.{IsLawful}
 use Rattle.rt_model.specs.State as model
 use Rattle.rt_model.specs.Causes as causes
 use Rattle.rt_model.specs.Replay as replay
-use Rattle.rt_doms.specs.Doms.{Until, Events, Renders, Settles, LedTo, CallSpent, SpentHolds, left_by}
-use Rattle.rt_doms.proofs.Doms.{calls_hold, renders_hold, settled_hold, spent_hold}
-use Rattle.rt_doms.proofs.Once.{renders_run_once, renders_rerun_in_turn, renders_make_or_feed}
-use Rattle.rt_doms.proofs.Stopping.{calls_come_to, renders_come_to}
-use Rattle.rt_reports.specs.Seen.{entry_of, limits_of}
-use Rattle.rt_reports.specs.declared.fault.Fault.{Fault}
-use Rattle.rt_reports.specs.declared.report.Report.{Report}
-use Rattle.rt_reports.specs.declared.limits.Limits.{Limits}
+use Rattle.law_behavior.specs.Doms.{Until, Events, Renders, Settles, LedTo, CallSpent, SpentHolds, left_by}
+use Rattle.law_behavior.proofs.Doms.{calls_hold, renders_hold, settled_hold, spent_hold}
+use Rattle.law_behavior.proofs.RunsOnce.{renders_run_once, renders_rerun_in_turn, renders_make_or_feed}
+use Rattle.law_behavior.proofs.Stopping.{calls_come_to, renders_come_to}
+use Rattle.run_reports.specs.Seen.{entry_of, limits_of}
+use Rattle.run_reports.specs.declared.fault.Fault.{Fault}
+use Rattle.run_reports.specs.declared.report.Report.{Report}
+use Rattle.run_reports.specs.declared.limits.Limits.{Limits}
 use Rattle.rt_model.specs.Asides.{resting}
 use Rattle.rt_model.specs.Next.{look}
 use Rattle.rt_model.specs.Rendering.{rendering_rest}
-use Rattle.rt_rounds.specs.Rounds.{BrokeAlone, CallBroke, RanBy, StoppedBy, RestsAt}
-use Rattle.rt_rounds.specs.Suspended.{RenderBroke}
+use Rattle.run_rounds.specs.Rounds.{BrokeAlone, CallBroke, RanBy, StoppedBy, RestsAt}
+use Rattle.run_rounds.specs.Suspended.{RenderBroke}
 use Rattle.rt_vdom.specs.Doms.{Stands}
 use Rattle.rt_vdom.specs.Calls.{Keeps}
 use Rattle.rt_vdom.specs.Runs.{HoldsBy, ComesBy, Runs, RunsOnce, Settled}
 use Rattle.rt_vdom.specs.declared.dom.VirtualDom.{VirtualDom}
-use Rattle.rt_vdom.specs.declared.refusal.DomFault.{DomFault}
+use Rattle.run_answers.specs.declared.refusal.DomFault.{DomFault}
 
 module _ {P C Q V H T E L : Type 0} (meaning : P → Application (types C Q V H T E L)) (app : P)
     (lawful : IsLawful (types C Q V H T E L) (meaning app)) (limits : Limits) (props : Q) (whole : Bool)

@@ -14,17 +14,17 @@ use Rattle.rt_model.specs.Replay.{Input, first_state, provided_all, outcome_of}
 use Rattle.rt_model.specs.Causes.{Limits}
 use Rattle.rt_model.specs.Asides.{resting}
 use Rattle.rt_model.proofs.Maps.{by_test, none_some}
-use Rattle.rt_moves.specs.Calls.{IsReady}
-use Rattle.rt_moves.specs.Frames.{stand, Keeps, served_by}
-use Rattle.rt_moves.specs.Reached.{first_scope, start_at}
-use Rattle.rt_moves.proofs.Commanded.{Level, commands_level}
-use Rattle.rt_moves.proofs.Taken.{LeafOf, leaf_found}
-use Rattle.rt_moves.proofs.Twigs.{up, up_found, live_found}
-use Rattle.rt_moves.proofs.Untouched.{stand_by, run_leaves, item_leaves, removal_leaves}
-use Rattle.rt_moves.proofs.Woven.{Climb}
-use Rattle.rt_rerun.proofs.Steps.{Ready, Outlasts, reached_keep}
-use Rattle.rt_rerun.proofs.Trees.{Stood, stood, keeps_of, apart_has}
-use Rattle.rt_doms.specs.Doms.{LedTo}
+use Rattle.law_moves.specs.Calls.{IsReady}
+use Rattle.law_moves.specs.Frames.{stand, Keeps, served_by}
+use Rattle.law_moves.specs.Reached.{first_scope, start_at}
+use Rattle.law_moves.proofs.Commanded.{Level, commands_level}
+use Rattle.law_moves.proofs.Taken.{LeafOf, leaf_found}
+use Rattle.law_moves.proofs.Twigs.{up, up_found, live_found}
+use Rattle.law_moves.proofs.Untouched.{stand_by, run_leaves, item_leaves, removal_leaves}
+use Rattle.law_moves.proofs.Woven.{Climb}
+use Rattle.law_headline.proofs.Steps.{Ready, Outlasts, reached_keep}
+use Rattle.law_headline.proofs.Trees.{Stood, stood, keeps_of, apart_has}
+use Rattle.law_behavior.specs.Doms.{LedTo}
 
 module _ {K : Types} where
   -- scope 0 is live, and has no parent

@@ -15,12 +15,12 @@ use Rattle.rt_model.specs.View.{view}
 use Rattle.rt_model.specs.State as model
 use Rattle.rt_model.specs.State.{is_live}
 use Rattle.rt_model.specs.Asides.{Aside, PassesNone, Allowed, aside_state}
-use Rattle.rt_doms.specs.Doms.{AsidesLead, LedTo}
-use Rattle.rt_doms.proofs.Muted.{asides_show_nothing}
-use Rattle.rt_reports.specs.Seen.{limits_of}
-use Rattle.rt_state.specs.Mirror.{Unkept, at_first, state_of}
-use Rattle.rt_state.proofs.Each.{some-mapped}
-use Rattle.rt_state.specs.declared.state.State.{State}
+use Rattle.law_behavior.specs.Doms.{AsidesLead, LedTo}
+use Rattle.law_behavior.proofs.Muted.{asides_show_nothing}
+use Rattle.run_reports.specs.Seen.{limits_of}
+use Rattle.run_state.specs.Mirror.{Unkept, at_first, state_of}
+use Rattle.run_state.proofs.Each.{some-mapped}
+use Rattle.run_state.specs.declared.state.State.{State}
 use Rattle.rt_vdom.specs.Calls.{context_posted, spawned_by, task_spawned}
 use Rattle.rt_vdom.specs.Doms.{IsStarted, Stands, StateIn}
 use Rattle.rt_vdom.specs.declared.dom.VirtualDom.{VirtualDom}

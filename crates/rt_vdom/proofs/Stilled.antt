@@ -2,7 +2,7 @@
 use Rattle.std.proofs.Common.{Bool, List, [], ◌∷◌, ◌≡◌, refl, subst, map}
 use Rattle.std.specs.Prelude.{Ok}
 use Rattle.rt_edits.specs.declared.edit.Edit.{Edit}
-use Rattle.rt_mirror.specs.Mirror.{edit_of}
+use Rattle.tree_edits.specs.Documents.{edit_of}
 use Rattle.rt_model.specs.Causes as causes
 use Rattle.rt_model.specs.Document.{document_after}
 use Rattle.rt_model.specs.OneLog.{types}
@@ -10,10 +10,10 @@ use Rattle.rt_model.specs.Replay as replay
 use Rattle.rt_model.specs.State as model
 use Rattle.rt_model.specs.View.{view}
 use Rattle.rt_model.specs.World.{Application}
-use Rattle.rt_doms.specs.Doms.{Until, Events, Renders, Settles, left_by}
-use Rattle.rt_doms.proofs.Muted.{events_write_nothing, stopped_write_nothing}
-use Rattle.rt_reports.specs.declared.limits.Limits.{Limits}
-use Rattle.rt_rounds.specs.Rounds.{RanBy, StoppedBy}
+use Rattle.law_behavior.specs.Doms.{Until, Events, Renders, Settles, left_by}
+use Rattle.law_behavior.proofs.Muted.{events_write_nothing, stopped_write_nothing}
+use Rattle.run_reports.specs.declared.limits.Limits.{Limits}
+use Rattle.run_rounds.specs.Rounds.{RanBy, StoppedBy}
 use Rattle.rt_vdom.specs.Runs.{HoldsBy, SilentBy, StillBy}
 use Rattle.rt_vdom.proofs.Ran.{one_document}
 

@@ -1,8 +1,8 @@
 -- What a dom's calls leave, and how they are refused.
 use Rattle.std.specs.Prelude.{◌≡◌, ◌⊎◌, ℕ, ◌+◌, Bool, true, false, Option, Some, None, List}
 use Rattle.std.specs.Prelude.{[], ◌∷◌, ◌++◌, Result, Ok, Err, OnOk, OnErr, IfErr, IsTrue, if◌then◌else◌}
-use Rattle.rt_calls.specs.declared.faults.Counter.{Counter}
-use Rattle.rt_calls.specs.declared.faults.Counter.TheVariants as counters
+use Rattle.run_records.specs.declared.faults.Counter.{Counter}
+use Rattle.run_records.specs.declared.faults.Counter.TheVariants as counters
 use Rattle.rt_model.specs.Document as document
 use Rattle.rt_model.specs.Asides.{left_of}
 use Rattle.rt_model.specs.Lists.{Text, at}
@@ -16,22 +16,22 @@ use Rattle.rt_model.specs.State.{is_live}
 use Rattle.rt_model.specs.Removal.{close}
 use Rattle.rt_model.specs.Run.{with_next}
 use Rattle.rt_model.specs.Commands.{post_target, provide_context, spawned, throw_error}
-use Rattle.rt_reports.specs.declared.fault.Fault.{Fault}
-use Rattle.rt_reports.specs.declared.fault.Fault.TheVariants as faults
-use Rattle.rt_reports.specs.declared.limits.Limits.{Limits}
-use Rattle.rt_reports.specs.Seen.{fault_of}
-use Rattle.rt_machine.specs.Ends.{Causes}
-use Rattle.rt_machine.specs.Short.{PartOf}
+use Rattle.run_reports.specs.declared.fault.Fault.{Fault}
+use Rattle.run_reports.specs.declared.fault.Fault.TheVariants as faults
+use Rattle.run_reports.specs.declared.limits.Limits.{Limits}
+use Rattle.run_reports.specs.Seen.{fault_of}
+use Rattle.run_outside.specs.Ends.{Causes}
+use Rattle.run_outside.specs.Short.{PartOf}
 use Rattle.rt_scopes.specs.Counts.{Counts}
-use Rattle.rt_vdom.specs.declared.poll.Poll.{Poll}
-use Rattle.rt_vdom.specs.declared.poll.Poll.TheVariants as polls
-use Rattle.rt_state.specs.Mirror.{Unkept}
+use Rattle.run_answers.specs.declared.poll.Poll.{Poll}
+use Rattle.run_answers.specs.Polls.{told_by}
+use Rattle.run_state.specs.Mirror.{Unkept}
 use Rattle.rt_vdom.specs.Doms.{IsStarted, NextIn, Stands, StateIn}
-use Rattle.rt_vdom.specs.declared.dom.Stage.{Stage}
-use Rattle.rt_vdom.specs.declared.dom.Stage.TheVariants as stages
+use Rattle.run_answers.specs.declared.stage.Stage.{Stage}
+use Rattle.run_answers.specs.declared.stage.Stage.TheVariants as stages
 use Rattle.rt_vdom.specs.declared.dom.VirtualDom.{VirtualDom}
-use Rattle.rt_vdom.specs.declared.refusal.DomFault.{DomFault}
-use Rattle.rt_vdom.specs.declared.refusal.DomFault.TheVariants as refusals
+use Rattle.run_answers.specs.declared.refusal.DomFault.{DomFault}
+use Rattle.run_answers.specs.declared.refusal.DomFault.TheVariants as refusals
 
 -- memory was wanting
 abbrev pub WantsMemory : DomFault → Type 0
@@ -82,11 +82,6 @@ CausesAt limits before after other = Unit {0}
 abbrev pub PartIn : DomFault → List document.Edit → List document.Edit → Type 0
 PartIn (refusals.Run fault) taken edits = PartOf fault taken edits
 PartIn other taken edits = Unit {0}
-
--- ready, or pending
-abbrev pub told_by : Bool → Poll (Unit {0})
-told_by true = polls.Ready tt
-told_by false = polls.Pending
 
 module _ {P C Q V H T E L : Type 0} where
   -- by the stage of a dom: a call that wants another one is refused, and nothing changes; at the right one these refusals may come

@@ -6,8 +6,8 @@ use Rattle.rt_model.specs.Rendering.{rendering_rest}
 use Rattle.rt_model.specs.State.{State}
 use Rattle.rt_model.specs.Tree.{Types}
 use Rattle.rt_model.specs.World.{Application}
-use Rattle.rt_doms.specs.Carries.{AllDrawn, LogCarries}
-use Rattle.rt_rounds.specs.Steps.{Step}
+use Rattle.law_behavior.specs.Carries.{AllDrawn, LogCarries}
+use Rattle.run_rounds.specs.Steps.{Step}
 
 module _ {K : Types} (app : Application K) where
   -- each unit's edits carry what may come, with these edits and those of the units before it as the earlier ones

@@ -5,16 +5,16 @@ use Rattle.rt_model.specs.World.{Application, Firsts}
 use Rattle.rt_model.specs.Sentences.{AllCurrentOrOwed}
 use Rattle.rt_model.specs.State as model
 use Rattle.rt_model.specs.Replay as replay
-use Rattle.rt_calls.specs.Calls.{firsts_of}
-use Rattle.rt_doms.specs.Doms.{LedTo}
-use Rattle.rt_reports.specs.Seen.{limits_of}
-use Rattle.rt_reports.specs.declared.limits.Limits.{Limits}
+use Rattle.run_records.specs.Records.{firsts_of}
+use Rattle.law_behavior.specs.Doms.{LedTo}
+use Rattle.run_reports.specs.Seen.{limits_of}
+use Rattle.run_reports.specs.declared.limits.Limits.{Limits}
 use Rattle.rt_scopes.specs.Counts.{Counts}
-use Rattle.rt_state.specs.Mirror.{Unkept, at_first, state_of}
-use Rattle.rt_machine.specs.Machines.{IsFresh}
-use Rattle.rt_rounds.specs.Rounds.{Idle}
-use Rattle.rt_vdom.specs.declared.dom.Stage.{Stage}
-use Rattle.rt_vdom.specs.declared.dom.Stage.TheVariants as stages
+use Rattle.run_state.specs.Mirror.{Unkept, at_first, state_of}
+use Rattle.run_machine.specs.Machines.{IsFresh}
+use Rattle.run_rounds.specs.Rounds.{Idle}
+use Rattle.run_answers.specs.declared.stage.Stage.{Stage}
+use Rattle.run_answers.specs.declared.stage.Stage.TheVariants as stages
 use Rattle.rt_vdom.specs.declared.dom.VirtualDom.{VirtualDom}
 
 module _ {P C Q V H T E L : Type 0} where

@@ -1,9 +1,9 @@
 -- What a dom's calls say that handle an event, take messages in, or go on while suspended.
-use Rattle.std.specs.Prelude.{◌≡◌, ◌&&◌, ℕ, Bool, true, false, List, [], ◌∷◌, map, Option, Some, None, Result, Ok, Err}
+use Rattle.std.specs.Prelude.{◌≡◌, ◌&&◌, ℕ, Bool, false, List, [], map, Option, Some, None, Result, Ok, Err}
 use Rattle.rt_edits.specs.Sinks.{grown}
 use Rattle.rt_edits.specs.declared.edit.Edit.{Edit}
 use Rattle.rt_inbox.specs.declared.message.Drained.{Drained}
-use Rattle.rt_mirror.specs.Mirror.{edit_of}
+use Rattle.tree_edits.specs.Documents.{edit_of}
 use Rattle.rt_model.specs.Document.{document_after}
 use Rattle.rt_model.specs.Lists.{Text}
 use Rattle.rt_model.specs.OneLog.{types}
@@ -13,31 +13,21 @@ use Rattle.rt_model.specs.View.{view}
 use Rattle.rt_model.specs.World.{Application}
 use Rattle.rt_model.specs.Replay as replay
 use Rattle.rt_model.specs.State as model
-use Rattle.rt_doms.specs.Doms.{Events, left_by}
-use Rattle.rt_machine.specs.Short.{PartOf}
-use Rattle.rt_parts.specs.declared.event.Event.{Event}
-use Rattle.rt_reports.specs.Seen.{fault_of, limits_of, message_of}
+use Rattle.law_behavior.specs.Doms.{Events, left_by}
+use Rattle.run_outside.specs.Short.{PartOf}
+use Rattle.tree_nodes.specs.declared.event.Event.{Event}
+use Rattle.run_reports.specs.Seen.{fault_of, limits_of, message_of}
 use Rattle.rt_values.specs.declared.names.ScopeId.{ScopeId}
-use Rattle.rt_rounds.specs.Handled.{HeardBy, HeardUpTo}
-use Rattle.rt_rounds.specs.Suspended.{PollsTo, RendersTo, PollCutOn, RenderBroke, RenderCutOn}
+use Rattle.run_rounds.specs.Handled.{HeardBy, HeardUpTo}
+use Rattle.run_rounds.specs.Suspended.{PollsTo, RendersTo, PollCutOn, RenderBroke, RenderCutOn}
 use Rattle.rt_vdom.specs.Doms.{Stands}
 use Rattle.rt_vdom.specs.Carried.{StepsCarryOn}
 use Rattle.rt_vdom.specs.Runs.{HoldsBy, Stopped}
 use Rattle.rt_vdom.specs.declared.dom.VirtualDom.{VirtualDom}
-use Rattle.rt_vdom.specs.declared.poll.Poll.{Poll}
-use Rattle.rt_vdom.specs.declared.poll.Poll.TheVariants as polls
-use Rattle.rt_vdom.specs.declared.refusal.DomFault.{DomFault}
-use Rattle.rt_vdom.specs.declared.refusal.DomFault.TheVariants as refusals
-
--- no scope is seen
-abbrev pub sees_none : List ℕ → Bool
-sees_none [] = true
-sees_none (s ∷ ss) = false
-
--- pending exactly where nothing is to be done
-abbrev pub answers : Bool → Poll (Unit {0})
-answers true = polls.Pending
-answers false = polls.Ready tt
+use Rattle.run_answers.specs.declared.poll.Poll.{Poll}
+use Rattle.run_answers.specs.Polls.{answers, sees_none}
+use Rattle.run_answers.specs.declared.refusal.DomFault.{DomFault}
+use Rattle.run_answers.specs.declared.refusal.DomFault.TheVariants as refusals
 
 module _ {K : Types} where
   -- the state with what messages ask for

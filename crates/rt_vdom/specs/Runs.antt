@@ -2,7 +2,7 @@
 use Rattle.std.specs.Prelude.{◌≡◌, ◌<◌, ◌⊎◌, ℕ, Bool, true, List, [], map, length, Option, Some, None, Result, Ok, Err, IfOk}
 use Rattle.rt_edits.specs.Sinks.{grown}
 use Rattle.rt_edits.specs.declared.edit.Edit.{Edit}
-use Rattle.rt_mirror.specs.Mirror.{edit_of}
+use Rattle.tree_edits.specs.Documents.{edit_of}
 use Rattle.rt_model.specs.Document as document
 use Rattle.rt_model.specs.OneLog.{types}
 use Rattle.rt_model.specs.Tree.{Types}
@@ -16,19 +16,19 @@ use Rattle.rt_model.specs.Replay as replay
 use Rattle.rt_model.specs.Sentences.{CallComesTo, NoBodyTwice, call_begun}
 use Rattle.rt_model.specs.State as model
 use Rattle.rt_model.specs.Asides.{Looked, aside_state, resting}
-use Rattle.rt_doms.specs.Doms.{Until, Events, Renders, BuildHolds, GivenBuildRan}
-use Rattle.rt_doms.specs.Doms.{CallHolds, RenderHolds, RenderComesTo, SpentHolds, ends_by, left_by}
-use Rattle.rt_doms.specs.Carries.{Carries, CarriesOn}
-use Rattle.rt_machine.specs.Short.{PartOf}
-use Rattle.rt_reports.specs.Seen.{entry_of, fault_of, limits_of}
-use Rattle.rt_reports.specs.declared.fault.Fault.{Fault}
-use Rattle.rt_reports.specs.declared.limits.Limits.{Limits}
-use Rattle.rt_reports.specs.declared.report.Report.{Report}
-use Rattle.rt_rounds.specs.Rounds.{BrokeAlone, CallBroke, CutFrom, OpensFirst, RanBy, StoppedBy}
+use Rattle.law_behavior.specs.Doms.{Until, Events, Renders, BuildHolds, GivenBuildRan}
+use Rattle.law_behavior.specs.Doms.{CallHolds, RenderHolds, RenderComesTo, SpentHolds, ends_by, left_by}
+use Rattle.law_behavior.specs.Carries.{Carries, CarriesOn}
+use Rattle.run_outside.specs.Short.{PartOf}
+use Rattle.run_reports.specs.Seen.{entry_of, fault_of, limits_of}
+use Rattle.run_reports.specs.declared.fault.Fault.{Fault}
+use Rattle.run_reports.specs.declared.limits.Limits.{Limits}
+use Rattle.run_reports.specs.declared.report.Report.{Report}
+use Rattle.run_rounds.specs.Rounds.{BrokeAlone, CallBroke, CutFrom, OpensFirst, RanBy, StoppedBy}
 use Rattle.rt_vdom.specs.Doms.{IsStarted, Stands}
 use Rattle.rt_vdom.specs.declared.dom.VirtualDom.{VirtualDom}
-use Rattle.rt_vdom.specs.declared.refusal.DomFault.{DomFault}
-use Rattle.rt_vdom.specs.declared.refusal.DomFault.TheVariants as refusals
+use Rattle.run_answers.specs.declared.refusal.DomFault.{DomFault}
+use Rattle.run_answers.specs.declared.refusal.DomFault.TheVariants as refusals
 
 -- a call that processes events writes nothing
 abbrev pub SilentBy : Until → List Edit → Type 0

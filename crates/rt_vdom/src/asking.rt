@@ -1,18 +1,17 @@
 //! Marks and writes.
-ghost use Rattle.std.specs.Prelude.{◌≡◌, IfOk, IfErr, is_some, option_map};
-ghost use Rattle.rt_calls.specs.Calls.{target_of};
+ghost use Rattle.std.specs.Prelude.{◌≡◌, IfOk, IfErr, is_some};
 ghost use Rattle.rt_model.specs.Lists.{at};
 ghost use Rattle.rt_model.specs.Commands.{write_cell};
 ghost use Rattle.rt_model.specs.Sentences.{marked_now, all_marked_now};
 ghost use Rattle.rt_vdom.specs.Calls.{Does, FailsOn, Keeps, LeavesAll, WantsBuilt, WantsMemory, WantsNothing, context_posted};
 ghost use Rattle.rt_vdom.specs.Doms.{StateIn};
 
-use crate::dom::{Stage, VirtualDom};
-use crate::refusal::DomFault;
-use rt_calls::App;
-use rt_cells::{ReactiveContext, Target};
-use rt_reports::Fault;
+use crate::dom::VirtualDom;
+use author_calls::App;
+use rt_cells::ReactiveContext;
 use rt_values::{OutOfMemory, ScopeId};
+use run_answers::{DomFault, Stage, context_target, has_cell};
+use run_reports::Fault;
 
 impl<A: App> VirtualDom<A> {
     /// Marks a scope, which is seen at once. One that isn't live changes nothing. It takes no memory.
@@ -81,23 +80,12 @@ impl<A: App> VirtualDom<A> {
         ensures kept { LeavesAll self.old self.new result }
     {
         self.leads();
-        match self.context_target(context) {
+        match context_target(&self.machine.scopes.state, context) {
             Some(target) => match self.machine.scopes.state.post_target(target) {
                 Ok(()) => Ok(true),
                 Err(OutOfMemory) => Err(DomFault::Run(Fault::OutOfMemory)),
             },
             None => Ok(false),
-        }
-    }
-
-    /// What a reactive context targets.
-    fn context_target(&self, context: u64) -> Option<Target>
-        ensures { (g : _) → option_map target_of result
-            ≡ option_map (λ x. x.target) (at (StateIn g self.now).contexts context) }
-    {
-        match self.machine.scopes.state.contexts.get(context) {
-            Some(row) => Some(row.target),
-            None => None,
         }
     }
 
@@ -116,7 +104,7 @@ impl<A: App> VirtualDom<A> {
             Stage::Failed => Err(DomFault::Failed),
             Stage::Fresh => Err(DomFault::NotBuilt),
             Stage::Built => {
-                let live = self.has_cell(cell);
+                let live = has_cell(&self.machine.scopes.state, cell);
                 match self.machine.scopes.state.write_cell(cell, value) {
                     Ok(()) => Ok(live),
                     Err(OutOfMemory) => Err(self.out_of_memory()),

@@ -1,14 +1,14 @@
 //! What a program provides to all scopes.
 
 ghost use Rattle.std.specs.Prelude.{◌≡◌, IfOk, IfErr, OnOk};
-ghost use Rattle.rt_reports.specs.declared.fault.Fault.TheVariants as faults;
+ghost use Rattle.run_reports.specs.declared.fault.Fault.TheVariants as faults;
 ghost use Rattle.rt_vdom.specs.Calls.{Keeps, LeavesAll, ProvidesAtRoot, RefusedFailed, WantsMemory};
 
-use crate::dom::{Stage, VirtualDom};
-use crate::refusal::DomFault;
-use rt_calls::App;
-use rt_reports::Fault;
+use crate::dom::VirtualDom;
+use author_calls::App;
 use rt_values::OutOfMemory;
+use run_answers::{DomFault, Stage};
+use run_reports::Fault;
 
 impl<A: App> VirtualDom<A> {
     /// The dom whose root wrapper provides a value of a kind. A refusal drops the dom.

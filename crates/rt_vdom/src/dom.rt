@@ -2,34 +2,23 @@
 //!
 //! A dom is fresh until it is built. Where a call that builds, renders, polls, handles, writes or
 //! cancels comes to a fault other than spent units, the dom has failed, and each later call says so.
-ghost use Rattle.std.specs.Prelude.{◌≡◌, ◌+◌, ℕ, Some, IfSome, IfNone, IsTrue, List, is_some, if◌then◌else◌};
-ghost use Rattle.rt_machine.specs.Ends.{Explains};
-ghost use Rattle.rt_machine.specs.Machines.{fault_in};
-ghost use Rattle.rt_machine.specs.Short.{PartBy};
+ghost use Rattle.std.specs.Prelude.{◌≡◌, ℕ, Some, List};
+ghost use Rattle.run_outside.specs.Ends.{Explains, fault_in};
+ghost use Rattle.run_outside.specs.Short.{PartBy};
 ghost use Rattle.rt_model.specs.Document as document;
 ghost use Rattle.rt_model.specs.State as model;
 ghost use Rattle.rt_vdom.specs.Calls.{CausesAt, FailsAt, PartIn, Ran, ran_fault, spent_in};
-ghost use Rattle.rt_model.specs.Lists.{at};
-ghost use Rattle.rt_model.specs.World.{at_end};
-ghost use Rattle.rt_doms.specs.Doms.{AsidesLead};
-ghost use Rattle.rt_reports.specs.Seen.{limits_of};
-ghost use Rattle.rt_reports.specs.declared.fault.Fault.TheVariants as faults;
-ghost use Rattle.rt_vdom.specs.Doms.{StateIn};
-ghost use Rattle.rt_vdom.specs.declared.refusal.DomFault.TheVariants as refusals;
+ghost use Rattle.law_behavior.specs.Doms.{AsidesLead};
+ghost use Rattle.run_reports.specs.Seen.{limits_of};
+ghost use Rattle.run_reports.specs.declared.fault.Fault.TheVariants as faults;
+ghost use Rattle.run_answers.specs.declared.refusal.DomFault.TheVariants as refusals;
 
-use crate::refusal::DomFault;
-use rt_calls::{App, Calls};
-use rt_doms::asides_lead;
-use rt_machine::{Ended, Machine};
-use rt_reports::{Fault, Limits};
-
-/// How far a dom has come.
-#[derive(Clone, Copy, Debug, PartialEq, Eq)]
-pub(crate) enum Stage {
-    Fresh,
-    Built,
-    Failed,
-}
+use author_calls::{App, Calls};
+use law_behavior::asides_lead;
+use run_answers::{DomFault, Stage, failed_unless};
+use run_machine::Machine;
+use run_outside::Ended;
+use run_reports::{Fault, Limits};
 
 /// A runtime over an application, between two calls.
 #[derive(Drop)]
@@ -56,16 +45,6 @@ impl<A: App> VirtualDom<A> {
             A::Effect,
             A::Payload,
         >();
-    }
-
-    /// Whether a cell is there.
-    pub(crate) fn has_cell(&self, cell: u64) -> bool
-        ensures { (g : _) → result ≡ is_some (at (StateIn g self.now).cells cell) }
-    {
-        match self.machine.scopes.state.cells.get(cell) {
-            Some(_value) => true,
-            None => false,
-        }
     }
 
     /// What ends a call that takes units. The dom has failed, unless units are spent: what is owed
@@ -105,24 +84,5 @@ fn is_spent(ended: Ended) -> bool
         Ended::Sink => false,
         Ended::TooDeep { .. } => false,
         Ended::Run(_stop) => false,
-    }
-}
-
-/// A dom has failed, unless only units were spent.
-fn failed_unless(stage: Stage, spent: bool) -> Stage
-    ensures { result ≡ (if spent then stage else Stage.Failed) }
-{
-    if spent { stage } else { Stage::Failed }
-}
-
-/// The number after this one. None of a counter's last one.
-pub(crate) fn after(number: u64) -> Option<u64>
-    ensures next { IfSome result (λ next. next ≡ number + 1) }
-    ensures end { IfNone result (IsTrue (at_end number)) }
-{
-    if number == u64::MAX {
-        None
-    } else {
-        Some(number + 1)
     }
 }

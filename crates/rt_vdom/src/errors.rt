@@ -3,15 +3,15 @@ ghost use Rattle.std.specs.Prelude.{IfErr};
 ghost use Rattle.rt_model.specs.Commands.{clear_error};
 ghost use Rattle.rt_vdom.specs.Calls.{Does, Keeps, LeavesAll, WantsBuilt, WantsMemory, WantsNumber, thrown_by};
 ghost use Rattle.rt_vdom.specs.Doms.{NextIn};
-ghost use Rattle.rt_calls.specs.declared.faults.Counter.TheVariants as counters;
+ghost use Rattle.run_records.specs.declared.faults.Counter.TheVariants as counters;
 
-use crate::dom::{Stage, VirtualDom, after};
-use crate::refusal::DomFault;
+use crate::dom::VirtualDom;
+use author_calls::App;
 use rt_boundary::ErrorContext;
-use rt_calls::App;
-use rt_parts::CapturedError;
-use rt_reports::{Counter, Fault};
 use rt_values::{OutOfMemory, ScopeId, Text};
+use run_answers::{DomFault, Stage, after};
+use run_reports::{Counter, Fault};
+use tree_nodes::CapturedError;
 
 impl<A: App> VirtualDom<A> {
     /// An error with this text comes to the nearest error boundary from a scope upwards, which keeps it

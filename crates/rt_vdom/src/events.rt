@@ -4,13 +4,13 @@ ghost use Rattle.std.specs.Prelude.{◌≡◌, IfErr};
 ghost use Rattle.rt_vdom.specs.Calls.{CausesAt, FailsOn, Keeps, RanNoUnit, WantsBuilt};
 ghost use Rattle.rt_vdom.specs.Handles.{Handles};
 
-use crate::dom::{Stage, VirtualDom};
-use crate::refusal::DomFault;
-use rt_calls::App;
-use rt_machine::Ended;
-use rt_parts::Event;
-use rt_rounds::handle;
+use crate::dom::VirtualDom;
+use author_calls::App;
 use rt_values::{ElementId, OutOfMemory, Text};
+use run_answers::{DomFault, Stage};
+use run_outside::Ended;
+use run_rounds::handle;
+use tree_nodes::Event;
 
 impl<A: App> VirtualDom<A> {
     /// Calls the listeners that hear an event at an element: where it propagates from the element

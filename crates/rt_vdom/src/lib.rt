@@ -1,5 +1,4 @@
-//! The component runtime: a runtime that a program keeps and calls, and a session, which builds an
-//! application and then takes in one input after another.
+//! A runtime that a program keeps and calls.
 #![tactic(auto)]
 
 mod asking;
@@ -9,19 +8,15 @@ mod errors;
 mod events;
 mod looking;
 mod making;
-mod poll;
-mod refusal;
 mod rendering;
 mod suspense;
 mod tasks;
 
 pub use dom::VirtualDom;
-pub use poll::Poll;
-pub use refusal::DomFault;
 pub use rt_boundary::{ErrorContext, SuspenseContext};
 pub use rt_inbox::Drained;
-pub use rt_plan::{Place, Step};
-pub use rt_reports::{Counter, Entry, Fault, Input, Limits, Msg, Post, Report, SessionFault};
 pub use rt_scopes::{ScopeState, Scopes};
-pub use rt_session::{Posted, PostedFault, app, session, session_posted};
+pub use run_answers::{DomFault, Poll};
+pub use run_reports::{Counter, Entry, Fault, Input, Limits, Msg, Post, Report, SessionFault};
 pub use tasks::{TaskCalls, task_new};
+pub use tree_nodes::{Place, Step};

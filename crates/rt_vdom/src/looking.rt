@@ -5,21 +5,21 @@ ghost use Rattle.rt_model.specs.Lists.{at};
 ghost use Rattle.rt_model.specs.Queries as queries;
 ghost use Rattle.rt_model.specs.State as model;
 ghost use Rattle.rt_model.specs.View as views;
-ghost use Rattle.rt_mirror.specs.Mirror.{forest_of};
-ghost use Rattle.rt_calls.specs.Calls.{number_of};
-ghost use Rattle.rt_named.specs.Named.{named_in, named_of};
-ghost use Rattle.rt_state.specs.Outputs.{scope_seen};
+ghost use Rattle.tree_edits.specs.Documents.{forest_of};
+ghost use Rattle.run_records.specs.Records.{number_of};
+ghost use Rattle.run_named.specs.Named.{named_in, named_of};
+ghost use Rattle.run_state.specs.Outputs.{scope_seen};
 ghost use Rattle.rt_vdom.specs.Doms.{HasRoot, IsCurrent, StateIn};
 
 use crate::dom::VirtualDom;
+use author_calls::App;
 use rt_boundary::SuspenseContext;
-use rt_calls::App;
 use rt_edits::DocNode;
-use rt_plan::Place;
-use rt_queries::{is_descendant, provided_above, provided_here};
 use rt_scopes::{ScopeState, Scopes, get_scope};
-use rt_shown::{Look, nodes_of};
 use rt_values::{ElementId, List, OutOfMemory, ScopeId, Task};
+use run_answers::{is_descendant, named, provided_above, provided_here};
+use run_shown::{Look, nodes_of};
+use tree_nodes::Place;
 
 impl<A: App> VirtualDom<A> {
     /// A live scope. None where it isn't live.
@@ -161,15 +161,5 @@ impl<A: App> VirtualDom<A> {
     {
         let look = Look::now(&self.machine.scopes.state.rows);
         nodes_of(self.machine.scopes.alloc, &look, scope)
-    }
-}
-
-/// The task of a number.
-fn named(number: Option<u64>) -> Option<Task>
-    ensures { option_map (λ task. task.0) result ≡ number }
-{
-    match number {
-        Some(number) => Some(Task(number)),
-        None => None,
     }
 }

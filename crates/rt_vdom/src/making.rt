@@ -1,21 +1,23 @@
 //! A dom is made, built and closed.
 ghost use Rattle.std.specs.Prelude.{◌≡◌, ◌≤◌, [], None, Some, Ok, IfOk, IfErr};
-ghost use Rattle.rt_calls.specs.Calls.{firsts_of};
+ghost use Rattle.run_records.specs.Records.{firsts_of};
 ghost use Rattle.rt_model.specs.Replay.{ones};
-ghost use Rattle.rt_reports.specs.Counted.{CountsLog};
-ghost use Rattle.rt_reports.specs.declared.fault.Fault.TheVariants as faults;
-ghost use Rattle.rt_machine.specs.Ends.{Causes};
+ghost use Rattle.run_reports.specs.Counted.{CountsLog};
+ghost use Rattle.run_reports.specs.declared.fault.Fault.TheVariants as faults;
+ghost use Rattle.run_outside.specs.Ends.{Causes};
 ghost use Rattle.rt_vdom.specs.Calls.{CausesAt, Closes, FailsAll, Keeps, Ran, WantsFresh, as_run};
 ghost use Rattle.rt_vdom.specs.Doms.{IsStarted};
 ghost use Rattle.rt_vdom.specs.Runs.{Builds, BuildsToList, Prebuilt, PrebuiltStopped};
 
-use crate::dom::{Stage, VirtualDom};
-use crate::refusal::DomFault;
-use rt_calls::{App, Calls, Firsts};
+use crate::dom::VirtualDom;
+use author_calls::{App, Calls};
 use rt_edits::{Mutations, NoOpMutations, WriteMutations};
-use rt_machine::{Ended, Machine};
-use rt_reports::{Fault, Limits, Report};
-use rt_rounds::{build_report, close};
+use run_answers::{DomFault, Stage};
+use run_machine::Machine;
+use run_outside::Ended;
+use run_records::Firsts;
+use run_reports::{Fault, Limits, Report};
+use run_rounds::{build_report, close};
 use std::alloc::Global;
 
 impl<A: App> VirtualDom<A> {

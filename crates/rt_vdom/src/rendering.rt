@@ -1,23 +1,21 @@
 //! Calls that take unit after unit.
-ghost use Rattle.std.specs.Prelude.{◌≡◌, ◌≤◌, ◌&&◌, None, IfOk, IfErr, OnOk};
-ghost use Rattle.rt_reports.specs.Counted.{CountsLog};
-ghost use Rattle.rt_doms.specs.Doms.{Events, Renders, Settles};
-ghost use Rattle.rt_rounds.specs.Untils.{until_of};
+ghost use Rattle.std.specs.Prelude.{◌≡◌, ◌≤◌, None, IfOk, IfErr, OnOk};
+ghost use Rattle.run_reports.specs.Counted.{CountsLog};
+ghost use Rattle.law_behavior.specs.Doms.{Events, Renders, Settles};
+ghost use Rattle.run_answers.specs.Untils.{until_of};
 ghost use Rattle.rt_vdom.specs.Calls.{CausesAt, Does, FailsOn, Keeps, Ran, WantsBuilt, WantsMemory};
-ghost use Rattle.rt_vdom.specs.Doms.{StateIn};
-ghost use Rattle.rt_vdom.specs.Handles.{Works, answers, sees_none, taken_in};
+ghost use Rattle.rt_vdom.specs.Handles.{Works, taken_in};
 ghost use Rattle.rt_vdom.specs.Runs.{RendersToList, Runs, RunsOnce, Settled};
 
-use crate::dom::{Stage, VirtualDom};
-use crate::poll::{Poll, pending_where};
-use crate::refusal::DomFault;
-use rt_calls::App;
+use crate::dom::VirtualDom;
+use author_calls::App;
 use rt_edits::{Mutations, NoOpMutations, WriteMutations};
 use rt_inbox::Drained;
-use rt_machine::post_messages;
-use rt_reports::Report;
-use rt_rounds::{Until, run_report};
 use rt_values::OutOfMemory;
+use run_answers::{DomFault, Poll, Stage, Until, waits};
+use run_outside::post_messages;
+use run_reports::Report;
+use run_rounds::run_report;
 
 impl<A: App> VirtualDom<A> {
     /// A look; then polls while no scope is seen, and where no task is queued a batch of effects.
@@ -97,16 +95,9 @@ impl<A: App> VirtualDom<A> {
                 self.take_messages(drained)?;
                 let mut nowhere = NoOpMutations;
                 self.go_on(Until::Events, &mut nowhere)?;
-                Ok(self.waits(drained.emptied))
+                Ok(waits(&self.machine.scopes.state, drained.emptied))
             }
         }
-    }
-
-    /// Pending where no scope is seen, and no message was left to drain.
-    fn waits(&self, emptied: bool) -> Poll<()>
-        ensures waits { (g : _) → result ≡ answers (sees_none (StateIn g self.now).seen && emptied) }
-    {
-        pending_where(self.machine.scopes.state.owed.sees_none() & emptied)
     }
 
     /// Does what messages ask for, in order.

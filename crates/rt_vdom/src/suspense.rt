@@ -1,23 +1,21 @@
 //! Renders and polls while suspended, and what suspense boundaries wait for.
-ghost use Rattle.std.specs.Prelude.{◌≡◌, ◌≤◌, ◌&&◌, IfErr};
+ghost use Rattle.std.specs.Prelude.{◌≡◌, ◌≤◌, IfErr};
 ghost use Rattle.rt_model.specs.Commands.{registered, frozen_at};
 ghost use Rattle.rt_model.specs.Rendering.{suspended_remains};
 ghost use Rattle.rt_model.specs.State as model;
 ghost use Rattle.rt_vdom.specs.Calls.{CausesAt, Does, FailsOn, Keeps, LeavesAll, Ran, WantsBuilt, WantsMemory};
 ghost use Rattle.rt_vdom.specs.Doms.{StateIn};
-ghost use Rattle.rt_vdom.specs.Handles.{PollsOnSuspended, PollsSuspended, RendersSuspended, answers, sees_none};
+ghost use Rattle.rt_vdom.specs.Handles.{PollsOnSuspended, PollsSuspended, RendersSuspended};
 
-use crate::dom::{Stage, VirtualDom};
-use crate::poll::{Poll, pending_where};
-use crate::refusal::DomFault;
+use crate::dom::VirtualDom;
+use author_calls::App;
 use rt_boundary::SuspenseContext;
-use rt_calls::App;
 use rt_edits::WriteMutations;
 use rt_inbox::Drained;
-use rt_queries::suspended_remains;
-use rt_reports::Fault;
-use rt_rounds::{poll_suspended, render_suspended};
 use rt_values::{List, OutOfMemory, ScopeId};
+use run_answers::{DomFault, Poll, Stage, suspended_remains, waits_suspended};
+use run_reports::Fault;
+use run_rounds::{poll_suspended, render_suspended};
 
 impl<A: App> VirtualDom<A> {
     /// Takes the work that a suspended render may take: tasks that aren't a client's alone, and scopes
@@ -81,7 +79,7 @@ impl<A: App> VirtualDom<A> {
             Stage::Built => {
                 self.take_messages(drained)?;
                 self.poll_suspended()?;
-                Ok(self.waits_suspended(drained.emptied))
+                Ok(waits_suspended(&self.machine.scopes.state, drained.emptied))
             }
         }
     }
@@ -98,15 +96,6 @@ impl<A: App> VirtualDom<A> {
             Ok(()) => Ok(()),
             Err(ended) => Err(self.ended(ended)),
         }
-    }
-
-    /// Pending where no scope is seen, a suspended task remains, and no message was left to drain.
-    fn waits_suspended(&self, emptied: bool) -> Poll<()>
-        ensures waits { (g : _) → result ≡ answers (sees_none (StateIn g self.now).seen
-            && suspended_remains (StateIn g self.now).tasks && emptied) }
-    {
-        let state = &self.machine.scopes.state;
-        pending_where(state.owed.sees_none() & suspended_remains(state) & emptied)
     }
 
     /// The scopes that suspended renders passed over, in order, each once. A scope is listed until it

@@ -5,17 +5,16 @@ ghost use Rattle.rt_model.specs.Commands.{activated, end, post};
 ghost use Rattle.rt_model.specs.Next.{is_active};
 ghost use Rattle.rt_model.specs.State.{Woken};
 ghost use Rattle.rt_vdom.specs.Calls.{CausesAt, Does, FailsOn, Keeps, LeavesAll, PollsNow, RanNoUnit};
-ghost use Rattle.rt_vdom.specs.Calls.{WantsBuilt, WantsMemory, WantsNothing, WantsTask, spawned_by, task_spawned, told_by};
+ghost use Rattle.rt_vdom.specs.Calls.{WantsBuilt, WantsMemory, WantsNothing, WantsTask, spawned_by, task_spawned};
 ghost use Rattle.rt_vdom.specs.Doms.{StateIn};
 
-use crate::dom::{Stage, VirtualDom, after};
-use crate::poll::Poll;
-use crate::refusal::DomFault;
-use rt_calls::App;
-use rt_machine::Ended;
-use rt_reports::{Counter, Fault};
-use rt_state::Posted;
+use crate::dom::VirtualDom;
+use author_calls::App;
 use rt_values::{OutOfMemory, ScopeId, Task};
+use run_answers::{DomFault, Poll, Stage, after, poll_of};
+use run_outside::Ended;
+use run_reports::{Counter, Fault};
+use run_state::Posted;
 
 /// The calls on a task of a dom.
 pub trait TaskCalls {
@@ -327,16 +326,5 @@ impl<A: App> VirtualDom<A> {
             Ok(ready) => Ok(poll_of(ready)),
             Err(stop) => Err(self.ended(Ended::Run(stop))),
         }
-    }
-}
-
-/// Ready, or pending.
-fn poll_of(ready: bool) -> Poll<()>
-    ensures { result ≡ told_by ready }
-{
-    if ready {
-        Poll::Ready(())
-    } else {
-        Poll::Pending
     }
 }

@@ -1,9 +1,9 @@
 -- The first cell is read, and then the second one where it is asked for.
 use Rattle.std.proofs.Common.{rules, ◌≡◌}
 use Rattle.std.specs.Prelude.{Some}
-use Rattle.rt_app.proofs.Rules.{one_after}
-use Rattle.rt_app.specs.Words.{Comes}
-use Rattle.examples_signal.specs.Signals.{get}
+use Rattle.rt_author.proofs.Rules.{one_after}
+use Rattle.rt_author.specs.Words.{Comes}
+use Rattle.rt_author.specs.Signals.{get}
 use Rattle.examples_memo.specs.Meaning.{MemoTypes, chosen_by}
 use Rattle.examples_memo.proofs.memo.chosen.Goals as goal
 

@@ -1,9 +1,9 @@
 -- The cells are had, and nothing is shown.
 use Rattle.std.proofs.Common.{rules, ◌≡◌, ◌∙◌, ap, sym}
 use Rattle.std.specs.Prelude.{Some}
-use Rattle.rt_app.proofs.Rules.{at_done, one_after}
-use Rattle.rt_app.specs.Words.{Comes, call_of, element_of, nothing, placeholder_tree, reached, rendered, tree_of, world_of}
-use Rattle.examples_signal.specs.Signals.{own_pair, spawn_once}
+use Rattle.rt_author.proofs.Rules.{at_done, one_after}
+use Rattle.rt_author.specs.Words.{Comes, call_of, element_of, nothing, placeholder_tree, reached, rendered, tree_of, world_of}
+use Rattle.rt_author.specs.Signals.{own_pair, spawn_once}
 use Rattle.examples_memo.specs.Meaning.{MemoTypes, first, keeping, tree, with_task}
 use Rattle.examples_memo.proofs.memo.empty.Goals as goal
 

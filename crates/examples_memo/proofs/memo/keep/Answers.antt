@@ -1,9 +1,9 @@
 -- The context is had, and the memo is computed in it.
 use Rattle.std.proofs.Common.{rules, ◌≡◌}
 use Rattle.std.specs.Prelude.{Some}
-use Rattle.rt_app.proofs.Rules.{at_done, one_after}
-use Rattle.rt_app.specs.Words.{Comes, call_of, done, world_of}
-use Rattle.examples_signal.specs.Signals.{still_waking}
+use Rattle.rt_author.proofs.Rules.{at_done, one_after}
+use Rattle.rt_author.specs.Words.{Comes, call_of, done, world_of}
+use Rattle.rt_author.specs.Signals.{still_waking}
 use Rattle.examples_memo.specs.Meaning.{MemoTypes, as_kept, chosen_in, kept_in}
 use Rattle.examples_memo.proofs.memo.keep.Goals as goal
 

@@ -1,8 +1,8 @@
 -- The page of the route that was read is shown.
 use Rattle.std.proofs.Common.{rules, ◌∙◌, ap, sym}
 use Rattle.std.specs.Prelude.{None}
-use Rattle.rt_app.proofs.Rules.{hooking, looking}
-use Rattle.rt_app.specs.Words.{Comes, call_of, consume_context, reached, rendered, tree_of}
+use Rattle.rt_author.proofs.Rules.{hooking, looking}
+use Rattle.rt_author.specs.Words.{Comes, call_of, consume_context, reached, rendered, tree_of}
 use Rattle.examples_router.specs.Meaning.{RouterTree, heading, of_cell}
 use Rattle.examples_router.proofs.router.page.Goals as goal
 

@@ -1,9 +1,9 @@
 -- The cell is had and provided, and all is shown.
 use Rattle.std.proofs.Common.{rules, false, ◌≡◌, ◌∙◌, ap, sym}
 use Rattle.std.specs.Prelude.{Some}
-use Rattle.rt_app.proofs.Rules.{at_done, at_provide, one_after}
-use Rattle.rt_app.specs.Program.{Call, provides}
-use Rattle.rt_app.specs.Words.{Comes, call_of, came, own_cell, reached, rendered, tree_of, world_of}
+use Rattle.rt_author.proofs.Rules.{at_done, at_provide, one_after}
+use Rattle.rt_author.specs.Program.{Call, provides}
+use Rattle.rt_author.specs.Words.{Comes, call_of, came, own_cell, reached, rendered, tree_of, world_of}
 use Rattle.examples_router.specs.Meaning.{RouterTypes, RouterTree, keeping, tree, with_cell, all}
 use Rattle.examples_router.proofs.router.top.Goals as goal
 

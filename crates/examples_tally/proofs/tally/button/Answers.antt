@@ -1,9 +1,9 @@
 -- The signals are had, and the button is shown of its scope.
 use Rattle.std.proofs.Common.{rules, ◌≡◌, ◌∙◌, ap, sym}
 use Rattle.std.specs.Prelude.{Some}
-use Rattle.rt_app.proofs.Rules.{at_done, at_scope, one_after}
-use Rattle.rt_app.specs.Words.{Comes, call_of, nothing, reached, rendered, tree_of, world_of}
-use Rattle.examples_signal.specs.Signals.{get, own_pair, spawn_once}
+use Rattle.rt_author.proofs.Rules.{at_done, at_scope, one_after}
+use Rattle.rt_author.specs.Words.{Comes, call_of, nothing, reached, rendered, tree_of, world_of}
+use Rattle.rt_author.specs.Signals.{get, own_pair, spawn_once}
 use Rattle.examples_tally.specs.Meaning.{TallyTree, face, first, keeping, said_in, saying, tree, with_task}
 use Rattle.examples_tally.proofs.tally.button.Goals as goal
 

@@ -1,9 +1,9 @@
 -- The count is had, and its derived signal is set.
 use Rattle.std.proofs.Common.{rules, ℕ, ◌≡◌, ◌∙◌, ap, sym}
 use Rattle.std.specs.Prelude.{nat_eq, Some}
-use Rattle.rt_app.proofs.Rules.{at_done, one_after}
-use Rattle.rt_app.specs.Words.{Comes, call_of, came, done, nothing, world_of}
-use Rattle.examples_signal.specs.Signals.{follow, found_in, set_unless}
+use Rattle.rt_author.proofs.Rules.{at_done, one_after}
+use Rattle.rt_author.specs.Words.{Comes, call_of, came, done, nothing, world_of}
+use Rattle.rt_author.specs.Signals.{follow, found_in, set_unless}
 use Rattle.examples_tally.specs.Meaning.{TallyTypes, as_derived, as_said, derived, of_count}
 use Rattle.examples_tally.proofs.tally.derive.Goals as goal
 

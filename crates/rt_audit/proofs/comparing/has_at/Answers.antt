@@ -1,5 +1,5 @@
 use Rattle.std.proofs.Common.{rules, ◌<◌, ◌≤◌, ◌∙◌, length}
-use Rattle.rt_reports.specs.Seen.{entry_of}
+use Rattle.run_reports.specs.Seen.{entry_of}
 use Rattle.rt_audit.proofs.Noted.{begins_here, none_begins}
 use Rattle.rt_audit.proofs.comparing.has_at.Goals as goal
 

@@ -1,5 +1,5 @@
 use Rattle.std.proofs.Common.{rules, ◌≡◌, ◌<◌, ◌∙◌, ◌∷◌, suc, length, map, drop, ap, sym}
-use Rattle.rt_reports.specs.Seen.{entry_of}
+use Rattle.run_reports.specs.Seen.{entry_of}
 use Rattle.rt_audit.proofs.Lists.{item_at}
 use Rattle.rt_audit.proofs.comparing.list_at.Goals as goal
 

@@ -1,5 +1,5 @@
 use Rattle.std.proofs.Common.{rules, ◌≡◌, length, true, false}
-use Rattle.rt_reports.specs.Seen.{entry_of}
+use Rattle.run_reports.specs.Seen.{entry_of}
 use Rattle.rt_audit.proofs.Noted.{opens_none, opens_other, opens_with}
 use Rattle.rt_audit.proofs.comparing.opened.Goals as goal
 

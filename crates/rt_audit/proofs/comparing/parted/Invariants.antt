@@ -1,6 +1,6 @@
 -- The entries so far are those of the list.
 use Rattle.std.proofs.Common.{take, map}
-use Rattle.rt_reports.specs.Seen.{entry_of}
+use Rattle.run_reports.specs.Seen.{entry_of}
 use Rattle.rt_audit.specs.Fronts.{IsFront}
 use Rattle.rt_audit.proofs.comparing.parted.Given as goal
 

@@ -1,7 +1,7 @@
 -- The entries that were noted are the first ones of the list.
 use Rattle.std.proofs.Common.{map}
-use Rattle.rt_reports.specs.Seen.{entry_of, limits_of}
-use Rattle.rt_machine.specs.Stands.{without_count}
+use Rattle.run_reports.specs.Seen.{entry_of, limits_of}
+use Rattle.run_machine.specs.Stands.{without_count}
 use Rattle.rt_audit.specs.Finding.{boundless, Keeps}
 use Rattle.rt_audit.proofs.following.follow.Given as goal
 

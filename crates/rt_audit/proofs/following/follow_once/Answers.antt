@@ -1,6 +1,6 @@
 use Rattle.std.proofs.Common.{rules, map}
-use Rattle.rt_reports.specs.Seen.{entry_of, limits_of}
-use Rattle.rt_machine.specs.Stands.{without_count}
+use Rattle.run_reports.specs.Seen.{entry_of, limits_of}
+use Rattle.run_machine.specs.Stands.{without_count}
 use Rattle.rt_audit.specs.Finding.{boundless}
 use Rattle.rt_audit.proofs.Found.{found_once}
 use Rattle.rt_audit.proofs.following.follow_once.Goals as goal

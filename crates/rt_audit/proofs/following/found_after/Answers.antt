@@ -1,5 +1,5 @@
 use Rattle.std.proofs.Common.{map}
-use Rattle.rt_reports.specs.Seen.{entry_of}
+use Rattle.run_reports.specs.Seen.{entry_of}
 use Rattle.rt_audit.proofs.Found.{behind_says}
 use Rattle.rt_audit.proofs.following.found_after.Goals as goal
 

@@ -1,6 +1,6 @@
 use Rattle.std.proofs.Common.{rules, ◌≡◌, length, map, sym, subst}
 use Rattle.std.proofs.lemmas.List.{length-map}
-use Rattle.rt_reports.specs.Seen.{entry_of}
+use Rattle.run_reports.specs.Seen.{entry_of}
 use Rattle.rt_audit.specs.Finding.{Says}
 use Rattle.rt_audit.specs.declared.following.Turn.TheVariants as turns
 use Rattle.rt_audit.proofs.Found.{rested_says, faulted_says}

@@ -1,5 +1,5 @@
-use Rattle.rt_reports.specs.Seen.{limits_of}
-use Rattle.rt_machine.specs.Stands.{without_count}
+use Rattle.run_reports.specs.Seen.{limits_of}
+use Rattle.run_machine.specs.Stands.{without_count}
 use Rattle.rt_audit.specs.Finding.{boundless}
 use Rattle.rt_audit.proofs.Found.{turns_on}
 use Rattle.rt_audit.proofs.following.turn_once.Goals as goal

@@ -1,5 +1,5 @@
 use Rattle.std.proofs.Common.{rules, ◌≤◌, length, map, sym}
-use Rattle.rt_reports.specs.Seen.{input_of, limits_of}
+use Rattle.run_reports.specs.Seen.{input_of, limits_of}
 use Rattle.rt_audit.specs.Finding.{boundless}
 use Rattle.rt_audit.proofs.Lists.{no_log}
 use Rattle.rt_audit.proofs.judging.audit.Goals as goal

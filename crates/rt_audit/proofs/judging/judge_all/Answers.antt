@@ -1,6 +1,6 @@
 use Rattle.std.proofs.Common.{map, sym, refl, subst}
 use Rattle.rt_model.specs.Replay.{start}
-use Rattle.rt_reports.specs.Seen.{entry_of, input_of, limits_of}
+use Rattle.run_reports.specs.Seen.{entry_of, input_of, limits_of}
 use Rattle.rt_audit.specs.Finding.{boundless}
 use Rattle.rt_audit.specs.Judging.{ListJudged}
 use Rattle.rt_audit.proofs.Lists.{first_stops, reaches_first}

@@ -1,9 +1,9 @@
 use Rattle.std.proofs.Common.{rules, ◌≡◌, ◌∷◌, false, map}
 use Rattle.rt_model.specs.Replay.{Build, start}
-use Rattle.rt_reports.specs.Seen.{entry_of, limits_of}
+use Rattle.run_reports.specs.Seen.{entry_of, limits_of}
 use Rattle.rt_audit.specs.Finding.{boundless}
 use Rattle.rt_audit.specs.Fronts.{begins_with}
-use Rattle.rt_machine.proofs.Opening.{building}
+use Rattle.run_machine.proofs.Opening.{building}
 use Rattle.rt_audit.proofs.Lists.{built_keeps, built_lists, built_stop}
 use Rattle.rt_audit.proofs.Same.{other_way}
 use Rattle.rt_audit.proofs.Stopping.{unopened_stops}

@@ -1,9 +1,9 @@
 use Rattle.std.proofs.Common.{rules, ◌≡◌, ◌∷◌, false, map}
 use Rattle.rt_model.specs.Replay.{Taken}
-use Rattle.rt_reports.specs.Seen.{entry_of, input_of, limits_of}
+use Rattle.run_reports.specs.Seen.{entry_of, input_of, limits_of}
 use Rattle.rt_audit.specs.Finding.{boundless}
 use Rattle.rt_audit.specs.Fronts.{begins_with}
-use Rattle.rt_machine.proofs.Opening.{taking}
+use Rattle.run_machine.proofs.Opening.{taking}
 use Rattle.rt_audit.proofs.Lists.{taken_keeps, taken_lists, unopened}
 use Rattle.rt_audit.proofs.judging.judge_input.Goals as goal
 

@@ -1,10 +1,10 @@
 use Rattle.std.proofs.Common.{rules, ◌≡◌, ◌∷◌, ◌∙◌, length, map, sym, ap, subst, arith}
 use Rattle.std.proofs.lemmas.List.{length-map}
 use Rattle.std.specs.Vec.Iter.{into_iter_items}
-use Rattle.rt_reports.specs.Seen.{entry_of, input_of, limits_of}
+use Rattle.run_reports.specs.Seen.{entry_of, input_of, limits_of}
 use Rattle.rt_audit.specs.Finding.{boundless}
 use Rattle.rt_audit.specs.Judging.{ended, Reaches, StepsOn}
-use Rattle.rt_machine.proofs.Reports.{nothing_left}
+use Rattle.run_outside.proofs.Reports.{nothing_left}
 use Rattle.rt_audit.proofs.Lists.{at_end}
 use Rattle.rt_audit.proofs.judging.judge_inputs.Goals as goal
 

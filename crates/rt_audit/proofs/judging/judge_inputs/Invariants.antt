@@ -1,7 +1,7 @@
 -- The lists so far were good.
 use Rattle.std.proofs.Common.{◌≡◌, ℕ, suc, length, map}
 use Rattle.std.specs.Vec.Iter.{into_iter_items, into_iter_len}
-use Rattle.rt_reports.specs.Seen.{entry_of, input_of, limits_of}
+use Rattle.run_reports.specs.Seen.{entry_of, input_of, limits_of}
 use Rattle.rt_audit.specs.Finding.{boundless}
 use Rattle.rt_audit.specs.Judging.{Reaches}
 use Rattle.rt_audit.proofs.judging.judge_inputs.Given as goal

@@ -1,6 +1,6 @@
 use Rattle.std.proofs.Common.{rules, ◌≡◌, ◌≤◌, ◌+◌, ◌∷◌, length, map, sym, subst, arith}
 use Rattle.std.proofs.lemmas.List.{length-map}
-use Rattle.rt_reports.specs.Seen.{entry_of, input_of, limits_of}
+use Rattle.run_reports.specs.Seen.{entry_of, input_of, limits_of}
 use Rattle.rt_audit.specs.Finding.{boundless}
 use Rattle.rt_audit.specs.Judging.{ListJudged}
 use Rattle.rt_audit.proofs.Lists.{none_left, next_stops, reaches_next}

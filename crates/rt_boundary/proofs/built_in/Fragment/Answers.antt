@@ -1,6 +1,6 @@
 -- The component at the mirror.
 use Rattle.std.proofs.Common.{rules, ◌≡◌, ◌∙◌, ap}
-use Rattle.rt_mirror.specs.Sealed.{element_of}
+use Rattle.tree_mirror.specs.Sealed.{element_of}
 use Rattle.rt_model.specs.Tree as model
 use Rattle.rt_boundary.specs.Seen.{children_in}
 use Rattle.rt_scopes.proofs.BuiltIns.{fragment_is}

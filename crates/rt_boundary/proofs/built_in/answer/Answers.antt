@@ -1,7 +1,7 @@
 -- The body of the component that was found.
 use Rattle.std.proofs.Common.{rules, subst}
 use Rattle.rt_model.specs.Run.{call_body}
-use Rattle.rt_mirror.specs.Sealed.{component_of}
+use Rattle.tree_mirror.specs.Sealed.{component_of}
 use Rattle.rt_scopes.specs.Bodies.{Answers}
 use Rattle.rt_boundary.proofs.Stepped.{if_found}
 use Rattle.rt_boundary.proofs.built_in.answer.Goals as goal

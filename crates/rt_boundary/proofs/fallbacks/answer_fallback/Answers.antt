@@ -4,9 +4,9 @@ use Rattle.std.specs.Prelude.{[]}
 use Rattle.rt_model.specs.State.{FallbackSide, onward}
 use Rattle.rt_model.specs.Run.{after_hooks, start_agenda}
 use Rattle.rt_model.specs.Boundary.{counted_render, tree_or_placeholder}
-use Rattle.rt_mirror.specs.Sealed.{element_of}
-use Rattle.rt_work.specs.Items.{work_of}
-use Rattle.rt_state.specs.Mirror.{state_of}
+use Rattle.tree_mirror.specs.Sealed.{element_of}
+use Rattle.run_work.specs.Items.{work_of}
+use Rattle.run_state.specs.Mirror.{state_of}
 use Rattle.rt_scopes.proofs.Counted.{counts_then}
 use Rattle.rt_scopes.proofs.Onward.{came_as, came_on, cut_as, cut_on}
 use Rattle.rt_boundary.proofs.fallbacks.answer_fallback.Goals as goal

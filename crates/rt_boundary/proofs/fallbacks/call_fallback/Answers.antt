@@ -1,7 +1,7 @@
 -- The fallback's call, and what follows its answer.
 use Rattle.std.proofs.lemmas.Result.{err_from_is_err_and}
 use Rattle.rt_model.specs.Boundary.{fallback_answered}
-use Rattle.rt_mirror.specs.Sealed.{component_of}
+use Rattle.tree_mirror.specs.Sealed.{component_of}
 use Rattle.rt_scopes.proofs.Counted.{counts_then}
 use Rattle.rt_scopes.proofs.Onward.{came_as}
 use Rattle.rt_boundary.proofs.fallbacks.call_fallback.Goals as goal

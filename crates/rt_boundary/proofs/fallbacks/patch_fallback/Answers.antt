@@ -2,7 +2,7 @@
 use Rattle.std.proofs.Common.{rules, ap, sym}
 use Rattle.rt_model.specs.State.{FallbackSide}
 use Rattle.rt_model.specs.Run.{start_agenda}
-use Rattle.rt_state.specs.Mirror.{state_of}
+use Rattle.run_state.specs.Mirror.{state_of}
 use Rattle.rt_scopes.proofs.Onward.{came_as}
 use Rattle.rt_boundary.proofs.fallbacks.patch_fallback.Goals as goal
 

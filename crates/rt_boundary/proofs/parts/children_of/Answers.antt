@@ -1,11 +1,11 @@
 -- The children of each kind of component.
 use Rattle.std.proofs.Common.{◌∙◌, ap}
 use Rattle.rt_model.specs.Boundary.{tree_or_placeholder}
-use Rattle.rt_mirror.specs.Sealed.{element_of}
-use Rattle.rt_mirror.proofs.SealedComponents.{component_App, component_Root}
+use Rattle.tree_mirror.specs.Sealed.{element_of}
+use Rattle.tree_mirror.proofs.SealedComponents.{component_App, component_Root}
 use Rattle.rt_scopes.proofs.BuiltIns.{error_boundary_is, fragment_is, suspense_boundary_is}
 use Rattle.rt_scopes.proofs.TreesAnswered.{placeholder_is}
-use Rattle.rt_state.proofs.Changed.{if_ok}
+use Rattle.run_state.proofs.Changed.{if_ok}
 use Rattle.rt_boundary.proofs.parts.children_of.Goals as goal
 
 pub returns-in-SuspenseBoundary : goal.returns-in-SuspenseBoundary

@@ -1,7 +1,7 @@
 -- The tree that was copied, or one placeholder.
 use Rattle.std.proofs.Common.{◌∙◌, ap, sym}
-use Rattle.rt_mirror.specs.Sealed.{tree_of}
-use Rattle.rt_state.proofs.Changed.{if_ok}
+use Rattle.tree_mirror.specs.Sealed.{tree_of}
+use Rattle.run_state.proofs.Changed.{if_ok}
 use Rattle.rt_scopes.proofs.TreesAnswered.{no_tree_shown, placeholder_is}
 use Rattle.rt_boundary.proofs.parts.copy_tree.Goals as goal
 

@@ -1,7 +1,7 @@
 -- Whether an answer counts, by the kind of the component.
 use Rattle.std.proofs.Common.{refl}
-use Rattle.rt_mirror.specs.Sealed.{element_of}
-use Rattle.rt_mirror.proofs.SealedComponents.{component_App, component_Root}
+use Rattle.tree_mirror.specs.Sealed.{element_of}
+use Rattle.tree_mirror.proofs.SealedComponents.{component_App, component_Root}
 use Rattle.rt_scopes.proofs.BuiltIns.{error_boundary_is, fragment_is, suspense_boundary_children, suspense_boundary_is}
 use Rattle.rt_boundary.proofs.parts.counts_render.Goals as goal
 

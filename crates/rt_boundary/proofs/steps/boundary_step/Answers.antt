@@ -2,7 +2,7 @@
 use Rattle.std.proofs.Common.{ap}
 use Rattle.rt_model.specs.Boundary.{boundary_step}
 use Rattle.rt_model.specs.State as steps
-use Rattle.rt_work.specs.Items.{row_step_of, work_of}
+use Rattle.run_work.specs.Items.{row_step_of, work_of}
 use Rattle.rt_scopes.proofs.Told.{comes_as}
 use Rattle.rt_boundary.proofs.steps.boundary_step.Goals as goal
 

@@ -2,8 +2,8 @@
 use Rattle.std.proofs.Common.{rules, ◌∙◌, ap, sym}
 use Rattle.rt_model.specs.State.{Done, DropFallback, FallbackSide}
 use Rattle.rt_model.specs.Boundary.{drop_items}
-use Rattle.rt_work.specs.Items.{work_of}
-use Rattle.rt_state.specs.Mirror.{state_of}
+use Rattle.run_work.specs.Items.{work_of}
+use Rattle.run_state.specs.Mirror.{state_of}
 use Rattle.rt_scopes.specs.Sides.{fallback_scopes_in}
 use Rattle.rt_boundary.proofs.Stepped.{step_dead, step_drops}
 use Rattle.rt_boundary.proofs.steps.leave_fallback.Goals as goal

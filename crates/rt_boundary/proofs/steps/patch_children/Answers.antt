@@ -2,10 +2,10 @@
 use Rattle.std.proofs.Common.{rules, ◌∙◌, ap, sym}
 use Rattle.std.specs.Prelude.{Some, None}
 use Rattle.rt_model.specs.State.{Done}
-use Rattle.rt_work.specs.Items.{work_of}
-use Rattle.rt_calls.specs.Kept.{scope_of}
-use Rattle.rt_state.specs.Mirror.{state_of}
-use Rattle.rt_state.proofs.Each.{found-each}
+use Rattle.run_work.specs.Items.{work_of}
+use Rattle.run_records.specs.Kept.{scope_of}
+use Rattle.run_state.specs.Mirror.{state_of}
+use Rattle.run_state.proofs.Each.{found-each}
 use Rattle.rt_model.specs.State.{ChildrenSide, PatchChildren}
 use Rattle.rt_model.specs.Run.{start_agenda}
 use Rattle.rt_scopes.proofs.Onward.{came_as}

@@ -3,9 +3,9 @@ use Rattle.std.proofs.Common.{rules, ◌∙◌, ap, sym}
 use Rattle.std.proofs.lemmas.Result.{err_from_is_err_and}
 use Rattle.rt_model.specs.State.{Done, Resolve}
 use Rattle.rt_model.specs.Boundary.{called_back}
-use Rattle.rt_work.specs.Items.{work_of}
-use Rattle.rt_state.specs.Mirror.{state_of}
-use Rattle.rt_state.specs.Effects.{callbacks_of}
+use Rattle.run_work.specs.Items.{work_of}
+use Rattle.run_state.specs.Mirror.{state_of}
+use Rattle.run_state.specs.Effects.{callbacks_of}
 use Rattle.rt_scopes.proofs.Onward.{cut_as}
 use Rattle.rt_boundary.proofs.Stepped.{step_dead, step_resolves}
 use Rattle.rt_boundary.proofs.steps.resolve.Goals as goal

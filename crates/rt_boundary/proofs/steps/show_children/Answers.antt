@@ -1,8 +1,8 @@
 -- A side shows, where the boundary is live.
 use Rattle.std.proofs.Common.{rules, ◌∙◌, [], ap, sym}
 use Rattle.rt_model.specs.State.{Done, ShowChildren}
-use Rattle.rt_work.specs.Items.{work_of}
-use Rattle.rt_state.specs.Mirror.{forgets, state_of}
+use Rattle.run_work.specs.Items.{work_of}
+use Rattle.run_state.specs.Mirror.{forgets, state_of}
 use Rattle.rt_boundary.proofs.Stepped.{step_children, step_dead}
 use Rattle.rt_boundary.proofs.steps.show_children.Goals as goal
 

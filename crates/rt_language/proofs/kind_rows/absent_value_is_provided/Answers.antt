@@ -1,7 +1,7 @@
 use Rattle.std.proofs.Common.{refl}
 use Rattle.std.specs.Fmt.{digits}
 use Rattle.json.specs.Print.{escape_byte}
-use Rattle.rt_programs.specs.Sequence.{go_on}
+use Rattle.author_programs.specs.Sequence.{go_on}
 use Rattle.rt_language.specs.Expressions.{evaluate, evaluate_all}
 use Rattle.rt_language.specs.Statements.{perform, run_statements}
 use Rattle.rt_language.specs.Views.{fill, fill_slot}

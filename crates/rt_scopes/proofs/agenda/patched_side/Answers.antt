@@ -1,6 +1,6 @@
 -- What the walk finds is what the definitions keep and serve.
 use Rattle.std.proofs.Common.{ap, ◌∙◌}
-use Rattle.rt_places.specs.Drawn.{moved}
+use Rattle.run_places.specs.Drawn.{moved}
 use Rattle.rt_scopes.proofs.Agendas.{patches}
 use Rattle.rt_scopes.proofs.KeptLess.{side_known, side_picked}
 use Rattle.rt_scopes.proofs.agenda.patched_side.Goals as goal

@@ -2,12 +2,12 @@
 use Rattle.std.proofs.Common.{◌∙◌, sym, ap}
 use Rattle.std.specs.Prelude.{Some, None}
 use Rattle.rt_model.specs.State.{Done}
-use Rattle.rt_mirror.specs.Sealed.{tree_of}
-use Rattle.rt_places.specs.Places.{side_name_of}
-use Rattle.rt_work.specs.Items.{work_of}
-use Rattle.rt_calls.specs.Kept.{scope_of}
-use Rattle.rt_state.specs.Mirror.{state_of}
-use Rattle.rt_state.proofs.Each.{found-each}
+use Rattle.tree_mirror.specs.Sealed.{tree_of}
+use Rattle.run_places.specs.Places.{side_name_of}
+use Rattle.run_work.specs.Items.{work_of}
+use Rattle.run_records.specs.Kept.{scope_of}
+use Rattle.run_state.specs.Mirror.{state_of}
+use Rattle.run_state.proofs.Each.{found-each}
 use Rattle.rt_scopes.proofs.Agendas.{begins, not_started}
 use Rattle.rt_scopes.proofs.KeptLess.{fewer_on}
 use Rattle.rt_scopes.proofs.Staying.{stays_on}

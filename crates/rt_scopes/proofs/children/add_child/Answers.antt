@@ -1,8 +1,8 @@
 -- The child at a component's place.
 use Rattle.std.proofs.Common.{◌++◌, sym, ap, ◌∙◌, append-nil}
 use Rattle.rt_model.specs.Boundary.{live_child}
-use Rattle.rt_state.specs.Mirror.{state_of}
-use Rattle.rt_state.proofs.Changed.{on_ok}
+use Rattle.run_state.specs.Mirror.{state_of}
+use Rattle.run_state.proofs.Changed.{on_ok}
 use Rattle.rt_scopes.proofs.Spots.{node_has_none, component_has}
 use Rattle.rt_scopes.proofs.children.add_child.Goals as goal
 

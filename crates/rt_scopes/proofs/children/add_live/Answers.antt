@@ -1,7 +1,7 @@
 -- A live scope joins the others.
 use Rattle.std.proofs.Common.{sym, ◌∙◌}
-use Rattle.rt_state.specs.Mirror.{state_of}
-use Rattle.rt_state.proofs.Changed.{on_ok}
+use Rattle.run_state.specs.Mirror.{state_of}
+use Rattle.run_state.proofs.Changed.{on_ok}
 use Rattle.rt_scopes.proofs.Spots.{live_joins, gone_passes, none_joins}
 use Rattle.rt_scopes.proofs.children.add_live.Goals as goal
 

@@ -1,8 +1,8 @@
 -- The fallback's children, then those of the other sides.
 use Rattle.std.specs.Prelude.{Some, None}
-use Rattle.rt_calls.specs.Kept.{scope_of}
-use Rattle.rt_state.specs.Mirror.{state_of}
-use Rattle.rt_state.proofs.Each.{found-each}
+use Rattle.run_records.specs.Kept.{scope_of}
+use Rattle.run_state.specs.Mirror.{state_of}
+use Rattle.run_state.proofs.Each.{found-each}
 use Rattle.rt_scopes.proofs.Spots.{none_below, all_below}
 use Rattle.rt_scopes.proofs.children.children_below.Goals as goal
 

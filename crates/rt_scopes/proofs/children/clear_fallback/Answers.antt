@@ -1,8 +1,8 @@
 -- A side on which nothing was rendered.
 use Rattle.std.proofs.Common.{ap, sym, [], ◌∙◌}
 use Rattle.rt_model.specs.State.{change}
-use Rattle.rt_state.specs.Drawn.{numbers_at, numbers_in}
-use Rattle.rt_state.specs.Mirror.{state_of}
+use Rattle.run_state.specs.Drawn.{numbers_at, numbers_in}
+use Rattle.run_state.specs.Mirror.{state_of}
 use Rattle.rt_scopes.proofs.children.clear_fallback.Goals as goal
 
 pub put_side-requires : goal.put_side-requires

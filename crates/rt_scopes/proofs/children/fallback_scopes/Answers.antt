@@ -1,10 +1,10 @@
 -- The scopes of a boundary that was found.
 use Rattle.std.proofs.Common.{◌∙◌}
 use Rattle.std.specs.Prelude.{Some, None}
-use Rattle.rt_calls.specs.Kept.{scope_of}
-use Rattle.rt_state.specs.Mirror.{state_of}
-use Rattle.rt_state.proofs.Each.{found-each}
-use Rattle.rt_state.proofs.Changed.{if_ok}
+use Rattle.run_records.specs.Kept.{scope_of}
+use Rattle.run_state.specs.Mirror.{state_of}
+use Rattle.run_state.proofs.Each.{found-each}
+use Rattle.run_state.proofs.Changed.{if_ok}
 use Rattle.rt_scopes.proofs.Spots.{fallback_found, no_fallback}
 use Rattle.rt_scopes.proofs.children.fallback_scopes.Goals as goal
 

@@ -1,10 +1,10 @@
 -- The child at a place of the side.
 use Rattle.std.proofs.Common.{◌∙◌}
 use Rattle.std.specs.Prelude.{Some, None}
-use Rattle.rt_places.specs.Places.{place_of, side_name_of}
-use Rattle.rt_calls.specs.Kept.{scope_of}
-use Rattle.rt_state.specs.Mirror.{state_of}
-use Rattle.rt_state.proofs.Each.{found-each}
+use Rattle.run_places.specs.Places.{place_of, side_name_of}
+use Rattle.run_records.specs.Kept.{scope_of}
+use Rattle.run_state.specs.Mirror.{state_of}
+use Rattle.run_state.proofs.Each.{found-each}
 use Rattle.rt_scopes.proofs.Spots.{fed_found, none_fed}
 use Rattle.rt_scopes.proofs.children.fed_child.Goals as goal
 

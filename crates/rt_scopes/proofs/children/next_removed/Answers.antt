@@ -1,8 +1,8 @@
 -- One step down, or none.
 use Rattle.std.proofs.Common.{◌<◌, ◌≤◌, length, sym, ap, ◌∙◌}
 use Rattle.std.specs.Option.{option_copied}
-use Rattle.rt_calls.specs.Kept.{scope_of}
-use Rattle.rt_state.specs.Mirror.{scopes_of, state_of}
+use Rattle.run_records.specs.Kept.{scope_of}
+use Rattle.run_state.specs.Mirror.{scopes_of, state_of}
 use Rattle.rt_scopes.proofs.Spots.{length-each, leaf_begin, leaf_on, leaf_here, leaf_end}
 use Rattle.rt_scopes.proofs.children.next_removed.Goals as goal
 

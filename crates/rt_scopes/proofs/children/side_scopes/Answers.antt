@@ -1,7 +1,7 @@
 -- One more spot.
 use Rattle.std.proofs.Common.{refl, ap, ◌∙◌, map}
-use Rattle.rt_places.specs.Places.{spot_of}
-use Rattle.rt_state.specs.Mirror.{state_of}
+use Rattle.run_places.specs.Places.{spot_of}
+use Rattle.run_state.specs.Mirror.{state_of}
 use Rattle.rt_scopes.specs.Sides.{child_here, children_at}
 use Rattle.rt_scopes.proofs.Spots.{all_done, one_more, side_is, side_none}
 use Rattle.rt_scopes.proofs.children.side_scopes.Goals as goal

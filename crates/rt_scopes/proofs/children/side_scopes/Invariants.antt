@@ -1,6 +1,6 @@
 -- The scopes so far, and those of the spots that are left, are those of all spots.
 use Rattle.std.proofs.Common.{◌≡◌, ◌++◌, drop}
-use Rattle.rt_state.specs.Mirror.{state_of}
+use Rattle.run_state.specs.Mirror.{state_of}
 use Rattle.rt_scopes.specs.Sides.{children_at}
 use Rattle.rt_scopes.proofs.children.side_scopes.Given as goal
 

@@ -1,7 +1,7 @@
 -- The items so far, and those of the steps that are left, are those of all steps.
 use Rattle.std.proofs.Common.{◌≡◌, ◌++◌, drop, map}
 use Rattle.rt_model.specs.Run.{row_items}
-use Rattle.rt_work.specs.Items.{row_step_of, work_of}
+use Rattle.run_work.specs.Items.{row_step_of, work_of}
 use Rattle.rt_scopes.proofs.runs.row_items.Given as goal
 
 abbrev pub invariant-loop-step : goal.invariant-loop-step

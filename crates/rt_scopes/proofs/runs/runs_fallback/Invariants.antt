@@ -1,7 +1,7 @@
 -- No step so far calls the fallback.
 use Rattle.std.proofs.Common.{◌≡◌, drop, map}
 use Rattle.rt_model.specs.Run.{runs_fallback}
-use Rattle.rt_work.specs.Items.{row_step_of}
+use Rattle.run_work.specs.Items.{row_step_of}
 use Rattle.rt_scopes.proofs.runs.runs_fallback.Given as goal
 
 abbrev pub invariant-loop-step : goal.invariant-loop-step

@@ -1,10 +1,10 @@
 -- A fragment of the children, or one placeholder.
 use Rattle.std.proofs.Common.{◌∙◌, [], ◌∷◌, map, ap, sym}
 use Rattle.rt_model.specs.Tree.{fragment_slot, one_slot}
-use Rattle.rt_mirror.specs.Mirror.{trees_from}
-use Rattle.rt_mirror.specs.Sealed.{tree_of}
-use Rattle.rt_mirror.proofs.SealedTrees.{slot_Fragment}
-use Rattle.rt_state.proofs.Changed.{if_ok}
+use Rattle.tree_mirror.specs.Mirror.{trees_from}
+use Rattle.tree_mirror.specs.Sealed.{tree_of}
+use Rattle.tree_mirror.proofs.SealedTrees.{slot_Fragment}
+use Rattle.run_state.proofs.Changed.{if_ok}
 use Rattle.rt_scopes.proofs.TreesAnswered.{no_children, placeholder_is}
 use Rattle.rt_scopes.proofs.trees.children_tree.Goals as goal
 

@@ -1,12 +1,12 @@
 -- The error's text in its element, in a fragment, in a red element.
 use Rattle.std.proofs.Common.{◌∙◌, [], ◌∷◌, map, ap}
 use Rattle.std.specs.Prelude.{None, codes}
-use Rattle.rt_nodes.specs.declared.vnode.DynamicNode.TheVariants as s
+use Rattle.tree_nodes.specs.declared.vnode.DynamicNode.TheVariants as s
 use Rattle.rt_model.specs.Tree.{element_node, slot_node, no_nodes, fragment_slot, text_slot, more_trees, no_trees}
-use Rattle.rt_mirror.specs.Mirror.{attribute_in, trees_from}
-use Rattle.rt_mirror.specs.Sealed.{tree_of}
-use Rattle.rt_mirror.proofs.SealedTrees.{slot_Fragment, slot_Text}
-use Rattle.rt_state.proofs.Changed.{if_ok}
+use Rattle.tree_mirror.specs.Mirror.{attribute_in, trees_from}
+use Rattle.tree_mirror.specs.Sealed.{tree_of}
+use Rattle.tree_mirror.proofs.SealedTrees.{slot_Fragment, slot_Text}
+use Rattle.run_state.proofs.Changed.{if_ok}
 use Rattle.rt_scopes.proofs.TreesAnswered.{block_is, round_slot}
 use Rattle.rt_scopes.proofs.trees.error_tree.Goals as goal
 

@@ -1,5 +1,5 @@
 -- The tree of the template of one slot.
-use Rattle.rt_state.proofs.Changed.{if_ok}
+use Rattle.run_state.proofs.Changed.{if_ok}
 use Rattle.rt_scopes.proofs.TreesAnswered.{one_slot_is}
 use Rattle.rt_scopes.proofs.trees.one_slot.Goals as goal
 

@@ -1,6 +1,6 @@
 -- One placeholder in the place of a tree.
 use Rattle.std.proofs.Common.{◌∙◌, sym}
-use Rattle.rt_state.proofs.Changed.{if_ok}
+use Rattle.run_state.proofs.Changed.{if_ok}
 use Rattle.rt_scopes.proofs.TreesAnswered.{no_tree_shown, placeholder_is}
 use Rattle.rt_scopes.proofs.trees.placeholder_or.Goals as goal
 

@@ -1,13 +1,13 @@
 -- The application's root in an error boundary, and that in a suspense boundary.
 use Rattle.std.proofs.Common.{◌∙◌, ap}
 use Rattle.std.specs.Prelude.{None}
-use Rattle.rt_nodes.specs.declared.vnode.ErrorHandler.TheVariants as handlers
-use Rattle.rt_nodes.specs.declared.vnode.Fallback.TheVariants as fallbacks
+use Rattle.tree_nodes.specs.declared.vnode.ErrorHandler.TheVariants as handlers
+use Rattle.tree_nodes.specs.declared.vnode.Fallback.TheVariants as fallbacks
 use Rattle.rt_model.specs.Tree.{ErrorBoundary, SuspenseBoundary, component_slot, one_slot, rendered}
-use Rattle.rt_mirror.specs.Sealed.{element_of}
-use Rattle.rt_mirror.proofs.SealedComponents.{component_App}
-use Rattle.rt_mirror.proofs.SealedTrees.{slot_Component}
-use Rattle.rt_state.proofs.Changed.{if_ok}
+use Rattle.tree_mirror.specs.Sealed.{element_of}
+use Rattle.tree_mirror.proofs.SealedComponents.{component_App}
+use Rattle.tree_mirror.proofs.SealedTrees.{slot_Component}
+use Rattle.run_state.proofs.Changed.{if_ok}
 use Rattle.rt_scopes.proofs.BuiltIns.{error_boundary_made, suspense_boundary_made}
 use Rattle.rt_scopes.proofs.trees.root_tree.Goals as goal
 

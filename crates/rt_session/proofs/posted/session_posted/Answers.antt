@@ -1,7 +1,7 @@
 -- The headline, and how it ended early, by the laws of a run.
 use Rattle.std.proofs.Common.{◌∙◌, map, refl, sym}
 use Rattle.rt_model.specs.Merge.{drained}
-use Rattle.rt_reports.specs.Seen.{limits_of, report_of}
+use Rattle.run_reports.specs.Seen.{limits_of, report_of}
 use Rattle.rt_session.specs.Posted.{drains_of}
 use Rattle.rt_session.proofs.Owning.{err_held, ok_held}
 use Rattle.rt_session.proofs.Telling.{breaks_off, fronts_told}

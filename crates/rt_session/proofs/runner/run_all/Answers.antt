@@ -1,9 +1,9 @@
 -- The machine that is started takes all.
 use Rattle.std.proofs.Common.{map}
 use Rattle.std.proofs.lemmas.Result.{err_from_is_err_and}
-use Rattle.rt_reports.specs.Seen.{input_of, limits_of}
-use Rattle.rt_machine.proofs.Reporting.{runs_none_wanting}
-use Rattle.rt_machine.proofs.Sinks.{ends-run}
+use Rattle.run_reports.specs.Seen.{input_of, limits_of}
+use Rattle.run_machine.proofs.Reporting.{runs_none_wanting}
+use Rattle.run_outside.proofs.Sinks.{ends-run}
 use Rattle.rt_session.proofs.runner.run_all.Goals as goal
 
 pub returns-in_err-machine-clause-err : goal.returns-in_err-machine-clause-err

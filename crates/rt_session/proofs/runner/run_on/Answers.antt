@@ -2,11 +2,12 @@
 use Rattle.std.proofs.Common.{◌≡◌, ◌∷◌, length, map, sym, ap, ◌∙◌, arith, rules, subst}
 use Rattle.std.specs.Vec.Iter.{into_iter_items}
 use Rattle.std.proofs.lemmas.Result.{err_from_is_err_and}
-use Rattle.rt_reports.specs.Seen.{input_of, limits_of}
-use Rattle.rt_machine.specs.Runs.{Runs, Sofar}
-use Rattle.rt_machine.proofs.Reporting.{runs_first, runs_first_cut, runs_first_wanting, runs_ended}
-use Rattle.rt_machine.proofs.Sinks.{took-same, ends-low, run-after}
-use Rattle.rt_machine.proofs.Reports.{sofar-begin, sofar-end, edits-first, nothing_left}
+use Rattle.run_reports.specs.Seen.{input_of, limits_of}
+use Rattle.run_machine.specs.Runs.{Runs}
+use Rattle.run_outside.specs.Sofar.{Sofar}
+use Rattle.run_machine.proofs.Reporting.{runs_first, runs_first_cut, runs_first_wanting, runs_ended}
+use Rattle.run_outside.proofs.Sinks.{took-same, ends-low, run-after}
+use Rattle.run_outside.proofs.Reports.{sofar-begin, sofar-end, edits-first, nothing_left}
 use Rattle.rt_session.proofs.runner.run_on.Goals as goal
 
 pub returns-in_err-built-clause-err : goal.returns-in_err-built-clause-err

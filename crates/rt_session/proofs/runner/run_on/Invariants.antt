@@ -2,12 +2,13 @@
 use Rattle.std.proofs.Common.{◌≡◌, length, map}
 use Rattle.std.specs.Vec.Iter.{into_iter_items, into_iter_len}
 use Rattle.rt_model.specs.Replay.{first_state, ones}
-use Rattle.rt_reports.specs.Counted.{edits_in}
-use Rattle.rt_reports.specs.Seen.{input_of, limits_of}
-use Rattle.rt_state.specs.Mirror.{at_first, state_of}
-use Rattle.rt_machine.specs.Ends.{Took}
-use Rattle.rt_machine.specs.Machines.{IsFresh}
-use Rattle.rt_machine.specs.Runs.{Runs, Sofar}
+use Rattle.run_reports.specs.Counted.{edits_in}
+use Rattle.run_reports.specs.Seen.{input_of, limits_of}
+use Rattle.run_state.specs.Mirror.{at_first, state_of}
+use Rattle.run_outside.specs.Ends.{Took}
+use Rattle.run_machine.specs.Machines.{IsFresh}
+use Rattle.run_machine.specs.Runs.{Runs}
+use Rattle.run_outside.specs.Sofar.{Sofar}
 use Rattle.rt_session.proofs.runner.run_on.Given as goal
 
 abbrev pub invariant-loop-input : goal.invariant-loop-input

@@ -1,7 +1,7 @@
 use Rattle.rt_session.proofs.Ending.{never_some, never_refused}
 use Rattle.std.proofs.Common.{◌∙◌, map, sym}
-use Rattle.rt_reports.specs.Seen.{input_of, limits_of}
-use Rattle.rt_machine.proofs.Short.{short_as}
+use Rattle.run_reports.specs.Seen.{input_of, limits_of}
+use Rattle.run_outside.proofs.Short.{short_as}
 use Rattle.rt_session.proofs.Held.{held_of}
 use Rattle.rt_session.proofs.runner.session.Goals as goal
 

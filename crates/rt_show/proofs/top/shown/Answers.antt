@@ -1,7 +1,7 @@
 -- Where reading a source stopped, nothing was written.
 use Rattle.std.proofs.Common.{rules, ◌≡◌, Some, Err, refl}
-use Rattle.rt_show.specs.Words.{wish_of}
-use Rattle.rt_show.specs.declared.words.Wish.TheVariants.{Run, Screen}
+use Rattle.show_words.specs.Words.{wish_of}
+use Rattle.show_words.specs.declared.words.Wish.TheVariants.{Run, Screen}
 use Rattle.rt_show.proofs.Coming.{comes_reading}
 use Rattle.rt_show.proofs.top.shown.Goals as goal
 

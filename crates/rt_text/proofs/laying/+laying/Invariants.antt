@@ -1,6 +1,6 @@
 -- What is written so far, with the nodes that are left, is what all nodes give.
 use Rattle.std.proofs.Common.{◌≡◌, drop}
-use Rattle.rt_mirror.specs.Mirror.{forest_of}
+use Rattle.tree_edits.specs.Documents.{forest_of}
 use Rattle.rt_text.specs.Layout.{laid}
 use Rattle.rt_text.proofs.laying.+laying.Given as goal
 

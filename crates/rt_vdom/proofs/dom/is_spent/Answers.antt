@@ -1,5 +1,5 @@
 use Rattle.std.proofs.Common.{sym, ap, ◌∙◌}
-use Rattle.rt_machine.specs.Machines.{fault_in}
+use Rattle.run_outside.specs.Ends.{fault_in}
 use Rattle.rt_vdom.specs.Calls.{spent_in}
 use Rattle.rt_vdom.proofs.Failed.{run_unspent}
 use Rattle.rt_vdom.proofs.dom.is_spent.Goals as goal

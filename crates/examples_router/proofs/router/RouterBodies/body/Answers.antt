@@ -1,7 +1,7 @@
 -- A link is shown of its scope.
 use Rattle.std.proofs.Common.{◌≡◌, ◌∙◌, ap, sym}
-use Rattle.rt_app.proofs.Rules.{at_done, at_scope}
-use Rattle.rt_app.specs.Words.{call_of, came, reached, rendered, tree_of, world_of}
+use Rattle.rt_author.proofs.Rules.{at_done, at_scope}
+use Rattle.rt_author.specs.Words.{call_of, came, reached, rendered, tree_of, world_of}
 use Rattle.examples_router.specs.declared.router.Component.{Component}
 use Rattle.examples_router.specs.Meaning.{RouterTree, body, tree, link}
 use Rattle.examples_router.proofs.router.RouterBodies.body.Goals as goal

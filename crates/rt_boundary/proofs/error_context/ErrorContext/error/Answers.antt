@@ -1,9 +1,9 @@
 -- The error of the row that was found.
 use Rattle.std.proofs.Common.{Some, None, option_map, ap, ◌∙◌}
-use Rattle.rt_mirror.specs.Mirror.{error_of}
-use Rattle.rt_calls.specs.Kept.{scope_of}
-use Rattle.rt_state.specs.Mirror.{state_of}
-use Rattle.rt_state.proofs.Each.{found-each}
+use Rattle.tree_mirror.specs.Mirror.{error_of}
+use Rattle.run_records.specs.Kept.{scope_of}
+use Rattle.run_state.specs.Mirror.{state_of}
+use Rattle.run_state.proofs.Each.{found-each}
 use Rattle.rt_boundary.proofs.Seen.{error_there, error_gone}
 use Rattle.rt_boundary.proofs.error_context.ErrorContext.error.Goals as goal
 

@@ -1,7 +1,7 @@
 -- Whether the row that was found is held.
 use Rattle.std.proofs.Common.{Some, None, ap, sym, ◌∙◌}
-use Rattle.rt_calls.specs.Kept.{scope_of}
-use Rattle.rt_state.proofs.Each.{found-each}
+use Rattle.run_records.specs.Kept.{scope_of}
+use Rattle.run_state.proofs.Each.{found-each}
 use Rattle.rt_boundary.specs.Seen.{held_in}
 use Rattle.rt_boundary.proofs.suspense_context.SuspenseContext.has_suspended_tasks.Goals as goal
 

@@ -2,7 +2,7 @@
 use Rattle.std.proofs.Common.{◌∙◌, refl}
 use Rattle.std.proofs.lemmas.Result.{err_from_is_err_and}
 use Rattle.rt_model.specs.Run.{acted}
-use Rattle.rt_state.specs.Mirror.{state_of}
+use Rattle.run_state.specs.Mirror.{state_of}
 use Rattle.rt_scopes.proofs.Counted.{cut_then}
 use Rattle.rt_scopes.proofs.Onward.{cut_as}
 use Rattle.rt_scopes.proofs.Turns.{next_done, next_cut, all_done}

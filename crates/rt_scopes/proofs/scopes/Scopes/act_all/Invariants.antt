@@ -1,7 +1,7 @@
 -- The effects that are left come to what all of them come to.
 use Rattle.std.proofs.Common.{◌≡◌, drop}
 use Rattle.rt_model.specs.Run.{acted}
-use Rattle.rt_state.specs.Mirror.{Unkept, state_of}
+use Rattle.run_state.specs.Mirror.{Unkept, state_of}
 use Rattle.rt_scopes.specs.Counts.{Counts}
 use Rattle.rt_scopes.specs.Hooks.{in_turn}
 use Rattle.rt_scopes.proofs.scopes.Scopes.act_all.Given as goal

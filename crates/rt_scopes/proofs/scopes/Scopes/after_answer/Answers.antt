@@ -1,9 +1,9 @@
 -- The answer settles, the hooks are called, and then the output changes.
 use Rattle.std.specs.Prelude.{[]}
 use Rattle.rt_model.specs.Run.{new_output}
-use Rattle.rt_mirror.specs.Sealed.{element_of}
-use Rattle.rt_work.specs.Items.{work_of}
-use Rattle.rt_state.specs.Mirror.{state_of}
+use Rattle.tree_mirror.specs.Sealed.{element_of}
+use Rattle.run_work.specs.Items.{work_of}
+use Rattle.run_state.specs.Mirror.{state_of}
 use Rattle.rt_scopes.proofs.Counted.{counts_then}
 use Rattle.rt_scopes.proofs.Onward.{came_on, cut_on}
 use Rattle.rt_scopes.proofs.scopes.Scopes.after_answer.Goals as goal

@@ -3,10 +3,10 @@ use Rattle.std.proofs.Common.{◌∙◌, refl, ap, subst}
 use Rattle.std.specs.Prelude.{[]}
 use Rattle.rt_model.specs.Tree.{ErrorBoundary}
 use Rattle.rt_model.specs.Run.{body_of, plain}
-use Rattle.rt_mirror.specs.Mirror.{fallback_of, handler_of}
-use Rattle.rt_mirror.specs.Sealed.{element_of}
-use Rattle.rt_mirror.proofs.SealedComponents.{component_App, component_Root}
-use Rattle.rt_state.proofs.Changed.{if_ok, on_ok}
+use Rattle.tree_mirror.specs.Mirror.{fallback_of, handler_of}
+use Rattle.tree_mirror.specs.Sealed.{element_of}
+use Rattle.tree_mirror.proofs.SealedComponents.{component_App, component_Root}
+use Rattle.run_state.proofs.Changed.{if_ok, on_ok}
 use Rattle.rt_scopes.specs.Bodies.{Leaves}
 use Rattle.rt_scopes.specs.Counts.{raised_where}
 use Rattle.rt_scopes.proofs.BuiltIns.{error_boundary_children, error_boundary_handler, error_boundary_is, fragment_is, suspense_boundary_children, suspense_boundary_fallback, suspense_boundary_is}

@@ -1,7 +1,7 @@
 -- One more callback.
 use Rattle.std.proofs.Common.{◌∙◌, refl}
 use Rattle.std.proofs.lemmas.Result.{err_from_is_err_and}
-use Rattle.rt_state.specs.Mirror.{state_of}
+use Rattle.run_state.specs.Mirror.{state_of}
 use Rattle.rt_scopes.specs.Hooks.{one_called}
 use Rattle.rt_scopes.proofs.Acted.{called_in_turn}
 use Rattle.rt_scopes.proofs.Counted.{cut_then}

@@ -1,6 +1,6 @@
 -- The callbacks that are left come to what all of them come to.
 use Rattle.std.proofs.Common.{◌≡◌, drop}
-use Rattle.rt_state.specs.Mirror.{Unkept, state_of}
+use Rattle.run_state.specs.Mirror.{Unkept, state_of}
 use Rattle.rt_scopes.specs.Counts.{Counts}
 use Rattle.rt_scopes.specs.Hooks.{in_turn, one_called}
 use Rattle.rt_scopes.proofs.scopes.Scopes.call_back.Given as goal

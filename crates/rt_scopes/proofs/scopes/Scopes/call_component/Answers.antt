@@ -1,6 +1,6 @@
 -- A body's call, and what it left.
 use Rattle.std.proofs.Common.{rules, refl}
-use Rattle.rt_mirror.specs.Sealed.{component_of}
+use Rattle.tree_mirror.specs.Sealed.{component_of}
 use Rattle.rt_scopes.proofs.Settled.{answers_by}
 use Rattle.rt_scopes.proofs.scopes.Scopes.call_component.Goals as goal
 

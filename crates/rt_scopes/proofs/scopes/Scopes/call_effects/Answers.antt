@@ -4,7 +4,7 @@ use Rattle.std.specs.Prelude.{[]}
 use Rattle.std.proofs.lemmas.Result.{err_from_is_err_and}
 use Rattle.rt_model.specs.Next.{look}
 use Rattle.rt_model.specs.State.{Done}
-use Rattle.rt_state.specs.Mirror.{state_of}
+use Rattle.run_state.specs.Mirror.{state_of}
 use Rattle.rt_scopes.proofs.Acted.{effects_in_turn}
 use Rattle.rt_scopes.proofs.Onward.{cut_on, cut_as, done_on}
 use Rattle.rt_scopes.proofs.scopes.Scopes.call_effects.Goals as goal

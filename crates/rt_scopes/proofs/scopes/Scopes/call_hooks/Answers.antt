@@ -1,6 +1,6 @@
 -- The hooks are their effects in turn.
 use Rattle.std.proofs.Common.{rules, ◌∙◌, ap}
-use Rattle.rt_state.specs.Mirror.{state_of}
+use Rattle.run_state.specs.Mirror.{state_of}
 use Rattle.rt_scopes.proofs.Acted.{hooks_in_turn}
 use Rattle.rt_scopes.proofs.Onward.{came_as}
 use Rattle.rt_scopes.specs.Hooks.{effects_in, render_kind}

@@ -1,6 +1,6 @@
 -- A callback, by whether its scope is live.
 use Rattle.std.proofs.Common.{◌∙◌, sym}
-use Rattle.rt_state.specs.Mirror.{state_of}
+use Rattle.run_state.specs.Mirror.{state_of}
 use Rattle.rt_scopes.proofs.Acted.{called_live, called_gone}
 use Rattle.rt_scopes.proofs.Onward.{came_as}
 use Rattle.rt_scopes.proofs.scopes.Scopes.call_one.Goals as goal

@@ -1,6 +1,6 @@
 -- An error boundary's answer, with its read of the error that it keeps.
 use Rattle.std.proofs.Common.{refl}
-use Rattle.rt_state.proofs.Changed.{if_ok}
+use Rattle.run_state.proofs.Changed.{if_ok}
 use Rattle.rt_scopes.proofs.Counted.{on_any}
 use Rattle.rt_scopes.proofs.Settled.{leaves_caught}
 use Rattle.rt_scopes.proofs.scopes.Scopes.caught.Goals as goal

@@ -5,8 +5,8 @@ use Rattle.std.proofs.lemmas.Result.{err_from_is_err_and}
 use Rattle.rt_model.specs.State.{Done}
 use Rattle.rt_model.specs.Commands.{commands}
 use Rattle.rt_model.specs.Removal.{cleaned_in}
-use Rattle.rt_calls.specs.Calls.{command_of}
-use Rattle.rt_state.specs.Mirror.{forgets, state_of}
+use Rattle.run_records.specs.Records.{command_of}
+use Rattle.run_state.specs.Mirror.{forgets, state_of}
 use Rattle.rt_scopes.proofs.CleanedUp.{last_cleaned, next_cleaned}
 use Rattle.rt_scopes.proofs.Counted.{cut_then}
 use Rattle.rt_scopes.proofs.Onward.{cut_as}

@@ -1,8 +1,8 @@
 -- The clean-ups that are left come to what all of them come to.
 use Rattle.std.proofs.Common.{◌≡◌, [], drop, map}
 use Rattle.rt_model.specs.Removal.{cleaned_in}
-use Rattle.rt_calls.specs.Calls.{command_of}
-use Rattle.rt_state.specs.Mirror.{Unkept, state_of}
+use Rattle.run_records.specs.Records.{command_of}
+use Rattle.run_state.specs.Mirror.{Unkept, state_of}
 use Rattle.rt_scopes.specs.Counts.{Counts}
 use Rattle.rt_scopes.proofs.scopes.Scopes.clean.Given as goal
 

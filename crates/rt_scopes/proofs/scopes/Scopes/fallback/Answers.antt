@@ -4,7 +4,7 @@ use Rattle.std.specs.Prelude.{Ok}
 use Rattle.rt_model.specs.Tree.{placeholder_tree, rendered}
 use Rattle.rt_scopes.proofs.Settled.{leaves_plain}
 use Rattle.rt_scopes.proofs.TreesAnswered.{placeholder_is}
-use Rattle.rt_state.proofs.Changed.{if_ok}
+use Rattle.run_state.proofs.Changed.{if_ok}
 use Rattle.rt_scopes.proofs.scopes.Scopes.fallback.Goals as goal
 
 pub returns-in_ok-tree-in-Placeholder-clause-means : goal.returns-in_ok-tree-in-Placeholder-clause-means

@@ -1,6 +1,6 @@
 -- The children that were copied.
 use Rattle.std.proofs.Common.{ap}
-use Rattle.rt_mirror.specs.Sealed.{element_of}
+use Rattle.tree_mirror.specs.Sealed.{element_of}
 use Rattle.rt_scopes.proofs.Settled.{leaves_plain}
 use Rattle.rt_scopes.proofs.scopes.Scopes.fragment.Goals as goal
 

@@ -3,7 +3,7 @@ use Rattle.std.proofs.Common.{refl, ap}
 use Rattle.std.specs.Prelude.{Ok}
 use Rattle.rt_model.specs.Tree.{rendered}
 use Rattle.rt_model.specs.Run.{error_tree}
-use Rattle.rt_state.proofs.Changed.{if_ok}
+use Rattle.run_state.proofs.Changed.{if_ok}
 use Rattle.rt_scopes.proofs.Settled.{leaves_plain}
 use Rattle.rt_scopes.proofs.scopes.Scopes.handle.Goals as goal
 

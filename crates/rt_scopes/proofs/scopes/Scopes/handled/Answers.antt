@@ -3,9 +3,9 @@ use Rattle.std.proofs.Common.{◌∙◌, ◌&&◌, ap, subst}
 use Rattle.std.specs.Prelude.{Ok, Some, is_some, option_map}
 use Rattle.rt_model.specs.Tree.{rendered}
 use Rattle.rt_model.specs.Run.{children_tree}
-use Rattle.rt_mirror.specs.Mirror.{error_of, handler_of}
-use Rattle.rt_mirror.specs.Sealed.{element_of}
-use Rattle.rt_state.proofs.Changed.{if_ok}
+use Rattle.tree_mirror.specs.Mirror.{error_of, handler_of}
+use Rattle.tree_mirror.specs.Sealed.{element_of}
+use Rattle.run_state.proofs.Changed.{if_ok}
 use Rattle.rt_scopes.specs.Bodies.{Leaves, handled_by}
 use Rattle.rt_scopes.specs.Counts.{raised_where}
 use Rattle.rt_scopes.proofs.Counted.{on_any}

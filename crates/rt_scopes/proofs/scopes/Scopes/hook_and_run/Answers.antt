@@ -3,8 +3,8 @@ use Rattle.std.proofs.Common.{rules, ◌∙◌, map, ap, sym}
 use Rattle.std.proofs.lemmas.Result.{err_from_is_err_and}
 use Rattle.rt_model.specs.State.{Done}
 use Rattle.rt_model.specs.Run.{row_items}
-use Rattle.rt_work.specs.Items.{row_step_of}
-use Rattle.rt_state.specs.Mirror.{state_of}
+use Rattle.run_work.specs.Items.{row_step_of}
+use Rattle.run_state.specs.Mirror.{state_of}
 use Rattle.rt_scopes.proofs.Onward.{cut_on, done_on}
 use Rattle.rt_scopes.proofs.scopes.Scopes.hook_and_run.Goals as goal
 

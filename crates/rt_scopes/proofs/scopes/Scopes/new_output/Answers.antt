@@ -3,8 +3,8 @@ use Rattle.std.specs.Prelude.{Err, [], if◌then◌else◌}
 use Rattle.rt_model.specs.Tree.{placeholder_tree}
 use Rattle.rt_model.specs.State.{Done, MainSide}
 use Rattle.rt_model.specs.Run.{has_output, new_output, start_agenda}
-use Rattle.rt_mirror.specs.Sealed.{element_of}
-use Rattle.rt_work.specs.Items.{work_of}
+use Rattle.tree_mirror.specs.Sealed.{element_of}
+use Rattle.run_work.specs.Items.{work_of}
 use Rattle.rt_scopes.proofs.Told.{comes_as}
 use Rattle.rt_scopes.proofs.TreesAnswered.{no_tree}
 use Rattle.rt_scopes.proofs.scopes.Scopes.new_output.Goals as goal

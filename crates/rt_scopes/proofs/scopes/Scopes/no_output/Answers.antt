@@ -4,8 +4,8 @@ use Rattle.std.specs.Prelude.{[], if◌then◌else◌}
 use Rattle.rt_model.specs.Tree.{placeholder_tree}
 use Rattle.rt_model.specs.State.{Done, MainSide}
 use Rattle.rt_model.specs.Run.{start_agenda}
-use Rattle.rt_work.specs.Items.{work_of}
-use Rattle.rt_state.specs.Mirror.{state_of}
+use Rattle.run_work.specs.Items.{work_of}
+use Rattle.run_state.specs.Mirror.{state_of}
 use Rattle.rt_scopes.proofs.Onward.{came_as}
 use Rattle.rt_scopes.proofs.TreesAnswered.{placeholder_is}
 use Rattle.rt_scopes.proofs.scopes.Scopes.no_output.Goals as goal

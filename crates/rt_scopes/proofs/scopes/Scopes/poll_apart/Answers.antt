@@ -1,10 +1,10 @@
 -- The poll of a task without the look, by whether it is live.
 use Rattle.std.proofs.Common.{◌∙◌, ap, sym}
 use Rattle.rt_model.specs.Lists.{at}
-use Rattle.rt_state.specs.Mirror.{state_of}
+use Rattle.run_state.specs.Mirror.{state_of}
 use Rattle.rt_scopes.specs.Polls.{StandsWith}
 use Rattle.rt_scopes.proofs.Onward.{came_as}
-use Rattle.rt_state.proofs.Changed.{if_ok}
+use Rattle.run_state.proofs.Changed.{if_ok}
 use Rattle.rt_scopes.proofs.Polled.{apart_as, apart_gone, ready_as, ready_gone, row_found, row_scope}
 use Rattle.rt_scopes.proofs.scopes.Scopes.poll_apart.Goals as goal
 

@@ -1,7 +1,7 @@
 -- A poll, and then the look.
 use Rattle.std.proofs.Common.{rules}
 use Rattle.std.proofs.lemmas.Result.{err_from_is_err_and}
-use Rattle.rt_state.specs.Mirror.{state_of}
+use Rattle.run_state.specs.Mirror.{state_of}
 use Rattle.rt_model.specs.Run.{called_once}
 use Rattle.rt_model.specs.State.{world_of}
 use Rattle.std.specs.Prelude.{Some, false}

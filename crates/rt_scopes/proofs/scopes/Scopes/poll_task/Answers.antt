@@ -1,7 +1,7 @@
 -- The poll of a task, by whether it is live.
 use Rattle.std.proofs.Common.{◌∙◌, ap, sym}
 use Rattle.rt_model.specs.Lists.{at}
-use Rattle.rt_state.specs.Mirror.{state_of}
+use Rattle.run_state.specs.Mirror.{state_of}
 use Rattle.rt_scopes.specs.Polls.{StandsWith}
 use Rattle.rt_scopes.proofs.Onward.{came_as}
 use Rattle.rt_scopes.proofs.Polled.{polled_as, polled_gone, row_found, row_scope}

@@ -4,12 +4,12 @@ use Rattle.std.specs.Prelude.{Some, None, option_map}
 use Rattle.rt_model.specs.State.{Done, is_held}
 use Rattle.rt_model.specs.Tree.{is_suspense_boundary}
 use Rattle.rt_model.specs.Run.{row_of}
-use Rattle.rt_mirror.specs.Sealed.{component_of}
-use Rattle.rt_places.specs.Places.{side_name_of}
-use Rattle.rt_work.specs.Items.{row_step_of, work_of}
-use Rattle.rt_calls.specs.Kept.{scope_of}
-use Rattle.rt_state.specs.Mirror.{state_of}
-use Rattle.rt_state.proofs.Each.{found-each}
+use Rattle.tree_mirror.specs.Sealed.{component_of}
+use Rattle.run_places.specs.Places.{side_name_of}
+use Rattle.run_work.specs.Items.{row_step_of, work_of}
+use Rattle.run_records.specs.Kept.{scope_of}
+use Rattle.run_state.specs.Mirror.{state_of}
+use Rattle.run_state.proofs.Each.{found-each}
 use Rattle.rt_scopes.proofs.Onward.{came_as}
 use Rattle.rt_scopes.proofs.RunKinds.{run_found, run_gone, run_other, run_suspense}
 use Rattle.rt_scopes.proofs.scopes.Scopes.run.Goals as goal

@@ -1,8 +1,8 @@
 -- A boundary's run, by whether it calls the fallback.
 use Rattle.std.proofs.Common.{rules, ◌∙◌, map, ap, sym}
 use Rattle.rt_model.specs.State.{Done}
-use Rattle.rt_work.specs.Items.{row_step_of}
-use Rattle.rt_state.specs.Mirror.{state_of}
+use Rattle.run_work.specs.Items.{row_step_of}
+use Rattle.run_state.specs.Mirror.{state_of}
 use Rattle.rt_scopes.proofs.Onward.{came_as}
 use Rattle.rt_scopes.proofs.RunKinds.{run_free, run_held}
 use Rattle.rt_scopes.proofs.scopes.Scopes.run_boundary.Goals as goal

@@ -5,9 +5,9 @@ use Rattle.std.proofs.lemmas.Result.{err_from_is_err_and}
 use Rattle.rt_model.specs.World.{before_render_kind}
 use Rattle.rt_model.specs.State.{hooks_of, onward}
 use Rattle.rt_model.specs.Run.{after_answer, call_body, hooks_called}
-use Rattle.rt_mirror.specs.Sealed.{component_of}
-use Rattle.rt_work.specs.Items.{work_of}
-use Rattle.rt_state.specs.Mirror.{state_of}
+use Rattle.tree_mirror.specs.Sealed.{component_of}
+use Rattle.run_work.specs.Items.{work_of}
+use Rattle.run_state.specs.Mirror.{state_of}
 use Rattle.rt_scopes.proofs.Counted.{counts_then}
 use Rattle.rt_scopes.proofs.Onward.{came_as, came_on, cut_as, cut_on}
 use Rattle.rt_scopes.proofs.scopes.Scopes.run_component.Goals as goal

@@ -5,8 +5,8 @@ use Rattle.std.proofs.lemmas.Result.{err_from_is_err_and}
 use Rattle.rt_model.specs.World.{before_render_kind}
 use Rattle.rt_model.specs.State.{hooks_of, onward}
 use Rattle.rt_model.specs.Run.{boundary_run, hooks_called}
-use Rattle.rt_work.specs.Items.{row_step_of, work_of}
-use Rattle.rt_state.specs.Mirror.{state_of}
+use Rattle.run_work.specs.Items.{row_step_of, work_of}
+use Rattle.run_state.specs.Mirror.{state_of}
 use Rattle.rt_scopes.proofs.Counted.{counts_then}
 use Rattle.rt_scopes.proofs.Onward.{came_as, came_on, cut_as, cut_on}
 use Rattle.rt_scopes.proofs.scopes.Scopes.run_steps.Goals as goal

@@ -2,7 +2,7 @@
 use Rattle.std.proofs.Common.{ap}
 use Rattle.std.specs.Prelude.{Err}
 use Rattle.rt_model.specs.Run.{raised, settled_answer}
-use Rattle.rt_mirror.specs.Sealed.{element_of}
+use Rattle.tree_mirror.specs.Sealed.{element_of}
 use Rattle.rt_scopes.specs.Bodies.{unanswered}
 use Rattle.rt_scopes.specs.Outcomes.{no_work}
 use Rattle.rt_scopes.proofs.Told.{comes_as, told}

@@ -2,7 +2,7 @@
 use Rattle.std.specs.Prelude.{[]}
 use Rattle.std.proofs.lemmas.Result.{err_from_is_err_and}
 use Rattle.rt_model.specs.Run.{after_hooks}
-use Rattle.rt_state.specs.Mirror.{state_of}
+use Rattle.run_state.specs.Mirror.{state_of}
 use Rattle.rt_scopes.specs.Outcomes.{no_work}
 use Rattle.rt_scopes.proofs.Counted.{counts_then}
 use Rattle.rt_scopes.proofs.Onward.{came_on, cut_on}

@@ -3,11 +3,11 @@ use Rattle.std.proofs.Common.{◌∙◌, refl, ap, sym, map}
 use Rattle.std.specs.Prelude.{Ok, Err, None}
 use Rattle.std.proofs.lemmas.Result.{err_from_is_err_and}
 use Rattle.rt_model.specs.Commands.{commands}
-use Rattle.rt_mirror.specs.Sealed.{element_of}
-use Rattle.rt_calls.specs.Calls.{command_of}
-use Rattle.rt_state.specs.Mirror.{state_of}
-use Rattle.rt_state.specs.declared.names.Fault.TheVariants as faults
-use Rattle.rt_state.specs.declared.names.Stop.TheVariants as stops
+use Rattle.tree_mirror.specs.Sealed.{element_of}
+use Rattle.run_records.specs.Records.{command_of}
+use Rattle.run_state.specs.Mirror.{state_of}
+use Rattle.run_state.specs.declared.names.Fault.TheVariants as faults
+use Rattle.run_state.specs.declared.names.Stop.TheVariants as stops
 use Rattle.rt_scopes.specs.Counts.{counts_where}
 use Rattle.rt_scopes.proofs.Settled.{owned, taken_bad, taken_no, taken_ok}
 use Rattle.rt_scopes.proofs.scopes.Scopes.take_on.Goals as goal

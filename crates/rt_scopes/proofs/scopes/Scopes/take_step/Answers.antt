@@ -2,8 +2,8 @@
 use Rattle.std.proofs.Common.{◌∙◌, ap, map}
 use Rattle.std.specs.Prelude.{Some}
 use Rattle.rt_model.specs.Commands.{commands, end}
-use Rattle.rt_calls.specs.Calls.{command_of}
-use Rattle.rt_state.specs.Mirror.{state_of}
+use Rattle.run_records.specs.Records.{command_of}
+use Rattle.run_state.specs.Mirror.{state_of}
 use Rattle.rt_scopes.proofs.Polled.{left_pending, left_ready}
 use Rattle.rt_scopes.proofs.scopes.Scopes.take_step.Goals as goal
 

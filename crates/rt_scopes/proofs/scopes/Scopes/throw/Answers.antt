@@ -3,8 +3,8 @@ use Rattle.std.proofs.Common.{rules, ◌∙◌, ap, sym}
 use Rattle.std.specs.Prelude.{[]}
 use Rattle.rt_model.specs.State.{Done}
 use Rattle.rt_model.specs.Commands.{throw_error}
-use Rattle.rt_mirror.specs.Mirror.{error_of}
-use Rattle.rt_state.specs.Mirror.{state_of}
+use Rattle.tree_mirror.specs.Mirror.{error_of}
+use Rattle.run_state.specs.Mirror.{state_of}
 use Rattle.rt_scopes.proofs.scopes.Scopes.throw.Goals as goal
 
 pub returns : goal.returns

@@ -1,7 +1,7 @@
 -- The edits that are left lead to just what all of them lead to.
 use Rattle.std.proofs.Common.{◌≡◌, List, drop}
 use Rattle.rt_edits.specs.declared.doc_node.DocNode.{DocNode}
-use Rattle.rt_documents.specs.Cuts.{LeadsTo}
+use Rattle.tree_documents.specs.Cuts.{LeadsTo}
 use Rattle.rt_text.specs.Screens.{nodes_of, rows_of, KeepsSize}
 use Rattle.rt_text.proofs.screen.Screen.take_all.Given as goal
 

@@ -1,6 +1,6 @@
 -- What was built, with what is left to build, is all that the tree has.
 use Rattle.std.proofs.Common.{◌≡◌, [], true}
-use Rattle.rt_plan.specs.Making.{make_tree}
+use Rattle.tree_plan.specs.Making.{make_tree}
 use Rattle.rt_tree.specs.Rebuilding.{rebuilt, rebuilt_of, unbuilt}
 use Rattle.rt_tree.proofs.block.Block.nodes.Given as goal
 

@@ -2,10 +2,10 @@
 use Rattle.std.proofs.Common.{sym, ap, ◌∙◌}
 use Rattle.std.specs.Prelude.{is_some}
 use Rattle.rt_model.specs.Lists.{at}
-use Rattle.rt_reports.specs.Seen.{limits_of}
-use Rattle.rt_state.specs.Mirror.{at_first}
-use Rattle.rt_state.specs.Outputs.{scope_seen}
-use Rattle.rt_state.proofs.Each.{some-mapped}
+use Rattle.run_reports.specs.Seen.{limits_of}
+use Rattle.run_state.specs.Mirror.{at_first}
+use Rattle.run_state.specs.Outputs.{scope_seen}
+use Rattle.run_state.proofs.Each.{some-mapped}
 use Rattle.rt_vdom.proofs.Rooted.{first_lives, root_lives}
 use Rattle.rt_vdom.proofs.dom.VirtualDom.base_scope.Goals as goal
 

@@ -1,9 +1,9 @@
 -- What the machine built is what stands after it.
 use Rattle.std.proofs.Common.{[], map, refl, sym, ◌∙◌}
-use Rattle.rt_mirror.specs.Mirror.{edit_of}
-use Rattle.rt_doms.proofs.Carried.{builds_carry_anew}
-use Rattle.rt_doms.proofs.Doms.{given_builds_hold}
-use Rattle.rt_reports.specs.Seen.{entry_of, limits_of}
+use Rattle.tree_edits.specs.Documents.{edit_of}
+use Rattle.law_behavior.proofs.Carried.{builds_carry_anew}
+use Rattle.law_behavior.proofs.Doms.{given_builds_hold}
+use Rattle.run_reports.specs.Seen.{entry_of, limits_of}
 use Rattle.rt_model.specs.Replay.{start_with}
 use Rattle.rt_vdom.proofs.Ran.{build_broken_as}
 use Rattle.rt_vdom.proofs.dom.VirtualDom.build.Goals as goal

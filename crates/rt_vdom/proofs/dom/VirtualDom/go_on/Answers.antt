@@ -1,11 +1,11 @@
 -- From what the machine did to what stands after it.
 use Rattle.std.proofs.Common.{map, sym, ap, ◌∙◌, subst}
 use Rattle.std.specs.Prelude.{Some}
-use Rattle.rt_mirror.specs.Mirror.{edit_of}
-use Rattle.rt_reports.specs.Seen.{entry_of, limits_of}
-use Rattle.rt_rounds.specs.Untils.{until_of}
+use Rattle.tree_edits.specs.Documents.{edit_of}
+use Rattle.run_reports.specs.Seen.{entry_of, limits_of}
+use Rattle.run_answers.specs.Untils.{until_of}
 use Rattle.rt_vdom.specs.Calls.{PartIn}
-use Rattle.rt_doms.proofs.Carried.{spent_carry_anew}
+use Rattle.law_behavior.proofs.Carried.{spent_carry_anew}
 use Rattle.rt_vdom.proofs.Carried.{carries_by}
 use Rattle.rt_vdom.proofs.Ran.{call_broken_as, holds_by, leads_by, comes_by, spent_by, rests_in}
 use Rattle.rt_vdom.proofs.Stilled.{silent_by, still_by, stopped_silent_by}

@@ -1,7 +1,7 @@
 -- An event that was handled leads on, and what shows stays.
 use Rattle.std.proofs.Common.{◌≡◌, [], sym, ap, ◌∙◌, Ok}
-use Rattle.rt_doms.proofs.Doms.{handles_lead}
-use Rattle.rt_reports.specs.Seen.{limits_of}
+use Rattle.law_behavior.proofs.Doms.{handles_lead}
+use Rattle.run_reports.specs.Seen.{limits_of}
 use Rattle.rt_model.specs.View.{view}
 use Rattle.rt_vdom.proofs.Failed.{no_unit}
 use Rattle.rt_vdom.proofs.Ran.{rests_in, one_document, cut_of}

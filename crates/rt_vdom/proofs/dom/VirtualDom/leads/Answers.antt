@@ -1,4 +1,4 @@
-use Rattle.rt_reports.specs.Seen.{limits_of}
+use Rattle.run_reports.specs.Seen.{limits_of}
 use Rattle.rt_vdom.proofs.dom.VirtualDom.leads.Goals as goal
 
 pub returns : goal.returns

@@ -1,5 +1,5 @@
 use Rattle.std.proofs.Common.{refl}
-use Rattle.rt_machine.proofs.Keeps.{if_ok}
+use Rattle.run_outside.proofs.Said.{if_ok}
 use Rattle.rt_vdom.specs.Doms.{StateIn}
 use Rattle.rt_vdom.proofs.dom.VirtualDom.nodes_at.Goals as goal
 

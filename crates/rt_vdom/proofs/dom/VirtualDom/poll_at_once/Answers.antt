@@ -1,8 +1,8 @@
 -- What a poll at once came to.
 use Rattle.std.proofs.Common.{sym, ap, ◌∙◌}
-use Rattle.rt_doms.proofs.Leading.{asides_lead}
-use Rattle.rt_reports.specs.Seen.{limits_of}
-use Rattle.rt_vdom.specs.Calls.{told_by}
+use Rattle.law_behavior.proofs.Leading.{asides_lead}
+use Rattle.run_reports.specs.Seen.{limits_of}
+use Rattle.run_answers.specs.Polls.{told_by}
 use Rattle.rt_vdom.specs.Doms.{StateIn}
 use Rattle.rt_vdom.proofs.Failed.{no_unit}
 use Rattle.rt_vdom.proofs.Polled.{polls_none, polls_one, polls_now_err, polled_is, ready_gone, gone_idle, ready_paused, cut_now}

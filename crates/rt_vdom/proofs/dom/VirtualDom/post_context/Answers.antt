@@ -1,7 +1,7 @@
 -- What a reactive context targets is posted.
 use Rattle.std.proofs.Common.{Some, None, ◌∷◌, [], refl, sym, ap, ◌∙◌}
 use Rattle.std.specs.Prelude.{option_map}
-use Rattle.rt_calls.specs.Calls.{target_of}
+use Rattle.run_records.specs.Records.{target_of}
 use Rattle.rt_model.specs.Asides.{Asked}
 use Rattle.rt_model.specs.Lists.{at}
 use Rattle.rt_model.proofs.Members.{clash}

@@ -1,8 +1,8 @@
 use Rattle.std.proofs.Common.{[], ◌∙◌, subst}
 use Rattle.std.proofs.lemmas.Result.{err_from_is_err_and}
 use Rattle.rt_model.specs.Replay.{ones}
-use Rattle.rt_machine.specs.Ends.{Causes}
-use Rattle.rt_moves.proofs.Begun.{ones_above}
+use Rattle.run_outside.specs.Ends.{Causes}
+use Rattle.law_moves.proofs.Begun.{ones_above}
 use Rattle.rt_vdom.proofs.Answered.{started_own, prebuilt_stopped, prebuilt_wanting}
 use Rattle.rt_vdom.proofs.dom.VirtualDom.prebuilt.Goals as goal
 

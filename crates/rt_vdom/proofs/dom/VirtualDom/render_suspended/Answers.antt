@@ -1,8 +1,8 @@
 -- What a render while suspended leaves.
 use Rattle.std.proofs.Common.{map, sym, ap, ◌∙◌, subst}
 use Rattle.std.specs.Prelude.{Some}
-use Rattle.rt_mirror.specs.Mirror.{edit_of}
-use Rattle.rt_reports.specs.Seen.{limits_of}
+use Rattle.tree_edits.specs.Documents.{edit_of}
+use Rattle.run_reports.specs.Seen.{limits_of}
 use Rattle.rt_vdom.specs.Calls.{PartIn}
 use Rattle.rt_vdom.proofs.Carried.{rendered_carries, stepped_carry}
 use Rattle.rt_vdom.proofs.Ran.{any_way, render_broken_as, rests_in}

@@ -1,8 +1,8 @@
 -- By the law of all states to which a program's calls have led.
 use Rattle.std.proofs.Common.{[], refl}
 use Rattle.rt_model.specs.Asides.{resting}
-use Rattle.rt_fresh.proofs.Settled.{all_are_current_or_owed}
-use Rattle.rt_reports.specs.Seen.{limits_of}
+use Rattle.law_moves.proofs.Settled.{all_are_current_or_owed}
+use Rattle.run_reports.specs.Seen.{limits_of}
 use Rattle.rt_vdom.proofs.dom.VirtualDom.scopes.Goals as goal
 
 pub returns-clause-current : goal.returns-clause-current

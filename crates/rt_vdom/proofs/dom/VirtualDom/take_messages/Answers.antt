@@ -1,7 +1,7 @@
 use Rattle.std.proofs.Common.{map, refl, ap, ◌∙◌}
 use Rattle.rt_model.specs.Asides.{Asked}
 use Rattle.rt_model.specs.Replay.{post_messages}
-use Rattle.rt_reports.specs.Seen.{message_of}
+use Rattle.run_reports.specs.Seen.{message_of}
 use Rattle.rt_vdom.specs.Doms.{StateIn}
 use Rattle.rt_vdom.specs.Handles.{taken_in}
 use Rattle.rt_vdom.proofs.Standing.{stands_on, all_asked, draws_none, messages_asked}

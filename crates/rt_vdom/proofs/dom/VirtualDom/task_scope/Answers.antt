@@ -1,9 +1,9 @@
 -- By the row that was found.
 use Rattle.std.proofs.Common.{Some, None}
-use Rattle.rt_state.specs.Mirror.{task_of}
-use Rattle.rt_state.proofs.Each.{found-each}
+use Rattle.run_state.specs.Mirror.{task_of}
+use Rattle.run_state.proofs.Each.{found-each}
 use Rattle.rt_vdom.specs.Doms.{StateIn}
-use Rattle.rt_vdom.proofs.Looked.{scope_there, scope_gone}
+use Rattle.run_answers.proofs.Looked.{scope_there, scope_gone}
 use Rattle.rt_vdom.proofs.dom.VirtualDom.task_scope.Goals as goal
 
 pub returns-in-Some : goal.returns-in-Some

@@ -1,0 +1,7 @@
+pub mod Meant
+pub mod Refused
+pub mod Contexts
+pub mod Following
+pub mod Lists
+pub mod Placeholders
+pub mod Rules

@@ -1,0 +1,26 @@
+-- A listener means its program.
+use Rattle.std.proofs.Common.{false, rules, ◌≡◌}
+use Rattle.author_calls.specs.Answers.{event_of}
+use Rattle.run_records.specs.Records.{world_of}
+use Rattle.author_calls.specs.Calls.{call_of}
+use Rattle.rt_model.specs.World.{nothing}
+use Rattle.author_programs.specs.Came.{came, reached}
+use Rattle.author_programs.specs.Cells.{all_read, all_written}
+use Rattle.author_programs.specs.Pages.{reply_call}
+use Rattle.author_bodies.proofs.Meant.{turn-means}
+use Rattle.author_bodies.proofs.Lists.{replied}
+use Rattle.author_bodies.proofs.paged.PagedApp.handle.Goals as goal
+
+pub returns-clause-means : goal.returns-clause-means
+returns-clause-means g c =
+    let w = world_of c.args.cx.world in
+    let reply = (g.S.Pages.answers c.args.self.now.pages).reply c.args.handler.now (event_of c.args.event.now) in
+    let middle = call_of c.read_all.new.cx in
+    let after = call_of c.write_all.new.cx in
+    let read : came w (all_read c.in_ok-reads.reads) (call_of c.args.cx) ≡ reached c.in_ok-values.values middle = search rules in
+    let meant : c.in_ok-writes.writes ≡ reply.writes c.in_ok-values.values = search rules in
+    let wrote : came w (all_written c.in_ok-writes.writes) middle ≡ reached nothing after = search rules in
+    turn-means (λ _. event_of c.writes.new.event) false c.args.cx c.write_all.new.cx (reply_call reply) tt c.finish.result c.requires.fresh
+    (λ had. replied reply w (call_of c.args.cx) middle after c.in_ok-reads.reads c.in_ok-values.values c.in_ok-writes.writes (event_of c.writes.new.event)
+    c.in_ok-reads.ensures.hears read meant wrote c.in_ok-writes.ensures.leaves)
+    c.finish.ensures

@@ -1,0 +1,10 @@
+-- A body means its program.
+use Rattle.std.proofs.Common.{true, sym, ap, ◌∙◌, ◌≡◌}
+use Rattle.tree_mirror.specs.Mirror.{element_of}
+use Rattle.author_programs.specs.Pages.{page_body}
+use Rattle.author_bodies.proofs.Meant.{turn-means}
+use Rattle.author_bodies.proofs.paged.PagedApp.render.Goals as goal
+
+pub returns-clause-means : goal.returns-clause-means
+returns-clause-means g c =
+    turn-means element_of true c.args.cx c.answer.new.cx (page_body g.S.KeepsCells.keeping ((g.S.Pages.answers c.args.self.now.pages).page c.args.component.now c.args.props.now)) c.in_ok-answer.answer c.finish.result c.requires.fresh c.in_ok-answer.ensures.came c.finish.ensures

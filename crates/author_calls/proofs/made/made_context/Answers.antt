@@ -1,0 +1,18 @@
+-- One more command.
+use Rattle.std.proofs.Common.{◌≡◌, [], take, sym, ap, ◌∙◌, arith}
+use Rattle.std.specs.Option.{option_copied}
+use Rattle.rt_model.specs.Program.{own_context}
+use Rattle.run_records.specs.Records.{gathered}
+use Rattle.author_calls.specs.Calls.{and_provided}
+use Rattle.rt_model.specs.Lists.{first_of}
+use Rattle.author_calls.proofs.Piled.{pile-step, copied-or}
+use Rattle.author_calls.proofs.made.made_context.Goals as goal
+
+pub loop-command-preserved : goal.loop-command-preserved
+loop-command-preserved g c =
+    let step : option_copied c.or-made.result ≡ first_of (option_copied c.provided_value.result) (option_copied c.loop-command.made) = ap option_copied c.or-made.ensures ∙ copied-or c.provided_value.result c.loop-command.made in
+    let before = gathered (and_provided c.args.caller.0) (take c.loop-command.command-index c.args.commands.now) [] in
+    step
+    ∙ ap (first_of (option_copied c.provided_value.result)) c.loop-command.invariant
+    ∙ sym (c.provided_value.ensures before)
+    ∙ sym (ap (λ made. own_context made c.args.kind c.args.scope.0) (pile-step (and_provided c.args.caller.0) c.args.commands.now c.loop-command.command-index c.command-item.result (omega arith) c.command-item.is))

@@ -1,0 +1,60 @@
+//! A memo that a task keeps, in a runtime that is kept: cells are written from outside, and the units
+//! that follow are counted.
+
+use examples_memo::Memo;
+use rt_app::dom::{DomFault, VirtualDom};
+use rt_app::{Bodied, Limits, NoOpMutations};
+use std::alloc::Global;
+
+/// What a call may do at most.
+const LIMITS: Limits = Limits {
+    units: 1_000,
+    height: 16,
+    drain: 16,
+};
+
+/// The runtime: its application is the memo.
+type Kept = VirtualDom<Bodied<Memo>>;
+
+/// A memo that isn't built yet.
+fn made(alloc: Global) -> Result<Kept, DomFault> {
+    match VirtualDom::new(alloc, Bodied { bodies: Memo }, LIMITS) {
+        Ok(dom) => Ok(dom),
+        Err(fault) => Err(DomFault::Run(fault)),
+    }
+}
+
+/// It is built, and its task is polled, so that its memo is computed.
+fn settle(dom: &mut Kept) -> Result<(), DomFault> {
+    dom.rebuild_in_place()?;
+    dom.settle(&mut NoOpMutations)?;
+    Ok(())
+}
+
+/// The units of what a write of a cell leads to.
+fn units_after(dom: &mut Kept, cell: u64, number: u64) -> Result<u64, DomFault> {
+    dom.write(cell, number)?;
+    let report = dom.settle(&mut NoOpMutations)?;
+    Ok(report.units)
+}
+
+/// The units after each of three writes: of the second cell while the first one is 0, of the first
+/// one, and of the second one while the first one is 1.
+fn units_of(dom: &mut Kept) -> Result<[u64; 3], DomFault> {
+    settle(dom)?;
+    let unread = units_after(dom, 2, 5)?;
+    let first = units_after(dom, 1, 1)?;
+    let second = units_after(dom, 2, 6)?;
+    Ok([unread, first, second])
+}
+
+/// Makes the runtime, writes its cells and closes it. The units after each of three writes: the
+/// second cell wakes the task only while its memo reads it.
+pub fn woken(alloc: Global) -> Result<[u64; 3], DomFault> {
+    let mut dom = made(alloc)?;
+    let units = units_of(&mut dom);
+    match dom.close() {
+        Ok(_memo) => units,
+        Err(fault) => Err(DomFault::Run(fault)),
+    }
+}

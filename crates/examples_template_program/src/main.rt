@@ -1,0 +1,29 @@
+//! The program of an application to start from: one click is taken in, and the edits and reports are
+//! printed.
+#![tactic(auto)]
+
+use examples_lines::{click, lines};
+use examples_template::Application;
+use rt_app::{List, Nothing, OutOfMemory, Paged};
+use std::alloc::Global;
+
+/// The lines of a session with one click at the button.
+fn printed(alloc: Global) -> Result<List<u8>, OutOfMemory> {
+    let mut inputs = List::new(alloc);
+    inputs.push(click(alloc, Nothing, 1)?)?;
+    lines(alloc, Paged { pages: Application }, Nothing, inputs)
+}
+
+fn main(rt: HostRuntime) {
+    match printed(rt.alloc()) {
+        Ok(lines) => {
+            for byte in lines.as_slice() {
+                let byte = *byte as char;
+                let _ = print!(rt; "{byte}");
+            }
+        }
+        Err(_) => {
+            let _ = println!(rt; "out of memory");
+        }
+    }
+}

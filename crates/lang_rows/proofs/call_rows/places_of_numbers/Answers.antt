@@ -1,0 +1,12 @@
+use Rattle.std.proofs.Common.{refl}
+use Rattle.std.specs.Fmt.{digits}
+use Rattle.json.specs.Print.{escape_byte}
+use Rattle.rt_language.specs.Sequence.{go_on}
+use Rattle.rt_language.specs.Expressions.{evaluate, evaluate_all}
+use Rattle.rt_language.specs.Statements.{perform, run_statements}
+use Rattle.rt_language.specs.Views.{fill, fill_slot}
+use Rattle.lang_rows.proofs.call_rows.places_of_numbers.Goals as goal
+
+pub returns : goal.returns
+unfolding digits escape_byte go_on evaluate evaluate_all perform run_statements fill fill_slot
+returns c = refl

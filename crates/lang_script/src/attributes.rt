@@ -1,0 +1,45 @@
+//! Attributes and listeners of slots, one in each slot.
+ghost use Rattle.std.specs.Prelude.{◌≡◌, [], ◌∷◌, None, IfOk};
+ghost use Rattle.tree_mirror.specs.Mirror as mirror;
+ghost use Rattle.rt_language.specs.Views as views;
+
+use crate::script::Script;
+use lang_views::{Content, Value, text_of};
+use rt_values::{List, OutOfMemory, Part, Text};
+use std::alloc::Global;
+use tree_nodes::{Attribute, AttributeValue};
+
+/// The text of a value as an attribute's value; none where the value is none.
+pub(crate) fn attribute_value(
+    alloc: Global,
+    value: &Value,
+) -> Result<AttributeValue<Script>, OutOfMemory>
+    ensures value { IfOk result (λ given. mirror.value_of given ≡ views.attribute_value value.now) }
+{
+    match value.content() {
+        Content::None => Ok(AttributeValue::None),
+        Content::Number(_) => Ok(AttributeValue::Text(text_of(alloc, value)?)),
+        Content::Text(_) => Ok(AttributeValue::Text(text_of(alloc, value)?)),
+        Content::Cell(_) => Ok(AttributeValue::Text(text_of(alloc, value)?)),
+        Content::Task(_) => Ok(AttributeValue::Text(text_of(alloc, value)?)),
+    }
+}
+
+/// The attributes of a slot that has one, without a namespace.
+pub(crate) fn slot_with(
+    alloc: Global,
+    name: &Text,
+    value: AttributeValue<Script>,
+) -> Result<List<Attribute<Script>>, OutOfMemory>
+    ensures one { IfOk result (λ slot. slot
+        ≡ record { name = name.now; namespace = None; value = value } ∷ []) }
+{
+    let name = name.copy(alloc)?;
+    let mut attributes = List::new(alloc);
+    attributes.push(Attribute {
+        name,
+        namespace: None,
+        value,
+    })?;
+    Ok(attributes)
+}

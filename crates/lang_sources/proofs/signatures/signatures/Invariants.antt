@@ -1,0 +1,10 @@
+-- What is read so far stands before the rest.
+use Rattle.std.proofs.Common.{◌≡◌}
+use Rattle.serde_json.specs.View.{members_view}
+use Rattle.lang_expressions.specs.Lists.{read_members}
+use Rattle.lang_expressions.proofs.Steps.{after}
+use Rattle.lang_sources.specs.Signatures.{signature_in}
+use Rattle.lang_sources.proofs.signatures.signatures.Given as goal
+
+abbrev pub invariant-loop-name : goal.invariant-loop-name
+invariant-loop-name l = read_members signature_in (members_view l.members.entries) ≡ after l.read.items (read_members signature_in (members_view l.name-iterator))

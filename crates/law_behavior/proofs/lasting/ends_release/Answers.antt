@@ -1,0 +1,5 @@
+use Rattle.law_behavior.proofs.Held.{ends_release}
+use Rattle.law_behavior.proofs.lasting.ends_release.Goals as goal
+
+pub returns : goal.returns
+returns g c = ends_release _

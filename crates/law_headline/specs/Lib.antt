@@ -1,0 +1,12 @@
+pub mod Calm
+pub mod Sessions
+pub mod Carried
+pub mod Rules
+pub mod Entries
+pub mod Outputs
+pub mod Passes
+pub mod Trees
+pub mod Scopes
+pub mod Fitting
+pub mod Standing
+pub mod Rerun

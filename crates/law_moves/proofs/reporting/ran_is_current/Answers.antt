@@ -1,0 +1,5 @@
+use Rattle.law_moves.proofs.Reported.{ran_is_current}
+use Rattle.law_moves.proofs.reporting.ran_is_current.Goals as goal
+
+pub returns : goal.returns
+returns g c = λ app. ran_is_current app

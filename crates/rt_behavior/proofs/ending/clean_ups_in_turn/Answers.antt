@@ -1,5 +1,0 @@
-use Rattle.rt_behavior.proofs.Cleaning.{clean_ups_in_turn}
-use Rattle.rt_behavior.proofs.ending.clean_ups_in_turn.Goals as goal
-
-pub returns : goal.returns
-returns g c = λ app w v s work h. clean_ups_in_turn app w v s work h

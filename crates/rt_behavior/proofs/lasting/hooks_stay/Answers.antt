@@ -1,5 +1,0 @@
-use Rattle.rt_behavior.proofs.Steadfast.{hooks_stay}
-use Rattle.rt_behavior.proofs.lasting.hooks_stay.Goals as goal
-
-pub returns : goal.returns
-returns g c = λ app w s polled cs owner index hook h. hooks_stay app w s polled cs owner index hook h

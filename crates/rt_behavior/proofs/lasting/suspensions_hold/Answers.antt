@@ -1,5 +1,0 @@
-use Rattle.rt_behavior.proofs.Held.{suspensions_hold}
-use Rattle.rt_behavior.proofs.lasting.suspensions_hold.Goals as goal
-
-pub returns : goal.returns
-returns g c = suspensions_hold _

@@ -1,5 +1,0 @@
-use Rattle.rt_behavior.proofs.MovesOwe.{logged_wakes_are_polled}
-use Rattle.rt_behavior.proofs.owing.logged_wakes_are_polled.Goals as goal
-
-pub returns : goal.returns
-returns g c = λ app limits m v log t settled accepted alive woken none. logged_wakes_are_polled app limits m v log t settled accepted alive woken none

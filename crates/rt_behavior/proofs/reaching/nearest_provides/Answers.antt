@@ -1,5 +1,0 @@
-use Rattle.rt_behavior.proofs.Providers.{nearest_provides}
-use Rattle.rt_behavior.proofs.reaching.nearest_provides.Goals as goal
-
-pub returns : goal.returns
-returns g c = nearest_provides _

@@ -1,5 +1,0 @@
-use Rattle.rt_behavior.proofs.Readers.{throws_fill_once}
-use Rattle.rt_behavior.proofs.reaching.throws_fill_once.Goals as goal
-
-pub returns : goal.returns
-returns g c = throws_fill_once _

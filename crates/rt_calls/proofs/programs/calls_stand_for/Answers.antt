@@ -1,6 +1,0 @@
--- The calls are the program's own.
-use Rattle.rt_calls.proofs.ProgramsGoOn.{stand-for}
-use Rattle.rt_calls.proofs.programs.calls_stand_for.Goals as goal
-
-pub returns : goal.returns
-returns g c = stand-for

@@ -1,6 +1,0 @@
--- The calls are the program's own.
-use Rattle.rt_calls.proofs.ProgramsGoOn.{cells-go-on}
-use Rattle.rt_calls.proofs.programs.cells_go_on.Goals as goal
-
-pub returns : goal.returns
-returns g c = cells-go-on

@@ -1,9 +1,0 @@
-pub mod Forests
-pub mod Numbers
-pub mod Changed
-pub mod Contents
-pub mod Applied
-pub mod Back
-pub mod Cut
-pub mod Components
-pub mod Keeping

@@ -1,5 +1,0 @@
-use Rattle.rt_documents.proofs.Back.{edits_are_one}
-use Rattle.rt_documents.proofs.agreeing.edits_are_one.Goals as goal
-
-pub returns : goal.returns
-returns c = λ a b h. edits_are_one a b h

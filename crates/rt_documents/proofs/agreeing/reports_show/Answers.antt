@@ -1,5 +1,0 @@
-use Rattle.rt_documents.proofs.Cut.{reports_show}
-use Rattle.rt_documents.proofs.agreeing.reports_show.Goals as goal
-
-pub returns : goal.returns
-returns g c = reports_show

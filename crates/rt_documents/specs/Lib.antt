@@ -1,3 +1,0 @@
-pub mod Agrees
-pub mod Cuts
-pub mod One

@@ -1,5 +1,0 @@
-use Rattle.rt_doms.proofs.Carried.{asides_draw_none}
-use Rattle.rt_doms.proofs.programs.asides_draw_none.Goals as goal
-
-pub returns : goal.returns
-returns g c = λ app. asides_draw_none app

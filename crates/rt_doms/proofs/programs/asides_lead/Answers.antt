@@ -1,5 +1,0 @@
-use Rattle.rt_doms.proofs.Leading.{asides_lead}
-use Rattle.rt_doms.proofs.programs.asides_lead.Goals as goal
-
-pub returns : goal.returns
-returns g c = λ app limits props whole. asides_lead app limits props whole

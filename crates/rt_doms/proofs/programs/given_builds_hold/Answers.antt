@@ -1,5 +1,0 @@
-use Rattle.rt_doms.proofs.Doms.{given_builds_hold}
-use Rattle.rt_doms.proofs.programs.given_builds_hold.Goals as goal
-
-pub returns : goal.returns
-returns g c = λ app. given_builds_hold app

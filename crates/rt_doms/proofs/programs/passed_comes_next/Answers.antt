@@ -1,5 +1,0 @@
-use Rattle.rt_doms.proofs.Loops.{passed_comes_next}
-use Rattle.rt_doms.proofs.programs.passed_comes_next.Goals as goal
-
-pub returns : goal.returns
-returns g c = passed_comes_next

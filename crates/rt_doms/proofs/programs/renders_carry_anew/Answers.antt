@@ -1,5 +1,0 @@
-use Rattle.rt_doms.proofs.Carried.{renders_carry_anew}
-use Rattle.rt_doms.proofs.programs.renders_carry_anew.Goals as goal
-
-pub returns : goal.returns
-returns g c = λ app. renders_carry_anew app

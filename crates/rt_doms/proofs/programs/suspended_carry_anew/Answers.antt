@@ -1,5 +1,0 @@
-use Rattle.rt_doms.proofs.Carried.{suspended_carry_anew}
-use Rattle.rt_doms.proofs.programs.suspended_carry_anew.Goals as goal
-
-pub returns : goal.returns
-returns g c = λ app. suspended_carry_anew app

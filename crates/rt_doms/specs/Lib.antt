@@ -1,4 +1,0 @@
-pub mod Doms
-pub mod Polls
-pub mod Carries
-pub mod Muted

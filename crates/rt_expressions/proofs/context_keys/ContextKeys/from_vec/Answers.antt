@@ -1,6 +1,0 @@
--- They ascend where they were found to.
-use Rattle.std.proofs.Common.{rules}
-use Rattle.rt_expressions.proofs.context_keys.ContextKeys.from_vec.Goals as goal
-
-pub invariant_of-result : goal.invariant_of-result
-invariant_of-result c = λ yes. search (rules, yes)

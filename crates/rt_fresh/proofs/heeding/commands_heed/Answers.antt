@@ -1,5 +1,0 @@
-use Rattle.rt_fresh.proofs.Commanded.{commands_heed}
-use Rattle.rt_fresh.proofs.heeding.commands_heed.Goals as goal
-
-pub returns : goal.returns
-returns g c = λ app tests n w s polled cs from. commands_heed app tests n w s polled cs from

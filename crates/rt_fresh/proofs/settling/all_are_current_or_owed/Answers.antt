@@ -1,5 +1,0 @@
-use Rattle.rt_fresh.proofs.Settled.{all_are_current_or_owed}
-use Rattle.rt_fresh.proofs.settling.all_are_current_or_owed.Goals as goal
-
-pub returns : goal.returns
-returns g c = λ app. all_are_current_or_owed app

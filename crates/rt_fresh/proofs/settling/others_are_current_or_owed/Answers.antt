@@ -1,5 +1,0 @@
-use Rattle.rt_fresh.proofs.Settled.{others_are_current_or_owed}
-use Rattle.rt_fresh.proofs.settling.others_are_current_or_owed.Goals as goal
-
-pub returns : goal.returns
-returns g c = λ app. others_are_current_or_owed app

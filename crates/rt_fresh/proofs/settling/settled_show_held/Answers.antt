@@ -1,5 +1,0 @@
-use Rattle.rt_fresh.proofs.Settled.{settled_show_held}
-use Rattle.rt_fresh.proofs.settling.settled_show_held.Goals as goal
-
-pub returns : goal.returns
-returns g c = λ app. settled_show_held app

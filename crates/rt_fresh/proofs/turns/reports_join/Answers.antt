@@ -1,5 +1,0 @@
-use Rattle.rt_fresh.proofs.Sessions.{sofar_more}
-use Rattle.rt_fresh.proofs.turns.reports_join.Goals as goal
-
-pub returns : goal.returns
-returns g c = λ app limits props inputs reports edits more from m report s r settled counts. sofar_more app limits props inputs reports edits more from m report s r settled counts

@@ -1,5 +1,0 @@
-use Rattle.rt_fresh.proofs.Sessions.{sofar_ran_to}
-use Rattle.rt_fresh.proofs.turns.reports_ran_to.Goals as goal
-
-pub returns : goal.returns
-returns g c = λ app limits props inputs reports edits more from log fault s r one_each. sofar_ran_to app limits props inputs reports edits more from log fault s r one_each

@@ -1,5 +1,0 @@
-use Rattle.rt_fresh.proofs.Sessions.{rest_owes_none}
-use Rattle.rt_fresh.proofs.turns.rest_owes_none.Goals as goal
-
-pub returns : goal.returns
-returns g c = λ m h built quiet none. rest_owes_none m h built quiet none

@@ -1,5 +1,0 @@
-use Rattle.rt_headline.proofs.FromTheStart.{cut_units_carry_anew}
-use Rattle.rt_headline.proofs.carrying.cut_units_carry_anew.Goals as goal
-
-pub returns : goal.returns
-returns g c = λ app. cut_units_carry_anew app

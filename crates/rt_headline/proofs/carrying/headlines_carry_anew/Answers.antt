@@ -1,5 +1,0 @@
-use Rattle.rt_headline.proofs.Fronts.{headlines_carry_anew}
-use Rattle.rt_headline.proofs.carrying.headlines_carry_anew.Goals as goal
-
-pub returns : goal.returns
-returns g c = λ app. headlines_carry_anew app

@@ -1,5 +1,0 @@
-use Rattle.rt_headline.proofs.Shown.{reruns_carry_anew}
-use Rattle.rt_headline.proofs.carrying.reruns_carry_anew.Goals as goal
-
-pub returns : goal.returns
-returns g c = λ app. reruns_carry_anew app

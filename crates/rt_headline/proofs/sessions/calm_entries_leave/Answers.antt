@@ -1,5 +1,0 @@
-use Rattle.rt_headline.proofs.Begins.{calm_level}
-use Rattle.rt_headline.proofs.sessions.calm_entries_leave.Goals as goal
-
-pub returns : goal.returns
-returns g c = λ app m e calm t. (calm_level app m e calm).shows t

@@ -1,5 +1,0 @@
-use Rattle.rt_headline.proofs.Reports.{finished_hold}
-use Rattle.rt_headline.proofs.sessions.finished_hold.Goals as goal
-
-pub returns : goal.returns
-returns g c = λ app. finished_hold app

@@ -1,5 +1,0 @@
-use Rattle.rt_headline.proofs.Reports.{ran_shows}
-use Rattle.rt_headline.proofs.sessions.ran_shows.Goals as goal
-
-pub returns : goal.returns
-returns g c = λ app. ran_shows app

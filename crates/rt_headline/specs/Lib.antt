@@ -1,3 +1,0 @@
-pub mod Calm
-pub mod Sessions
-pub mod Carried

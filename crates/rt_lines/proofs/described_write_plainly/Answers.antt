@@ -1,5 +1,0 @@
-use Rattle.rt_lines.proofs.ReadSources.{described_write_plainly}
-use Rattle.rt_lines.proofs.described_write_plainly.Goals as goal
-
-pub returns : goal.returns
-returns c = described_write_plainly

@@ -1,6 +1,0 @@
--- The text of a run that came to a fault tells all of it.
-use Rattle.rt_lines.proofs.Items.{fault_texts_tell}
-use Rattle.rt_lines.proofs.fault_texts_tell.Goals as goal
-
-pub returns : goal.returns
-returns c = fault_texts_tell

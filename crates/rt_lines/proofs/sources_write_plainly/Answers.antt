@@ -1,5 +1,0 @@
-use Rattle.rt_lines.proofs.Plainly.{sources_write_plainly}
-use Rattle.rt_lines.proofs.sources_write_plainly.Goals as goal
-
-pub returns : goal.returns
-returns c = sources_write_plainly

@@ -1,6 +1,0 @@
--- The text of a run tells its edits and reports.
-use Rattle.rt_lines.proofs.Items.{texts_tell}
-use Rattle.rt_lines.proofs.texts_tell.Goals as goal
-
-pub returns : goal.returns
-returns c = texts_tell

@@ -1,9 +1,0 @@
--- What was read so far stands before the rest.
-use Rattle.std.proofs.Common.{map}
-use Rattle.rt_reports.specs.Seen.{entry_of}
-use Rattle.rt_logs.specs.Written.{WritesList}
-use Rattle.rt_logs.proofs.Items.{SoFar}
-use Rattle.rt_logs.proofs.words.lists.Given as goal
-
-abbrev pub invariant-loop-value : goal.invariant-loop-value
-invariant-loop-value l = SoFar WritesList l.values l.value-index (map (map entry_of) l.read.items)

@@ -1,7 +1,0 @@
-use Rattle.std.proofs.Common.{refl}
-use Rattle.rt_state.specs.Mirror.{state_of}
-use Rattle.rt_machine.proofs.Keeps.{if_ok}
-use Rattle.rt_machine.proofs.input.hearers.Goals as goal
-
-pub returns : goal.returns
-returns g c = if_ok c.heard.result c.heard.ensures.heard (λ listeners are kept. are (state_of kept c.args.state.now) (c.now-look.ensures.shows (state_of kept c.args.state.now) refl))

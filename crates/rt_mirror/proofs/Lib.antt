@@ -1,4 +1,0 @@
-pub mod TreeOut
-pub mod SealedNodes
-pub mod SealedTrees
-pub mod SealedComponents

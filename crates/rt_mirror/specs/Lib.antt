@@ -1,3 +1,0 @@
-pub mod Mirror
-pub mod ByParts
-pub mod Sealed

@@ -1,5 +1,0 @@
-use Rattle.rt_moves.proofs.Untouched.{item_leaves}
-use Rattle.rt_moves.proofs.framing.items_leave.Goals as goal
-
-pub returns : goal.returns
-returns g c = λ app. item_leaves app

@@ -1,5 +1,0 @@
-use Rattle.rt_moves.proofs.Untouched.{run_leaves}
-use Rattle.rt_moves.proofs.framing.runs_leave.Goals as goal
-
-pub returns : goal.returns
-returns g c = λ app. run_leaves app

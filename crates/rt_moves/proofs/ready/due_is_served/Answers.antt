@@ -1,5 +1,0 @@
-use Rattle.rt_moves.proofs.Served.{due_is_served}
-use Rattle.rt_moves.proofs.ready.due_is_served.Goals as goal
-
-pub returns : goal.returns
-returns g c = λ app. due_is_served app

@@ -1,5 +1,0 @@
-use Rattle.rt_moves.proofs.Pruning.{others_are_left}
-use Rattle.rt_moves.proofs.removing.others_are_left.Goals as goal
-
-pub returns : goal.returns
-returns g c = others_are_left _

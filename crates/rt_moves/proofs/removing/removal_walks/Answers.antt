@@ -1,5 +1,0 @@
-use Rattle.rt_moves.proofs.Leaves.{removal_walks}
-use Rattle.rt_moves.proofs.removing.removal_walks.Goals as goal
-
-pub returns : goal.returns
-returns g c = removal_walks _

@@ -1,5 +1,0 @@
-use Rattle.rt_moves.proofs.Fuel.{fuel_suffices}
-use Rattle.rt_moves.proofs.running.fuel_suffices.Goals as goal
-
-pub returns : goal.returns
-returns g c = λ app. fuel_suffices app

@@ -1,5 +1,0 @@
-use Rattle.rt_moves.proofs.OneMoveOnly.{one_move}
-use Rattle.rt_moves.proofs.running.one_move.Goals as goal
-
-pub returns : goal.returns
-returns g c = λ app. one_move app

@@ -1,5 +1,0 @@
-use Rattle.rt_moves.proofs.Joins.{logs_join}
-use Rattle.rt_moves.proofs.telling.logs_join.Goals as goal
-
-pub returns : goal.returns
-returns g c = λ app. logs_join app

@@ -1,5 +1,0 @@
-use Rattle.rt_moves.proofs.Reports.{reports_go_on}
-use Rattle.rt_moves.proofs.telling.reports_go_on.Goals as goal
-
-pub returns : goal.returns
-returns g c = λ app. reports_go_on app

@@ -1,5 +1,0 @@
-use Rattle.rt_moves.proofs.Tellings.{unit_ends}
-use Rattle.rt_moves.proofs.telling.unit_ends.Goals as goal
-
-pub returns : goal.returns
-returns g c = λ app. unit_ends app

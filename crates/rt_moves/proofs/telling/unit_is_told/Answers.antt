@@ -1,5 +1,0 @@
-use Rattle.rt_moves.proofs.Tellings.{unit_is_told}
-use Rattle.rt_moves.proofs.telling.unit_is_told.Goals as goal
-
-pub returns : goal.returns
-returns g c = λ app. unit_is_told app

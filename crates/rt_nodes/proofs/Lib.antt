@@ -1,4 +1,0 @@
-mod Spread
-mod TemplatePlaces
-pub mod PropsLemmas
-pub mod TreePlaces

@@ -1,3 +1,0 @@
-pub mod NodeTest
-pub mod Places
-pub mod Shown

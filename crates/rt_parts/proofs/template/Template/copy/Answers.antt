@@ -1,4 +1,0 @@
-use Rattle.rt_parts.proofs.template.Template.copy.Goals as goal
-
-pub invariant_of-result : goal.invariant_of-result
-invariant_of-result c = rw c.in_ok-written.ensures.cases c.self.invariant

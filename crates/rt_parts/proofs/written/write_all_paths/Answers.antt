@@ -1,8 +1,0 @@
-use Rattle.std.proofs.Common.{◌∙◌}
-use Rattle.rt_parts.specs.Forms.{paths_in_form}
-use Rattle.rt_parts.proofs.written.write_all_paths.Goals as goal
-
-pub returns : goal.returns
-returns c =
-    λ rest.
-    c.in_ok-write_paths.ensures rest ∙ c.in_ok-write_mark.ensures (paths_in_form c.args.paths.now rest)

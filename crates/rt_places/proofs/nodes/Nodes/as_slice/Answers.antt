@@ -1,7 +1,0 @@
-use Rattle.rt_places.proofs.nodes.Nodes.as_slice.Goals as goal
-
-pub returns-clause-items : goal.returns-clause-items
-returns-clause-items c = rw (← c.self.view_is) c.as_slice.ensures.items
-
-pub returns-clause-apart : goal.returns-clause-apart
-returns-clause-apart c = rw (← c.self.view_is) c.self.invariant.1

@@ -1,4 +1,0 @@
-use Rattle.rt_places.proofs.nodes.Nodes.share.Goals as goal
-
-pub invariant_of-result : goal.invariant_of-result
-invariant_of-result c = rw (c.in_ok-share.ensures.items, c.in_ok-share-2.ensures.items) c.self.invariant

@@ -1,7 +1,0 @@
-use Rattle.std.proofs.Common.{◌≡◌, drop}
-use Rattle.rt_places.specs.Indexed.{first_of_nodes}
-use Rattle.rt_places.specs.Places.{kind_of, place_of}
-use Rattle.rt_places.proofs.nodes.first_at.Given as goal
-
-abbrev pub invariant-loop-entry : goal.invariant-loop-entry
-invariant-loop-entry l = first_of_nodes l.items (place_of l.place) (kind_of l.kind) (drop l.entry-index l.run) ≡ first_of_nodes l.items (place_of l.place) (kind_of l.kind) l.run

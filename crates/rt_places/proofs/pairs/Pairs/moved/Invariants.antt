@@ -1,6 +1,0 @@
-use Rattle.std.proofs.Common.{◌≡◌, ◌++◌, drop}
-use Rattle.rt_places.specs.Drawn.{moved}
-use Rattle.rt_places.proofs.pairs.Pairs.moved.Given as goal
-
-abbrev pub invariant-loop-pair : goal.invariant-loop-pair
-invariant-loop-pair l = l.drawn ++ moved l.to (drop l.pair-index l.pair-items) ≡ moved l.to l.pair-items

@@ -1,7 +1,0 @@
--- Each of those before is the first one at its place.
-use Rattle.std.proofs.Common.{ℕ, ◌<◌}
-use Rattle.rt_places.specs.Indexed.{IsFirstSeats}
-use Rattle.rt_places.proofs.seats.each_first.Given as goal
-
-abbrev pub invariant-loop-index : goal.invariant-loop-index
-invariant-loop-index l = (i : ℕ) → i < l.index → IsFirstSeats l.items i

@@ -1,6 +1,0 @@
-use Rattle.rt_places.specs.Trails.{steps_of}
-use Rattle.rt_places.proofs.Backs.{place-tested}
-use Rattle.rt_places.proofs.trail.is_on.Goals as goal
-
-pub returns : goal.returns
-returns c = place-tested _ c.args.place.now (steps_of c.args.trail.now) c.parts_on.ensures.0 c.parts_on.ensures.1

@@ -1,7 +1,0 @@
--- JSON writes the bytes so far as they are.
-use Rattle.std.proofs.Common.{◌≡◌, take}
-use Rattle.json.specs.Print.{escape}
-use Rattle.rt_print.proofs.line.is_plain.Given as goal
-
-abbrev pub invariant-loop-byte : goal.invariant-loop-byte
-invariant-loop-byte l = escape (take l.byte-index l.bytes) ≡ take l.byte-index l.bytes

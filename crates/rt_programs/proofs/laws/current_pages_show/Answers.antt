@@ -1,6 +1,0 @@
--- A law.
-use Rattle.rt_programs.proofs.Present.{current-pages-show}
-use Rattle.rt_programs.proofs.laws.current_pages_show.Goals as goal
-
-pub returns : goal.returns
-returns g c = current-pages-show _

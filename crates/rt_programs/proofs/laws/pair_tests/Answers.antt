@@ -1,6 +1,0 @@
--- A law.
-use Rattle.rt_programs.proofs.Lawful.{pair_tests}
-use Rattle.rt_programs.proofs.laws.pair_tests.Goals as goal
-
-pub returns : goal.returns
-returns g c = pair_tests

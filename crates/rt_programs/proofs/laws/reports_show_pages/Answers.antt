@@ -1,6 +1,0 @@
--- A law.
-use Rattle.rt_programs.proofs.Author.{reports-show-pages}
-use Rattle.rt_programs.proofs.laws.reports_show_pages.Goals as goal
-
-pub returns : goal.returns
-returns g c = reports-show-pages _

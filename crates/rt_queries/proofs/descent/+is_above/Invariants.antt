@@ -1,4 +1,0 @@
-use Rattle.rt_queries.proofs.descent.+is_above.Given as goal
-
-abbrev pub decreases-is_above : goal.decreases-is_above
-decreases-is_above g l = l.steps

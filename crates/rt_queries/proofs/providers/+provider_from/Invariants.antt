@@ -1,4 +1,0 @@
-use Rattle.rt_queries.proofs.providers.+provider_from.Given as goal
-
-abbrev pub decreases-provider_from : goal.decreases-provider_from
-decreases-provider_from g l = l.steps

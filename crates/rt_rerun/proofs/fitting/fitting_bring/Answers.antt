@@ -1,5 +1,0 @@
-use Rattle.rt_rerun.proofs.Elements.{fitting_bring}
-use Rattle.rt_rerun.proofs.fitting.fitting_bring.Goals as goal
-
-pub returns : goal.returns
-returns g c = λ numbers above new old level other same fits was. fitting_bring numbers above new old level other same fits was

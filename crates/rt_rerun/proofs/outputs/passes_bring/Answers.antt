@@ -1,5 +1,0 @@
-use Rattle.rt_rerun.proofs.Passes.{passes_bring}
-use Rattle.rt_rerun.proofs.outputs.passes_bring.Goals as goal
-
-pub returns : goal.returns
-returns g c = λ numbers above whole old between new gone come slot. passes_bring numbers above whole old between new gone come slot

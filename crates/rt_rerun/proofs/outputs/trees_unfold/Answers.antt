@@ -1,5 +1,0 @@
-use Rattle.rt_rerun.proofs.Unfolding.{tree_unfolds}
-use Rattle.rt_rerun.proofs.outputs.trees_unfold.Goals as goal
-
-pub returns : goal.returns
-returns g c = λ w tree s. tree_unfolds w tree s

@@ -1,5 +1,0 @@
-use Rattle.rt_rerun.proofs.Descent.{written_brings}
-use Rattle.rt_rerun.proofs.outputs.written_brings.Goals as goal
-
-pub returns : goal.returns
-returns g c = λ app w v s place unfolded_w unfolded_v meets single p q x y. written_brings app w v unfolded_w unfolded_v s place meets single p q x y

@@ -1,5 +1,0 @@
-use Rattle.rt_rerun.proofs.Reruns.{reruns_keep_setting}
-use Rattle.rt_rerun.proofs.rerunning.reruns_keep_setting.Goals as goal
-
-pub returns : goal.returns
-returns g c = λ app. reruns_keep_setting app

@@ -1,5 +1,0 @@
-use Rattle.rt_rerun.proofs.Reruns.{reruns_leave_others}
-use Rattle.rt_rerun.proofs.rerunning.reruns_leave_others.Goals as goal
-
-pub returns : goal.returns
-returns g c = λ app. reruns_leave_others app

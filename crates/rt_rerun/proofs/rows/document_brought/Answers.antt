@@ -1,5 +1,0 @@
-use Rattle.rt_rerun.proofs.Changes.{document_brought}
-use Rattle.rt_rerun.proofs.rows.document_brought.Goals as goal
-
-pub returns : goal.returns
-returns c = λ edits f g claims s a bound single x y. document_brought s a bound single x y

@@ -1,5 +1,0 @@
-use Rattle.rt_rerun.proofs.Changes.{joined_bring}
-use Rattle.rt_rerun.proofs.rows.joined_bring.Goals as goal
-
-pub returns : goal.returns
-returns c = λ es fs f g p q m n a b. joined_bring a b

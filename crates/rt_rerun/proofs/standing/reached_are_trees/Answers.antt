@@ -1,5 +1,0 @@
-use Rattle.rt_rerun.proofs.Trees.{reached_are_trees}
-use Rattle.rt_rerun.proofs.standing.reached_are_trees.Goals as goal
-
-pub returns : goal.returns
-returns g c = λ app lawful. reached_are_trees app lawful

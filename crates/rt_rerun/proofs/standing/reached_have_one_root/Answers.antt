@@ -1,5 +1,0 @@
-use Rattle.rt_rerun.proofs.Settled.{reached_have_one_root}
-use Rattle.rt_rerun.proofs.standing.reached_have_one_root.Goals as goal
-
-pub returns : goal.returns
-returns g c = λ app. reached_have_one_root app

@@ -1,5 +1,0 @@
-use Rattle.rt_rerun.proofs.Settled.{settled_have_children}
-use Rattle.rt_rerun.proofs.standing.settled_have_children.Goals as goal
-
-pub returns : goal.returns
-returns g c = λ app. settled_have_children app

@@ -1,5 +1,0 @@
-use Rattle.rt_rerun.proofs.Settled.{settled_show_nodes}
-use Rattle.rt_rerun.proofs.standing.settled_show_nodes.Goals as goal
-
-pub returns : goal.returns
-returns g c = λ app. settled_show_nodes app

@@ -1,9 +1,0 @@
-pub mod Rules
-pub mod Entries
-pub mod Outputs
-pub mod Passes
-pub mod Trees
-pub mod Scopes
-pub mod Fitting
-pub mod Standing
-pub mod Rerun

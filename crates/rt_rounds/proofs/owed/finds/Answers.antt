@@ -1,7 +1,0 @@
-use Rattle.std.proofs.Common.{◌∙◌, sym}
-use Rattle.rt_state.specs.Mirror.{state_of}
-use Rattle.rt_rounds.proofs.Dues.{finds_is}
-use Rattle.rt_rounds.proofs.owed.finds.Goals as goal
-
-pub returns : goal.returns
-returns g c = λ kept. c.comes_up.ensures kept ∙ sym (finds_is (state_of kept c.args.state.now))

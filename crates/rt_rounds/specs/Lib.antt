@@ -1,9 +1,0 @@
-pub mod Untils
-pub mod Rounds
-pub mod Handled
-pub mod Steps
-pub mod Suspended
-pub mod Owed
-pub mod Going
-pub mod Closed
-pub mod Resolved

@@ -1,5 +1,0 @@
-use Rattle.std.proofs.Common.{refl}
-use Rattle.rt_rows.proofs.fit_rows.rows_fit.Goals as goal
-
-pub returns : goal.returns
-returns c = (refl, refl, refl, refl, refl)

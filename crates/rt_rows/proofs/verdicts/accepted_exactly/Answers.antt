@@ -1,5 +1,0 @@
-use Rattle.rt_rows.proofs.Judged.{accepted_exactly}
-use Rattle.rt_rows.proofs.verdicts.accepted_exactly.Goals as goal
-
-pub returns : goal.returns
-returns g c = λ app. accepted_exactly app

@@ -1,5 +1,0 @@
-use Rattle.std.proofs.Common.{refl}
-use Rattle.rt_show.proofs.agreements.most_bytes_agree.Goals as goal
-
-pub returns : goal.returns
-returns c = record { agree = refl }

@@ -1,8 +1,0 @@
--- The writes so far, with those that are still to come, are all writes.
-use Rattle.std.proofs.Common.{◌≡◌, ◌++◌, ◌-◌, map}
-use Rattle.rt_language.specs.Generated.{writes_from}
-use Rattle.rt_syntax.specs.Mirror.{input_of}
-use Rattle.rt_show.proofs.generated.generated.Given as goal
-
-abbrev pub invariant-loop-write : goal.invariant-loop-write
-invariant-loop-write l = map input_of l.inputs ++ writes_from l.rows l.write (l.rows - l.write) ≡ writes_from l.rows 0 l.rows

@@ -1,6 +1,0 @@
-use Rattle.std.proofs.Common.{◌∙◌}
-use Rattle.rt_calls.proofs.KindPlaces.{provided-is}
-use Rattle.rt_state.proofs.provided.provided_in.Goals as goal
-
-pub returns : goal.returns
-returns g c = c.get.ensures.value ∙ provided-is c.args.contexts.now c.args.kind

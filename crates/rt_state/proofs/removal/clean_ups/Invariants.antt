@@ -1,8 +1,0 @@
-use Rattle.std.proofs.Common.{◌≡◌, [], drop, map}
-use Rattle.std.specs.Prelude.{reverse}
-use Rattle.rt_model.specs.Removal.{clean_ups}
-use Rattle.rt_calls.specs.Calls.{hook_of}
-use Rattle.rt_state.proofs.removal.clean_ups.Given as goal
-
-abbrev pub invariant-loop-hook : goal.invariant-loop-hook
-invariant-loop-hook g l = clean_ups (map hook_of (drop l.hook-index l.hooks)) (reverse l.effects.items) ≡ clean_ups (map hook_of l.hooks) []

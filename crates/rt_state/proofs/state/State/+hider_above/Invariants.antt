@@ -1,4 +1,0 @@
-use Rattle.rt_state.proofs.state.State.+hider_above.Given as goal
-
-abbrev pub decreases-hider_above : goal.decreases-hider_above
-decreases-hider_above g l = l.steps

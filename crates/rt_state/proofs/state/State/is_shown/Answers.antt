@@ -1,5 +1,0 @@
-use Rattle.std.proofs.Common.{◌≡◌}
-use Rattle.rt_state.proofs.state.State.is_shown.Goals as goal
-
-pub returns : goal.returns
-returns g c = λ kept. c.shows.ensures

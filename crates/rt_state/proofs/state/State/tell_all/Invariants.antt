@@ -1,8 +1,0 @@
-use Rattle.std.proofs.Common.{◌≡◌, drop, map}
-use Rattle.rt_model.specs.Removal.{tell_all}
-use Rattle.rt_calls.specs.Calls.{source_of}
-use Rattle.rt_state.specs.Mirror.{state_of}
-use Rattle.rt_state.proofs.state.State.tell_all.Given as goal
-
-abbrev pub invariant-loop-source : goal.invariant-loop-source
-invariant-loop-source g l = (kept : _) → tell_all (state_of kept l.self) (map source_of (drop l.source-index l.sources)) ≡ tell_all (state_of kept l.fn.self) (map source_of l.sources)

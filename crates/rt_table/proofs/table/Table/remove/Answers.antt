@@ -1,6 +1,0 @@
-use Rattle.std.proofs.Common.{subst}
-use Rattle.rt_table.specs.Found.{Ascends}
-use Rattle.rt_table.proofs.table.Table.remove.Goals as goal
-
-pub remove_one-requires : goal.remove_one-requires
-remove_one-requires g c = record { ascending = subst Ascends c.self.view_is (c.self.invariant c.if-self.true) }

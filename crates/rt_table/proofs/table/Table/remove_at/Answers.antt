@@ -1,8 +1,0 @@
-use Rattle.rt_table.proofs.Ascending.{ascends-removed}
-use Rattle.rt_table.proofs.table.Table.remove_at.Goals as goal
-
-pub invariant_of-self : goal.invariant_of-self
-invariant_of-self g c =
-    λ rising.
-    rw c.remove-row.ensures.items
-    (ascends-removed c.self.inside.rows.items c.args.index (rw c.self.view_is c.requires.within) (c.self.invariant rising))

@@ -1,5 +1,0 @@
-use Rattle.rt_table.specs.Found.{IsFirst}
-use Rattle.rt_table.proofs.table.walk.Given as goal
-
-abbrev pub invariant-loop-index : goal.invariant-loop-index
-invariant-loop-index g l = IsFirst l.rows l.number l.index

@@ -1,0 +1,59 @@
+-- Scopes go one after another, from the greatest order down.
+use Rattle.run_records.specs.Kept.{each}
+use Rattle.std.proofs.Common.{ℕ, zero, suc, ◌+◌, ◌-◌, ◌<◌, ◌≤◌, Bool, List, [], ◌∷◌, ◌≡◌, refl, ap, ◌∙◌, length, arith}
+use Rattle.std.specs.Prelude.{Option, Some, None}
+use Rattle.rt_model.specs.Tree.{Types}
+use Rattle.rt_model.specs.World.{Application}
+use Rattle.rt_model.specs.State.{Scope, State, Outcome, Done, onward}
+use Rattle.rt_model.specs.Next.{is_before, least, least_from}
+use Rattle.rt_model.specs.Removal.{closes, numbers_of, removed_apart}
+use Rattle.run_answers.specs.Closed.{greater}
+
+-- the least from one that was found on
+abbrev pub least_on : (ℕ → ℕ → Bool) → Option ℕ → List ℕ → Option ℕ
+least_on earlier None xs = least earlier xs
+least_on earlier (Some s) xs = Some (least_from earlier s xs)
+
+fewer : (n i : ℕ) → i < n → n - i ≡ suc (n - (i + 1))
+fewer n i h = omega arith
+
+none_left : (n i : ℕ) → n ≤ i → n - i ≡ 0
+none_left n i h = omega arith
+
+module _ {K : Types} where
+  -- one more of them
+  pub on_next : (scopes : List (ℕ × Scope K)) (found : Option ℕ) (t : ℕ) (ts : List ℕ)
+      → least_on (λ a b. is_before scopes b a) (Some (greater scopes found t)) ts ≡ least_on (λ a b. is_before scopes b a) found (t ∷ ts)
+  on_next scopes None t ts = refl
+  on_next scopes (Some s) t ts = refl
+
+  pub on_none : (scopes : List (ℕ × Scope K)) (found : Option ℕ) → found ≡ least_on (λ a b. is_before scopes b a) found []
+  on_none scopes None = refl
+  on_none scopes (Some s) = refl
+
+module _ {K : Types} (app : Application K) where
+  -- the last one goes next
+  pub closes_on : (n i : ℕ) (w : State K) (s : ℕ) → i < n → least (λ a b. is_before w.scopes b a) (numbers_of w.scopes) ≡ Some s
+      → closes app (n - i) w ≡ onward (removed_apart app w s) (λ v. closes app (n - (i + 1)) v)
+  closes_on n i w s before is =
+      ap (λ (m : ℕ). closes app m w) (fewer n i before)
+      ∙ ap (λ (o : Option ℕ). elim o as (λ z. Outcome K) [ None ↦ Done w [] | Some t ↦ onward (removed_apart app w t) (λ v. closes app (n - (i + 1)) v) ]) is
+
+  -- where none is left nothing is done
+  pub closes_none : (n : ℕ) (w : State K) → least (λ a b. is_before w.scopes b a) (numbers_of w.scopes) ≡ None → closes app n w ≡ Done w []
+  closes_none zero w is = refl
+  closes_none (suc n) w is =
+      ap (λ (o : Option ℕ). elim o as (λ z. Outcome K) [ None ↦ Done w [] | Some t ↦ onward (removed_apart app w t) (λ v. closes app n v) ]) is
+
+  pub closes_end : (n i : ℕ) (w : State K) → n ≤ i → closes app (n - i) w ≡ Done w []
+  closes_end n i w end = ap (λ (m : ℕ). closes app m w) (none_left n i end)
+
+  pub closes_begin : (n m : ℕ) (w : State K) → n ≡ m → closes app n w ≡ closes app (m - 0) w
+  closes_begin n m w same = ap (λ (k : ℕ). closes app k w) (same ∙ all_left m)
+    where
+      all_left : (k : ℕ) → k ≡ k - 0
+      all_left k = omega arith
+
+pub length-each : {A B : Type 0} (f : A → B) (es : List (ℕ × A)) → length (each f es) ≡ length es
+length-each f [] = refl
+length-each f (e ∷ es) = ap suc (length-each f es)

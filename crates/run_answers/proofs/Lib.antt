@@ -1,0 +1,7 @@
+mod Asked
+pub mod Looked
+mod Dues
+mod TurnsUp
+pub mod Greatest
+mod Passes
+mod Sorted

@@ -1,0 +1,5 @@
+pub mod Machines
+pub mod Writings
+pub mod Stands
+pub mod Runs
+pub mod Keeps

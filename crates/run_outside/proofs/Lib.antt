@@ -1,0 +1,6 @@
+pub mod Said
+pub mod Sinks
+pub mod Reports
+pub mod Waiting
+pub mod Short
+pub mod Parts

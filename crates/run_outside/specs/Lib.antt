@@ -1,0 +1,6 @@
+pub mod Short
+pub mod Ends
+pub mod Turns
+pub mod Hearings
+pub mod Sofar
+pub mod Sessions

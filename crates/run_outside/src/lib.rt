@@ -1,0 +1,13 @@
+//! What a session has to do with what is outside of it: the inputs that it takes in and the listeners
+//! that hear an event, the edits that its sink takes, and why it ends early.
+#![tactic(auto)]
+
+mod ended;
+mod hearing;
+mod input;
+mod writing;
+
+pub use ended::Ended;
+pub use hearing::Hearing;
+pub use input::{first_waiting, further, look_where_quiet, post_messages, take_in};
+pub use writing::write_edits;

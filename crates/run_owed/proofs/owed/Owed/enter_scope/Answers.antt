@@ -1,0 +1,15 @@
+use Rattle.std.proofs.Common.{◌++◌, ◌∷◌, []}
+use Rattle.run_owed.specs.Changes.{posted_by}
+use Rattle.run_owed.proofs.Held.{held_more}
+use Rattle.run_owed.proofs.Ordered.{owed_scopes}
+use Rattle.run_owed.proofs.owed.Owed.enter_scope.Goals as goal
+
+pub invariant_of-self : goal.invariant_of-self
+invariant_of-self c = rw c.in_err-enter.ensures.err c.self.invariant
+
+pub invariant_of-self-2 : goal.invariant_of-self-2
+invariant_of-self-2 c =
+    owed_scopes (posted_by c.self.inside.told) c.self.inside.scopes c.self.inside.tasks c.enter.new.self (c.self.inside.scopes.entered ++ (c.args.scope, c.args.height) ∷ []) c.args.scope c.self.inside.seen_in_order c.self.inside.queue_in_order c.stays-self-inside.result c.waits_none-self-inside.result c.self.invariant
+    c.in_ok-enter.ensures.ok c.stays-self-inside.ensures.was c.waiting.result.now c.waiting.ensures c.stays-self-inside.ensures.none
+    (λ m other. held_more c.self.inside.scopes.entered c.args.scope c.args.height m other)
+    c.waits_none-self-inside.ensures

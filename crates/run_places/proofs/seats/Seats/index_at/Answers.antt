@@ -1,0 +1,17 @@
+-- The component that was guessed, or else the one that its key names.
+use Rattle.std.proofs.Common.{◌∙◌, ap, sym}
+use Rattle.run_places.specs.Indexed.{is_seat_at}
+use Rattle.run_places.specs.Places.{place_of}
+use Rattle.run_places.proofs.Guessed.{seat_guessed}
+use Rattle.run_places.proofs.seats.Seats.index_at.Goals as goal
+
+pub returns-then-is_at-clause-found : goal.returns-then-is_at-clause-found
+returns-then-is_at-clause-found c =
+    let p = place_of c.args.place.now in
+    let guess = c.item_of-guess.result in
+    rw (← c.self.view_is)
+    (seat_guessed c.self.inside.items p guess c.self.invariant.1
+    (ap (λ xs. is_seat_at xs p guess) (sym c.as_slice.ensures.items) ∙ sym c.is_at.ensures ∙ c.if-is_at.true))
+
+pub returns-then-is_at-clause-apart : goal.returns-then-is_at-clause-apart
+returns-then-is_at-clause-apart c = rw (← c.self.view_is) c.self.invariant.1

@@ -1,0 +1,7 @@
+use Rattle.std.proofs.Common.{◌≡◌, drop}
+use Rattle.run_places.specs.Indexed.{first_of_seats}
+use Rattle.run_places.specs.Trails.{place_on}
+use Rattle.run_places.proofs.seats.first_on.Given as goal
+
+abbrev pub invariant-loop-entry : goal.invariant-loop-entry
+invariant-loop-entry l = first_of_seats l.items (place_on l.trail) (drop l.entry-index l.run) ≡ first_of_seats l.items (place_on l.trail) l.run

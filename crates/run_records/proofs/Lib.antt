@@ -1,0 +1,4 @@
+pub mod RowsAt
+pub mod Boundaries
+pub mod KindPlaces
+pub mod Gathered

@@ -1,0 +1,5 @@
+pub mod World
+pub mod Provisions
+pub mod Enter
+pub mod Kept
+pub mod Records

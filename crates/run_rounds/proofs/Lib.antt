@@ -1,0 +1,14 @@
+pub mod Going
+pub mod Reporting
+pub mod Given
+pub mod Ending
+pub mod Stopping
+pub mod Handling
+pub mod Alone
+pub mod Breaks
+pub mod Broken
+pub mod Inside
+pub mod Steps
+pub mod Units
+pub mod Suspending
+pub mod Polling

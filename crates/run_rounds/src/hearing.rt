@@ -1,0 +1,82 @@
+//! An event on its way through those that hear it.
+
+ghost use Rattle.std.specs.Prelude.{◌≡◌, [], IfOk};
+ghost use Rattle.rt_model.specs.Heard.{heard};
+ghost use Rattle.run_machine.specs.Machines.{machine_of, noted};
+ghost use Rattle.run_rounds.specs.Handled.{HeardSo, HearsAll, HearsOn};
+ghost use Rattle.run_rounds.specs.Rounds.{RestsAt};
+ghost use Rattle.rt_scopes.specs.Counts.{Counts};
+ghost use Rattle.run_shown.specs.Hearing.{listeners_of};
+ghost use Rattle.run_state.specs.Mirror.{state_of};
+
+use author_calls::{App, Calls};
+use rt_values::{ElementId, List, OutOfMemory, Text};
+use run_machine::Machine;
+use run_outside::Hearing;
+use run_shown::{Listener, Look, heard};
+use run_state::Stop;
+use tree_nodes::Event;
+
+/// Calls the listeners of an event at an element one after another, as long as one waits. The event
+/// as the last one left it.
+pub fn handle<A: App>(
+    machine: &mut Machine<A>,
+    app: &A,
+    calls: &mut Calls,
+    name: &Text,
+    event: Event<A::Payload>,
+    element: ElementId,
+) -> Result<Event<A::Payload>, Stop>
+    // At a machine at rest an event comes to those that hear it.
+    ensures hears { (w : _) → RestsAt w machine.old calls.old →
+        HearsOn (A.meaning app.now) w name.now event.payload element.0 event.propagates
+        event.prevented result machine.new calls.new }
+{
+    let bubbles = event.propagates;
+    let listeners = hearers(machine, name, element, bubbles)?;
+    machine.units = 0;
+    machine.default_enabled = true;
+    machine.hearing = Some(Hearing {
+        event,
+        bubbles,
+        listeners,
+    });
+    hear_all(machine, app, calls)?;
+    // No report tells of an event.
+    let _told = machine.report_of(0);
+    match machine.hearing.take() {
+        Some(heard) => Ok(heard.event),
+        None => Err(Stop::OutOfMemory),
+    }
+}
+
+/// The listeners of an event, in order.
+fn hearers<A: App>(
+    machine: &Machine<A>,
+    name: &Text,
+    element: ElementId,
+    bubbles: bool,
+) -> Result<List<Listener<A>>, OutOfMemory>
+    ensures { IfOk result (λ listeners. (g : _) → listeners_of listeners
+        ≡ heard (state_of g machine.now.scopes.state) name.now element.0 bubbles) }
+{
+    let look = Look::now(&machine.scopes.state.rows);
+    heard(machine.scopes.alloc, &look, name, element.0, bubbles)
+}
+
+/// Calls listeners as long as one waits.
+fn hear_all<A: App>(machine: &mut Machine<A>, app: &A, calls: &mut Calls) -> Result<(), Stop>
+    ensures hears { (from : _) (g : _) →
+        HeardSo (A.meaning app.now) from (noted machine.old) (machine_of g [] 0 machine.old) →
+        Counts calls.old g.calls → HearsAll (A.meaning app.now) from machine.new calls.new result }
+    ensures first { machine.new.first ≡ machine.old.first }
+    ensures work { machine.new.work ≡ machine.old.work }
+{
+    for _listener in 0..u64::MAX {
+        let heard = machine.hear(app, calls)?;
+        if !heard {
+            return Ok(());
+        }
+    }
+    Err(Stop::OutOfMemory)
+}

@@ -1,0 +1,5 @@
+pub mod Framed
+mod Kept
+mod Keeps
+mod Changes
+pub mod Orderly

@@ -1,0 +1,290 @@
+-- The least scope with effects is the least of those that are listed and have some.
+use Rattle.std.proofs.Common.{◌≡◌, ◌||◌, ◌&&◌, ◌⊎◌, inl, inr, ℕ, ◌<◌, ◌≤◌, ◌+◌, Bool, true, false, List, [], ◌∷◌, length, get_or, drop, nat_eq, nat_lt, refl, sym, ap, ◌∙◌, arith}
+use Rattle.std.specs.Prelude.{Option, Some, None, if◌then◌else◌}
+use Rattle.std.proofs.lemmas.Bool.{eqb-true}
+use Rattle.std.proofs.lemmas.List.{drop_more}
+use Rattle.rt_model.specs.Lists.{at, has}
+use Rattle.rt_model.specs.Tree.{Types}
+use Rattle.rt_model.specs.State as model
+use Rattle.rt_model.specs.State.{height_of}
+use Rattle.rt_model.specs.Next.{is_before, least, least_from, with_effects}
+use Rattle.rt_model.proofs.Maps.{by_test, eq_same, pick_false, pick_true}
+use Rattle.rt_model.proofs.Members.{by_either, or_left, or_right}
+use Rattle.run_owed.specs.Lists.{EachOnce, numbers_of}
+use Rattle.run_state.specs.Effects.{AreListed, effects_at, has_effects, or_lesser, queues_some}
+use Rattle.run_state.proofs.Each.{drop-all}
+use Rattle.run_state.proofs.Leasts.{least_with, with_one}
+
+lt_false : (a b : ℕ) → nat_lt a b ≡ false → b ≤ a
+lt_false a b h = grind (arith, h)
+
+false_lt : (a b : ℕ) → b ≤ a → nat_lt a b ≡ false
+false_lt a b h = grind (arith, h)
+
+eq_false : (a b : ℕ) → a < b → nat_eq b a ≡ false
+eq_false a b h = grind (arith, h)
+
+eq_true : (a b : ℕ) → a ≡ b → nat_eq a b ≡ true
+eq_true a b h = ap (λ (n : ℕ). nat_eq a n) (sym h) ∙ eq_same a
+
+eq_apart : (a b : ℕ) → nat_lt a b ≡ false → nat_eq a b ≡ false → b < a
+eq_apart a b h g = grind (arith, h, g)
+
+-- an order by two numbers, the second one where the first ones are equal
+abbrev by_two : ℕ → ℕ → ℕ → ℕ → Bool
+by_two a b s t = nat_lt a b || (nat_eq a b && nat_lt s t)
+
+two_false : (a b s t : ℕ) → by_two a b s t ≡ false → (b < a) ⊎ ((b ≡ a) × (t ≤ s))
+two_false a b s t h =
+    by_test (nat_lt a b)
+    (λ q. let absurdity : true ≡ false = sym (ap (λ (c : Bool). c || (nat_eq a b && nat_lt s t)) q) ∙ h in cc)
+    (
+    λ q.
+    by_test (nat_eq a b)
+    (
+    λ r.
+    inr (
+      sym (eqb-true a b r),
+      lt_false s t (sym (ap (λ (c : Bool). c || (nat_eq a b && nat_lt s t)) q ∙ ap (λ (c : Bool). c && nat_lt s t) r) ∙ h),
+    )
+    )
+    (λ r. inl (eq_apart a b q r))
+    )
+
+false_two : (a b s t : ℕ) → (b < a) ⊎ ((b ≡ a) × (t ≤ s)) → by_two a b s t ≡ false
+false_two a b s t (inl h) =
+    ap (λ (c : Bool). c || (nat_eq a b && nat_lt s t)) (false_lt a b (omega (arith, h)))
+    ∙ ap (λ (c : Bool). c && nat_lt s t) (eq_false b a h)
+false_two a b s t (inr h) =
+    ap (λ (c : Bool). c || (nat_eq a b && nat_lt s t)) (false_lt a b (omega (arith, h.0)))
+    ∙ ap (λ (c : Bool). c && nat_lt s t) (eq_true a b (sym h.0))
+    ∙ false_lt s t h.1
+
+both_false : (b : Bool) → (b && false) ≡ false
+both_false true = refl
+both_false false = refl
+
+-- where neither the first is before the second nor the second before the third
+through : (x y z a b c : ℕ) → (y < x) ⊎ ((y ≡ x) × (b ≤ a)) → (z < y) ⊎ ((z ≡ y) × (c ≤ b)) → by_two x z a c ≡ false
+through x y z a b c (inl h) (inl g) = false_two x z a c (inl (omega (arith, h, g)))
+through x y z a b c (inl h) (inr g) = false_two x z a c (inl (omega (arith, h, g.0)))
+through x y z a b c (inr h) (inl g) = false_two x z a c (inl (omega (arith, h.0, g)))
+through x y z a b c (inr h) (inr g) = false_two x z a c (inr (g.0 ∙ h.0, omega (arith, h.1, g.1)))
+
+module _ {K : Types} (scopes : List (ℕ × model.Scope K)) where
+  abbrev before : ℕ → ℕ → Bool
+  before = λ a b. is_before scopes a b
+
+  not_itself : (a : ℕ) → before a a ≡ false
+  not_itself a = grind (arith)
+
+  not_back : (a b : ℕ) → before a b ≡ true → before b a ≡ false
+  not_back a b h = grind (arith, h)
+
+  not_through : (a b c : ℕ) → before a b ≡ false → before b c ≡ false → before a c ≡ false
+  not_through a b c h g =
+      through (height_of scopes a) (height_of scopes b) (height_of scopes c) a b c (two_false (height_of scopes a) (height_of scopes b) a b h)
+      (two_false (height_of scopes b) (height_of scopes c) b c g)
+
+  one_of : (a b : ℕ) → before a b ≡ false → before b a ≡ false → a ≡ b
+  one_of a b h g = grind (arith, h, g)
+
+  least_there : (s : ℕ) (ss : List ℕ) → has (s ∷ ss) (least_from before s ss) ≡ true
+  least_there s [] = or_left (nat_eq s s) false (eq_same s)
+  least_there s (t ∷ ts) = by (before t s) (least_there t ts) (least_there s ts)
+    where
+      by : (b : Bool) → has (t ∷ ts) (least_from before t ts) ≡ true → has (s ∷ ts) (least_from before s ts) ≡ true
+          → has (s ∷ t ∷ ts) (least_from before (if b then t else s) ts) ≡ true
+      by true other own = or_right (nat_eq s (least_from before t ts)) (has (t ∷ ts) (least_from before t ts)) other
+      by false other own =
+          by_either (nat_eq s (least_from before s ts)) (has ts (least_from before s ts)) own
+          (λ q. or_left (nat_eq s (least_from before s ts)) (has (t ∷ ts) (least_from before s ts)) q)
+          (λ q. or_right (nat_eq s (least_from before s ts)) (has (t ∷ ts) (least_from before s ts)) (or_right (nat_eq t (least_from before s ts)) (has ts (least_from before s ts)) q))
+
+  -- none of a list is before its least one
+  least_low : (s : ℕ) (ss : List ℕ) (m : ℕ) → has (s ∷ ss) m ≡ true → before m (least_from before s ss) ≡ false
+  least_low s [] m own = by_either (nat_eq s m) false own (λ q. ap (λ (n : ℕ). before n s) (sym (eqb-true s m q)) ∙ not_itself s) (λ q. absurd (cc q))
+  least_low s (t ∷ ts) m own =
+      by_test (before t s)
+      (λ q. ap (λ (n : ℕ). before m (least_from before n ts)) (pick_true t s q) ∙ later q (least_low t ts t (or_left (nat_eq t t) (has ts t) (eq_same t))) (λ p. least_low t ts m p))
+      (λ q. ap (λ (n : ℕ). before m (least_from before n ts)) (pick_false t s q) ∙ former q (least_low s ts s (or_left (nat_eq s s) (has ts s) (eq_same s))) (λ p. least_low s ts m p))
+    where
+      later : before t s ≡ true → before t (least_from before t ts) ≡ false → (has (t ∷ ts) m ≡ true → before m (least_from before t ts) ≡ false)
+          → before m (least_from before t ts) ≡ false
+      later q own_low low =
+          by_either (nat_eq s m) (has (t ∷ ts) m) own
+          (
+          λ p.
+          ap (λ (n : ℕ). before n (least_from before t ts)) (sym (eqb-true s m p))
+          ∙ not_through s t (least_from before t ts) (not_back t s q) own_low
+          )
+          low
+
+      former : before t s ≡ false → before s (least_from before s ts) ≡ false → (has (s ∷ ts) m ≡ true → before m (least_from before s ts) ≡ false)
+          → before m (least_from before s ts) ≡ false
+      former q own_low low =
+          by_either (nat_eq s m) (has (t ∷ ts) m) own
+          (λ p. low (or_left (nat_eq s m) (has ts m) p))
+          (
+          λ p.
+          by_either (nat_eq t m) (has ts m) p
+          (
+          λ r.
+          ap (λ (n : ℕ). before n (least_from before s ts)) (sym (eqb-true t m r))
+          ∙ not_through t s (least_from before s ts) q own_low
+          )
+          (λ r. low (or_right (nat_eq s m) (has ts m) r))
+          )
+
+  -- lists of the same numbers have the same least one
+  least_alike : (xs ys : List ℕ) → ((m : ℕ) → has xs m ≡ has ys m) → least before xs ≡ least before ys
+  least_alike [] [] same = refl
+  least_alike [] (y ∷ ys) same = absurd (cc (same y ∙ or_left (nat_eq y y) (has ys y) (eq_same y)))
+  least_alike (x ∷ xs) [] same = absurd (cc (sym (same x) ∙ or_left (nat_eq x x) (has xs x) (eq_same x)))
+  least_alike (x ∷ xs) (y ∷ ys) same =
+      ap Some
+      (
+      one_of (least_from before x xs) (least_from before y ys)
+      (least_low y ys (least_from before x xs) (sym (same (least_from before x xs)) ∙ least_there x xs))
+      (least_low x xs (least_from before y ys) (same (least_from before y ys) ∙ least_there y ys))
+      )
+
+  -- those of a list that have effects to do
+  abbrev pub with_listed : List ℕ → List ℕ
+  with_listed [] = []
+  with_listed (s ∷ ss) = if effects_at scopes s then s ∷ with_listed ss else with_listed ss
+
+  listed_has : (listed : List ℕ) (m : ℕ) → has (with_listed listed) m ≡ (has listed m && effects_at scopes m)
+  listed_has [] m = refl
+  listed_has (s ∷ ss) m =
+      by_test (nat_eq s m)
+      (λ q. own (eqb-true s m q) q (listed_has ss m))
+      (λ q. other q (listed_has ss m))
+    where
+      own : s ≡ m → nat_eq s m ≡ true → has (with_listed ss) m ≡ (has ss m && effects_at scopes m)
+          → has (if effects_at scopes s then s ∷ with_listed ss else with_listed ss) m ≡ ((nat_eq s m || has ss m) && effects_at scopes m)
+      own same q rest =
+          by (effects_at scopes m) refl
+        where
+          by : (b : Bool) → effects_at scopes m ≡ b → has (if effects_at scopes s then s ∷ with_listed ss else with_listed ss) m ≡ ((nat_eq s m || has ss m) && effects_at scopes m)
+          by true e =
+              ap (λ (ns : List ℕ). has ns m) (pick_true (s ∷ with_listed ss) (with_listed ss) (ap (λ (n : ℕ). effects_at scopes n) same ∙ e))
+              ∙ or_left (nat_eq s m) (has (with_listed ss) m) q
+              ∙ sym (λ i. or_left (nat_eq s m) (has ss m) q i && e i)
+          by false e =
+              ap (λ (ns : List ℕ). has ns m) (pick_false (s ∷ with_listed ss) (with_listed ss) (ap (λ (n : ℕ). effects_at scopes n) same ∙ e))
+              ∙ rest
+              ∙ ap (λ (b : Bool). has ss m && b) e
+              ∙ both_false (has ss m)
+              ∙ sym (both_false (nat_eq s m || has ss m))
+              ∙ sym (ap (λ (b : Bool). (nat_eq s m || has ss m) && b) e)
+
+      other : nat_eq s m ≡ false → has (with_listed ss) m ≡ (has ss m && effects_at scopes m)
+          → has (if effects_at scopes s then s ∷ with_listed ss else with_listed ss) m ≡ ((nat_eq s m || has ss m) && effects_at scopes m)
+      other q rest =
+          by (effects_at scopes s)
+          ∙ rest
+          ∙ ap (λ (b : Bool). (b || has ss m) && effects_at scopes m) (sym q)
+        where
+          by : (b : Bool) → has (if b then s ∷ with_listed ss else with_listed ss) m ≡ has (with_listed ss) m
+          by true = ap (λ (b : Bool). b || has (with_listed ss) m) q
+          by false = refl
+
+-- a scope with effects to do has queued some
+to_do_queued : {K : Types} (o : Option (model.Scope K)) → elim o as (λ _. Bool) [ None ↦ false | Some x ↦ has_effects x ] ≡ true → elim o as (λ _. Bool) [ None ↦ false | Some x ↦ queues_some x ] ≡ true
+to_do_queued None q = q
+to_do_queued {K = K} (Some x) q = by x.effects q
+  where
+    by : (es : List K.Effect) → elim es as (λ _. Bool) [ [] ↦ false | f ∷ fs ↦ x.mounted ] ≡ true → elim es as (λ _. Bool) [ [] ↦ false | f ∷ fs ↦ true ] ≡ true
+    by [] p = p
+    by (f ∷ fs) p = refl
+
+module _ {K : Types} where
+  -- a row with effects to do comes first among those
+  row_has : (x : model.Scope K) (n : ℕ) (rest : List ℕ) → (if x.mounted then elim x.effects as (λ _. List ℕ) [ [] ↦ rest | f ∷ fs ↦ n ∷ rest ] else rest) ≡ (if has_effects x then n ∷ rest else rest)
+  row_has x n rest = by x.mounted x.effects
+    where
+      by : (b : Bool) (es : List K.Effect) → (if b then elim es as (λ _. List ℕ) [ [] ↦ rest | f ∷ fs ↦ n ∷ rest ] else rest) ≡ (if elim es as (λ _. Bool) [ [] ↦ false | f ∷ fs ↦ b ] then n ∷ rest else rest)
+      by true [] = refl
+      by true (f ∷ fs) = refl
+      by false [] = refl
+      by false (f ∷ fs) = refl
+
+  -- a number that no row has has no effects
+  none_has : (es : List (ℕ × model.Scope K)) (m : ℕ) → has (numbers_of es) m ≡ false → has (with_effects es) m ≡ false
+  none_has [] m out = refl
+  none_has (e ∷ es) m out =
+      ap (λ (ns : List ℕ). has ns m) (row_has e.1 e.0 (with_effects es))
+      ∙ by (has_effects e.1) (none_has es m (rest out))
+    where
+      apart : (a b : Bool) → (a || b) ≡ false → a ≡ false
+      apart true b q = q
+      apart false b q = refl
+
+      behind : (a b : Bool) → (a || b) ≡ false → b ≡ false
+      behind true b q = absurd (cc q)
+      behind false b q = q
+
+      rest : (nat_eq e.0 m || has (numbers_of es) m) ≡ false → has (numbers_of es) m ≡ false
+      rest q = behind (nat_eq e.0 m) (has (numbers_of es) m) q
+
+      by : (b : Bool) → has (with_effects es) m ≡ false → has (if b then e.0 ∷ with_effects es else with_effects es) m ≡ false
+      by true q = (λ i. apart (nat_eq e.0 m) (has (numbers_of es) m) out i || q i)
+      by false q = q
+
+  -- who has effects to do, where no number stands twice
+  effects_has : (es : List (ℕ × model.Scope K)) (m : ℕ) → EachOnce (numbers_of es) → has (with_effects es) m ≡ effects_at es m
+  effects_has [] m once = refl
+  effects_has (e ∷ es) m once =
+      ap (λ (ns : List ℕ). has ns m) (row_has e.1 e.0 (with_effects es))
+      ∙ by_test (nat_eq e.0 m)
+      (λ q. here q (has_effects e.1) ∙ sym (ap (λ (o : Option (model.Scope K)). elim o as (λ _. Bool) [ None ↦ false | Some x ↦ has_effects x ]) (pick_true (Some e.1) (at es m) q)))
+      (
+      λ q.
+      there q (has_effects e.1) ∙ effects_has es m once.1
+      ∙ sym (ap (λ (o : Option (model.Scope K)). elim o as (λ _. Bool) [ None ↦ false | Some x ↦ has_effects x ]) (pick_false (Some e.1) (at es m) q))
+      )
+    where
+      here : nat_eq e.0 m ≡ true → (b : Bool) → has (if b then e.0 ∷ with_effects es else with_effects es) m ≡ b
+      here q true = or_left (nat_eq e.0 m) (has (with_effects es) m) q
+      here q false = none_has es m (ap (λ (n : ℕ). has (numbers_of es) n) (sym (eqb-true e.0 m q)) ∙ once.0)
+
+      there : nat_eq e.0 m ≡ false → (b : Bool) → has (if b then e.0 ∷ with_effects es else with_effects es) m ≡ has (with_effects es) m
+      there q true = ap (λ (b : Bool). b || has (with_effects es) m) q
+      there q false = refl
+
+  -- the least of those that are listed is the least of all
+  pub least_listed : (scopes : List (ℕ × model.Scope K)) (listed : List ℕ) (held : List (ℕ × ℕ)) → EachOnce (numbers_of scopes) → AreListed scopes listed held
+      → least (λ s t. is_before scopes s t) (with_listed scopes listed) ≡ least (λ s t. is_before scopes s t) (with_effects scopes)
+  least_listed scopes listed held once h = least_alike scopes (with_listed scopes listed) (with_effects scopes) (λ m. listed_has scopes listed m ∙ all m ∙ sym (effects_has scopes m once))
+    where
+      by : (b c : Bool) → (b ≡ true → c ≡ true) → (c && b) ≡ b
+      by true c all = ap (λ (d : Bool). d && true) (all refl)
+      by false true all = refl
+      by false false all = refl
+
+      all : (m : ℕ) → (has listed m && effects_at scopes m) ≡ effects_at scopes m
+      all m = by (effects_at scopes m) (has listed m) (λ q. h.each m (to_do_queued (at scopes m) q))
+
+  -- one more of the list
+  pub listed_step : (scopes : List (ℕ × model.Scope K)) (listed : List ℕ) (i d : ℕ) (s : ℕ) (found new : Option ℕ) → i < length listed → s ≡ get_or listed i d
+      → new ≡ or_lesser (λ s t. is_before scopes s t) found s (effects_at scopes s)
+      → least_with (λ s t. is_before scopes s t) new (with_listed scopes (drop (i + 1) listed)) ≡ least_with (λ s t. is_before scopes s t) found (with_listed scopes (drop i listed))
+  listed_step scopes listed i d s found new within is made =
+      ap (λ o. least_with (λ s t. is_before scopes s t) o (with_listed scopes (drop (i + 1) listed))) made
+      ∙ by (effects_at scopes s)
+      ∙ ap (λ (n : ℕ). least_with (λ s t. is_before scopes s t) found (with_listed scopes (n ∷ drop (i + 1) listed))) is
+      ∙ ap (λ (ns : List ℕ). least_with (λ s t. is_before scopes s t) found (with_listed scopes ns)) (sym (drop_more listed i d within))
+    where
+      by : (b : Bool) → least_with (λ s t. is_before scopes s t) (or_lesser (λ s t. is_before scopes s t) found s b) (with_listed scopes (drop (i + 1) listed))
+          ≡ least_with (λ s t. is_before scopes s t) found (if b then s ∷ with_listed scopes (drop (i + 1) listed) else with_listed scopes (drop (i + 1) listed))
+      by true = with_one (λ s t. is_before scopes s t) found s (with_listed scopes (drop (i + 1) listed))
+      by false = refl
+
+  pub listed_end : (scopes : List (ℕ × model.Scope K)) (listed : List ℕ) (i : ℕ) (found v : Option ℕ) → length listed ≤ i
+      → least_with (λ s t. is_before scopes s t) found (with_listed scopes (drop i listed)) ≡ v → found ≡ v
+  listed_end scopes listed i found v end is = alone found ∙ ap (λ (ns : List ℕ). least_with (λ s t. is_before scopes s t) found (with_listed scopes ns)) (sym (drop-all listed i end)) ∙ is
+    where
+      alone : (o : Option ℕ) → o ≡ least_with (λ s t. is_before scopes s t) o []
+      alone None = refl
+      alone (Some s) = refl

@@ -1,0 +1,16 @@
+use Rattle.std.proofs.Common.{ap, map, ◌∙◌}
+use Rattle.std.specs.Prelude.{Some, None}
+use Rattle.run_records.specs.Records.{hook_of}
+use Rattle.run_records.specs.Kept.{scope_of}
+use Rattle.run_state.specs.Mirror.{state_of}
+use Rattle.run_state.proofs.Each.{found-each}
+use Rattle.run_state.proofs.FoundScopes.{hooks_found}
+use Rattle.run_state.proofs.state.State.hooks_of.Goals as goal
+
+pub returns-in-Some : goal.returns-in-Some
+returns-in-Some g c = λ kept.
+    ap (map hook_of) c.as_slice.ensures.items
+    ∙ hooks_found (state_of kept c.args.self.now) c.args.scope (Some (scope_of c.in-Some.found.now)) (found-each scope_of (c.args.self.now.rows).table c.args.scope (Some c.in-Some.found.now) c.in-Some.ensures)
+
+pub returns-in-None : goal.returns-in-None
+returns-in-None g c = λ kept. hooks_found (state_of kept c.args.self.now) c.args.scope None (found-each scope_of (c.args.self.now.rows).table c.args.scope None c.in-None.ensures)

@@ -1,0 +1,42 @@
+use Rattle.std.proofs.Common.{◌≡◌, ◌+◌, refl, sym, ap, ◌∙◌}
+use Rattle.std.specs.Prelude.{Some, None, nat_lt}
+use Rattle.tree_mirror.specs.Sealed.{component_of}
+use Rattle.run_places.specs.Places.{place_of, side_name_of}
+use Rattle.run_records.specs.Kept.{scope_of}
+use Rattle.run_state.specs.Mirror.{at_first, state_of}
+use Rattle.run_state.specs.Sides.{more_child}
+use Rattle.run_state.proofs.Each.{found-each}
+use Rattle.run_state.proofs.Starts.{newly_made, next_stays}
+use Rattle.run_state.proofs.Waiting.{row_below}
+use Rattle.run_state.proofs.state.State.with_new_scope.Goals as goal
+
+pub returns-in_default-clause-gone : goal.returns-in_default-clause-gone
+returns-in_default-clause-gone g c = λ is kept. (found-each scope_of (c.args.self.now.rows).table c.args.parent None c.in_default.ensures, refl)
+
+pub returns-clause-made : goal.returns-clause-made
+returns-clause-made g c =
+    λ child is kept.
+    let same : c.args.self.now.next_scope ≡ child = cc in
+    let live = found-each scope_of (c.args.self.now.rows).table c.args.parent (Some c.in-Some.found.now) c.in-Some.ensures in
+    record {
+      parent = scope_of c.in-Some.found.now;
+      live = live;
+      left = c.in-Some-next_number-2.ensures.next.0;
+      number = sym same;
+      made =
+          newly_made kept c.args.self.now c.add_child_at.new.self c.args.parent (side_name_of c.args.side) (place_of c.args.place) (component_of c.args.component) (scope_of c.in-Some.found.now)
+          (state_of kept c.push_scope.new.self) c.in-Some-next_number.height c.in-Some-next_number-2.next
+          live (c.in_ok-add_child_at.ensures kept) (c.in_ok-push_scope.ensures kept) c.in-Some-next_number.ensures.next.1 c.in-Some-next_number-2.ensures.next.1;
+    }
+
+pub push_scope-requires : goal.push_scope-requires
+push_scope-requires g c =
+    let kept : (c.add_child_at.new.self).next_scope ≡ c.args.self.now.next_scope =
+    ap (λ w. w.next_scope) (c.in_ok-add_child_at.ensures at_first)
+    ∙ next_stays (state_of at_first c.args.self.now) c.args.parent (λ x. more_child (side_name_of c.args.side) (place_of c.args.place, c.args.self.now.next_scope) x) in
+    record {
+      next = c.in-Some-next_number-2.ensures.next.1 ∙ sym (ap (λ n. n + 1) kept);
+      above =
+          ap (λ n. nat_lt c.args.parent n) kept
+          ∙ row_below (c.args.self.now.rows).table c.args.self.now.fresh c.args.self.now.hidden c.args.self.now.next_scope c.args.parent c.in-Some.found.now c.args.self.now.waiting (sym c.in-Some.ensures);
+    }

@@ -1,0 +1,168 @@
+//! The order in which scopes and tasks come up.
+ghost use Rattle.std.specs.Prelude.{◌≡◌, option_map, if◌then◌else◌};
+ghost use Rattle.rt_model.specs.Next.{is_before, scope_of_task, is_active, first_task, first_seen, found, next_at_rest, least, with_effects};
+ghost use Rattle.rt_model.specs.Next as model;
+ghost use Rattle.run_records.specs.Kept.{scope_of};
+ghost use Rattle.run_state.specs.Effects.{effects_at, has_effects, or_lesser};
+ghost use Rattle.run_state.specs.Names.{work_of};
+ghost use Rattle.run_state.specs.Mirror.{scopes_of, state_of};
+
+use crate::names::Work;
+use crate::state::State;
+use run_records::Scope;
+use tree_nodes::Parts;
+
+impl<P: Parts> State<P> {
+    /// Whether a scope comes before another: by height, and then by number.
+    pub fn is_before(&self, scope: u64, other: u64) -> bool
+        ensures { result ≡ is_before (scopes_of self.now.rows.table) scope other }
+    {
+        let (height, other_height) = (self.height_of(scope), self.height_of(other));
+        height < other_height || (height == other_height && scope < other)
+    }
+
+    /// The scope whose order a task has.
+    #[tactic(auto, using(crate::proofs::Each::eaches))]
+    pub fn scope_of_task(&self, task: u64) -> u64
+        ensures { (g : _) → result ≡ scope_of_task (state_of g self.now) task }
+    {
+        match self.tasks.get(task) {
+            Some(row) => row.scope,
+            None => 0,
+        }
+    }
+
+    /// Whether a task is live and isn't paused.
+    #[tactic(auto, using(crate::proofs::Each::eaches))]
+    pub fn is_active(&self, task: u64) -> bool
+        ensures { (g : _) → result ≡ is_active (state_of g self.now) task }
+    {
+        match self.tasks.get(task) {
+            Some(row) => row.active,
+            None => false,
+        }
+    }
+
+    /// The scope that comes first of two, the former on equal order.
+    fn lesser_scope(&self, scope: u64, other: u64) -> u64
+        ensures { result
+            ≡ (if is_before (scopes_of self.now.rows.table) other scope then other else scope) }
+    {
+        if self.is_before(other, scope) {
+            other
+        } else {
+            scope
+        }
+    }
+
+    /// The first queued task of the least order.
+    pub fn first_task(&self) -> Option<u64>
+        ensures { (g : _) → result ≡ first_task (state_of g self.now) }
+    {
+        self.owed.first_queued()
+    }
+
+    /// The seen scope of the least order.
+    pub fn first_seen(&self) -> Option<u64>
+        ensures { (g : _) → result ≡ first_seen (state_of g self.now) }
+    {
+        self.owed.first_seen()
+    }
+
+    /// The scope or task that comes up: the lesser of the two, the task on equal order.
+    pub fn found(&self) -> Option<Work>
+        ensures { (g : _) → option_map work_of result ≡ found (state_of g self.now) }
+    {
+        match (self.first_task(), self.first_seen()) {
+            (None, None) => None,
+            (Some(task), None) => Some(Work::PollTask(task)),
+            (None, Some(scope)) => Some(Work::RerunScope(scope)),
+            (Some(task), Some(scope)) => Some(self.lesser_work(task, scope)),
+        }
+    }
+
+    /// The scope where it comes before the task, and else the task.
+    fn lesser_work(&self, task: u64, scope: u64) -> Work
+        ensures { (g : _) → work_of result
+            ≡ (if is_before (scopes_of self.now.rows.table) scope
+            (scope_of_task (state_of g self.now) task)
+            then model.RerunScope scope else model.PollTask task) }
+    {
+        if self.is_before(scope, self.scope_of_task(task)) {
+            Work::RerunScope(scope)
+        } else {
+            Work::PollTask(task)
+        }
+    }
+
+    /// The mounted scope of the least order that has queued effects.
+    pub fn first_with_effects(&self) -> Option<u64>
+        ensures { result ≡ least (λ s t. is_before (scopes_of self.now.rows.table) s t)
+            (with_effects (scopes_of self.now.rows.table)) }
+    {
+        let mut first = None;
+        for scope in self.effects.as_slice() {
+            first = self.or_lesser(first, *scope);
+        }
+        first
+    }
+
+    /// The scope that comes first of one that was found, if any was, and another that counts only where
+    /// it is live, mounted and has queued effects.
+    fn or_lesser(&self, found: Option<u64>, scope: u64) -> Option<u64>
+        ensures { result ≡ or_lesser (λ s t. is_before (scopes_of self.now.rows.table) s t) found
+            scope (effects_at (scopes_of self.now.rows.table) scope) }
+    {
+        if !self.effects_at(scope) {
+            return found;
+        }
+        match found {
+            Some(former) => Some(self.lesser_scope(former, scope)),
+            None => Some(scope),
+        }
+    }
+
+    /// Whether a scope is live, mounted and has queued effects.
+    #[tactic(auto, using(crate::proofs::Each::eaches))]
+    fn effects_at(&self, scope: u64) -> bool
+        ensures { result ≡ effects_at (scopes_of self.now.rows.table) scope }
+    {
+        match self.scope(scope) {
+            Some(found) => has_effects(found),
+            None => false,
+        }
+    }
+
+    /// The effects of the least mounted scope that has some.
+    pub(crate) fn next_effects(&self) -> Option<Work>
+        ensures { option_map work_of result ≡ option_map model.RunEffects
+            (least (λ s t. is_before (scopes_of self.now.rows.table) s t)
+            (with_effects (scopes_of self.now.rows.table))) }
+    {
+        match self.first_with_effects() {
+            Some(scope) => Some(Work::RunEffects(scope)),
+            None => None,
+        }
+    }
+
+    /// What comes next of a state at rest: the least seen scope or queued task, else the effects of the
+    /// least mounted scope that has some.
+    pub fn next_at_rest(&self) -> Option<Work>
+        ensures { (g : _) → option_map work_of result ≡ next_at_rest (state_of g self.now) }
+    {
+        match self.found() {
+            Some(work) => Some(work),
+            None => self.next_effects(),
+        }
+    }
+}
+
+/// Whether a scope is mounted and has queued effects.
+fn has_effects<P: Parts>(scope: &Scope<P>) -> bool
+    ensures { result ≡ has_effects (scope_of scope.now) }
+{
+    match scope.rest.effects.get(0) {
+        Some(_effect) => scope.rest.mounted,
+        None => false,
+    }
+}

@@ -1,0 +1,247 @@
+//! What a removal takes: children first, and of each scope all that it owns.
+ghost use Rattle.std.specs.Prelude.{◌≡◌, ◌<◌, ◌++◌, ◌∷◌, [], ℕ, nat_eq, not, length, get_or, map, OnOk, IfOk, IfSome, IfNone, true, false, if◌then◌else◌};
+ghost use Rattle.std.specs.List.{list_any};
+ghost use Rattle.rt_model.specs.World.{clean_up_kind};
+ghost use Rattle.rt_model.specs.Lists.{kept_by, without};
+ghost use Rattle.rt_model.specs.Removal.{stopped, gone, without_scope, told_of_sources, tell_all, cell_sources, context_sources, kinds_in, kinds_of_scopes, kinds_of_contexts, clean_ups as clean_ups_of};
+ghost use Rattle.run_records.specs.Records.{source_of, hook_of};
+ghost use Rattle.run_state.specs.CleanUps.{own_clean_up};
+ghost use Rattle.run_state.specs.Kinds.{kinds_in_contexts};
+ghost use Rattle.run_state.specs.Mirror.{forgets, scopes_of, state_of};
+
+use crate::holding::{drop_holder, drop_paired};
+use crate::numbers::{drop_number, insert_number};
+use crate::places::remove_rows;
+use crate::state::{ContextRow, State};
+use rt_cells::{Reader, Source};
+use rt_values::{List, OutOfMemory, Part, ScopeId};
+use run_records::{CLEAN_UP, Hook, Scope};
+use run_table::Table;
+use std::alloc::Global;
+use tree_nodes::Parts;
+
+/// The clean-ups among these hooks, last made first.
+pub fn clean_ups<P: Parts>(alloc: Global, hooks: &[Hook<P>]) -> Result<List<P::Effect>, OutOfMemory>
+    ensures { IfOk result (λ effects. effects ≡ clean_ups_of (map hook_of hooks.now) []) }
+{
+    let mut effects = Vec::new(alloc);
+    for hook in hooks {
+        add_clean_up(alloc, hook, &mut effects)?;
+    }
+    effects.reverse();
+    Ok(List::from_vec(effects))
+}
+
+/// Puts a copy of a hook's effect at the end, where it is a clean-up.
+fn add_clean_up<P: Parts>(
+    alloc: Global,
+    hook: &Hook<P>,
+    effects: &mut Vec<P::Effect>,
+) -> Result<(), OutOfMemory>
+    ensures { OnOk result (effects.new.items ≡ effects.old.items ++ own_clean_up (hook_of hook.now)) }
+{
+    match hook {
+        Hook::Value(_, _) => Ok(()),
+        Hook::Effect(kind, effect) => add_of_kind(alloc, *kind, effect, effects),
+    }
+}
+
+/// Puts a copy of an effect at the end, where it is a clean-up.
+fn add_of_kind<E: Part>(
+    alloc: Global,
+    kind: u32,
+    effect: &E,
+    effects: &mut Vec<E>,
+) -> Result<(), OutOfMemory>
+    ensures { OnOk result (effects.new.items
+        ≡ effects.old.items ++ (if nat_eq kind clean_up_kind then effect.now ∷ [] else [])) }
+{
+    if kind == CLEAN_UP {
+        effects.push(effect.copy(alloc)?)?;
+        Ok(())
+    } else {
+        Ok(())
+    }
+}
+
+/// Puts the kinds of a scope's contexts that the scopes have read in their places.
+fn add_scope_kinds<P: Parts>(
+    scope: u64,
+    scopes: &[(u64, Scope<P>)],
+    kinds: &mut Vec<u32>,
+) -> Result<(), OutOfMemory>
+    ensures { OnOk result (kinds.new.items
+        ≡ kinds_of_scopes scope (scopes_of scopes.now) kinds.old.items) }
+{
+    for entry in scopes {
+        add_kinds(scope, entry.1.rest.reads.as_slice(), kinds)?;
+    }
+    Ok(())
+}
+
+/// Puts the kinds of a scope's contexts that were read in reactive contexts in their places.
+fn add_context_kinds(
+    scope: u64,
+    contexts: &[(u64, ContextRow)],
+    kinds: &mut Vec<u32>,
+) -> Result<(), OutOfMemory>
+    ensures { OnOk result (kinds.new.items
+        ≡ kinds_in_contexts scope contexts.now kinds.old.items) }
+{
+    for entry in contexts {
+        add_kinds(scope, entry.1.sources.as_slice(), kinds)?;
+    }
+    Ok(())
+}
+
+/// Puts the kinds of a scope's contexts that these sources name in their places.
+fn add_kinds(scope: u64, sources: &[Source], kinds: &mut Vec<u32>) -> Result<(), OutOfMemory>
+    ensures { OnOk result (kinds.new.items
+        ≡ kinds_in scope (map source_of sources.now) kinds.old.items) }
+{
+    for source in sources {
+        add_kind(scope, *source, kinds)?;
+    }
+    Ok(())
+}
+
+/// Puts the kind of a scope's context in its place, where the source is one.
+fn add_kind(scope: u64, source: Source, kinds: &mut Vec<u32>) -> Result<(), OutOfMemory>
+    ensures { OnOk result (kinds.new.items ≡ kinds_in scope (source_of source ∷ []) kinds.old.items) }
+{
+    match source {
+        Source::Context(kind, provider) => {
+            if provider.0 == scope {
+                insert_number(kinds, kind)
+            } else {
+                Ok(())
+            }
+        }
+        Source::Cell(_) => Ok(()),
+        Source::Error(_) => Ok(()),
+    }
+}
+
+/// Where a reactive context of a scope stands first.
+fn context_in(contexts: &[(u64, ContextRow)], scope: u64) -> Option<usize>
+    ensures within { IfSome result (λ index. index < length contexts.now) }
+    ensures own { IfSome result (λ index. (d : ℕ × ContextRow) →
+        nat_eq (get_or contexts.now index d).1.scope scope ≡ true) }
+    ensures none { IfNone result
+        (list_any (λ e. nat_eq e.1.scope scope) contexts.now ≡ false) }
+{
+    for index in 0..contexts.len() {
+        if contexts[index].1.scope == scope {
+            return Some(index);
+        }
+    }
+    None
+}
+
+/// Takes out the reactive contexts of a scope.
+fn drop_owned(contexts: &mut Table<ContextRow>, scope: u64)
+    ensures { contexts.new ≡ kept_by (λ e. not (nat_eq e.1.scope scope)) contexts.old }
+{
+    while let Some(index) = context_in(contexts.as_slice(), scope) {
+        contexts.remove_at(index);
+    }
+}
+
+impl<P: Parts> State<P> {
+    /// A scope's tasks end, its marks and effects go.
+    pub fn stopped(&mut self, alloc: Global, scope: u64) -> Result<(), OutOfMemory>
+        ensures { OnOk result ((g : _) →
+            state_of g self.new ≡ stopped (state_of g self.old) scope) }
+    {
+        let tasks = self.tasks_in(alloc, scope)?;
+        self.end_all(tasks.as_slice())?;
+        self.unmark(scope);
+        self.drop_effects(alloc, scope)
+    }
+
+    /// A scope and what it owns are gone, and the readers of that are marked.
+    pub fn gone(&mut self, alloc: Global, scope: u64) -> Result<(), OutOfMemory>
+        // Its last call is kept no more.
+        ensures { OnOk result ((g : _) →
+            state_of (forgets g scope) self.new ≡ gone (state_of g self.old) scope) }
+    {
+        let cells = self.cells.owned(alloc, ScopeId(scope))?;
+        self.drop_scope(scope);
+        self.tell_cells(cells.as_slice())?;
+        self.tell_of_sources(alloc, scope)
+    }
+
+    /// The record goes, with its cells and reactive contexts.
+    fn drop_scope(&mut self, scope: u64)
+        ensures { (g : _) →
+            state_of (forgets g scope) self.new ≡ without_scope (state_of g self.old) scope }
+    {
+        self.cells.drop_cells(ScopeId(scope));
+        drop_owned(&mut self.contexts, scope);
+        drop_number(&mut self.resolved, scope);
+        drop_number(&mut self.skipped, scope);
+        self.remove_scope(scope);
+    }
+
+    /// The record alone goes. What is owed of the scope stays, to be passed over.
+    fn remove_scope(&mut self, scope: u64)
+        ensures removed { (g : _) → state_of g self.new ≡ record (state_of g self.old) {
+          scopes = without (state_of g self.old).scopes scope;
+        } }
+    {
+        if !self.is_live(scope) {
+            return;
+        }
+        self.owed.leave_scope(scope);
+        self.cells.drop_reader(Reader::Scope(ScopeId(scope)));
+        drop_number(&mut self.fresh, scope);
+        drop_holder(&mut self.hidden, scope);
+        drop_paired(&mut self.held, scope);
+        remove_rows(&mut self.rows.table, &mut self.places, scope);
+    }
+
+    /// Marks those who read these cells, cell by cell.
+    fn tell_cells(&mut self, cells: &[u64]) -> Result<(), OutOfMemory>
+        ensures { OnOk result ((g : _) →
+            state_of g self.new ≡ tell_all (state_of g self.old) (cell_sources cells.now)) }
+    {
+        for cell in cells {
+            self.tell(Source::Cell(*cell))?;
+        }
+        Ok(())
+    }
+
+    /// Marks those who read what a scope provided of these kinds, kind by kind.
+    fn tell_kinds(&mut self, scope: u64, kinds: &[u32]) -> Result<(), OutOfMemory>
+        ensures { OnOk result ((g : _) →
+            state_of g self.new ≡ tell_all (state_of g self.old) (context_sources scope kinds.now)) }
+    {
+        for kind in kinds {
+            self.tell(Source::Context(*kind, ScopeId(scope)))?;
+        }
+        Ok(())
+    }
+
+    /// Marks those who read the error slot of a scope, and then those who read what it provided, by
+    /// kind.
+    fn tell_of_sources(&mut self, alloc: Global, scope: u64) -> Result<(), OutOfMemory>
+        ensures { OnOk result ((g : _) →
+            state_of g self.new ≡ told_of_sources (state_of g self.old) scope) }
+    {
+        let kinds = self.read_kinds(alloc, scope)?;
+        self.tell(Source::Error(ScopeId(scope)))?;
+        self.tell_kinds(scope, kinds.as_slice())
+    }
+
+    /// Of what a scope provides, the kinds that some reader has, ascending.
+    fn read_kinds(&self, alloc: Global, scope: u64) -> Result<Vec<u32>, OutOfMemory>
+        ensures { IfOk result (λ kinds. (g : _) →
+            kinds.items ≡ kinds_of_contexts scope (state_of g self.now).contexts
+            (kinds_of_scopes scope (state_of g self.now).scopes [])) }
+    {
+        let mut kinds = Vec::new(alloc);
+        add_scope_kinds(scope, self.rows.table.as_slice(), &mut kinds)?;
+        add_context_kinds(scope, self.contexts.as_slice(), &mut kinds)?;
+        Ok(kinds)
+    }
+}

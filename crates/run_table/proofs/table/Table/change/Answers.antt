@@ -1,0 +1,20 @@
+use Rattle.std.proofs.Common.{rules}
+use Rattle.run_table.proofs.Rows.{put-value, value-was}
+use Rattle.run_table.proofs.Ascending.{ascends-value}
+use Rattle.run_table.proofs.table.Table.change.Goals as goal
+
+pub invariant_of-self : goal.invariant_of-self
+invariant_of-self g c =
+    λ rising.
+    ascends-value c.self.inside.rows.items c.in-Some.index c.index_mut.result.now c.change.new.arg2 (rw c.self.view_is c.in-Some.ensures.within) c.index_mut.ensures.value (c.self.invariant rising)
+
+pub returns-in-Some-clause-changed : goal.returns-in-Some-clause-changed
+returns-in-Some-clause-changed g c =
+    λ old stood.
+    let view = c.self.view_is in
+    let here = c.in-Some.ensures in
+    let was = value-was c.self.inside.rows.items c.args.self.now c.args.number c.in-Some.index c.index_mut.result.now old view here.within here.own here.first c.index_mut.ensures.value stood in (
+      c.change.new.arg2,
+      (rw was (search rules)),
+      put-value c.self.inside.rows.items c.args.self.now c.args.number c.in-Some.index c.index_mut.result.now c.change.new.arg2 view here.within here.own here.first c.index_mut.ensures.value,
+    )

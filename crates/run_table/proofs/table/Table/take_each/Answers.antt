@@ -1,0 +1,23 @@
+use Rattle.std.proofs.Common.{ap, sym, ◌∙◌}
+use Rattle.std.specs.Prelude.{remove}
+use Rattle.rt_model.specs.Lists.{without}
+use Rattle.run_table.proofs.Rows.{without-absent, without-one}
+use Rattle.run_table.proofs.Ascending.{ascends-removed}
+use Rattle.run_table.proofs.table.Table.take_each.Goals as goal
+
+pub invariant_of-self : goal.invariant_of-self
+invariant_of-self g c =
+    λ rising.
+    rw c.remove-number.ensures.items
+    (ascends-removed c.self.inside.rows.items c.in_ok-index.index (rw c.self.view_is c.in_ok-index.ensures.within) (c.self.invariant rising))
+
+pub returns-in_err-index-clause-others : goal.returns-in_err-index-clause-others
+returns-in_err-index-clause-others g c =
+    sym (without-absent c.args.self.now c.args.number c.in_err-index.ensures.absent)
+
+pub returns-clause-others : goal.returns-clause-others
+returns-clause-others g c =
+    c.remove_each.ensures.others
+    ∙ ap (λ rows. without rows c.args.number) c.remove-number.ensures.items
+    ∙ ap (λ rows. without (remove rows c.in_ok-index.index) c.args.number) c.self.view_is
+    ∙ without-one c.args.self.now c.args.number c.in_ok-index.index c.in_ok-index.ensures.within c.in_ok-index.ensures.own

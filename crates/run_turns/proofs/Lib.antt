@@ -1,0 +1,3 @@
+mod Openings
+pub mod Arms
+pub mod Counting

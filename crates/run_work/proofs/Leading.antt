@@ -1,0 +1,97 @@
+-- Each event leaves those nodes that a side knows where they stand.
+use Rattle.std.proofs.Common.{ℕ, zero, suc, List, [], ◌∷◌, ◌++◌, ◌≡◌, inl, inr, length, map, get_or, refl, sym, ap, ◌∙◌, subst}
+use Rattle.std.specs.Prelude.{Option, Some, None, slice_get}
+use Rattle.tree_nodes.specs.declared.vnode.DynamicNode.{DynamicNode}
+use Rattle.rt_model.specs.OneLog.{types}
+use Rattle.rt_model.specs.World.{Application}
+use Rattle.rt_model.specs.Tree.{Types, Place, Kind}
+use Rattle.run_places.specs.Places.{node_of}
+use Rattle.run_places.proofs.Sided.{node_there}
+use Rattle.run_work.specs.After.{Ground, Out, after, nothing_yet, one, with_node}
+use Rattle.run_work.specs.Events.{Event, stays, goes, comes, fed, left, made}
+use Rattle.run_work.specs.Goes.{Leads, NodesGo, Walks}
+use Rattle.run_work.specs.Grounds.{ground_of, out_of, value_turn}
+use Rattle.run_work.specs.Pairs.{values_pair}
+use Rattle.run_work.specs.declared.patched.Ground as code
+use Rattle.run_work.specs.declared.patched.Patched.{Patched}
+use Rattle.run_work.specs.declared.patched.Turn.{Turn}
+use Rattle.run_work.specs.declared.patched.Turn.TheVariants as turns
+use Rattle.run_work.proofs.Followed.{none_at, one_goes}
+use Rattle.run_work.proofs.PairRules.{gave_way}
+
+-- what stands in a list stands there in a longer one, and what comes stands at its end
+get_before : {A : Type 0} (xs ys : List A) (i : ℕ) (x : A) → slice_get xs i ≡ Some x → slice_get (xs ++ ys) i ≡ Some x
+get_before [] ys i x h = absurd (cc h)
+get_before (y ∷ xs) ys zero x h = h
+get_before (y ∷ xs) ys (suc i) x h = get_before xs ys i x h
+
+get_last : {A : Type 0} (xs : List A) (x : A) → slice_get (xs ++ x ∷ []) (length xs) ≡ Some x
+get_last [] x = refl
+get_last (y ∷ xs) x = get_last xs x
+
+module _ {K : Types} (g : Ground K) (olds : List (Place × Kind)) (sound : (p : Place) (k : Kind) (i : ℕ) → g.node_known p k ≡ Some i → slice_get olds i ≡ Some (p, k)) where
+  node_leads : (p : Place) (k : Kind) (o : Out K) → NodesGo olds o.nodes o.nodes_to → NodesGo olds (with_node g p k o).nodes (with_node g p k o).nodes_to
+  node_leads p k o led =
+      record {
+        stands = λ i j h.
+            elim (one_goes o.nodes_to (g.node_known p k) (length o.nodes) i j h) [
+              | inl before ↦ (let there = led.stands i j before in (there.0, there.1, get_before o.nodes ((p, k) ∷ []) j there.0 there.2))
+              | inr here ↦ ((p, k), sound p k i here.0, ap (λ (n : ℕ). slice_get (o.nodes ++ (p, k) ∷ []) n) (sym here.1) ∙ get_last o.nodes (p, k))
+            ];
+      }
+
+  one_leads : (e : Event K) (o : Out K) → NodesGo olds o.nodes o.nodes_to → NodesGo olds (one g e o).nodes (one g e o).nodes_to
+  one_leads (stays p k) o led = node_leads p k o led
+  one_leads (goes p k) o led = led
+  one_leads (comes p k) o led = node_leads p k o led
+  one_leads (fed p c d) o led = led
+  one_leads (left p c) o led = led
+  one_leads (made p d) o led = led
+
+  after_leads : (es : List (Event K)) (o : Out K) → NodesGo olds o.nodes o.nodes_to → NodesGo olds (after g es o).nodes (after g es o).nodes_to
+  after_leads [] o led = led
+  after_leads (e ∷ es) o led = after_leads es (one g e o) (one_leads e o led)
+
+module _ {P C Q V H T E L : Type 0} (g : code.Ground P C Q V H T E L) where
+  -- a walk that went on by events
+  pub leads_by : (es : List (Event (types C Q V H T E L))) (before now : Patched P C Q V H T E L) → out_of now ≡ after (ground_of g) es (out_of before) → Leads g before now
+  unfolding out_of ground_of
+  leads_by es before now h led =
+      let olds : List (Place × Kind) = map node_of (g.side.now).nodes in
+      subst (λ (o : Out (types C Q V H T E L)). NodesGo olds o.nodes o.nodes_to) (sym h)
+      (after_leads (ground_of g) olds (λ p k i known. node_there (g.side.now).nodes p k i (sym known)) es (out_of before) led)
+
+  -- a node that stays
+  pub leads_stays : (p : Place) (k : Kind) (before now : Patched P C Q V H T E L) → out_of now ≡ after (ground_of g) (stays p k ∷ []) (out_of before) → Leads g before now
+  leads_stays p k before now h = leads_by (stays p k ∷ []) before now h
+
+  -- what stands in a slot comes or goes
+  pub leads_turn : (turn : Turn) (value : DynamicNode P C Q V H T E L) (place : Place) (before now : Patched P C Q V H T E L) → out_of now ≡ after (ground_of g) (value_turn turn value place) (out_of before) → Leads g before now
+  leads_turn turn value place before now h = leads_by (value_turn turn value place) before now h
+
+  -- what stood in a slot gives way
+  pub leads_change : (old new : DynamicNode P C Q V H T E L) (place : Place) (before now : Patched P C Q V H T E L)
+      → out_of now ≡ after (ground_of g) (value_turn turns.Goes old place ++ value_turn turns.Comes new place) (out_of before) → Leads g before now
+  leads_change old new place before now h = leads_by (value_turn turns.Goes old place ++ value_turn turns.Comes new place) before now h
+
+  -- and what is of another kind gives way, whatever the application
+  pub walks_away : (old new a b : DynamicNode P C Q V H T E L) (place : Place) (before now : Patched P C Q V H T E L) → old ≡ a → new ≡ b
+      → ((app : Application (types C Q V H T E L)) → values_pair app a b place ≡ value_turn turns.Goes a place ++ value_turn turns.Comes b place)
+      → out_of now ≡ after (ground_of g) (value_turn turns.Goes old place ++ value_turn turns.Comes new place) (out_of before)
+      → Walks g before now (λ app. values_pair app old new place)
+  walks_away old new a b place before now was is apart h = (
+    λ app tests. gave_way app (ground_of g) old new a b place (out_of before) (out_of now) was is (apart app) h,
+    leads_change old new place before now h,
+  )
+
+module _ {P C Q V H T E L : Type 0} where
+  -- nothing was walked through yet
+  pub led_first : (olds : List (Place × Kind)) (out : Patched P C Q V H T E L) (nodes seats : ℕ) → out_of out ≡ nothing_yet nodes seats → NodesGo olds (map node_of out.nodes) out.nodes_to
+  unfolding out_of
+  led_first olds out nodes seats h =
+      record {
+        stands = λ i j k. absurd (nowhere (sym (none_at nodes i) ∙ ap (λ (to : List (Option ℕ)). get_or to i None) (sym (ap (λ (o : Out (types C Q V H T E L)). o.nodes_to) h)) ∙ k));
+      }
+    where
+      nowhere : {j : ℕ} → ◌≡◌ {A = Option ℕ} None (Some j) → ⊥
+      nowhere k = cc k

@@ -1,0 +1,9 @@
+-- What was read so far stands before the rest.
+use Rattle.std.proofs.Common.{map}
+use Rattle.run_reports.specs.Seen.{entry_of}
+use Rattle.show_logs.specs.Written.{WritesList}
+use Rattle.show_logs.proofs.Items.{SoFar}
+use Rattle.show_logs.proofs.words.lists.Given as goal
+
+abbrev pub invariant-loop-value : goal.invariant-loop-value
+invariant-loop-value l = SoFar WritesList l.values l.value-index (map (map entry_of) l.read.items)

@@ -1,0 +1,3 @@
+pub mod Messages
+pub mod Drained
+pub mod Postings

@@ -1,0 +1,2 @@
+pub mod RowPuts
+pub mod Picturing

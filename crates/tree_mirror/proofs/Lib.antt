@@ -1,0 +1,6 @@
+pub mod Components
+pub mod Keeping
+pub mod TreeOut
+pub mod SealedNodes
+pub mod SealedTrees
+pub mod SealedComponents

@@ -1,0 +1,4 @@
+pub mod One
+pub mod Mirror
+pub mod ByParts
+pub mod Sealed

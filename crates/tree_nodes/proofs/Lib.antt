@@ -1,0 +1,5 @@
+mod Spread
+mod TemplatePlaces
+pub mod PropsLemmas
+pub mod TreePlaces
+pub mod Forms

@@ -1,0 +1,9 @@
+pub mod NodeTest
+pub mod Places
+pub mod Shown
+pub mod Texts
+pub mod Met
+pub mod Names
+pub mod Slots
+pub mod BlockTest
+pub mod Forms
