@@ -1,0 +1,5 @@
+pub mod Told
+pub mod Celled
+mod Handed
+mod Placed
+mod Finished

@@ -1,0 +1,4 @@
+pub mod CellsLast
+pub mod ComponentsLast
+pub mod NumbersLast
+pub mod OneFinish

@@ -1,0 +1,3 @@
+mod Keeping
+mod Listening
+mod Hearing
