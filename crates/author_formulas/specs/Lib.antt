@@ -1,0 +1,4 @@
+pub mod Looking
+pub mod Formulas
+pub mod Memos
+pub mod Polls

@@ -1,0 +1,23 @@
+//! Laws of programs that only look, and of polls.
+ghost use Rattle.rt_model.specs.OneLog.{types};
+ghost use Rattle.author_formulas.specs.Looking.{LookingReads, LookingDecides};
+ghost use Rattle.author_formulas.specs.Formulas.{Formulas};
+ghost use Rattle.author_formulas.specs.Polls.{MemosPoll};
+
+/// Of its call a program that only looks leaves nothing but reads that were noted, so it gives no
+/// command but reads into the context that it runs in.
+pub fn looking_reads<C, P, V, H, T, E, L, A>()
+    ensures { LookingReads (types C P V H T E L) A }
+{}
+
+/// Worlds that agree on the calling scope and those above it, and on the values of what a program
+/// that only looks has looked at, give it the same answer.
+pub fn looking_decides<C, P, V, H, T, E, L, A>()
+    ensures { LookingDecides (types C P V H T E L) A }
+{}
+
+/// A poll of a memo empties its context, reads the sources of its formula into it, and writes its
+/// cell unless that has the value.
+pub fn memos_poll<C, P, V, H, T, E, L, F>()
+    ensures { (a : Formulas (types C P V H T E L) F) → MemosPoll a }
+{}

@@ -1,0 +1,4 @@
+pub mod Named
+pub mod Minding
+pub mod Polled
+pub mod Writes

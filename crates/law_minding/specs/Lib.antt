@@ -1,0 +1,2 @@
+pub mod Minding
+pub mod Hiding
