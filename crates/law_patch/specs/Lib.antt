@@ -1,0 +1,7 @@
+pub mod Events
+pub mod Agenda
+pub mod Written
+pub mod Behind
+pub mod SoFar
+pub mod Appended
+pub mod Rows

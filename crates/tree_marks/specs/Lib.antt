@@ -1,0 +1,4 @@
+pub mod Marks
+pub mod Deeds
+pub mod Writing
+pub mod Spots
