@@ -4,7 +4,7 @@ use Rattle.serde_json.specs.Data.{Data, Members}
 use Rattle.serde_json.specs.Find.{get, as_str, as_object}
 use Rattle.lang_expressions.specs.Keys.{is_object_of}
 use Rattle.lang_expressions.specs.Lists.{each_member}
-use Rattle.lang_expressions.specs.Names.{is_name}
+use Rattle.rt_values.specs.Naming.{is_name}
 use Rattle.lang_expressions.specs.declared.signatures.Names.{Names}
 use Rattle.lang_expressions.specs.Expressions.{expression_in}
 use Rattle.lang_expressions.specs.Calls.{call_at}

@@ -1,20 +1,11 @@
 -- Names: which texts are one, where one is bound, and lists of names that differ.
-use Rattle.std.specs.Prelude.{ℕ, List, [], ◌∷◌, ◌++◌, ◌+◌, Bool, ◌&&◌, ◌||◌, ◌==◌, not, length, map, Option, Some, None, option_and_then, is_some, if◌then◌else◌, bytes_eq}
-use Rattle.std.specs.List.{list_all, list_any}
+use Rattle.std.specs.Prelude.{ℕ, List, [], ◌∷◌, ◌++◌, ◌+◌, Bool, map, Option, Some, None, option_and_then, is_some, if◌then◌else◌, bytes_eq}
+use Rattle.std.specs.List.{list_any}
 use Rattle.std.specs.Borrow.{Bor}
 use Rattle.std.specs.BTreeSet.{BTreeSet}
-use Rattle.std.specs.Char.{is_ascii_alphanumeric}
 use Rattle.serde_json.specs.Data.{Data, Items}
 use Rattle.serde_json.specs.Find.{as_str}
 use Rattle.lang_expressions.specs.Lists.{steps}
-
--- an ASCII letter or digit, `-` or `_`
-abbrev pub is_name_byte : ℕ → Bool
-is_name_byte byte = is_ascii_alphanumeric byte || (byte == 45 || byte == 95)
-
--- such bytes alone, at least one
-abbrev pub is_name : List ℕ → Bool
-is_name text = not (length text == 0) && list_all is_name_byte text
 
 -- the last place of a name among those from a place on, or the place before them
 abbrev pub place_from : ℕ → List ℕ → List (List ℕ) → Option ℕ → Option ℕ

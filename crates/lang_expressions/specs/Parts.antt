@@ -4,7 +4,7 @@ use Rattle.serde_json.specs.Data.{Data}
 use Rattle.serde_json.specs.Find.{get, as_str}
 use Rattle.lang_expressions.specs.Keys.{is_object_of}
 use Rattle.lang_expressions.specs.Fields.{text_at, list_or_empty, is_zero_at}
-use Rattle.lang_expressions.specs.Names.{is_name}
+use Rattle.rt_values.specs.Naming.{is_name}
 use Rattle.lang_expressions.specs.declared.signatures.Names.{Names}
 use Rattle.lang_expressions.specs.Calls.{expression_at, call_in}
 use Rattle.lang_syntax.specs.declared.expression.Expression.{Expression}

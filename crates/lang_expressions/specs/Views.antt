@@ -5,7 +5,7 @@ use Rattle.serde_json.specs.Find.{get, at, as_str, as_array}
 use Rattle.lang_expressions.specs.Keys.{is_object_of}
 use Rattle.lang_expressions.specs.Fields.{text_at, list_at, list_or_empty}
 use Rattle.lang_expressions.specs.Lists.{read_each}
-use Rattle.lang_expressions.specs.Names.{is_name}
+use Rattle.rt_values.specs.Naming.{is_name}
 use Rattle.lang_expressions.specs.declared.signatures.Names.{Names}
 use Rattle.lang_expressions.specs.Expressions.{expression_in}
 use Rattle.lang_expressions.specs.Calls.{expression_at}

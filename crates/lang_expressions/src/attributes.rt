@@ -7,10 +7,9 @@ ghost use Rattle.lang_expressions.specs.Attributes.{attribute_in, listener_in, a
 use crate::calls::call_at;
 use crate::expressions::read_expression;
 use crate::keys::is_object_of;
-use crate::names::is_name;
 use crate::signatures::Names;
 use lang_syntax::ViewAttribute;
-use rt_values::{List, OutOfMemory, Text};
+use rt_values::{List, OutOfMemory, Text, is_name};
 use serde_json::{Map, Value};
 use std::alloc::Global;
 

@@ -23,7 +23,7 @@ pub use expressions::{read_expression, read_expressions};
 pub use fields::{is_zero, is_zero_at, list_at, list_or_empty, text_at, whole, whole_at};
 pub use keys::{is_object_of, only_member};
 pub use kinds::kinds_in;
-pub use names::{distinct_texts, is_name, place_of};
+pub use names::{distinct_texts, place_of};
 pub use signatures::{Names, Signature, signature_of};
 pub use view_forms::{Form, Leaf, form_in};
 pub use views::read_view;

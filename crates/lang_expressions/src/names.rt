@@ -1,28 +1,12 @@
 //! Names: which texts are one, where one is bound, and lists of names that differ.
 ghost use Rattle.std.specs.Prelude.{◌≡◌, ◌||◌, ℕ, List, not, bytes_eq, IfOk, OnOk, option_map};
 ghost use Rattle.serde_json.specs.View.{items_view};
-ghost use Rattle.lang_expressions.specs.Names.{is_name, is_seen, place_of, distinct_texts};
+ghost use Rattle.lang_expressions.specs.Names.{is_seen, place_of, distinct_texts};
 
 use rt_values::{OutOfMemory, Text};
 use serde_json::Value;
 use std::alloc::Global;
 use std::collections::BTreeSet;
-
-/// Whether a text is ASCII letters, digits, `-` and `_`, at least one of them.
-pub fn is_name(text: &str) -> bool
-    ensures name { result ≡ is_name text.now }
-{
-    let bytes = text.as_bytes();
-    if bytes.is_empty() {
-        return false;
-    }
-    for byte in bytes {
-        if !(byte.is_ascii_alphanumeric() || *byte == b'-' || *byte == b'_') {
-            return false;
-        }
-    }
-    true
-}
 
 /// The place from 0 of the last of the names that is this one.
 #[tactic(auto, using(crate::proofs::Steps::place_next), unfolding(crate::specs::Names::place_of))]

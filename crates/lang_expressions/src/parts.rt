@@ -6,11 +6,10 @@ ghost use Rattle.lang_expressions.specs.Parts.{component_use, use_at, leaf_of, n
 use crate::calls::{expression_at, read_call};
 use crate::fields::{is_zero_at, list_or_empty, text_at};
 use crate::keys::is_object_of;
-use crate::names::is_name;
 use crate::signatures::Names;
 use crate::view_forms::Leaf;
 use lang_syntax::{ComponentUse, ViewSlot};
-use rt_values::{OutOfMemory, Text, copy_slice};
+use rt_values::{OutOfMemory, Text, copy_slice, is_name};
 use serde_json::Value;
 use std::alloc::Global;
 

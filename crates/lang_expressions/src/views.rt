@@ -9,12 +9,11 @@ use crate::calls::expression_at;
 use crate::expressions::read_expression;
 use crate::fields::{list_at, list_or_empty, text_at};
 use crate::keys::is_object_of;
-use crate::names::is_name;
 use crate::parts::{leaf_of, namespace_in, use_at, with_name};
 use crate::signatures::Names;
 use crate::view_forms::{Form, form_in};
 use lang_syntax::{ViewNode, ViewSlot};
-use rt_values::{List, OutOfMemory, Text};
+use rt_values::{List, OutOfMemory, Text, is_name};
 use serde_json::Value;
 use std::alloc::Global;
 

@@ -11,7 +11,7 @@ use Rattle.json.specs.Text.{content, plain}
 use Rattle.json.proofs.Printed.Strings.{content-escape}
 use Rattle.rt_model.specs.Lists.{Text}
 use Rattle.rt_language.specs.Lines.{qualified}
-use Rattle.lang_expressions.specs.Names.{is_name_byte}
+use Rattle.rt_values.specs.Naming.{is_name_byte}
 use Rattle.lang_lines.specs.Plain.{IsName, IsNamespace}
 
 module _ (P : ℕ → Bool) where

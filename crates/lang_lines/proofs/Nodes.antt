@@ -5,7 +5,7 @@ use Rattle.json.specs.Print.{quoted}
 use Rattle.rt_model.specs.Lists.{Text}
 use Rattle.rt_model.specs.Document.{DocAttribute, Content, DocElement, DocText, DocPlaceholder, Forest, Empty, Node}
 use Rattle.rt_language.specs.Lines.{numbered, spaced, qualified, attribute_text, listener_text, node_text, node_texts}
-use Rattle.lang_expressions.specs.Names.{is_name_byte}
+use Rattle.rt_values.specs.Naming.{is_name_byte}
 use Rattle.lang_lines.specs.Plain.{IsPlainContent, HasKids, IsPlainForest}
 use Rattle.lang_lines.proofs.Names.{Ends, numbers_told, quoted_parted}
 use Rattle.lang_lines.proofs.Rows.{mark, kind, is_attribute, is_listener, opened, opened_parted}

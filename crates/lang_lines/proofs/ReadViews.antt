@@ -9,7 +9,7 @@ use Rattle.rt_model.proofs.Conjunctions.{and-left, and-right}
 use Rattle.lang_expressions.specs.Keys.{is_object_of}
 use Rattle.lang_expressions.specs.Fields.{text_at, list_at, list_or_empty, is_zero_at}
 use Rattle.lang_expressions.specs.Lists.{in_front, read_each, read_members, each_member}
-use Rattle.lang_expressions.specs.Names.{is_name_byte, is_name}
+use Rattle.rt_values.specs.Naming.{is_name_byte, is_name}
 use Rattle.lang_expressions.specs.declared.signatures.Names.{Names}
 use Rattle.lang_expressions.specs.Expressions.{expression_in}
 use Rattle.lang_expressions.specs.Calls.{expression_at, call_at}

@@ -6,7 +6,7 @@ use Rattle.json.specs.Print.{quoted}
 use Rattle.rt_model.specs.Lists.{Text}
 use Rattle.rt_model.specs.Document.{DocAttribute}
 use Rattle.rt_language.specs.Lines.{spaced, qualified, attribute_text, listener_text}
-use Rattle.lang_expressions.specs.Names.{is_name_byte}
+use Rattle.rt_values.specs.Naming.{is_name_byte}
 use Rattle.lang_lines.specs.Plain.{IsName, IsNamespace, IsPlainAttribute}
 use Rattle.lang_lines.proofs.Names.{Ends, names_parted, numbers_told, qualified_parted, quoted_parted}
 

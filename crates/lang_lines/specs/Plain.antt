@@ -5,7 +5,7 @@ use Rattle.rt_model.specs.Lists.{Text}
 use Rattle.rt_model.specs.Document.{DocAttribute, Content, DocElement, DocText, DocPlaceholder, Forest, Empty, Node, Edit, AppendChildren, ReplaceNodeWith, InsertNodesAfter, RemoveNode, SetNodeText, SetAttribute, CreateEventListener, RemoveEventListener}
 use Rattle.rt_model.specs.State.{Fault, OutOfTurns, TooDeep, IdsExhausted, HookChanged, NoSuchTask, BadNode}
 use Rattle.rt_model.specs.Replay.{Post, MarkScope, WakeTask, AllDirty, Message}
-use Rattle.lang_expressions.specs.Names.{is_name_byte}
+use Rattle.rt_values.specs.Naming.{is_name_byte}
 
 -- ASCII letters and digits, `-` and `_` alone
 abbrev pub IsName : Text → Type 0

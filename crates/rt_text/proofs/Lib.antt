@@ -1,4 +1,3 @@
-pub mod Nodes
 pub mod Fitted
 pub mod Changes
 pub mod Quoted

@@ -10,7 +10,7 @@ use std::alloc::Global;
 
 /// Writes a node.
 #[cycle(laying)]
-#[tactic(auto, using(crate::proofs::Nodes::node_parts))]
+#[tactic(auto, using(tree_documents::proofs::Nodes::node_parts))]
 fn lay(alloc: Global, width: usize, writer: &mut Writer, kind: &DocKind) -> Result<(), OutOfMemory>
     ensures laid { OnOk result (writer.new ≡ after (content_of kind.now)
         (laid width (forest_below kind.now) (before width (content_of kind.now) writer.old))) }

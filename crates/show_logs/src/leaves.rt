@@ -1,7 +1,8 @@
 //! Single values: whether one is what is wanted, and how that is called.
 
 use crate::forms::{Group, Leaf, Members, Row, Table};
-use lang_expressions::{is_name, is_zero, whole};
+use lang_expressions::{is_zero, whole};
+use rt_values::is_name;
 use serde_json::Value;
 
 /// The key at which a group stands in a source.

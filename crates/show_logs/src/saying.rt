@@ -4,8 +4,7 @@ use crate::forms::{BODY, Form, STEP, Table};
 use crate::leaves::{leaf_words, members_words, row_words, table_words};
 use crate::tables::forms_of;
 use crate::walk::{Step, Walk, Wanted};
-use lang_expressions::is_name;
-use rt_values::OutOfMemory;
+use rt_values::{OutOfMemory, is_name};
 use serde_json::Value;
 use std::alloc::Global;
 

@@ -6,7 +6,7 @@
 use crate::forms::{Entry, Form, Group, Leaf, Members, Row, STEP, Table, Want};
 use crate::leaves::{is_fit, params_at};
 use crate::tables::forms_of;
-use lang_expressions::is_name;
+use rt_values::is_name;
 use serde_json::{Map, Value};
 use std::alloc::Global;
 

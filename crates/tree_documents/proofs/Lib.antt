@@ -1,3 +1,4 @@
+pub mod Nodes
 pub mod Forests
 pub mod Numbers
 pub mod Changed
