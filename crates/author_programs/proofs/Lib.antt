@@ -6,3 +6,4 @@ pub mod Shows
 pub mod Present
 pub mod Author
 pub mod First
+pub mod Apart

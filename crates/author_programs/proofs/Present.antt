@@ -41,7 +41,7 @@ one-value true true false u v h = refl
 one-value true false aside u v h = cc (h refl)
 
 -- what holds of all holds of what stands under a number
-found : {A : Type 0} (P : ℕ × A → Type 0) (es : List (ℕ × A)) (n : ℕ) (a : A) → AllByRecursion P es → at es n ≡ Some a → P (n, a)
+pub found : {A : Type 0} (P : ℕ × A → Type 0) (es : List (ℕ × A)) (n : ℕ) (a : A) → AllByRecursion P es → at es n ≡ Some a → P (n, a)
 found P [] n a h is = cc
 found P (e ∷ es) n a h is = here (nat_eq e.0 n) P e n a (at es n) refl h.0 is (λ there. found P es n a h.1 there)
 
@@ -113,7 +113,7 @@ module _ {K : Types} where
 
   module _ (k : Keeping K.Value) (page : Page K) (w : State K) (x : Scope K) (last : LastCall K) (own : List ℕ)
       (kept : KeepAll k last.given.given.hooks 0 own) (same : length page.cells ≡ length own) where
-    abbrev world : World K
+    abbrev pub world : World K
     world = world_again w x last
 
     abbrev start : Call K
@@ -137,7 +137,8 @@ module _ {K : Types} where
         (subst (λ (m : ℕ). AllByRecursion (λ (n : ℕ). nat_lt n m ≡ true → names_source end.reads (Cell n) ≡ true) (page.reads own)) (next-hooks start own)
         (all-named (after_hooks start own) (page.reads own) (plain-hooks start own (refl, refl))))
 
-    page-shown : (m : Meaning K (Element K)) → m ≡ body_means (page_body k page) world → Repeats x last m → KeepsAnswer last m.answer x.main_side.output
+    -- what a scope shows whose last call means the page
+    pub page-shown : (m : Meaning K (Element K)) → m ≡ body_means (page_body k page) world → Repeats x last m → KeepsAnswer last m.answer x.main_side.output
         → x.main_side.output ≡ Some (page.shows last.given.given.scope own (map (value_now w last) (page.reads own)))
     page-shown m is repeats keeps =
         let means = is ∙ page-means in

@@ -9,3 +9,4 @@ pub mod Present
 pub mod Author
 pub mod Means
 pub mod First
+pub mod Kinds

@@ -1,5 +1,6 @@
 -- What is proved of programs and of pages.
-use Rattle.std.specs.Prelude.{ℕ, nat_eq, Bool, true, ◌&&◌, ◌≡◌, List}
+use Rattle.std.proofs.Common.{inl, inr}
+use Rattle.std.specs.Prelude.{ℕ, nat_eq, Bool, true, false, ◌&&◌, ◌≡◌, ◌⊎◌, List}
 use Rattle.rt_model.specs.Laws.{IsLawful, Tests}
 use Rattle.rt_model.specs.Lists.{same_numbers}
 use Rattle.rt_model.specs.Program.{Program, Programs, Call, application_of, exec, ended}
@@ -47,6 +48,18 @@ MemoizedAreLawful K =
 abbrev pub PairTests : Type 0 → Type 0 → Type 0
 PairTests A B =
     (s : A → A → Bool) (t : B → B → Bool) → Tests A s → Tests B t → Tests (A × B) (λ a b. s a.0 b.0 && t a.1 b.1)
+
+-- values of one type or of another one are the same where both are of one, and its test says so
+abbrev pub same_either : {A B : Type 0} → (A → A → Bool) → (B → B → Bool) → A ⊎ B → A ⊎ B → Bool
+same_either s t (inl a) (inl b) = s a b
+same_either s t (inl a) (inr b) = false
+same_either s t (inr a) (inl b) = false
+same_either s t (inr a) (inr b) = t a b
+
+-- a test of each of two types decides what is of the one or of the other
+abbrev pub EitherTests : Type 0 → Type 0 → Type 0
+EitherTests A B =
+    (s : A → A → Bool) (t : B → B → Bool) → Tests A s → Tests B t → Tests (A ⊎ B) (same_either s t)
 
 -- a test of what values are coded as decides, where the code can be read back
 abbrev pub CodedTests : Type 0 → Type 0 → Type 0

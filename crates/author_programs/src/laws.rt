@@ -1,7 +1,7 @@
 //! Laws of programs and of pages.
 ghost use Rattle.rt_model.specs.OneLog.{types};
 ghost use Rattle.author_programs.specs.Shows.{ShowsPresentValues};
-ghost use Rattle.author_programs.specs.Means.{ComesToMeaning, GoesOnFromThere, PagesAreLawful, MemoizedAreLawful, CodedTests, PairTests, PlainTests};
+ghost use Rattle.author_programs.specs.Means.{ComesToMeaning, GoesOnFromThere, PagesAreLawful, MemoizedAreLawful, CodedTests, EitherTests, PairTests, PlainTests};
 ghost use Rattle.author_programs.specs.Author.{UnreadRunsNothing, HeardFromBelow, ReportsShowPages};
 ghost use Rattle.author_programs.specs.Present.{CurrentPagesShow};
 
@@ -29,6 +29,11 @@ pub fn memoized_are_lawful<C, P, V, H, T, E, L>()
 /// A test of both parts decides pairs.
 pub fn pair_tests<A, B>()
     ensures { PairTests A B }
+{}
+
+/// A test of each of two types decides what is of the one or of the other.
+pub fn either_tests<A, B>()
+    ensures { EitherTests A B }
 {}
 
 /// A test of what values are coded as decides, where the code can be read back.
