@@ -3,6 +3,7 @@ use Rattle.std.specs.Prelude.{◌≡◌, ℕ, ◌<◌, List, [], length, slice_i
 use Rattle.crossbeam_queue.specs.SegTies.{IsSegPassOf}
 use Rattle.rt_inbox.specs.declared.message.Post.{Post}
 use Rattle.rt_inbox.specs.declared.message.Msg.{Msg}
+use Rattle.rt_inbox.specs.declared.view.View.{View}
 use Rattle.rt_inbox.specs.declared.view.View.TheVariants.{Posting, Owning}
 use Rattle.rt_inbox.specs.declared.inbox.Inbox.{Inbox}
 use Rattle.rt_inbox.specs.declared.notifier.Notifier.{Notifier}
@@ -25,9 +26,13 @@ posts_of n = n.accepted.items
 abbrev pub taken_of : Owner → List Msg
 taken_of o = o.taken.items
 
--- the owner's count of pops that found none, as the owner keeps it
+-- what the owner knows by its pass
+abbrev pub view_of : Owner → View
+view_of o = o.seat.pass.me.view.client
+
+-- the owner's count of pops that found none, as its pass keeps it
 abbrev pub nones_of : Owner → ℕ
-nones_of o = o.nones
+nones_of o = o.seat.nones
 
 -- what an ended inbox has: the messages taken
 abbrev pub taken_list : Taken → List Msg
@@ -50,7 +55,7 @@ IsNotifierOf i n =
 -- the owner is this inbox's own: its pass knows what it took, that all were made and none joined
 abbrev pub IsOwnerOf : Inbox → Owner → Type 0
 IsOwnerOf i o =
-    IsSegPassOf i.line o.pass × (o.pass.me.view.client ≡ Owning (taken_of o) (posters_of i) [])
+    IsSegPassOf i.line o.seat.pass × (view_of o ≡ Owning (taken_of o) (posters_of i) [])
 
 -- the fact holds of each item and its index
 abbrev pub EachAt : {A : Type 0} → (ℕ → A → Type 0) → List A → Type 0

@@ -9,6 +9,7 @@ use crate::line::{Line, Seat, make, open};
 use crate::notifier::Notifier;
 use crate::owner::Owner;
 use rt_values::{List, OutOfMemory};
+use run_counted::Counted;
 use std::alloc::Global;
 
 /// The queue into which posters post and from which the owner takes. Threads share it by reference.
@@ -40,9 +41,8 @@ impl Inbox {
         let inbox = Inbox { line, posters };
         let notifiers = make_all(alloc, &inbox, &mut pass)?;
         let owner = Owner {
-            pass,
+            seat: Counted::of(pass),
             taken: Vec::new(alloc),
-            nones: 0,
         };
         Ok((inbox, owner, List::from_vec(notifiers)))
     }

@@ -1,5 +1,5 @@
 //! The queue under its rule, and the steps that an inbox takes on it.
-ghost use Rattle.std.specs.Prelude.{◌≡◌, [], IfErr, IfNone, IfOk, IfSome, OnOk};
+ghost use Rattle.std.specs.Prelude.{◌≡◌, ◌+◌, ◌-◌, ◌<◌, ◌^◌, [], IfErr, IfNone, IfOk, IfSome, OnOk};
 ghost use Rattle.std.specs.Prelude.{List as Items};
 ghost use Rattle.crossbeam_queue.specs.SegTies.{IsSegPassOf};
 ghost use Rattle.rt_inbox.specs.declared.message.Msg.{Msg};
@@ -11,6 +11,7 @@ use crate::message::{Msg, Post};
 use crate::view::View;
 use crossbeam_queue::protocol::{Join, Lesson, Outcome, Protocol, Split};
 use crossbeam_queue::{RuledSegQueue, SegPass};
+use run_counted::Counted;
 use std::alloc::{AllocError, Global};
 use std::sync::Wait;
 
@@ -136,4 +137,20 @@ pub fn pop<R: Wait>(rt: &R, line: &Line, owner: &mut Seat) -> Option<Msg>
         × WasAt [] owner.new.me.view.client) }
 {
     line.pop_as::<Taking, R>(rt, owner)
+}
+
+/// The same of the owner's counted pass. Where there is none the count rises.
+pub fn pop_counted<R: Wait>(rt: &R, line: &Line, owner: &mut Counted<Msg, View>) -> Option<Msg>
+    requires own { IsSegPassOf line.now owner.old.pass }
+    requires owns { Owns owner.old.pass.me.view.client }
+    requires countable { owner.old.nones < 2 ^ 64 - 1 }
+    ensures own { IsSegPassOf line.now owner.new.pass }
+    ensures some { IfSome result
+        (λ m. (owner.new.pass.me.view.client ≡ with_taken m owner.old.pass.me.view.client)
+        × (owner.new.nones ≡ owner.old.nones)) }
+    ensures none { IfNone result
+        ((owner.new.pass.me.view.client ≡ owner.old.pass.me.view.client)
+        × WasAt [] owner.new.pass.me.view.client × (owner.new.nones ≡ owner.old.nones + 1)) }
+{
+    owner.pop::<Fits, Taking, R>(rt, line)
 }

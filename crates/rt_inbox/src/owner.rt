@@ -4,18 +4,20 @@ ghost use Rattle.std.specs.Prelude.{vec_capacity, vec_len, IfNone, IfOk, IfSome,
 ghost use Rattle.rt_inbox.specs.Ends.{IsOwnerOf, nones_of, taken_of};
 
 use crate::inbox::Inbox;
-use crate::line::{Seat, pop};
+use crate::line::pop_counted;
 use crate::message::{Drained, Msg};
+use crate::view::View;
 use rt_values::{List, OutOfMemory};
+use run_counted::Counted;
 use std::alloc::Global;
 use std::sync::Wait;
 
-/// Takes messages out of its inbox, keeps those that it took, and counts its pops that found none.
+/// Takes messages out of its inbox, and keeps those that it took. Its pass counts the pops that
+/// found none.
 #[derive(Drop)]
 pub struct Owner {
-    pub(crate) pass: Seat,
+    pub(crate) seat: Counted<Msg, View>,
     pub(crate) taken: Vec<Msg>,
-    pub(crate) nones: u64,
 }
 
 impl Owner {
@@ -31,16 +33,9 @@ impl Owner {
             × (nones_of self.new ≡ nones_of self.old + 1)) }
         ensures capacity { vec_capacity self.new.taken ≡ vec_capacity self.old.taken }
     {
-        match pop(rt, &inbox.line, &mut self.pass) {
-            Some(message) => {
-                self.taken.push_reserved(message);
-                Some(message)
-            }
-            None => {
-                self.nones += 1;
-                None
-            }
-        }
+        let message = pop_counted(rt, &inbox.line, &mut self.seat)?;
+        self.taken.push_reserved(message);
+        Some(message)
     }
 
     /// Takes messages from the front, at most so many. The memory for them is taken first, so that
@@ -59,12 +54,13 @@ impl Owner {
             × (d.emptied ≡ false → length d.messages ≡ most)) }
         ensures emptied { IfOk result
             (λ d. IsTrue d.emptied ↔ (nones_of self.old < nones_of self.new)) }
-        ensures counted { IfOk result (λ d. nones_of self.new ≤ nones_of self.old + 1) }
+        ensures counted { IfOk result (λ d. (nones_of self.old ≤ nones_of self.new)
+            × (nones_of self.new ≤ nones_of self.old + 1)) }
         ensures err { OnErr result ((taken_of self.new ≡ taken_of self.old)
             × (nones_of self.new ≡ nones_of self.old)) }
     {
         // A count that could not rise would say of no pop that it found none.
-        if self.nones == u64::MAX {
+        if self.seat.nones() == u64::MAX {
             return Err(OutOfMemory);
         }
         self.taken.reserve(most as usize)?;

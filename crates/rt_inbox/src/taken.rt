@@ -139,11 +139,8 @@ fn gather<R: Wait>(
     ensures posters { length (accepted_lists result) ≡ posters_of inbox.now }
     ensures accepted { All (IsKept (accepted_lists result)) notifiers.items }
 {
-    let Owner {
-        mut pass,
-        taken,
-        nones: _,
-    } = owner;
+    let Owner { seat, taken } = owner;
+    let mut pass = seat.into_pass();
     let accepted = join_all(inbox, &mut pass, notifiers, accepted);
     let left = take_left(rt, &inbox.line, &mut pass, left);
     Taken {
