@@ -2,6 +2,7 @@
 //! of which posts its list while the owner drains.
 #![tactic(auto)]
 
+mod bell;
 mod gate;
 mod inbox;
 mod laws;
@@ -15,11 +16,12 @@ mod posters;
 mod taken;
 mod view;
 
+pub use bell::Bell;
 pub use gate::{Gate, NoGate};
 pub use inbox::Inbox;
 pub use laws::steps_keep_the_rule;
 pub use making::posters_for;
-pub use meeting::meet;
+pub use meeting::{meet, post_beside};
 pub use message::{Drained, Msg, Post, Refused};
 pub use notifier::Notifier;
 pub use owner::Owner;

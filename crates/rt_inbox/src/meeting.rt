@@ -1,4 +1,4 @@
-//! The owner's drains in this thread, beside the posters in theirs.
+//! What is done in this thread beside the posters in theirs: the caller's part, or the owner's drains.
 ghost use Rattle.std.specs.Prelude.{◌≡◌, ◌≤◌, ◌++◌, [], length, OnOk, IfOk};
 ghost use Rattle.std.specs.Thread.{IsSync};
 ghost use Rattle.rt_inbox.specs.Ends.{IsOwnerOf, taken_of};
@@ -52,6 +52,33 @@ fn drain_all<R: Wait>(
     unreachable!()
 }
 
+/// The posters post in threads of their own, while the caller's part is done in this one, once. It
+/// comes back once both are done, with what the part answered. Where no thread can be started at all
+/// the lists are posted behind the part, so a part that waits for a post must give up some time.
+pub fn post_beside<R: Threads + Wait + Sync, G: Gate, X, F: FnMut() -> X>(
+    rt: &R,
+    inbox: &Inbox,
+    gate: &G,
+    posters: &mut [Poster],
+    part: &mut F,
+) -> X
+    requires ready { AllReady inbox.now posters.old }
+    requires part { F.pre part.old }
+    ensures posted { AllPosted inbox.now posters.old posters.new }
+    // The part is called once, by its own contract.
+    ensures done { F.step part.old result part.new }
+{
+    let (_, answer) = join_mut(
+        rt,
+        &mut ||
+            requires { IsSync R.row × AllReady inbox.now posters.now }
+            ensures { AllPosted inbox.entry.now posters.entry.now posters.exit.now }
+        { post_lists(rt, inbox, gate, posters) },
+        part,
+    );
+    answer
+}
+
 /// The posters post in threads of their own while the owner drains in this one. It comes back once
 /// both are done. Where no thread can be started at all the lists are posted behind the drains, so
 /// that they are what is left.
@@ -72,16 +99,14 @@ pub fn meet<R: Threads + Wait + Sync, G: Gate>(
     ensures posted { AllPosted inbox.now posters.old posters.new }
     ensures drained { OnOk result (HasDrained owner.old owner.new drains.old drains.new) }
 {
-    let (_, drained) = join_mut(
+    post_beside(
         rt,
-        &mut ||
-            requires { IsSync R.row × AllReady inbox.now posters.now }
-            ensures { AllPosted inbox.entry.now posters.entry.now posters.exit.now }
-        { post_lists(rt, inbox, gate, posters) },
+        inbox,
+        gate,
+        posters,
         &mut || -> Result<(), OutOfMemory>
             requires { IsOwnerOf inbox.now owner.now }
             ensures { Drains inbox.entry.now owner.entry.now owner.exit.now drains.entry.now drains.exit.now result }
         { drain_all(rt, alloc, inbox, owner, drains, most, wanted) },
-    );
-    drained
+    )
 }

@@ -1,7 +1,6 @@
 //! Posters and the inbox's owner meet: the posters post while the owner drains, and then the inbox
 //! is ended.
 ghost use Rattle.std.specs.Prelude.{◌≡◌, ◌≤◌, ◌<◌, ℕ, [], true, length, map, slice_index_or, vec_capacity, All, IfOk};
-ghost use Rattle.std.specs.Thread.{IsSync};
 ghost use Rattle.rt_inbox.specs.Ends.{IsOwnerOf, taken_of};
 ghost use Rattle.rt_model.specs.Lists.{joined};
 ghost use Rattle.rt_inbox.specs.Posted.{AllPosted, AllReady, notifier_of};
@@ -12,14 +11,14 @@ use crate::sitting::Sitting;
 use author_calls::App;
 use rt_edits::WriteMutations;
 use rt_inbox::{
-    Drained, Gate, Inbox, Notifier, Owner, Post, Poster, Taken, finish, post_lists, posters_for,
+    Drained, Gate, Inbox, Notifier, Owner, Post, Poster, Taken, finish, post_beside, posters_for,
 };
 use rt_values::{List, OutOfMemory};
 use run_outside::Ended;
 use run_reports::Limits;
 use std::alloc::Global;
 use std::sync::Wait;
-use std::thread::{Threads, join_mut};
+use std::thread::Threads;
 
 /// So many drains that found nothing end the owner's part.
 const NONES: u64 = 1000;
@@ -144,20 +143,18 @@ fn beside<R: Threads + Wait + Sync, A: App, G: Gate, M: WriteMutations>(
         (M.taken sink.old) (M.faults sink.old) (M.taken sink.new) (M.faults sink.new)
         sitting.old sitting.new result }
 {
-    let (_, ended) = join_mut(
+    post_beside(
         rt,
-        &mut ||
-            requires { IsSync R.row × AllReady inbox.now posters.now }
-            ensures { AllPosted inbox.entry.now posters.entry.now posters.exit.now }
-        { post_lists(rt, inbox, gate, posters) },
+        inbox,
+        gate,
+        posters,
         &mut || -> Result<(), Ended>
             requires { IsOwnerOf inbox.now owner.now }
             ensures { OwnsAs (A.meaning app.entry.now) limits inbox.entry.now owner.entry.now owner.exit.now
                 (M.taken sink.entry.now) (M.faults sink.entry.now) (M.taken sink.exit.now) (M.faults sink.exit.now)
                 sitting.entry.now sitting.exit.now result }
         { own(rt, alloc, inbox, owner, app, sitting, sink, limits, wanted) },
-    );
-    ended
+    )
 }
 
 /// Whether all posts of all posters were accepted.

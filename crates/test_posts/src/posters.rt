@@ -1,17 +1,16 @@
 //! Threads overlap: each waits for what another does, and both must be seen.
 ghost use Rattle.std.specs.Prelude.{◌≡◌, ◌≤◌, length};
-ghost use Rattle.std.specs.Thread.{IsSync};
 ghost use Rattle.rt_inbox.specs.Ends.{IsOwnerOf};
 ghost use Rattle.rt_inbox.specs.Posted.{AllReady, AllPosted};
 
-use rt_inbox::{Gate, Inbox, Owner, Post, Poster, meet, post_lists, posters_for};
+use rt_inbox::{Gate, Inbox, Owner, Post, Poster, meet, post_beside, posters_for};
 use rt_values::{List, ScopeId};
 use std::alloc::Global;
 use std::process::Abort;
 use std::sync::Wait;
 use std::sync::atomic::Ordering::SeqCst;
 use std::sync::atomic::{AtomicBool, AtomicU64};
-use std::thread::{Threads, join_mut, yield_now};
+use std::thread::{Threads, yield_now};
 
 /// A wait takes at most so many turns.
 const TURNS: u64 = 10_000_000;
@@ -174,13 +173,7 @@ fn post_while<R: Threads + Wait + Sync>(
 )
     requires ready { AllReady inbox.now posters.old }
 {
-    join_mut(
-        rt,
-        &mut ||
-            requires { IsSync R.row × AllReady inbox.now posters.now }
-        { post_lists(rt, inbox, gate, posters) },
-        &mut || gate.come(),
-    );
+    post_beside(rt, inbox, gate, posters, &mut || gate.come());
 }
 
 #[test]
