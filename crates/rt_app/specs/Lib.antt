@@ -100,3 +100,6 @@ pub use Rattle.run_state.specs.Mirror as StateMirror
 pub use Rattle.run_state.specs.Outputs
 pub use Rattle.rt_boundary.specs.Seen as BoundarySeen
 pub use Rattle.tree_edits.specs.Documents
+pub use Rattle.rt_inbox.specs.Ends as InboxEnds
+pub use Rattle.rt_inbox.specs.Gathered
+pub use Rattle.rt_inbox.specs.Posted as Posters

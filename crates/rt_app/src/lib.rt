@@ -38,7 +38,10 @@ pub use rt_edits::{
     DocAttr, DocFault, DocKind, DocNode, Document, Edit, FailingMutations, Mutations,
     NoOpMutations, SinkError, WriteMutations,
 };
-pub use rt_inbox::{Gate, Inbox, NoGate, Notifier, Owner, Refused, Taken, finish};
+pub use rt_inbox::{
+    Bell, Gate, Inbox, NoGate, Notifier, Owner, Poster, Refused, Taken, finish, post_beside,
+    posters_for,
+};
 pub use rt_session::session;
 pub use run_records::Firsts;
 pub use run_reports::{Counter, Entry, Fault, Input, Limits, Msg, Post, Report, SessionFault};
