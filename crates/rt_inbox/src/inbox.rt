@@ -5,11 +5,10 @@ ghost use Rattle.rt_inbox.specs.declared.view.View.TheVariants.{Owning};
 ghost use Rattle.rt_inbox.specs.Ends.{IsNotifierOf, IsOwnerOf, IsMade, AreNumbered, EachAt};
 ghost use Rattle.rt_inbox.specs.Ends.{nones_of, posters_of, posts_of, taken_of};
 
-use crate::line::{Line, Seat, make, open};
+use crate::line::{Line, OwnerSeat, make, open};
 use crate::notifier::Notifier;
 use crate::owner::Owner;
 use rt_values::{List, OutOfMemory};
-use run_counted::Counted;
 use std::alloc::Global;
 
 /// The queue into which posters post and from which the owner takes. Threads share it by reference.
@@ -37,11 +36,11 @@ impl Inbox {
         ensures numbers { IfOk result (λ r. AreNumbered r.2) }
         ensures nothing_posted { IfOk result (λ r. All (λ n. posts_of n ≡ []) r.2) }
     {
-        let (line, mut pass) = open(alloc)?;
+        let (line, mut seat) = open(alloc)?;
         let inbox = Inbox { line, posters };
-        let notifiers = make_all(alloc, &inbox, &mut pass)?;
+        let notifiers = make_all(alloc, &inbox, &mut seat)?;
         let owner = Owner {
-            seat: Counted::of(pass),
+            seat,
             taken: Vec::new(alloc),
         };
         Ok((inbox, owner, List::from_vec(notifiers)))
@@ -49,12 +48,17 @@ impl Inbox {
 }
 
 // Makes the posters' passes, one after another.
-fn make_all(alloc: Global, inbox: &Inbox, owner: &mut Seat) -> Result<Vec<Notifier>, OutOfMemory>
-    requires own { IsSegPassOf inbox.now.line owner.old }
-    requires first { owner.old.me.view.client ≡ Owning [] 0 [] }
-    ensures own { IfOk result (λ r. IsSegPassOf inbox.now.line owner.new) }
+fn make_all(
+    alloc: Global,
+    inbox: &Inbox,
+    owner: &mut OwnerSeat,
+) -> Result<Vec<Notifier>, OutOfMemory>
+    requires own { IsSegPassOf inbox.now.line owner.old.pass }
+    requires first { owner.old.pass.me.view.client ≡ Owning [] 0 [] }
+    ensures own { IfOk result (λ r. IsSegPassOf inbox.now.line owner.new.pass) }
     ensures owner { IfOk result
-        (λ r. owner.new.me.view.client ≡ Owning [] (posters_of inbox.now) []) }
+        (λ r. owner.new.pass.me.view.client ≡ Owning [] (posters_of inbox.now) []) }
+    ensures nones { IfOk result (λ r. owner.new.nones ≡ owner.old.nones) }
     ensures count { IfOk result (λ r. length r.items ≡ posters_of inbox.now) }
     ensures each { IfOk result (λ r. EachAt (IsMade inbox.now) r.items) }
 {

@@ -80,23 +80,28 @@ pub type Line = RuledSegQueue<Msg, View, Fits>;
 /// What one thread knows of the queue. It has no bytes.
 pub type Seat = SegPass<Msg, View>;
 
+/// What the owner knows of the queue, with the count of its pops that found none.
+pub type OwnerSeat = Counted<Msg, View>;
+
 /// An empty queue, with the owner's pass.
-pub fn open(alloc: Global) -> Result<(Line, Seat), AllocError>
-    ensures own { IfOk result (λ r. IsSegPassOf r.0 r.1) }
-    ensures view { IfOk result (λ r. r.1.me.view.client ≡ Owning [] 0 []) }
+pub fn open(alloc: Global) -> Result<(Line, OwnerSeat), AllocError>
+    ensures own { IfOk result (λ r. IsSegPassOf r.0 r.1.pass) }
+    ensures view { IfOk result (λ r. r.1.pass.me.view.client ≡ Owning [] 0 []) }
+    ensures nones { IfOk result (λ r. r.1.nones ≡ 0) }
 {
-    Line::with_rule(alloc)
+    OwnerSeat::open::<Fits>(alloc)
 }
 
 /// Makes the next poster's pass.
-pub fn make(line: &Line, owner: &mut Seat) -> Seat
-    requires own { IsSegPassOf line.now owner.old }
-    requires owns { Owns owner.old.me.view.client }
-    ensures own { IsSegPassOf line.now owner.new × IsSegPassOf line.now result }
-    ensures owner { owner.new.me.view.client ≡ with_poster owner.old.me.view.client }
-    ensures poster { result.me.view.client ≡ next_poster owner.old.me.view.client }
+pub fn make(line: &Line, owner: &mut OwnerSeat) -> Seat
+    requires own { IsSegPassOf line.now owner.old.pass }
+    requires owns { Owns owner.old.pass.me.view.client }
+    ensures own { IsSegPassOf line.now owner.new.pass × IsSegPassOf line.now result }
+    ensures owner { owner.new.pass.me.view.client ≡ with_poster owner.old.pass.me.view.client }
+    ensures poster { result.me.view.client ≡ next_poster owner.old.pass.me.view.client }
+    ensures nones { owner.new.nones ≡ owner.old.nones }
 {
-    line.another::<Passing>(owner)
+    owner.another::<Fits, Passing>(line)
 }
 
 /// Joins a poster's pass to the owner's.
@@ -140,7 +145,7 @@ pub fn pop<R: Wait>(rt: &R, line: &Line, owner: &mut Seat) -> Option<Msg>
 }
 
 /// The same of the owner's counted pass. Where there is none the count rises.
-pub fn pop_counted<R: Wait>(rt: &R, line: &Line, owner: &mut Counted<Msg, View>) -> Option<Msg>
+pub fn pop_counted<R: Wait>(rt: &R, line: &Line, owner: &mut OwnerSeat) -> Option<Msg>
     requires own { IsSegPassOf line.now owner.old.pass }
     requires owns { Owns owner.old.pass.me.view.client }
     requires countable { owner.old.nones < 2 ^ 64 - 1 }

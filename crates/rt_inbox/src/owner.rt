@@ -4,11 +4,9 @@ ghost use Rattle.std.specs.Prelude.{vec_capacity, vec_len, IfNone, IfOk, IfSome,
 ghost use Rattle.rt_inbox.specs.Ends.{IsOwnerOf, nones_of, taken_of};
 
 use crate::inbox::Inbox;
-use crate::line::pop_counted;
+use crate::line::{OwnerSeat, pop_counted};
 use crate::message::{Drained, Msg};
-use crate::view::View;
 use rt_values::{List, OutOfMemory};
-use run_counted::Counted;
 use std::alloc::Global;
 use std::sync::Wait;
 
@@ -16,7 +14,7 @@ use std::sync::Wait;
 /// found none.
 #[derive(Drop)]
 pub struct Owner {
-    pub(crate) seat: Counted<Msg, View>,
+    pub(crate) seat: OwnerSeat,
     pub(crate) taken: Vec<Msg>,
 }
 

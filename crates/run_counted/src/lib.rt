@@ -1,17 +1,18 @@
 //! A pass that counts its pops that found none, whatever the queue's rule.
 #![tactic(auto)]
 
-ghost use Rattle.std.specs.Prelude.{◌≡◌, ◌+◌, ◌-◌, ◌<◌, ◌^◌, [], IfNone, IfSome};
-ghost use Rattle.crossbeam_queue.specs.Fifo.{Learns, Pops};
+ghost use Rattle.std.specs.Prelude.{◌≡◌, ◌+◌, ◌-◌, ◌<◌, ◌^◌, ◌∷◌, [], IfNone, IfOk, IfSome};
+ghost use Rattle.crossbeam_queue.specs.Fifo.{Forks, Learns, Pops};
 ghost use Rattle.crossbeam_queue.specs.SegTies.{IsSegPassOf};
 
-use crossbeam_queue::protocol::{Lesson, Outcome, Protocol};
+use crossbeam_queue::protocol::{Lesson, Outcome, Protocol, Split};
 use crossbeam_queue::{RuledSegQueue, SegPass};
+use std::alloc::{AllocError, Global};
 use std::sync::Wait;
 
-/// A pass with the count of its pops that found none. Its fields are private, so no code but `pop`
-/// raises the count; and `pop` is of any rule, so that nothing but the queue's own answer gives it
-/// the fact that it ensures where it finds none.
+/// A pass with the count of its pops that found none. Its fields are private and it is made with its
+/// queue alone, so no code but `pop` changes the count; and `pop` is of any rule, so that nothing but
+/// the queue's own answer gives it the fact that it ensures where it finds none.
 #[derive(Drop)]
 pub struct Counted<T, V> {
     pass: SegPass<T, V>,
@@ -19,12 +20,33 @@ pub struct Counted<T, V> {
 }
 
 impl<T: Drop, V> Counted<T, V> {
-    /// The pass, with none counted.
-    pub fn of(pass: SegPass<T, V>) -> Counted<T, V>
-        ensures pass { result.pass ≡ pass }
-        ensures nones { result.nones ≡ 0 }
+    /// An empty queue with its first pass, by which nothing was popped.
+    pub fn open<P: Protocol<T, V>>(
+        alloc: Global,
+    ) -> Result<(RuledSegQueue<T, V, P>, Counted<T, V>), AllocError>
+        requires rule { P.holds [] (P.first ∷ []) }
+        ensures queue { IfOk result (λ r. IsSegPassOf r.0 r.1.pass) }
+        ensures view { IfOk result (λ r. r.1.pass.me.view.client ≡ P.first) }
+        ensures nones { IfOk result (λ r. r.1.nones ≡ 0) }
     {
-        Counted { pass, nones: 0 }
+        let (line, pass) = RuledSegQueue::with_rule(alloc)?;
+        Ok((line, Counted { pass, nones: 0 }))
+    }
+
+    /// Another pass, made of this one. Its pops aren't counted.
+    pub fn another<P: Protocol<T, V>, M: Split<V>>(
+        &mut self,
+        line: &RuledSegQueue<T, V, P>,
+    ) -> SegPass<T, V>
+        requires queue { IsSegPassOf line.now self.old.pass }
+        requires rule { Forks P.holds self.old.pass.id self.old.pass.me.view.client
+            (M.left self.old.pass.me.view.client) (M.right self.old.pass.me.view.client) }
+        ensures queue { IsSegPassOf line.now self.new.pass × IsSegPassOf line.now result }
+        ensures left { self.new.pass.me.view.client ≡ M.left self.old.pass.me.view.client }
+        ensures right { result.me.view.client ≡ M.right self.old.pass.me.view.client }
+        ensures nones { self.new.nones ≡ self.old.nones }
+    {
+        line.another::<M>(&mut self.pass)
     }
 
     /// How many pops have found none.
