@@ -14,7 +14,9 @@ use run_answers::{DomFault, Stage, context_target, has_cell};
 use run_reports::Fault;
 
 impl<A: App> VirtualDom<A> {
-    /// Marks a scope, which is seen at once. One that isn't live changes nothing. It takes no memory.
+    /// Marks a scope, which is seen at once; of one that isn't live nothing changes. It takes no
+    /// memory. Refused of a dom that isn't built or has failed, and of no other; it stays as it
+    /// was. In dioxus-core `VirtualDom::mark_dirty`, and the runtime's `needs_update`, which posts.
     pub fn mark_dirty(&mut self, id: ScopeId) -> Result<(), DomFault>
         ensures marked { Does (λ app. A.meaning app) (λ w. marked_now w id.0) self.old self.new result }
         ensures refused { WantsBuilt WantsNothing self.old self.new result }
@@ -32,7 +34,9 @@ impl<A: App> VirtualDom<A> {
         }
     }
 
-    /// Marks every live scope, which are seen at once. It takes no memory.
+    /// Marks every live scope, which are seen at once. It takes no memory. Refused of a dom that
+    /// isn't built or has failed, and of no other; it stays as it was. In dioxus-core
+    /// `VirtualDom::mark_all_dirty`.
     pub fn mark_all_dirty(&mut self) -> Result<(), DomFault>
         ensures marked { Does (λ app. A.meaning app) (λ w. all_marked_now w.scopes w)
             self.old self.new result }
@@ -52,7 +56,10 @@ impl<A: App> VirtualDom<A> {
         }
     }
 
-    /// Marks or wakes what a reactive context targets. False where the context is gone.
+    /// Posts a mark or wake of what a reactive context targets, which the next look sees. False
+    /// where the context is gone, and then nothing changes. It takes no memory. Refused of a dom
+    /// that isn't built or has failed, and of no other; it stays as it was. In dioxus-core
+    /// `ReactiveContext::mark_dirty`.
     pub fn mark_context(&mut self, c: ReactiveContext) -> Result<bool, DomFault>
         ensures posted { Does (λ app. A.meaning app) (λ w. context_posted w c.0)
             self.old self.new result }
@@ -89,7 +96,9 @@ impl<A: App> VirtualDom<A> {
         }
     }
 
-    /// Writes a cell and marks its readers. False where it isn't there.
+    /// Writes a cell and marks its readers. False where it isn't there, and then nothing changes.
+    /// Refused of a dom that isn't built or has failed, which stays as it was; after want of memory
+    /// it has failed. dioxus-core has no such call: cells are a library's there.
     pub fn write(&mut self, cell: u64, value: A::Value) -> Result<bool, DomFault>
         ensures wrote { Does (λ app. A.meaning app) (λ w. write_cell w cell value)
             self.old self.new result }

@@ -11,7 +11,9 @@ use run_answers::{DomFault, Stage};
 use run_reports::Fault;
 
 impl<A: App> VirtualDom<A> {
-    /// The dom whose root wrapper provides a value of a kind. A refusal drops the dom.
+    /// The dom whose root wrapper provides a value of a kind. Refused for want of memory alone. A
+    /// refusal drops the dom. In dioxus-core `VirtualDom::with_root_context`, where the kind is the
+    /// value's type.
     pub fn with_root_context(self, kind: u32, value: A::Value) -> Result<VirtualDom<A>, Fault>
         ensures provided { IfOk result (λ dom.
             ProvidesAtRoot (λ app. A.meaning app) kind value self dom) }
@@ -28,7 +30,9 @@ impl<A: App> VirtualDom<A> {
         Ok(dom)
     }
 
-    /// The root wrapper provides a value of a kind, before the build too.
+    /// The root wrapper provides a value of a kind, before the build too. Refused of a dom that has
+    /// failed, and for want of memory; all stays as it was. In dioxus-core
+    /// `VirtualDom::provide_root_context`, where the kind is the value's type.
     pub fn provide_root_context(&mut self, kind: u32, value: A::Value) -> Result<(), DomFault>
         ensures provided { OnOk result
             (ProvidesAtRoot (λ app. A.meaning app) kind value self.old self.new) }

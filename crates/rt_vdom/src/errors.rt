@@ -14,8 +14,10 @@ use run_reports::{Counter, Fault};
 use tree_nodes::CapturedError;
 
 impl<A: App> VirtualDom<A> {
-    /// An error with this text comes to the nearest error boundary from a scope upwards, which keeps it
-    /// where it kept none.
+    /// An error with this text comes to the nearest error boundary from a scope upwards, which
+    /// keeps it where it kept none. Refused of a dom that isn't built or has failed, where errors
+    /// have no number left, and for want of memory; all stays as it was. In dioxus-core the
+    /// runtime's `throw_error`, which takes an error.
     pub fn throw_error(&mut self, id: ScopeId, text: Text) -> Result<(), DomFault>
         ensures thrown { Does (λ app. A.meaning app) (λ w. thrown_by w id.0 text)
             self.old self.new result }
@@ -32,6 +34,9 @@ impl<A: App> VirtualDom<A> {
     }
 
     /// An error with this text comes to an error boundary, which keeps it where it kept none.
+    /// Refused of a dom that isn't built or has failed, where errors have no number left, and for
+    /// want of memory; all stays as it was. In dioxus-core `ErrorContext::insert_error`, which
+    /// takes an error.
     pub fn insert_error(&mut self, c: ErrorContext, text: Text) -> Result<(), DomFault>
         ensures thrown { Does (λ app. A.meaning app) (λ w. thrown_by w c.scope.0 text)
             self.old self.new result }
@@ -72,6 +77,8 @@ impl<A: App> VirtualDom<A> {
     }
 
     /// The error that a boundary keeps goes, and its readers are marked, also where it kept none.
+    /// Refused of a dom that isn't built or has failed, and for want of memory; all stays as it
+    /// was. In dioxus-core `ErrorContext::clear_errors`.
     pub fn clear_errors(&mut self, c: ErrorContext) -> Result<(), DomFault>
         ensures cleared { Does (λ app. A.meaning app) (λ w. clear_error w c.scope.0)
             self.old self.new result }

@@ -14,7 +14,10 @@ use tree_nodes::Event;
 
 impl<A: App> VirtualDom<A> {
     /// Calls the listeners that hear an event at an element: where it propagates from the element
-    /// outwards until one stops it, else those of the element alone. The event as the last one left it.
+    /// outwards until one stops it, else those of the element alone. The event as the last one left
+    /// it. Refused of a dom that isn't built or has failed, which stays as it was; after a fault of
+    /// a listener's call and after want of memory it has failed. In dioxus-core the runtime's
+    /// `handle_event`, which takes data and a flag and answers nothing.
     pub fn handle_event(
         &mut self,
         name: &str,
@@ -38,7 +41,7 @@ impl<A: App> VirtualDom<A> {
         }
     }
 
-    /// The same, by a text.
+    /// Calls the listeners that hear an event whose name is a text.
     fn hear(
         &mut self,
         name: &Text,

@@ -22,7 +22,8 @@ use run_shown::{Look, nodes_of};
 use tree_nodes::Place;
 
 impl<A: App> VirtualDom<A> {
-    /// A live scope. None where it isn't live.
+    /// A live scope. None where it isn't live; no dom is refused. In dioxus-core
+    /// `VirtualDom::get_scope`.
     pub fn get_scope(&self, id: ScopeId) -> Option<ScopeState<'_, A>>
         ensures scope { (g : _) →
             option_map scope_seen result ≡ at (StateIn g self.now).scopes id.0 }
@@ -31,7 +32,8 @@ impl<A: App> VirtualDom<A> {
         get_scope(&self.machine.scopes.state, id)
     }
 
-    /// The root wrapper, scope 0. None at most of a dom that has failed.
+    /// The root wrapper, scope 0. None at most of a dom that has failed; no dom is refused. In
+    /// dioxus-core `VirtualDom::base_scope`.
     pub fn base_scope(&self) -> Option<ScopeState<'_, A>>
         ensures scope { (g : _) → option_map scope_seen result ≡ at (StateIn g self.now).scopes 0 }
         ensures number { IfSome result (λ state. (state.id).0 ≡ 0) }
@@ -40,8 +42,8 @@ impl<A: App> VirtualDom<A> {
         get_scope(&self.machine.scopes.state, ScopeId(0))
     }
 
-    /// All that the dom keeps. Wherever it stands for a state each live scope is current, or it is owed a
-    /// run, or was passed over.
+    /// All that the dom keeps. Wherever it stands for a state each live scope is current, or it is
+    /// owed a run, or was passed over. dioxus-core has no such call.
     pub fn scopes(&self) -> &Scopes<A>
         ensures scopes { result.now ≡ self.now.machine.scopes }
         ensures current { IsCurrent (λ app. A.meaning app) self.now }
@@ -49,7 +51,8 @@ impl<A: App> VirtualDom<A> {
         &self.machine.scopes
     }
 
-    /// The parent of a live scope. None of the root wrapper, and of a scope that isn't live.
+    /// The parent of a live scope. None of the root wrapper, and of a scope that isn't live; no dom
+    /// is refused. In dioxus-core the runtime's `parent_scope`.
     pub fn parent_scope(&self, scope: ScopeId) -> Option<ScopeId>
         ensures parent { (g : _) → number_of result
             ≡ model.parent_of (StateIn g self.now).scopes scope.0 }
@@ -60,7 +63,8 @@ impl<A: App> VirtualDom<A> {
         }
     }
 
-    /// Whether a live scope stands below another one. No scope stands below itself.
+    /// Whether a live scope stands below another one. No scope stands below itself. In dioxus-core
+    /// the runtime's `is_descendant_of`.
     pub fn is_descendant_of(&self, us: ScopeId, other: ScopeId) -> bool
         ensures below { (g : _) →
             result ≡ queries.is_descendant (StateIn g self.now) us.0 other.0 }
@@ -68,8 +72,8 @@ impl<A: App> VirtualDom<A> {
         is_descendant(&self.machine.scopes.state, us.0, other.0)
     }
 
-    /// Where the node of a number stands. None exactly where no live scope, hidden ones included, has a
-    /// node with that number.
+    /// Where the node of a number stands. None exactly where no live scope, hidden ones included,
+    /// has a node with that number. dioxus-core has no such call.
     pub fn place_of(&self, id: ElementId) -> Option<&Place>
         ensures place { (g : _) → option_map named_in (option_copied result)
             ≡ option_map named_of (queries.node_place (StateIn g self.now) id.0) }
@@ -77,7 +81,8 @@ impl<A: App> VirtualDom<A> {
         self.machine.scopes.state.place_of(id.0)
     }
 
-    /// The number of scopes above a live scope. None where it isn't live.
+    /// The number of scopes above a live scope. None where it isn't live; no dom is refused. In
+    /// dioxus-core the runtime's `height`.
     pub fn height(&self, id: ScopeId) -> Option<u64>
         ensures height { (g : _) → result
             ≡ option_map (λ scope. scope.height) (at (StateIn g self.now).scopes id.0) }
@@ -88,7 +93,8 @@ impl<A: App> VirtualDom<A> {
         }
     }
 
-    /// The scope with which a task ends. None where the task isn't live.
+    /// The scope with which a task ends. None where the task isn't live; no dom is refused.
+    /// dioxus-core has no such call.
     pub fn task_scope(&self, task: Task) -> Option<ScopeId>
         ensures scope { (g : _) → number_of result
             ≡ option_map (λ row. row.scope) (at (StateIn g self.now).tasks task.0) }
@@ -99,7 +105,8 @@ impl<A: App> VirtualDom<A> {
         }
     }
 
-    /// The task that was polled when a live task was spawned. None where there was none.
+    /// The task that was polled when a live task was spawned. None where there was none, and where
+    /// the task isn't live. In dioxus-core the runtime's `parent_task`.
     pub fn parent_task(&self, task: Task) -> Option<Task>
         ensures parent { (g : _) → option_map (λ parent. parent.0) result
             ≡ option_and_then (λ row. row.parent) (at (StateIn g self.now).tasks task.0) }
@@ -110,7 +117,8 @@ impl<A: App> VirtualDom<A> {
         }
     }
 
-    /// The nearest suspense boundary from a scope upwards. None where there is none.
+    /// The nearest suspense boundary from a scope upwards. None where there is none. In dioxus-core
+    /// the runtime's `suspense_context`.
     pub fn suspense_context(&self, scope: ScopeId) -> Option<SuspenseContext>
         ensures nearest { (g : _) → option_map (λ context. context.scope.0) result
             ≡ model.suspense_context (StateIn g self.now) scope.0 }
@@ -123,7 +131,9 @@ impl<A: App> VirtualDom<A> {
         }
     }
 
-    /// What the nearest scope provides of a kind, from this one upwards. None where no scope does.
+    /// What the nearest scope provides of a kind, from this one upwards. None where no scope does;
+    /// no reader is noted. In dioxus-core the runtime's `consume_context`, which answers a value of
+    /// a type.
     pub fn consume_context(&self, id: ScopeId, kind: u32) -> Option<&A::Value>
         ensures provided { (g : _) → option_copied result
             ≡ queries.provided_above (StateIn g self.now) id.0 kind }
@@ -131,7 +141,8 @@ impl<A: App> VirtualDom<A> {
         provided_above(&self.machine.scopes.state, id.0, kind)
     }
 
-    /// What a scope itself provides of a kind. None where it provides none, and where it isn't live.
+    /// What a scope itself provides of a kind. None where it provides none, and where it isn't
+    /// live; no reader is noted. In dioxus-core the runtime's `has_context`.
     pub fn has_context(&self, id: ScopeId, kind: u32) -> Option<&A::Value>
         ensures provided { (g : _) → option_copied result
             ≡ queries.provided_here (StateIn g self.now) id.0 kind }
@@ -139,8 +150,8 @@ impl<A: App> VirtualDom<A> {
         provided_here(&self.machine.scopes.state, id.0, kind)
     }
 
-    /// The nodes of a scope as the document has them, or would have them where the scope is hidden. None
-    /// where it isn't live.
+    /// The nodes of a scope as the document has them, or would have them where the scope is hidden.
+    /// None where it isn't live. Refused for want of memory alone. dioxus-core has no such call.
     pub fn nodes_of(&self, id: ScopeId) -> Result<Option<List<DocNode>>, OutOfMemory>
         ensures nodes { IfOk result (λ found. IfSome found (λ nodes. (g : _) →
             forest_of nodes ≡ views.nodes_of (StateIn g self.now) id.0)) }

@@ -21,8 +21,8 @@ use run_rounds::{build_report, close};
 use std::alloc::Global;
 
 impl<A: App> VirtualDom<A> {
-    /// A dom that isn't built yet, of the application's root with the props that it has where none are
-    /// handed in.
+    /// A dom that isn't built yet, of the application's root with the props that it has where none
+    /// are handed in. Refused for want of memory alone. In dioxus-core `VirtualDom::new`.
     pub fn new(alloc: Global, app: A, limits: Limits) -> Result<VirtualDom<A>, Fault>
         ensures started { IfOk result (λ dom.
             IsStarted (λ app. A.meaning app) app (A.props_of_none app) ones [] limits dom) }
@@ -32,7 +32,8 @@ impl<A: App> VirtualDom<A> {
         VirtualDom::new_with_props(alloc, app, props, limits)
     }
 
-    /// A dom that isn't built yet, of the application's root with these props.
+    /// A dom that isn't built yet, of the application's root with these props. Refused for want of
+    /// memory alone. In dioxus-core `VirtualDom::new_with_props`.
     pub fn new_with_props(
         alloc: Global,
         app: A,
@@ -53,7 +54,8 @@ impl<A: App> VirtualDom<A> {
         })
     }
 
-    /// A dom that isn't built yet, whose counters begin at these numbers.
+    /// A dom that isn't built yet, whose counters begin at these numbers. Refused for want of
+    /// memory alone. dioxus-core has no such call: its arenas number by themselves.
     pub fn new_from(
         alloc: Global,
         app: A,
@@ -75,8 +77,9 @@ impl<A: App> VirtualDom<A> {
         })
     }
 
-    /// A dom that is built, of the application's root with the props that it has where none are handed
-    /// in. What it writes goes nowhere.
+    /// A dom that is built, of the application's root with the props that it has where none are
+    /// handed in. What it writes goes nowhere. Refused where the build is; no dom is left then. In
+    /// dioxus-core `VirtualDom::prebuilt`.
     pub fn prebuilt(alloc: Global, app: A, limits: Limits) -> Result<VirtualDom<A>, Fault>
         ensures built { IfOk result (λ dom.
             Prebuilt (λ app. A.meaning app) app (A.props_of_none app) limits dom) }
@@ -90,7 +93,9 @@ impl<A: App> VirtualDom<A> {
         Ok(dom)
     }
 
-    /// Runs the root and all below it, and writes what shows. Nothing is polled.
+    /// Runs the root and all below it, and writes what shows. Nothing is polled. Refused of a dom
+    /// that is built or has failed, which stays as it was; after a fault of the run it has failed.
+    /// In dioxus-core `VirtualDom::rebuild`, which answers nothing.
     pub fn rebuild<M: WriteMutations>(&mut self, to: &mut M) -> Result<Report, DomFault>
         ensures builds { Builds (λ app. A.meaning app) (M.taken to.old) (M.taken to.new)
             self.old self.new result }
@@ -141,7 +146,9 @@ impl<A: App> VirtualDom<A> {
         }
     }
 
-    /// The same, with what it writes going nowhere.
+    /// Builds as `rebuild` does; what it writes goes nowhere. Refused of a dom that is built or has
+    /// failed, which stays as it was; after a fault of the run it has failed. In dioxus-core
+    /// `VirtualDom::rebuild_in_place`.
     pub fn rebuild_in_place(&mut self) -> Result<Report, DomFault>
         ensures builds { Builds (λ app. A.meaning app) None None self.old self.new result }
         ensures counts { IfOk result (λ report. CountsLog report) }
@@ -154,7 +161,9 @@ impl<A: App> VirtualDom<A> {
         self.rebuild(&mut to)
     }
 
-    /// The same, answering what it writes.
+    /// Builds as `rebuild` does, and answers what it writes. Refused of a dom that is built or has
+    /// failed, which stays as it was; after a fault of the run it has failed. In dioxus-core
+    /// `VirtualDom::rebuild_to_vec`.
     pub fn rebuild_to_vec(&mut self) -> Result<Mutations, DomFault>
         ensures builds { BuildsToList (λ app. A.meaning app)
             (λ to. ⟦<Mutations as WriteMutations>⟧.taken to) self.old self.new result }
@@ -168,8 +177,9 @@ impl<A: App> VirtualDom<A> {
         Ok(to)
     }
 
-    /// Removes all scopes, from the greatest order down, with their clean-ups. Of a dom that has failed
-    /// no clean-up is called. The application.
+    /// Removes all scopes, from the greatest order down, with their clean-ups. Of a dom that has
+    /// failed no clean-up is called. The application. A fault of a clean-up, and want of memory,
+    /// drop all that is left. In dioxus-core the drop of a dom calls the clean-ups.
     pub fn close(self) -> Result<A, Fault>
         ensures handed { IfOk result (λ app. app ≡ self.app) }
         ensures failed { self.stage ≡ Stage.Failed → result ≡ Ok self.app }
@@ -189,7 +199,7 @@ impl<A: App> VirtualDom<A> {
     }
 }
 
-/// The same of a dom's parts.
+/// Closes a dom by its parts.
 fn close_all<A: App>(
     machine: &mut Machine<A>,
     app: A,

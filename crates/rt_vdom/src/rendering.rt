@@ -19,6 +19,9 @@ use run_rounds::run_report;
 
 impl<A: App> VirtualDom<A> {
     /// A look; then polls while no scope is seen, and where no task is queued a batch of effects.
+    /// No scope is run. Refused of a dom that isn't built or has failed, which stays as it was.
+    /// After a fault it has failed, unless units were spent: what is owed then stays, and a later
+    /// call goes on. In dioxus-core `VirtualDom::process_events`, which answers nothing.
     pub fn process_events(&mut self) -> Result<Report, DomFault>
         ensures runs { Runs (λ app. A.meaning app) Events None None
             self.old self.new result }
@@ -33,7 +36,10 @@ impl<A: App> VirtualDom<A> {
         self.run(Until::Events, &mut to)
     }
 
-    /// The same, and then work until no scope is seen and no task is queued.
+    /// Does what `process_events` does, and then work until no scope is seen and no task is queued.
+    /// Refused of a dom that isn't built or has failed, which stays as it was. After a fault it has
+    /// failed, unless units were spent: what is owed then stays, and a later call goes on. In
+    /// dioxus-core `VirtualDom::render_immediate`, which answers nothing.
     pub fn render_immediate<M: WriteMutations>(&mut self, to: &mut M) -> Result<Report, DomFault>
         ensures runs { Runs (λ app. A.meaning app) Renders (M.taken to.old) (M.taken to.new)
             self.old self.new result }
@@ -49,7 +55,9 @@ impl<A: App> VirtualDom<A> {
         self.run(Until::Renders, to)
     }
 
-    /// The same, answering what it writes.
+    /// What `render_immediate` writes, as a list. Refused of a dom that isn't built or has failed,
+    /// which stays as it was. After a fault it has failed, unless units were spent: what is owed
+    /// then stays, and a later call goes on. In dioxus-core `VirtualDom::render_immediate_to_vec`.
     pub fn render_immediate_to_vec(&mut self) -> Result<Mutations, DomFault>
         ensures runs { RendersToList (λ app. A.meaning app)
             (λ to. ⟦<Mutations as WriteMutations>⟧.taken to) self.old self.new result }
@@ -63,7 +71,10 @@ impl<A: App> VirtualDom<A> {
         Ok(to)
     }
 
-    /// Work until nothing is owed.
+    /// Work until nothing is owed. Refused of a dom that isn't built or has failed, which stays as
+    /// it was. After a fault it has failed, unless units were spent: what is owed then stays, and a
+    /// later call goes on. dioxus-core has no such call: the caller loops over `wait_for_work` and
+    /// `render_immediate` there.
     pub fn settle<M: WriteMutations>(&mut self, to: &mut M) -> Result<Report, DomFault>
         ensures runs { Runs (λ app. A.meaning app) Settles (M.taken to.old) (M.taken to.new)
             self.old self.new result }
@@ -79,8 +90,10 @@ impl<A: App> VirtualDom<A> {
         self.run(Until::Settles, to)
     }
 
-    /// Takes messages in, and processes events. Pending where no scope is seen then and no message was
-    /// left to drain.
+    /// Takes messages in, and processes events. Pending where no scope is seen then and no message
+    /// was left to drain. Refused of a dom that isn't built or has failed, which stays as it was.
+    /// After a fault it has failed, unless units were spent: what is owed then stays, and a later
+    /// call goes on. In dioxus-core `VirtualDom::wait_for_work`, which waits.
     pub fn poll_work(&mut self, drained: &Drained) -> Result<Poll<()>, DomFault>
         ensures works { Works (λ app. A.meaning app) drained.now self.old self.new result }
         ensures refused { WantsBuilt Ran self.old self.new result }

@@ -18,9 +18,12 @@ use run_reports::Fault;
 use run_rounds::{poll_suspended, render_suspended};
 
 impl<A: App> VirtualDom<A> {
-    /// Takes the work that a suspended render may take: tasks that aren't a client's alone, and scopes
-    /// below a suspense boundary that isn't frozen. Other work is passed over. The boundaries that
-    /// turned to their children since the last answer, by height.
+    /// Takes the work that a suspended render may take: tasks that aren't a client's alone, and
+    /// scopes below a suspense boundary that isn't frozen. Other work is passed over. The
+    /// boundaries that turned to their children since the last answer, by height. Refused of a dom
+    /// that isn't built or has failed, which stays as it was. After a fault it has failed, unless
+    /// units were spent: what is owed then stays, and a later call goes on. In dioxus-core
+    /// `VirtualDom::render_suspense_immediate`, which writes nowhere.
     pub fn render_suspense_immediate<M: WriteMutations>(
         &mut self,
         to: &mut M,
@@ -64,8 +67,11 @@ impl<A: App> VirtualDom<A> {
         }
     }
 
-    /// Takes messages in, and while no scope is seen polls the tasks that a suspended render may poll.
-    /// Pending where no scope is seen then, a suspended task remains, and no message was left to drain.
+    /// Takes messages in, and while no scope is seen polls the tasks that a suspended render may
+    /// poll. Pending where no scope is seen then, a suspended task remains, and no message was left
+    /// to drain. Refused of a dom that isn't built or has failed, which stays as it was. After a
+    /// fault it has failed, unless units were spent: what is owed then stays, and a later call goes
+    /// on. In dioxus-core `VirtualDom::wait_for_suspense_work`, which waits.
     pub fn poll_suspense(&mut self, drained: &Drained) -> Result<Poll<()>, DomFault>
         ensures polls { PollsSuspended (λ app. A.meaning app) drained.now self.old self.new result }
         ensures refused { WantsBuilt Ran self.old self.new result }
@@ -98,15 +104,16 @@ impl<A: App> VirtualDom<A> {
         }
     }
 
-    /// The scopes that suspended renders passed over, in order, each once. A scope is listed until it
-    /// runs or is removed.
+    /// The scopes that suspended renders passed over, in order, each once. A scope is listed until
+    /// it runs or is removed. dioxus-core has no such call: it logs them.
     pub fn skipped(&self) -> &[u64]
         ensures skipped { (g : _) → result.now ≡ (StateIn g self.now).skipped }
     {
         self.machine.scopes.state.skipped.as_slice()
     }
 
-    /// Whether a task is live on which a body has suspended.
+    /// Whether a task is live on which a body has suspended; no dom is refused. In dioxus-core
+    /// `VirtualDom::suspended_tasks_remaining`.
     pub fn suspended_tasks_remaining(&self) -> bool
         ensures remains { (g : _) → result ≡ suspended_remains (StateIn g self.now).tasks }
     {
@@ -114,6 +121,8 @@ impl<A: App> VirtualDom<A> {
     }
 
     /// What is called when a boundary next turns to its children. Of a removed one nothing changes.
+    /// Refused of a dom that isn't built or has failed, and for want of memory; all stays as it
+    /// was. In dioxus-core `SuspenseContext::after_suspense_resolved`, which takes a closure.
     pub fn after_suspense_resolved(
         &mut self,
         c: SuspenseContext,
@@ -137,7 +146,9 @@ impl<A: App> VirtualDom<A> {
         }
     }
 
-    /// Freezes a boundary, so that a suspended render passes over what is below it.
+    /// Freezes a boundary, so that a suspended render passes over what is below it. Refused of a
+    /// dom that isn't built or has failed, and for want of memory; all stays as it was. In
+    /// dioxus-core `SuspenseContext::freeze`.
     pub fn freeze(&mut self, c: SuspenseContext) -> Result<(), DomFault>
         ensures frozen { Does (λ app. A.meaning app) (λ w.
             frozen_at w (model.suspense_context w c.scope.0)) self.old self.new result }

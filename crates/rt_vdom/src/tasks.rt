@@ -21,7 +21,9 @@ pub trait TaskCalls {
     /// The task's number.
     ghost number: { Self → ℕ };
 
-    /// Ends the task. False where it isn't live.
+    /// Ends the task. False where it isn't live, and then nothing changes. Refused of a dom that
+    /// isn't built or has failed, which stays as it was; after want of memory it has failed. In
+    /// dioxus-core `Task::cancel`, which answers nothing.
     fn cancel<A: App>(self, dom: &mut VirtualDom<A>) -> Result<bool, DomFault>
         ensures ended { Does (λ app. A.meaning app) (λ w. end w (number self)) dom.old dom.new result }
         ensures live { IfOk result (λ live. (g : _) →
@@ -30,7 +32,8 @@ pub trait TaskCalls {
         ensures owned { Keeps dom.old dom.new }
         ensures fails { FailsOn dom.new result };
 
-    /// Pauses the task, which isn't polled until it is resumed.
+    /// Pauses the task, which isn't polled until it is resumed. Refused of a dom that isn't built
+    /// or has failed, and of no other; it stays as it was. In dioxus-core `Task::pause`.
     fn pause<A: App>(&self, dom: &mut VirtualDom<A>) -> Result<(), DomFault>
         ensures activated { Does (λ app. A.meaning app)
             (λ w. activated w (number self.now) false (at w.tasks (number self.now)))
@@ -39,7 +42,8 @@ pub trait TaskCalls {
         ensures owned { Keeps dom.old dom.new }
         ensures kept { LeavesAll dom.old dom.new result };
 
-    /// Makes the task active. A change from paused to active wakes it.
+    /// Makes the task active. A change from paused to active wakes it. Refused of a dom that isn't
+    /// built or has failed, and of no other; it stays as it was. In dioxus-core `Task::resume`.
     fn resume<A: App>(&self, dom: &mut VirtualDom<A>) -> Result<(), DomFault>
         ensures activated { Does (λ app. A.meaning app)
             (λ w. activated w (number self.now) true (at w.tasks (number self.now)))
@@ -48,7 +52,8 @@ pub trait TaskCalls {
         ensures owned { Keeps dom.old dom.new }
         ensures kept { LeavesAll dom.old dom.new result };
 
-    /// Pauses the task or makes it active.
+    /// Pauses the task or makes it active. Refused of a dom that isn't built or has failed, and of
+    /// no other; it stays as it was. In dioxus-core `Task::set_active`.
     fn set_active<A: App>(&self, dom: &mut VirtualDom<A>, active: bool) -> Result<(), DomFault>
         ensures activated { Does (λ app. A.meaning app)
             (λ w. activated w (number self.now) active (at w.tasks (number self.now)))
@@ -57,7 +62,8 @@ pub trait TaskCalls {
         ensures owned { Keeps dom.old dom.new }
         ensures kept { LeavesAll dom.old dom.new result };
 
-    /// Wakes the task.
+    /// Wakes the task: it is queued at the next look. Refused of a dom that isn't built or has
+    /// failed, and of no other; it stays as it was. In dioxus-core `Task::wake`.
     fn wake<A: App>(&self, dom: &mut VirtualDom<A>) -> Result<(), DomFault>
         ensures woken { Does (λ app. A.meaning app) (λ w. post w (Woken (number self.now)))
             dom.old dom.new result }
@@ -65,13 +71,16 @@ pub trait TaskCalls {
         ensures owned { Keeps dom.old dom.new }
         ensures kept { LeavesAll dom.old dom.new result };
 
-    /// Whether the task is live and paused.
+    /// Whether the task is live and paused; no dom is refused. In dioxus-core `Task::paused`.
     fn paused<A: App>(&self, dom: &VirtualDom<A>) -> bool
         ensures paused { (g : _) → result
             ≡ (is_some (at (StateIn g dom.now).tasks (number self.now))
             && not (is_active (StateIn g dom.now) (number self.now))) };
 
-    /// Polls the task at once, where it is live and active. No look follows.
+    /// Polls the task at once, where it is live and active. No look follows. Ready where it isn't
+    /// live, pending where it is paused. Refused of a dom that isn't built or has failed, which
+    /// stays as it was; after a fault it has failed. In dioxus-core `Task::poll_now`, which may be
+    /// called inside of a body, too.
     fn poll_now<A: App>(&self, dom: &mut VirtualDom<A>) -> Result<Poll<()>, DomFault>
         ensures polled { PollsNow (λ app. A.meaning app) (number self.now) dom.old dom.new result }
         ensures refused { WantsBuilt RanNoUnit dom.old dom.new result }
@@ -112,7 +121,9 @@ impl TaskCalls for Task {
     }
 }
 
-/// A new task of a scope, as the dom's `spawn` makes it.
+/// A new task of a scope, as the dom's `spawn` makes it. None where the scope isn't live. Refused
+/// of a dom that isn't built or has failed, where tasks have no number left, and for want of
+/// memory; all stays as it was. In dioxus-core `Task::new`.
 pub fn task_new<A: App>(
     dom: &mut VirtualDom<A>,
     scope: ScopeId,
@@ -130,7 +141,9 @@ pub fn task_new<A: App>(
 }
 
 impl<A: App> VirtualDom<A> {
-    /// A new task of a scope, active and woken. None where the scope isn't live.
+    /// A new task of a scope, active and woken. None where the scope isn't live, and then nothing
+    /// changes. Refused of a dom that isn't built or has failed, where tasks have no number left,
+    /// and for want of memory; all stays as it was. In dioxus-core the runtime's `spawn`.
     pub fn spawn(&mut self, scope: ScopeId, state: A::TaskState) -> Result<Option<Task>, DomFault>
         ensures spawned { Does (λ app. A.meaning app) (λ w. spawned_by w scope.0 state false)
             self.old self.new result }
@@ -143,7 +156,10 @@ impl<A: App> VirtualDom<A> {
         self.spawn_kind(scope, state, false)
     }
 
-    /// The same, and suspended renders poll the task too.
+    /// A new task of a scope, active and woken, which suspended renders poll too. None where the
+    /// scope isn't live, and then nothing changes. Refused of a dom that isn't built or has failed,
+    /// where tasks have no number left, and for want of memory; all stays as it was. In dioxus-core
+    /// the runtime's `spawn_isomorphic`.
     pub fn spawn_isomorphic(
         &mut self,
         scope: ScopeId,
