@@ -19,7 +19,9 @@ use tree_nodes::Parts;
 
 impl<'a, P: Parts, K> Cx<'a, P, K> {
     /// The value of a cell, which is noted as read. A cell that the call made has its first value.
-    /// A number that isn't drawn yet has none, and isn't noted.
+    /// A number that isn't drawn yet has none, and isn't noted. Refused for want of memory alone,
+    /// which the turn keeps as its fault where it is the first. dioxus-core has no such call: cells
+    /// are a library's there.
     pub fn read(&mut self, alloc: Global, cell: u64) -> Result<Option<P::Value>, CxFault>
         ensures value { IfOk result (λ value.
             value ≡ read_value (world_of self.old.world) (call_of self.old) cell) }
@@ -52,7 +54,9 @@ impl<'a, P: Parts, K> Cx<'a, P, K> {
         }
     }
 
-    /// Makes a cell of the caller's scope, and answers its number.
+    /// Makes a cell of the caller's scope, and answers its number. Refused where cells have no
+    /// number left, and for want of memory; the turn keeps the first refusal as its fault, and
+    /// nothing else changes. dioxus-core has no such call.
     #[tactic(auto, using(crate::proofs::Told::telling))]
     pub fn new_cell(&mut self, value: P::Value) -> Result<u64, CxFault>
         ensures value { IfOk result (λ cell. cell ≡ self.old.next.cells) }
@@ -76,7 +80,9 @@ impl<'a, P: Parts, K> Cx<'a, P, K> {
         Ok(cell)
     }
 
-    /// Writes a cell.
+    /// Writes a cell once the call has returned; this call doesn't see it. Refused for want of
+    /// memory alone, which the turn keeps as its fault where it is the first; nothing else changes.
+    /// dioxus-core has no such call.
     pub fn write(&mut self, cell: u64, value: P::Value) -> Result<(), CxFault>
         ensures call { OnOk result
             (call_of self.new ≡ says (call_of self.old) (model.Write cell value)) }
@@ -87,7 +93,9 @@ impl<'a, P: Parts, K> Cx<'a, P, K> {
         self.say(Command::Write { cell, value })
     }
 
-    /// Drops a cell.
+    /// Drops a cell once the call has returned; its readers read none then. Refused for want of
+    /// memory alone, which the turn keeps as its fault where it is the first; nothing else changes.
+    /// dioxus-core has no such call.
     pub fn drop_cell(&mut self, cell: u64) -> Result<(), CxFault>
         ensures call { OnOk result
             (call_of self.new ≡ says (call_of self.old) (model.DropCell cell)) }

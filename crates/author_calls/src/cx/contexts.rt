@@ -15,7 +15,9 @@ use std::alloc::Global;
 use tree_nodes::Parts;
 
 impl<'a, P: Parts, K> Cx<'a, P, K> {
-    /// Provides a value of a kind at the caller's scope.
+    /// Provides a value of a kind at the caller's scope. Refused for want of memory alone, which
+    /// the turn keeps as its fault where it is the first; nothing else changes. In dioxus-core
+    /// `provide_context`, where the kind is the value's type, and which answers the value.
     pub fn provide_context(&mut self, kind: u32, value: P::Value) -> Result<(), CxFault>
         ensures call { OnOk result (call_of self.new
             ≡ provides (world_of self.old.world) (call_of self.old) false kind value) }
@@ -30,7 +32,9 @@ impl<'a, P: Parts, K> Cx<'a, P, K> {
         })
     }
 
-    /// Provides a value of a kind at the root wrapper.
+    /// Provides a value of a kind at the root wrapper. Refused for want of memory alone, which the
+    /// turn keeps as its fault where it is the first; nothing else changes. In dioxus-core
+    /// `provide_root_context`.
     pub fn provide_root_context(&mut self, kind: u32, value: P::Value) -> Result<(), CxFault>
         ensures call { OnOk result (call_of self.new
             ≡ provides (world_of self.old.world) (call_of self.old) true kind value) }
@@ -45,7 +49,11 @@ impl<'a, P: Parts, K> Cx<'a, P, K> {
         })
     }
 
-    /// What the nearest scope provides of a kind, the caller's scope first.
+    /// What the nearest scope provides of a kind, the caller's scope first. None where no scope
+    /// does. In a body each scope on the way is noted as read. Refused for want of memory alone,
+    /// which the turn keeps as its fault where it is the first. In dioxus-core
+    /// `try_consume_context`, and `consume_context`, which panics where this answers none; neither
+    /// notes a read.
     pub fn try_consume_context(
         &mut self,
         alloc: Global,
@@ -62,7 +70,9 @@ impl<'a, P: Parts, K> Cx<'a, P, K> {
         self.look_up(alloc, self.scope, kind)
     }
 
-    /// What the nearest scope provides of a kind, the named scope first.
+    /// What the nearest scope provides of a kind, the named scope first. None where no scope does.
+    /// Refused for want of memory alone, which the turn keeps as its fault where it is the first.
+    /// In dioxus-core `consume_context_from_scope`.
     pub fn consume_context_from_scope(
         &mut self,
         alloc: Global,
@@ -80,7 +90,9 @@ impl<'a, P: Parts, K> Cx<'a, P, K> {
         self.look_up(alloc, scope, kind)
     }
 
-    /// What the caller's scope itself provides of a kind.
+    /// What the caller's scope itself provides of a kind. None where it provides none. Refused for
+    /// want of memory alone, which the turn keeps as its fault where it is the first. In
+    /// dioxus-core `has_context`.
     pub fn has_context(&mut self, alloc: Global, kind: u32) -> Result<Option<P::Value>, CxFault>
         ensures value { IfOk result (λ value. value
             ≡ (look_here (world_of self.old.world) kind (call_of self.old)).value) }

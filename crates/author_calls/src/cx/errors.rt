@@ -18,7 +18,9 @@ use std::alloc::Global;
 use tree_nodes::{CapturedError, Parts};
 
 impl<'a, P: Parts, K> Cx<'a, P, K> {
-    /// The error that the nearest error boundary keeps, which is noted as read.
+    /// The error that the nearest error boundary keeps, which is noted as read. None where it keeps
+    /// none, and where there is no boundary. Refused for want of memory alone, which the turn keeps
+    /// as its fault where it is the first. In dioxus-core `ErrorContext::error`.
     pub fn error(&mut self, alloc: Global) -> Result<Option<CapturedError>, CxFault>
         ensures value { IfOk result (λ error. option_map error_of error
             ≡ error_in (world_of self.old.world) (nearest_boundary (given_of self.old.world))) }
@@ -55,7 +57,9 @@ impl<'a, P: Parts, K> Cx<'a, P, K> {
         None
     }
 
-    /// An error with the next serial number. It takes no memory.
+    /// An error with the next serial number. It takes no memory. Refused where errors have no
+    /// number left, and then the turn keeps it as its fault where it is the first. In dioxus-core
+    /// `CapturedError::new`, `msg`, `from_display` and `from_boxed`.
     #[tactic(auto, using(crate::proofs::Told::telling))]
     pub fn captured(&mut self, text: Text) -> Result<CapturedError, CxFault>
         ensures value { IfOk result (λ error.
@@ -79,7 +83,9 @@ impl<'a, P: Parts, K> Cx<'a, P, K> {
         Ok(CapturedError { serial, text })
     }
 
-    /// Throws an error to the nearest error boundary.
+    /// Throws an error to the nearest error boundary, which keeps it where it kept none. Refused
+    /// for want of memory alone, which the turn keeps as its fault where it is the first; nothing
+    /// else changes. In dioxus-core `throw_error`.
     pub fn throw_error(&mut self, error: CapturedError) -> Result<(), CxFault>
         ensures call { OnOk result
             (call_of self.new ≡ says (call_of self.old) (model.Throw (error_of error))) }
@@ -90,7 +96,9 @@ impl<'a, P: Parts, K> Cx<'a, P, K> {
         self.say(Command::Throw(error))
     }
 
-    /// Clears the error that the nearest error boundary keeps.
+    /// Clears the error that the nearest error boundary keeps. Refused for want of memory alone,
+    /// which the turn keeps as its fault where it is the first; nothing else changes. In
+    /// dioxus-core `ErrorContext::clear_errors`.
     pub fn clear_errors(&mut self) -> Result<(), CxFault>
         ensures call { OnOk result (call_of self.new ≡ says (call_of self.old) model.ClearErrors) }
         ensures fault { OnOk result (self.new.fault ≡ self.old.fault) }
@@ -100,7 +108,8 @@ impl<'a, P: Parts, K> Cx<'a, P, K> {
         self.say(Command::ClearErrors)
     }
 
-    /// Posts a mark of the caller's scope.
+    /// Posts a mark of the caller's scope. Refused for want of memory alone, which the turn keeps
+    /// as its fault where it is the first; nothing else changes. In dioxus-core `needs_update`.
     pub fn needs_update(&mut self) -> Result<(), CxFault>
         ensures call { OnOk result (call_of self.new
             ≡ says (call_of self.old) (model.Update (self.old.world.scope).0)) }
@@ -112,7 +121,9 @@ impl<'a, P: Parts, K> Cx<'a, P, K> {
         self.say(Command::Update { scope })
     }
 
-    /// Posts a mark of a scope.
+    /// Posts a mark of a scope; of one that isn't live nothing changes. Refused for want of memory
+    /// alone, which the turn keeps as its fault where it is the first; nothing else changes. In
+    /// dioxus-core `needs_update_any`.
     pub fn needs_update_any(&mut self, scope: ScopeId) -> Result<(), CxFault>
         ensures call { OnOk result
             (call_of self.new ≡ says (call_of self.old) (model.Update scope.0)) }

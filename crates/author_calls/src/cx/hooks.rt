@@ -17,7 +17,8 @@ use std::alloc::Global;
 use tree_nodes::{ListenerCallback, Parts};
 
 impl<'a, P: Parts> Cx<'a, P, InBody> {
-    /// Whether no hook stands at the next index yet.
+    /// Whether no hook stands at the next index yet. dioxus-core has no such call: it calls a
+    /// closure then.
     #[tactic(auto, using(crate::proofs::Hooked::hooking))]
     pub fn hook_is_new(&self) -> bool
         ensures { result ≡ nat_le (length (given_of self.now.world).hooks) self.now.index }
@@ -25,14 +26,15 @@ impl<'a, P: Parts> Cx<'a, P, InBody> {
         self.rows.hooks(self.scope).len() as u64 <= self.index
     }
 
-    /// How often the body has answered a tree.
+    /// How often the body has answered a tree. In dioxus-core `generation`.
     pub fn generation(&self) -> u64
         ensures { result ≡ (given_of self.now.world).renders }
     {
         self.rows.renders(self.scope)
     }
 
-    /// A listener of the caller's scope.
+    /// A listener of the caller's scope. In dioxus-core `ListenerCallback::new`, which finds the
+    /// scope itself.
     pub fn listener(&self, handler: P::Handler) -> ListenerCallback<P>
         ensures { result ≡ record { origin = self.now.world.scope; handler = handler } }
     {
@@ -43,6 +45,9 @@ impl<'a, P: Parts> Cx<'a, P, InBody> {
     }
 
     /// The value that is kept at the next index; the first one is kept there where there is none.
+    /// Refused as `HookChanged` where a hook of another kind stands at the index, and for want of
+    /// memory; the turn keeps the first refusal as its fault. In dioxus-core `use_hook`, which
+    /// takes a closure.
     #[tactic(auto, using(crate::proofs::Hooked::hooking))]
     pub fn use_hook(
         &mut self,
@@ -72,7 +77,9 @@ impl<'a, P: Parts> Cx<'a, P, InBody> {
         Ok(value)
     }
 
-    /// Keeps an effect that is done when the scope is removed.
+    /// Keeps an effect that is done when the scope is removed. Refused as `HookChanged` where a
+    /// hook of another kind stands at the index, and for want of memory; the turn keeps the first
+    /// refusal as its fault. In dioxus-core `use_drop`, which takes a closure.
     pub fn use_drop(&mut self, clean: P::Effect) -> Result<(), CxFault>
         ensures call { OnOk result (call_of self.new
             ≡ hooked (world_of self.old.world) (call_of self.old) clean_up_kind
@@ -88,7 +95,9 @@ impl<'a, P: Parts> Cx<'a, P, InBody> {
         self.effect_hook(CLEAN_UP, clean)
     }
 
-    /// Keeps an effect that is done before each later run of the scope.
+    /// Keeps an effect that is done before each later run of the scope. Refused as `HookChanged`
+    /// where a hook of another kind stands at the index, and for want of memory; the turn keeps the
+    /// first refusal as its fault. In dioxus-core `use_before_render`, which takes a closure.
     pub fn use_before_render(&mut self, hook: P::Effect) -> Result<(), CxFault>
         ensures call { OnOk result (call_of self.new
             ≡ hooked (world_of self.old.world) (call_of self.old) before_render_kind
@@ -105,7 +114,10 @@ impl<'a, P: Parts> Cx<'a, P, InBody> {
         self.effect_hook(BEFORE_RENDER, hook)
     }
 
-    /// Keeps an effect that is done after the commands of each run of the scope.
+    /// Keeps an effect that is done after the commands of each run of the scope. Refused as
+    /// `HookChanged` where a hook of another kind stands at the index, and for want of memory; the
+    /// turn keeps the first refusal as its fault. In dioxus-core `use_after_render`, which takes a
+    /// closure.
     pub fn use_after_render(&mut self, hook: P::Effect) -> Result<(), CxFault>
         ensures call { OnOk result (call_of self.new
             ≡ hooked (world_of self.old.world) (call_of self.old) after_render_kind
@@ -122,7 +134,10 @@ impl<'a, P: Parts> Cx<'a, P, InBody> {
         self.effect_hook(AFTER_RENDER, hook)
     }
 
-    /// A value that is kept, and a clean-up after it.
+    /// A value that is kept, and a clean-up after it, at two indices. Refused as `HookChanged`
+    /// where a hook of another kind stands at the index, and for want of memory; the turn keeps the
+    /// first refusal as its fault. In dioxus-core `use_hook_with_cleanup`, whose clean-up is given
+    /// the value.
     #[tactic(auto, using(crate::proofs::Hooked::pairing))]
     pub fn use_hook_with_cleanup(
         &mut self,

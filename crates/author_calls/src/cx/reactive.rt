@@ -15,7 +15,10 @@ use run_records::{Command, Counter, CxFault};
 use tree_nodes::Parts;
 
 impl<'a, P: Parts, K> Cx<'a, P, K> {
-    /// Makes a reactive context of the caller's scope, which tells the target.
+    /// Makes a reactive context of the caller's scope, which tells the target. Refused where
+    /// contexts have no number left, and for want of memory; the turn keeps the first refusal as
+    /// its fault, and nothing else changes. In dioxus-core `ReactiveContext::new_with_callback`,
+    /// which takes a closure in the target's place, and `new`.
     #[tactic(auto, using(crate::proofs::Told::telling))]
     pub fn new_context(&mut self, target: Target) -> Result<ReactiveContext, CxFault>
         ensures value { IfOk result (λ context. context.0 ≡ self.old.next.contexts) }
@@ -41,7 +44,9 @@ impl<'a, P: Parts, K> Cx<'a, P, K> {
         Ok(context)
     }
 
-    /// Lets reads go to a reactive context until `leave`.
+    /// Lets reads go to a reactive context until `leave`. Refused for want of memory alone, which
+    /// the turn keeps as its fault where it is the first; nothing else changes. In dioxus-core
+    /// `ReactiveContext::run_in`, which takes a closure.
     #[tactic(auto, using(crate::proofs::Gathered::more))]
     pub fn run_in(&mut self, context: ReactiveContext) -> Result<(), CxFault>
         ensures call { OnOk result (call_of self.new ≡ entered (call_of self.old) context.0) }
@@ -55,7 +60,9 @@ impl<'a, P: Parts, K> Cx<'a, P, K> {
         }
     }
 
-    /// The same, where the context has no source any more.
+    /// Lets reads go to a reactive context until `leave`, where the context has no source any more.
+    /// Refused for want of memory alone, which the turn keeps as its fault where it is the first.
+    /// In dioxus-core `ReactiveContext::reset_and_run_in`, which takes a closure.
     pub fn reset_and_run_in(&mut self, context: ReactiveContext) -> Result<(), CxFault>
         ensures call { OnOk result (call_of self.new
             ≡ says (entered (call_of self.old) context.0) (model.Reset context.0)) }
@@ -67,7 +74,7 @@ impl<'a, P: Parts, K> Cx<'a, P, K> {
         self.say(Command::Reset { context })
     }
 
-    /// Ends the last `run_in`.
+    /// Ends the last `run_in`. dioxus-core has no such call: the closure ends there.
     pub fn leave(&mut self) -> Result<(), CxFault>
         ensures call { OnOk result (call_of self.new ≡ left (call_of self.old)) }
         ensures fault { OnOk result (self.new.fault ≡ self.old.fault) }

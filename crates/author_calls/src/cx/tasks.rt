@@ -12,7 +12,9 @@ use run_records::{Command, Counter, CxFault};
 use tree_nodes::Parts;
 
 impl<'a, P: Parts, K> Cx<'a, P, K> {
-    /// Spawns a task of the caller's scope, which runs on the client alone.
+    /// Spawns a task of the caller's scope, which runs on the client alone. Refused where tasks
+    /// have no number left, and for want of memory; the turn keeps the first refusal as its fault,
+    /// and nothing else changes. In dioxus-core `spawn`, which takes a future.
     pub fn spawn(&mut self, state: P::TaskState) -> Result<Task, CxFault>
         ensures value { IfOk result (λ task. task.0 ≡ self.old.next.tasks) }
         ensures call { OnOk result
@@ -28,7 +30,9 @@ impl<'a, P: Parts, K> Cx<'a, P, K> {
         self.spawn_as(state, false, false)
     }
 
-    /// Spawns a task of the caller's scope, which runs on the server too.
+    /// Spawns a task of the caller's scope, which runs on the server too. Refused where tasks have
+    /// no number left, and for want of memory; the turn keeps the first refusal as its fault, and
+    /// nothing else changes. In dioxus-core `spawn_isomorphic`.
     pub fn spawn_isomorphic(&mut self, state: P::TaskState) -> Result<Task, CxFault>
         ensures value { IfOk result (λ task. task.0 ≡ self.old.next.tasks) }
         ensures call { OnOk result
@@ -44,7 +48,9 @@ impl<'a, P: Parts, K> Cx<'a, P, K> {
         self.spawn_as(state, false, true)
     }
 
-    /// Spawns a task of the root wrapper, which outlives the caller's scope.
+    /// Spawns a task of the root wrapper, which outlives the caller's scope. Refused where tasks
+    /// have no number left, and for want of memory; the turn keeps the first refusal as its fault,
+    /// and nothing else changes. In dioxus-core `spawn_forever`.
     pub fn spawn_forever(&mut self, state: P::TaskState) -> Result<Task, CxFault>
         ensures value { IfOk result (λ task. task.0 ≡ self.old.next.tasks) }
         ensures call { OnOk result
@@ -96,7 +102,9 @@ impl<'a, P: Parts, K> Cx<'a, P, K> {
         Ok(task)
     }
 
-    /// Ends a task.
+    /// Ends a task once the call has returned. Refused for want of memory alone, which the turn
+    /// keeps as its fault where it is the first; nothing else changes. In dioxus-core
+    /// `remove_future`.
     pub fn remove_future(&mut self, task: Task) -> Result<(), CxFault>
         ensures call { OnOk result
             (call_of self.new ≡ says (call_of self.old) (model.RemoveFuture task.0)) }
@@ -107,7 +115,8 @@ impl<'a, P: Parts, K> Cx<'a, P, K> {
         self.say(Command::RemoveFuture { task })
     }
 
-    /// Posts a wake of a task.
+    /// Posts a wake of a task. Refused for want of memory alone, which the turn keeps as its fault
+    /// where it is the first; nothing else changes. In dioxus-core `Task::wake`.
     pub fn wake(&mut self, task: Task) -> Result<(), CxFault>
         ensures call { OnOk result
             (call_of self.new ≡ says (call_of self.old) (model.Wake task.0)) }
@@ -118,7 +127,9 @@ impl<'a, P: Parts, K> Cx<'a, P, K> {
         self.say(Command::Wake { task })
     }
 
-    /// Pauses a task, or lets it go on.
+    /// Pauses a task, or lets it go on. Refused for want of memory alone, which the turn keeps as
+    /// its fault where it is the first; nothing else changes. In dioxus-core `Task::set_active`,
+    /// and `pause` and `resume`.
     pub fn set_active(&mut self, task: Task, active: bool) -> Result<(), CxFault>
         ensures call { OnOk result
             (call_of self.new ≡ says (call_of self.old) (model.SetActive task.0 active)) }
@@ -129,7 +140,9 @@ impl<'a, P: Parts, K> Cx<'a, P, K> {
         self.say(Command::SetActive { task, active })
     }
 
-    /// Queues an effect of the caller's scope.
+    /// Queues an effect of the caller's scope, which is done once no other work is owed. Refused
+    /// for want of memory alone, which the turn keeps as its fault where it is the first; nothing
+    /// else changes. In dioxus-core `queue_effect`, which takes a closure.
     pub fn queue_effect(&mut self, effect: P::Effect) -> Result<(), CxFault>
         ensures call { OnOk result
             (call_of self.new ≡ says (call_of self.old) (model.QueueEffect effect)) }
@@ -140,7 +153,10 @@ impl<'a, P: Parts, K> Cx<'a, P, K> {
         self.say(Command::QueueEffect(effect))
     }
 
-    /// Leaves an effect to the caller's suspense boundary, which runs it once its children show.
+    /// Leaves an effect to the caller's suspense boundary, which runs it once its children show;
+    /// without one nothing changes. Refused for want of memory alone, which the turn keeps as its
+    /// fault where it is the first; nothing else changes. In dioxus-core
+    /// `SuspenseContext::after_suspense_resolved`.
     pub fn after_suspense_resolved(&mut self, effect: P::Effect) -> Result<(), CxFault>
         ensures call { OnOk result
             (call_of self.new ≡ says (call_of self.old) (model.Resolved effect)) }
@@ -151,7 +167,9 @@ impl<'a, P: Parts, K> Cx<'a, P, K> {
         self.say(Command::Resolved(effect))
     }
 
-    /// Freezes the caller's suspense boundary.
+    /// Freezes the caller's suspense boundary; without one nothing changes. Refused for want of
+    /// memory alone, which the turn keeps as its fault where it is the first; nothing else changes.
+    /// In dioxus-core `SuspenseContext::freeze`.
     pub fn freeze(&mut self) -> Result<(), CxFault>
         ensures call { OnOk result (call_of self.new ≡ says (call_of self.old) model.Freeze) }
         ensures fault { OnOk result (self.new.fault ≡ self.old.fault) }
