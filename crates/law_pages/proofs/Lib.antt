@@ -1,3 +1,4 @@
 mod Keeping
 mod Listening
 mod Hearing
+pub mod OnePage
