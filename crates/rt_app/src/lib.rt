@@ -45,3 +45,4 @@ pub use rt_inbox::{
 pub use rt_session::session;
 pub use run_records::Firsts;
 pub use run_reports::{Counter, Entry, Fault, Input, Limits, Msg, Post, Report, SessionFault};
+pub use tree_sinks::{ByEdit, TakesEdits};
