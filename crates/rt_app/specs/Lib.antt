@@ -4,6 +4,9 @@ pub use Rattle.rt_author.specs.Bodies
 pub use Rattle.rt_author.specs.Bodied
 pub use Rattle.rt_author.specs.Nothing
 pub use Rattle.rt_author.specs.Paged
+pub use Rattle.rt_author.specs.Carrying
+pub use Rattle.rt_author.specs.Given
+pub use Rattle.rt_author.specs.Inside
 pub use Rattle.rt_author.specs.Signals
 pub use Rattle.rt_author.specs.Pair
 pub use Rattle.rt_author.specs.Signal
@@ -24,6 +27,7 @@ pub use Rattle.rt_author.specs.Came
 pub use Rattle.rt_author.specs.Cells
 pub use Rattle.rt_author.specs.Contexts
 pub use Rattle.rt_author.specs.First
+pub use Rattle.rt_author.specs.Kinds
 pub use Rattle.rt_author.specs.Means
 pub use Rattle.rt_author.specs.Pages
 pub use Rattle.rt_author.specs.Present

@@ -11,6 +11,9 @@ pub use rt_author::{
     unless_refused, waking, write_all,
 };
 
+// Components of libraries.
+pub use rt_author::{Carries, Given, Inside, carried, read_held, write_held};
+
 // Trees.
 pub use rt_author::{
     Attribute, AttributeValue, CapturedError, DynamicNode, Element, ErrorBoundaryProps,
@@ -22,7 +25,8 @@ pub use rt_author::{
 
 // Laws.
 pub use rt_author::{
-    coded_tests, current_pages_show, first_pages_show, heard_from_below, memoized_are_lawful,
+    coded_tests, commands_within, current_pages_show, either_tests, first_pages_show,
+    heard_from_below, kinds_apart, kinds_go_on, memoized_are_lawful, other_kinds_stay,
     pages_are_lawful, pages_show_present_values, pair_tests, plain_tests,
     programs_come_to_their_meaning, programs_go_on, reports_show_pages, unread_runs_nothing,
 };

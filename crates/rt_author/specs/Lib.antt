@@ -4,6 +4,9 @@ pub use Rattle.author_bodies.specs.Bodies
 pub use Rattle.author_bodies.specs.declared.bodied.Bodied
 pub use Rattle.author_bodies.specs.declared.nothing.Nothing
 pub use Rattle.author_bodies.specs.declared.paged.Paged
+pub use Rattle.author_carrying.specs.Carrying
+pub use Rattle.author_given.specs.declared.props.Given
+pub use Rattle.author_given.specs.declared.props.Inside
 pub use Rattle.author_signals.specs.Signals
 pub use Rattle.author_signals.specs.declared.signal.Pair
 pub use Rattle.author_signals.specs.declared.signal.Signal
@@ -24,6 +27,7 @@ pub use Rattle.author_programs.specs.Came
 pub use Rattle.author_programs.specs.Cells
 pub use Rattle.author_programs.specs.Contexts
 pub use Rattle.author_programs.specs.First
+pub use Rattle.author_programs.specs.Kinds
 pub use Rattle.author_programs.specs.Means
 pub use Rattle.author_programs.specs.Pages
 pub use Rattle.author_programs.specs.Present

@@ -22,9 +22,11 @@ pub use Rattle.tree_nodes.specs.declared.vnode.VNode.{VNode}
 pub use Rattle.author_bodies.specs.Bodies.{ProgramsDecide}
 pub use Rattle.author_bodies.specs.declared.bodied.Bodied.{Bodied}
 pub use Rattle.author_bodies.specs.declared.paged.Paged.{Paged}
-pub use Rattle.author_programs.proofs.Lawful.{coded_tests, pair_tests, plain_tests}
+pub use Rattle.author_carrying.specs.Carrying.{Carrying}
+pub use Rattle.author_programs.proofs.Lawful.{coded_tests, either_tests, pair_tests, plain_tests}
 pub use Rattle.author_programs.specs.Came.{Came, came, reached}
 pub use Rattle.author_programs.specs.Cells.{Keeping, own_cell}
-pub use Rattle.author_programs.specs.Means.{AllDecide}
+pub use Rattle.author_programs.specs.Kinds.{Kinds, ProvidesOnly, all_apart}
+pub use Rattle.author_programs.specs.Means.{AllDecide, same_either}
 pub use Rattle.author_programs.specs.Pages.{Page, Pages, Reply}
 pub use Rattle.author_programs.specs.Sequence.{go_on}

@@ -7,11 +7,14 @@ pub use author_bodies::{
     unless_refused, write_all,
 };
 pub use author_calls::{App, BodyCx, BodyTurn, Cx, TaskStep, Turn};
+pub use author_carrying::{Carries, carried, read_held, write_held};
+pub use author_given::{Given, Inside};
 pub use author_markup::{
     block, child, clickable, clickable_over, element, labelled, listens, one, path, slot, text, two,
 };
 pub use author_programs::{
-    coded_tests, current_pages_show, first_pages_show, heard_from_below, memoized_are_lawful,
+    coded_tests, commands_within, current_pages_show, either_tests, first_pages_show,
+    heard_from_below, kinds_apart, kinds_go_on, memoized_are_lawful, other_kinds_stay,
     pages_are_lawful, pages_show_present_values, pair_tests, plain_tests,
     programs_come_to_their_meaning, programs_go_on, reports_show_pages, unread_runs_nothing,
 };
