@@ -72,7 +72,8 @@ fn listeners_fit<P: Parts>(slots: &[List<Attribute<P>>]) -> bool
     true
 }
 
-fn slot_fits<P: Parts>(slot: &[Attribute<P>]) -> bool
+/// Whether no listener in one slot has a namespace.
+pub fn slot_fits<P: Parts>(slot: &[Attribute<P>]) -> bool
     ensures { result ≡ list_all attribute_fits slot.now }
 {
     for attribute in slot {

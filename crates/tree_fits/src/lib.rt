@@ -8,4 +8,6 @@ mod place;
 mod rising;
 mod walk;
 
+pub use block::slot_fits;
+pub use names::{in_slot, names_differ};
 pub use node_test::fits;

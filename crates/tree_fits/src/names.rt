@@ -10,10 +10,7 @@ use tree_nodes::{Attribute, Parts, TemplateAttribute};
 
 /// Whether no two attributes of one element have the same name and namespace. Names that ascend are
 /// told apart by one look at each of them, all others by a look at each two.
-pub(crate) fn names_differ<P: Parts>(
-    attrs: &[TemplateAttribute],
-    slots: &[List<Attribute<P>>],
-) -> bool
+pub fn names_differ<P: Parts>(attrs: &[TemplateAttribute], slots: &[List<Attribute<P>>]) -> bool
     ensures { result ≡ distinct (names_in (slot_names slots.now) attrs.now) }
 {
     if last_name(attrs, slots).is_some() {
@@ -145,7 +142,7 @@ fn are_same_namespaces(left: &Option<Text>, right: &Option<Text>) -> bool
 }
 
 /// The attributes in the slot with this number, none where there is no such slot.
-pub(crate) fn in_slot<P: Parts>(slots: &[List<Attribute<P>>], id: u64) -> &[Attribute<P>]
+pub fn in_slot<P: Parts>(slots: &[List<Attribute<P>>], id: u64) -> &[Attribute<P>]
     ensures { result.now ≡ slice_index_or slots.now id [] }
 {
     match slots.get(id as usize) {
