@@ -10,13 +10,13 @@ use Rattle.rt_model.specs.Document.{Edit}
 use Rattle.rt_model.specs.Reports.{Report}
 use Rattle.rt_model.specs.Causes.{IsValid}
 use Rattle.rt_model.specs.Headline.{CameTo}
-use Rattle.run_reports.specs.Seen.{limits_of}
+use Rattle.run_reports.specs.Seen.{limits_of, usual}
 use Rattle.run_reports.specs.declared.limits.Limits.{Limits}
 use Rattle.lang_sources.specs.Describes.{Describes}
 use Rattle.show_logs.specs.Recorded.{DescribesRun}
 use Rattle.show_words.specs.Asked.{Asked, Lacks, RecordsNone}
 use Rattle.show_words.specs.Judged.{RecordedBy, RecordedInput}
-use Rattle.show_words.specs.Words.{wish_of, reads_source, usual, AskForSource}
+use Rattle.show_words.specs.Words.{wish_of, reads_source, AskForSource}
 use Rattle.show_words.specs.Runs.{DescribedBy, Chooses, IsRefused, IsUnfit, IsSafe, IsEndedText, HasCome, SafeInput, CanBeDone}
 use Rattle.lang_sources.specs.declared.reading.TheConstants.{SOURCE_LIMIT}
 use Rattle.rt_show.specs.Statuses.{Comes, Ended, ReadsAsked, Shows}

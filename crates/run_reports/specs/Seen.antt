@@ -69,3 +69,7 @@ module _ {P C Q V H T E L : Type 0} where
 -- how far a session goes
 abbrev pub limits_of : Limits → causes.Limits
 limits_of l = record { units = l.units; height = l.height; drain = l.drain }
+
+-- the limits where nothing else is said, which are those that the definitions call usual
+abbrev pub usual : Limits
+usual = record { units = causes.usual.units; height = causes.usual.height; drain = causes.usual.drain }

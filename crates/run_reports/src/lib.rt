@@ -10,7 +10,7 @@ mod report;
 pub use entry::{Entry, bodies_in, units_in};
 pub use fault::{Fault, SessionFault};
 pub use input::Input;
-pub use limits::Limits;
+pub use limits::{Limits, USUAL};
 pub use report::Report;
 pub use rt_inbox::{Msg, Post};
 pub use run_records::Counter;

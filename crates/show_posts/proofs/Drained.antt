@@ -25,7 +25,7 @@ use Rattle.rt_model.specs.Headline.{CameTo, Headline}
 use Rattle.rt_model.specs.Merge.{AreSized, HasFronts, IsCut, ValidOverCuts, drained}
 use Rattle.rt_model.specs.Replay as replay
 use Rattle.rt_model.specs.State as model
-use Rattle.run_reports.specs.Seen.{fault_of, limits_of, post_of, report_of}
+use Rattle.run_reports.specs.Seen.{fault_of, limits_of, post_of, report_of, usual}
 use Rattle.run_reports.specs.declared.fault.Fault.{Fault}
 use Rattle.run_reports.specs.declared.fault.Fault.TheVariants as faults
 use Rattle.run_reports.specs.declared.report.Report.{Report}
@@ -39,7 +39,6 @@ use Rattle.lang_syntax.specs.declared.source.PostSource.{PostSource}
 use Rattle.lang_syntax.specs.declared.source.Source as checked
 use Rattle.show_posts.specs.Posting.{HasComeOver, HasHeadlineOver, HasPosters, IsPostedFault, IsPostedText, IsSafeOver, lists_in, posted_text}
 use Rattle.show_words.specs.Runs.{DescribedBy}
-use Rattle.show_words.specs.Words.{usual}
 use Rattle.show_words.proofs.Preparing.{holds_of, named}
 use Rattle.rt_session.specs.Posted.{TookAll, TookFronts, drains_of, lists_of}
 

@@ -10,7 +10,7 @@ use Rattle.rt_model.specs.Merge.{AreSized, HasFronts, IsCut, ValidOverCuts, drai
 use Rattle.rt_model.specs.Replay.{Message, Post}
 use Rattle.rt_model.specs.Reports.{Report}
 use Rattle.rt_model.specs.State.{Fault}
-use Rattle.run_reports.specs.Seen.{limits_of}
+use Rattle.run_reports.specs.Seen.{limits_of, usual}
 use Rattle.lang_sources.specs.Describes.{Describes}
 use Rattle.show_streams.specs.Reads.{Advances}
 use Rattle.show_streams.specs.declared.reading.TheConstants.{MOST_BYTES}
@@ -18,7 +18,6 @@ use Rattle.show_streams.specs.Writes.{grown, AddsFront, Puts}
 use Rattle.show_words.specs.Runs.{DescribedBy, IsRefused}
 use Rattle.show_words.specs.Outs.{status_of}
 use Rattle.show_words.specs.Texts.{run_lines}
-use Rattle.show_words.specs.Words.{usual}
 use Rattle.show_words.specs.declared.reason.Stop.{Stop}
 use Rattle.show_words.specs.declared.reason.Stop.TheVariants as stops
 

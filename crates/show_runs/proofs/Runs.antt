@@ -16,12 +16,11 @@ use Rattle.rt_language.specs.Meaning.{meaning_of, props_of, inputs_of}
 use Rattle.rt_language.specs.Values.{Value}
 use Rattle.rt_language.specs.Lines.{line, fault_text}
 use Rattle.rt_language.specs.Generated.{generated, summary_line}
-use Rattle.run_reports.specs.Seen.{fault_of, limits_of, report_of}
+use Rattle.run_reports.specs.Seen.{fault_of, limits_of, report_of, usual}
 use Rattle.run_reports.specs.declared.report.Report.{Report}
 use Rattle.run_reports.specs.declared.fault.SessionFault.{SessionFault}
 use Rattle.run_reports.specs.declared.limits.Limits.{Limits}
 use Rattle.run_outside.specs.Sessions.{Headlined, CameAt}
-use Rattle.show_words.specs.Words.{usual}
 use Rattle.show_print.specs.Taken.{lines_of}
 use Rattle.show_words.specs.Texts.{report_lines_from, run_lines_of}
 use Rattle.show_words.specs.Runs.{HasHeadline, HasCome, IsRunText, IsFaultText, IsSummary}

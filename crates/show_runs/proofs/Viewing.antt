@@ -21,14 +21,13 @@ use Rattle.rt_language.specs.Lines.{line, fault_text}
 use Rattle.rt_language.specs.Meaning.{meaning_of, props_of, inputs_of}
 use Rattle.rt_language.specs.Syntax.{Source}
 use Rattle.run_outside.specs.Sessions.{Headlined, CameAt}
-use Rattle.run_reports.specs.Seen.{fault_of, limits_of, report_of}
+use Rattle.run_reports.specs.Seen.{fault_of, limits_of, report_of, usual}
 use Rattle.run_reports.specs.declared.limits.Limits.{Limits}
 use Rattle.run_reports.specs.declared.report.Report as code
 use Rattle.run_reports.specs.declared.fault.SessionFault.{SessionFault}
 use Rattle.show_words.specs.Pictures.{HasViews, HasViewsBefore, IsScreenText, IsEndedScreenText, screen_text, views_of}
 use Rattle.show_screens.specs.Drawing.{LeadAlong, ShowInTurn}
 use Rattle.show_words.specs.Runs.{HasHeadline, HasCome}
-use Rattle.show_words.specs.Words.{usual}
 use Rattle.show_words.specs.declared.words.Size.{Size}
 use Rattle.show_runs.proofs.Runs.{headline_of, came_to}
 use Rattle.show_words.proofs.Preparing.{named}

@@ -9,10 +9,11 @@ use crate::running::run_script;
 use lang_syntax::Source as Described;
 use rt_edits::Mutations;
 use rt_session::SessionFault;
+use run_reports::USUAL;
 use show_print::fault_line;
 use show_screens::{put_ended_screens, put_screens};
 use show_streams::Out;
-use show_words::{Prepared, Size, Stop, USUAL, fault_said, prepare, said};
+use show_words::{Prepared, Size, Stop, fault_said, prepare, said};
 use std::alloc::Global;
 
 /// Runs an application and puts the rows that change on a screen, report by report; of a fault

@@ -2,14 +2,13 @@
 ghost use Rattle.std.specs.Prelude.{◌≡◌, ◌≤◌, None, Some, map, IfOk, IfErr};
 ghost use Rattle.rt_language.specs.Generated as language;
 ghost use Rattle.rt_language.specs.Meaning.{meaning_of, props_of, inputs_of};
-ghost use Rattle.run_reports.specs.Seen.{fault_of, input_of, limits_of, report_of};
+ghost use Rattle.run_reports.specs.Seen.{fault_of, input_of, limits_of, report_of, usual};
 ghost use Rattle.lang_syntax.specs.Mirror.{source_of};
 ghost use Rattle.run_outside.specs.Sessions.{CameAt, Headlined};
 ghost use Rattle.show_words.specs.declared.words.Wish.TheVariants as wishes;
 ghost use Rattle.show_words.specs.Asked.{alone};
 ghost use Rattle.show_words.specs.Ready.{MadeOf};
 ghost use Rattle.show_words.specs.Runs.{HasHeadline, Prints};
-ghost use Rattle.show_words.specs.Words.{usual};
 
 use lang_script::Script;
 use lang_syntax::Source as Described;
@@ -17,10 +16,11 @@ use lang_views::Props;
 use rt_edits::{NoOpMutations, WriteMutations};
 use rt_session::{Input, Limits, Report, SessionFault, session};
 use rt_values::{List, OutOfMemory};
+use run_reports::USUAL;
 use show_print::{EditLines, fault_line};
 use show_streams::Out;
 use show_words::{
-    Prepared, Stop, USUAL, fault_said, generated, prepare, put_ended_printed, put_printed, said,
+    Prepared, Stop, fault_said, generated, prepare, put_ended_printed, put_printed, said,
     summary_line,
 };
 use std::alloc::Global;

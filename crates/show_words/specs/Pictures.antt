@@ -10,11 +10,10 @@ use Rattle.rt_model.specs.Headline.{Headline, CameTo}
 use Rattle.rt_language.specs.Lines.{line, fault_text}
 use Rattle.rt_language.specs.Meaning.{meaning_of, props_of, inputs_of}
 use Rattle.rt_language.specs.Syntax.{Source}
-use Rattle.run_reports.specs.Seen.{limits_of}
+use Rattle.run_reports.specs.Seen.{limits_of, usual}
 use Rattle.run_reports.specs.declared.limits.Limits.{Limits}
 use Rattle.rt_text.specs.Layout.{fitted, layout}
 use Rattle.rt_text.specs.Printed.{picture}
-use Rattle.show_words.specs.Words.{usual}
 use Rattle.show_words.specs.declared.words.Size.{Size}
 
 -- the lines of reports from the one with this number on, by the rows before it and what shows after each: the rows become the layout of what

@@ -12,11 +12,10 @@ use Rattle.rt_language.specs.Syntax.{Source}
 use Rattle.rt_language.specs.Meaning.{meaning_of, props_of, inputs_of}
 use Rattle.rt_language.specs.Lines.{line, fault_text}
 use Rattle.rt_language.specs.Generated.{generated, summary_line}
-use Rattle.run_reports.specs.Seen.{limits_of}
+use Rattle.run_reports.specs.Seen.{limits_of, usual}
 use Rattle.run_reports.specs.declared.limits.Limits.{Limits}
 use Rattle.lang_sources.specs.Describes.{Describes}
 use Rattle.lang_sources.specs.declared.reading.TheConstants.{SOURCE_LIMIT}
-use Rattle.show_words.specs.Words.{usual}
 use Rattle.show_words.specs.Asked.{Asked, SaysNone}
 use Rattle.show_words.specs.Judged.{IsVerdictText, RecordedBy, RecordedInput}
 use Rattle.show_words.specs.Pictures.{IsScreenText, IsEndedScreenText}

@@ -1,6 +1,7 @@
 -- What the words of the program ask for.
 use Rattle.std.specs.Prelude.{ℕ, ◌+◌, ◌-◌, ◌*◌, ◌≡◌, ◌≤◌, List, [], ◌∷◌, Bool, true, false, ◌&&◌, ◌==◌, nat_le, if◌then◌else◌, Option, Some, None, option_and_then, option_map, bytes_eq, codes}
 use Rattle.run_reports.specs.declared.limits.Limits.{Limits}
+use Rattle.run_reports.specs.Seen.{usual}
 use Rattle.show_words.specs.declared.words.Size.{Size}
 use Rattle.show_words.specs.declared.words.Wish.{Wish}
 use Rattle.show_words.specs.declared.words.Wish.TheVariants.{Run, Make, Screen, Audit}
@@ -63,10 +64,6 @@ abbrev pub with_limit : Limits → List ℕ → List ℕ → Option Limits
 with_limit limits word number =
     if bytes_eq word (codes "--units") then option_map (with_units limits) (number_of 10000000 number)
     else (if bytes_eq word (codes "--height") then option_map (with_height limits) (number_of 256 number) else None)
-
--- the limits that no word sets
-abbrev pub usual : Limits
-usual = record { units = 10000; height = 128; drain = 1024 }
 
 -- the run that one word with its number limits
 abbrev pub run_with : List ℕ → List ℕ → Option Wish

@@ -3,7 +3,6 @@ ghost use Rattle.std.specs.Prelude.{◌≡◌, ◌++◌, ◌∷◌, [], ℕ, Lis
 ghost use Rattle.rt_edits.specs.Sinks as sinks;
 ghost use Rattle.rt_language.specs.Lines.{line, fault_text, text_of, fault_text_of};
 ghost use Rattle.rt_model.specs.Caused.{listens};
-ghost use Rattle.rt_model.specs.Causes.{usual as usual_ones};
 ghost use Rattle.rt_model.specs.Document.{Edit};
 ghost use Rattle.rt_model.specs.Heard.{is_listener};
 ghost use Rattle.rt_model.specs.Lists.{joined};
@@ -11,17 +10,10 @@ ghost use Rattle.rt_model.specs.OneLog.{types};
 ghost use Rattle.rt_model.specs.Reports.{Report};
 ghost use Rattle.rt_model.specs.State.{Fault};
 ghost use Rattle.rt_model.specs.Tree.{AttributeValue};
-ghost use Rattle.run_reports.specs.Seen.{limits_of};
 ghost use Rattle.show_words.specs.Texts.{run_lines};
-ghost use Rattle.show_words.specs.Words.{usual};
 ghost use Rattle.lang_sources.specs.declared.reading.TheConstants.{SOURCE_LIMIT};
 ghost use Rattle.show_streams.specs.Failures as streams;
 ghost use Rattle.show_streams.specs.declared.reading.TheConstants.{MOST_BYTES};
-
-/// The limits that no word sets are those that the definitions call usual.
-pub fn usual_limits_agree()
-    ensures agree { limits_of usual ≡ usual_ones }
-{}
 
 /// As many bytes are read of an input as a source may have.
 pub fn most_bytes_agree()

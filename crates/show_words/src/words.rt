@@ -3,14 +3,7 @@ ghost use Rattle.std.specs.Prelude.{◌≡◌, ◌≤◌, IfSome};
 ghost use Rattle.show_words.specs.Words as asked;
 
 use rt_values::Text;
-use run_reports::Limits;
-
-/// How far a run goes that no word limits.
-pub const USUAL: Limits = Limits {
-    units: 10_000,
-    height: 128,
-    drain: 1_024,
-};
+use run_reports::{Limits, USUAL};
 
 /// The most rows of the generated application.
 const MOST_ROWS: u64 = 10_000;

@@ -4,8 +4,7 @@ use Rattle.std.specs.Prelude.{IfOk, IfErr}
 use Rattle.run_outside.specs.Sessions.{CameAt, Headlined}
 use Rattle.rt_model.specs.Merge.{ValidOverCuts, drained}
 use Rattle.rt_model.specs.State as model
-use Rattle.run_reports.specs.Seen.{fault_of, limits_of, report_of}
-use Rattle.show_words.specs.Words.{usual}
+use Rattle.run_reports.specs.Seen.{fault_of, limits_of, report_of, usual}
 use Rattle.show_words.proofs.Preparing.{of_source}
 use Rattle.show_posts.proofs.posted.post_script.Goals as goal
 use Rattle.rt_session.specs.Posted.{drains_of, lists_of}

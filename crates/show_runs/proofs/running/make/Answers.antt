@@ -1,6 +1,6 @@
 -- The reports are those of a session.
 use Rattle.lang_syntax.specs.Mirror.{source_of}
-use Rattle.show_words.specs.Words.{usual}
+use Rattle.run_reports.specs.Seen.{usual}
 use Rattle.show_runs.proofs.Runs.{headline_untold, headline_generated}
 use Rattle.show_runs.proofs.running.make.Goals as goal
 
