@@ -1,5 +1,6 @@
 -- How an application carries what a library is made of, and what the library's calls come to in it.
 use Rattle.std.specs.Prelude.{ℕ, Option, Some, option_and_then, ◌≡◌}
+use Rattle.author_bodies.specs.declared.nothing.Nothing.{Nothing as Absent}
 use Rattle.author_markup.specs.Markup.{child}
 use Rattle.rt_model.specs.OneLog.{types}
 use Rattle.rt_model.specs.Program.{Program, done, read, write}
@@ -19,6 +20,19 @@ pub record Carrying (Library Application : Types) : Type 0 where
   pub gives_back : (v : Library.Value) → held (value v) ≡ Some v
   -- what a payload carries for the library
   pub payload : Application.Payload → Option Library.Payload
+
+-- those of the pages of an application, which have no tasks and no effects
+abbrev pub in_pages : {C Q V H T E L : Type 0} {Library : Types} → Carrying Library (types C Q V H T E L) → Carrying Library (types C Q V H Absent Absent L)
+in_pages k =
+    record {
+      component = k.component;
+      props = k.props;
+      handler = k.handler;
+      value = k.value;
+      held = k.held;
+      gives_back = k.gives_back;
+      payload = k.payload;
+    }
 
 module _ {P C Q V H T E L : Type 0} {Library : Types} where
   -- a component of the library, in a node slot

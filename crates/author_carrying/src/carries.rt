@@ -1,7 +1,7 @@
 //! How an application carries what a library is made of.
 ghost use Rattle.std.specs.Prelude.{◌≡◌, IfOk};
 
-use author_bodies::Bodied;
+use author_bodies::{Bodied, Paged};
 use rt_values::OutOfMemory;
 use std::alloc::Global;
 use tree_nodes::Parts;
@@ -68,5 +68,35 @@ impl<L: Parts, B: Carries<L>> Carries<L> for Bodied<B> {
 
     fn payload_in(alloc: Global, payload: &B::Payload) -> Result<Option<L::Payload>, OutOfMemory> {
         B::payload_in(alloc, payload)
+    }
+}
+
+impl<L: Parts, S: Carries<L>> Carries<L> for Paged<S> {
+    ghost use Rattle.author_carrying.specs.Carrying.{in_pages};
+
+    ghost carrying = { in_pages S.carrying };
+
+    fn component_of(component: L::Component) -> S::Component {
+        S::component_of(component)
+    }
+
+    fn props_of(props: L::Props) -> S::Props {
+        S::props_of(props)
+    }
+
+    fn handler_of(handler: L::Handler) -> S::Handler {
+        S::handler_of(handler)
+    }
+
+    fn value_of(value: L::Value) -> S::Value {
+        S::value_of(value)
+    }
+
+    fn held_in(value: S::Value) -> Option<L::Value> {
+        S::held_in(value)
+    }
+
+    fn payload_in(alloc: Global, payload: &S::Payload) -> Result<Option<L::Payload>, OutOfMemory> {
+        S::payload_in(alloc, payload)
     }
 }

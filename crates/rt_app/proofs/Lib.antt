@@ -4,4 +4,5 @@ pub use Rattle.rt_author.proofs.Meant
 pub use Rattle.rt_author.proofs.Refused
 pub use Rattle.rt_author.proofs.Contexts
 pub use Rattle.rt_author.proofs.Following
+pub use Rattle.rt_author.proofs.Maps
 pub mod Rules

@@ -34,6 +34,16 @@ pub use Rattle.rt_author.specs.Present
 pub use Rattle.rt_author.specs.Reads
 pub use Rattle.rt_author.specs.Sequence
 pub use Rattle.rt_author.specs.Shows
+pub use Rattle.rt_author.specs.OtherKinds
+pub use Rattle.rt_author.specs.CellsLast
+pub use Rattle.rt_author.specs.ComponentsLast
+pub use Rattle.rt_author.specs.NumbersLast
+pub use Rattle.rt_author.specs.OneFinish
+pub use Rattle.rt_author.specs.Keeps
+pub use Rattle.rt_author.specs.OnePage
+pub use Rattle.rt_author.specs.Updates
+pub use Rattle.rt_author.specs.Along
+pub use Rattle.rt_author.specs.Moves
 pub use Rattle.rt_author.specs.Mirror
 pub use Rattle.rt_author.specs.Sealed
 pub use Rattle.rt_author.specs.Shown
@@ -53,6 +63,7 @@ pub use Rattle.rt_author.specs.Commands
 pub use Rattle.rt_author.specs.Current
 pub use Rattle.rt_author.specs.Edits
 pub use Rattle.rt_author.specs.Headline
+pub use Rattle.rt_author.specs.Heard
 pub use Rattle.rt_author.specs.Laws
 pub use Rattle.rt_author.specs.Lists
 pub use Rattle.rt_author.specs.Merge

@@ -25,10 +25,14 @@ pub use rt_author::{
 
 // Laws.
 pub use rt_author::{
-    coded_tests, commands_within, current_pages_show, either_tests, first_pages_show,
-    heard_from_below, kinds_apart, kinds_go_on, memoized_are_lawful, other_kinds_stay,
-    pages_are_lawful, pages_show_present_values, pair_tests, plain_tests,
-    programs_come_to_their_meaning, programs_go_on, reports_show_pages, unread_runs_nothing,
+    cells_last, cells_stay, coded_tests, commands_keep_others, commands_within, components_last,
+    current_pages_show, either_tests, events_update, first_pages_show, heard_entries_update,
+    heard_from_below, kept_pages_ask_nothing, kinds_apart, kinds_go_on, listeners_update,
+    logged_cells_last, logged_components_last, logged_numbers_last, memoized_are_lawful,
+    numbers_last, one_finish, one_page_shows, one_read_shows, other_kinds_stay, pages_are_lawful,
+    pages_keep_cells, pages_show_present_values, pair_tests, plain_tests,
+    programs_come_to_their_meaning, programs_go_on, programs_keep_others, reports_show_pages,
+    rows_are_sessions, unread_runs_nothing,
 };
 
 // Values.

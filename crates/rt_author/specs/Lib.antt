@@ -34,6 +34,16 @@ pub use Rattle.author_programs.specs.Present
 pub use Rattle.author_programs.specs.Reads
 pub use Rattle.author_programs.specs.Sequence
 pub use Rattle.author_programs.specs.Shows
+pub use Rattle.law_kinds.specs.OtherKinds
+pub use Rattle.law_lasting.specs.CellsLast
+pub use Rattle.law_lasting.specs.ComponentsLast
+pub use Rattle.law_lasting.specs.NumbersLast
+pub use Rattle.law_lasting.specs.OneFinish
+pub use Rattle.law_pages.specs.Keeps
+pub use Rattle.law_pages.specs.OnePage
+pub use Rattle.law_pages.specs.Updates
+pub use Rattle.law_behavior.specs.Along
+pub use Rattle.law_moves.specs.Moves
 pub use Rattle.tree_mirror.specs.Mirror
 pub use Rattle.tree_mirror.specs.Sealed
 pub use Rattle.tree_nodes.specs.Shown
@@ -53,6 +63,7 @@ pub use Rattle.rt_model.specs.Commands
 pub use Rattle.rt_model.specs.Current
 pub use Rattle.rt_model.specs.Document as Edits
 pub use Rattle.rt_model.specs.Headline
+pub use Rattle.rt_model.specs.Heard
 pub use Rattle.rt_model.specs.Laws
 pub use Rattle.rt_model.specs.Lists
 pub use Rattle.rt_model.specs.Merge
