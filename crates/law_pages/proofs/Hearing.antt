@@ -16,14 +16,14 @@ use Rattle.author_programs.specs.Pages.{Pages, meaning_of_pages}
 use Rattle.law_pages.specs.Updates.{Model, model_of, update, updates, Updated, EventHeard, EventsUpdate}
 use Rattle.law_pages.proofs.Listening.{heard_entries_update}
 
-machine_is : {A : Type 0} (a b : A) → Some a ≡ Some b → a ≡ b
+pub machine_is : {A : Type 0} (a b : A) → Some a ≡ Some b → a ≡ b
 machine_is a b h = cc
 
 module _ {K : Types} (k : Keeping K.Value) (a : Pages K) where
   abbrev app : Application K
   app = meaning_of_pages k a
 
-  abbrev AllLive : List (ℕ × Scope K) → List (Listener K) → Type 0
+  abbrev pub AllLive : List (ℕ × Scope K) → List (Listener K) → Type 0
   AllLive scopes ls = AllByRecursion (λ (l : Listener K). is_some (at scopes l.origin) ≡ true) ls
 
   -- all that are live wait
@@ -32,22 +32,22 @@ module _ {K : Types} (k : Keeping K.Value) (a : Pages K) where
   live_wait w (l ∷ ls) h =
       let rest : List (Listener K) = kept_by (λ d. is_live w d.origin) ls in pick_true (l ∷ rest) rest h.0 ∙ ap (λ (ds : List (Listener K)). l ∷ ds) (live_wait w ls h.1)
 
-  all_wait : (m : Machine K) (ls : List (Listener K)) → m.listeners ≡ ls → AllLive m.state.scopes ls → waiting m ≡ ls
+  pub all_wait : (m : Machine K) (ls : List (Listener K)) → m.listeners ≡ ls → AllLive m.state.scopes ls → waiting m ≡ ls
   all_wait m ls listeners live = ap (λ (ds : List (Listener K)). kept_by (λ d. is_live m.state d.origin) ds) listeners ∙ live_wait m.state ls live
 
-  due_first : (m : Machine K) (l : Listener K) (ls : List (Listener K)) → m.built ≡ true → m.dead ≡ None → m.work ≡ [] → waiting m ≡ l ∷ ls → due app m ≡ if_live m.state (Some (Heard l.origin))
+  pub due_first : (m : Machine K) (l : Listener K) (ls : List (Listener K)) → m.built ≡ true → m.dead ≡ None → m.work ≡ [] → waiting m ≡ l ∷ ls → due app m ≡ if_live m.state (Some (Heard l.origin))
   due_first m l ls built alive idle waits =
       ap (λ (o : Option Fault). if_live m.state (elim o as (λ z. Option Entry) [ None ↦ (if m.built then due_item app m m.work else Some Build) | Some fault ↦ None ])) alive
       ∙ ap (λ (b : Bool). if_live m.state (if b then due_item app m m.work else Some Build)) built
       ∙ ap (λ (items : List (Item K)). if_live m.state (due_item app m items)) idle
       ∙ ap (λ (ds : List (Listener K)). if_live m.state (due_heard app m ds)) waits
 
-  that_one : (b : Bool) (d e : Entry) → is_due app (if b then Some d else None) e ≡ true → d ≡ e
+  pub that_one : (b : Bool) (d e : Entry) → is_due app (if b then Some d else None) e ≡ true → d ≡ e
   that_one true d e h = same_entry-true d e h
   that_one false d e h = cc
 
   -- who waits is live
-  kept_live : (w : State K) (ls : List (Listener K)) → AllLive w.scopes (kept_by (λ l. is_live w l.origin) ls)
+  pub kept_live : (w : State K) (ls : List (Listener K)) → AllLive w.scopes (kept_by (λ l. is_live w l.origin) ls)
   kept_live w [] = tt
   kept_live w (l ∷ ls) =
       let rest : List (Listener K) = kept_by (λ d. is_live w d.origin) ls in
@@ -87,11 +87,11 @@ module _ {K : Types} (k : Keeping K.Value) (a : Pages K) where
         none_waits = u.none_waits;
       }
 
-  abbrev stops : Machine K → Listener K → Event K → Bool
+  abbrev pub stops : Machine K → Listener K → Event K → Bool
   stops m l e = m.bubbles && not (a.reply l.handler e).leaves.propagates
 
   -- the model that the others find
-  same_updates : (ls : List (Listener K)) (e : Event K) (m x : Machine K) (n : Model K) → x.bubbles ≡ m.bubbles → x.state.next ≡ m.state.next → model_of x.state ≡ n
+  pub same_updates : (ls : List (Listener K)) (e : Event K) (m x : Machine K) (n : Model K) → x.bubbles ≡ m.bubbles → x.state.next ≡ m.state.next → model_of x.state ≡ n
       → updates a x.bubbles x.state.next.cells ls e (model_of x.state) ≡ updates a m.bubbles m.state.next.cells ls e n
   same_updates ls e m x n bubbles next model =
       ap (λ (b : Bool). updates a b x.state.next.cells ls e (model_of x.state)) bubbles
@@ -141,7 +141,7 @@ module _ {K : Types} (k : Keeping K.Value) (a : Pages K) where
       )
 
   -- a log doesn't end while somebody waits
-  waits_on : (m v : Machine K) (l : Listener K) (ls : List (Listener K)) → m ≡ v → waiting m ≡ l ∷ ls → is_quiet v ≡ true → ⊥
+  pub waits_on : (m v : Machine K) (l : Listener K) (ls : List (Listener K)) → m ≡ v → waiting m ≡ l ∷ ls → is_quiet v ≡ true → ⊥
   waits_on m v l ls same waits quiet =
       let nobody : no_listener (waiting v) ≡ true = and-right (not (is_some v.dead) && no_work v.work) (no_listener (waiting v)) quiet in
       let absurdity : false ≡ true = sym (ap (λ (ds : List (Listener K)). no_listener ds) waits) ∙ ap (λ (x : Machine K). no_listener (waiting x)) same ∙ nobody in

@@ -1,4 +1,4 @@
-mod Keeping
-mod Listening
-mod Hearing
+pub mod Keeping
+pub mod Listening
+pub mod Hearing
 pub mod OnePage

@@ -11,8 +11,8 @@ use Rattle.rt_model.specs.Run.{with_next, called_once}
 use Rattle.rt_model.specs.Heard.{Listener}
 use Rattle.rt_model.specs.Replay.{Machine, waiting, looked_where_quiet, further, heard_by, heard_event, heard_first, Heard, change_by, draws, rows_left, served, closed_at, closed, settled, step}
 use Rattle.author_programs.specs.Came.{Came, came, reached}
-use Rattle.author_programs.specs.Cells.{all_read, all_written}
-use Rattle.author_programs.specs.Pages.{Reply, reply_call, page_body, meaning_of_pages}
+use Rattle.author_programs.specs.Cells.{Keeping, all_read, all_written}
+use Rattle.author_programs.specs.Pages.{Pages, Reply, reply_call, page_body, meaning_of_pages}
 use Rattle.author_programs.specs.Reads.{read_value, read_call}
 use Rattle.author_programs.specs.Sequence.{go_on}
 use Rattle.author_programs.proofs.Goes.{exec-came}
@@ -38,7 +38,7 @@ module _ {K : Types} where
   at_head true c o p h = refl
   at_head false c o p h = h
 
-  at_values : (es : List (ℕ × CellRow K)) (n : ℕ) → at (values_in es) n ≡ elim (at es n) as (λ z. Option K.Value) [ None ↦ None | Some d ↦ Some d.value ]
+  pub at_values : (es : List (ℕ × CellRow K)) (n : ℕ) → at (values_in es) n ≡ elim (at es n) as (λ z. Option K.Value) [ None ↦ None | Some d ↦ Some d.value ]
   at_values [] n = refl
   at_values (e ∷ es) n = at_head (nat_eq e.0 n) e.1 (at es n) (at (values_in es) n) (at_values es n)
 
@@ -63,7 +63,7 @@ module _ {K : Types} where
       ∙ put_values w.cells n v old
       ∙ sym (ap (λ (o : Option K.Value). put_where (model_of w) n v o) some)
 
-  write_model : (w : State K) (n : ℕ) (v : K.Value) → model_of (write_cell w n v) ≡ put_where (model_of w) n v (at (model_of w) n)
+  pub write_model : (w : State K) (n : ℕ) (v : K.Value) → model_of (write_cell w n v) ≡ put_where (model_of w) n v (at (model_of w) n)
   write_model w n v = written_model w n v (at w.cells n) refl
 
   write_next : (w : State K) (n : ℕ) (v : K.Value) (o : Option (CellRow K)) → (written_at w n v o).next ≡ w.next
@@ -72,12 +72,12 @@ module _ {K : Types} where
       let u : State K = record w { cells = put w.cells n (record old { value = v }) } in (tell_same u (Cell n)).next
 
   -- the commands of writes that come after others
-  abbrev commands_with : List (Command K) → List (ℕ × K.Value) → List (Command K)
+  abbrev pub commands_with : List (Command K) → List (ℕ × K.Value) → List (Command K)
   commands_with cs [] = cs
   commands_with cs (e ∷ es) = commands_with (cs ++ Write e.0 e.1 ∷ []) es
 
   module _ (app : Application K) (s : ℕ) where
-    one_later : (w : State K) (cs : List (Command K)) (c : Command K) → commands app w s None (cs ++ c ∷ []) ≡ command app (commands app w s None cs) s None c
+    pub one_later : (w : State K) (cs : List (Command K)) (c : Command K) → commands app w s None (cs ++ c ∷ []) ≡ command app (commands app w s None cs) s None c
     one_later w [] c = refl
     one_later w (d ∷ cs) c = one_later (command app w s None d) cs c
 
@@ -124,7 +124,7 @@ module _ {K : Types} where
   write-all w next xs cs [] = at_done w nothing (listening next xs cs)
   write-all w next xs cs (e ∷ es) = at_write w e.0 e.1 (all_written es) (listening next xs cs) ∙ write-all w next xs (cs ++ Write e.0 e.1 ∷ []) es
 
-  abbrev reply_reads : World K → Reply K → List (Option K.Value)
+  abbrev pub reply_reads : World K → Reply K → List (Option K.Value)
   reply_reads w r = map (read_value w (begun false w.given.next)) r.reads
 
   abbrev reply_meaning : World K → Reply K → Meaning K (Event K)
@@ -138,7 +138,7 @@ module _ {K : Types} where
         fault = None;
       }
 
-  reply_means : (w : World K) (r : Reply K) → call_means (reply_call r) w ≡ reply_meaning w r
+  pub reply_means : (w : World K) (r : Reply K) → call_means (reply_call r) w ≡ reply_meaning w r
   reply_means w r =
       let next : Firsts = w.given.next in
       let c : Call K = begun false next in
@@ -162,19 +162,19 @@ module _ {K : Types} where
       ∷ reads_are w s ns i
 
   -- a look that follows leaves the model
-  quiet_model : (m : Machine K) (ls : List (Listener K)) → model_of (looked_where_quiet m ls).state ≡ model_of m.state
+  pub quiet_model : (m : Machine K) (ls : List (Listener K)) → model_of (looked_where_quiet m ls).state ≡ model_of m.state
   quiet_model m [] = ap (λ (es : List (ℕ × CellRow K)). values_in es) (look_same m.state).cells
   quiet_model m (l ∷ ls) = refl
 
-  quiet_event : (m : Machine K) (ls : List (Listener K)) → (looked_where_quiet m ls).event ≡ m.event
+  pub quiet_event : (m : Machine K) (ls : List (Listener K)) → (looked_where_quiet m ls).event ≡ m.event
   quiet_event m [] = refl
   quiet_event m (l ∷ ls) = refl
 
-  quiet_listeners : (m : Machine K) (ls : List (Listener K)) → (looked_where_quiet m ls).listeners ≡ m.listeners
+  pub quiet_listeners : (m : Machine K) (ls : List (Listener K)) → (looked_where_quiet m ls).listeners ≡ m.listeners
   quiet_listeners m [] = refl
   quiet_listeners m (l ∷ ls) = refl
 
-  quiet_rest : (m : Machine K) (ls : List (Listener K))
+  pub quiet_rest : (m : Machine K) (ls : List (Listener K))
       → ((looked_where_quiet m ls).dead ≡ m.dead) × ((looked_where_quiet m ls).work ≡ m.work) × ((looked_where_quiet m ls).unit ≡ m.unit) × ((looked_where_quiet m ls).bubbles ≡ m.bubbles) × ((looked_where_quiet m ls).built ≡ m.built)
   quiet_rest m [] = (refl, refl, refl, refl, refl)
   quiet_rest m (l ∷ ls) = (refl, refl, refl, refl, refl)
@@ -200,7 +200,7 @@ module _ {K : Types} where
   drawn_none : (x : Machine K) → x.work ≡ [] → draws x.work x ≡ x
   drawn_none x idle = ap (λ (items : List (Item K)). draws items x) idle ∙ ap (λ (items : List (Item K)). record x { work = items }) (sym idle)
 
-  settled_none : (app : Application K) (x : Machine K) → x.dead ≡ None → x.work ≡ [] → x.unit ≡ false → settled app x ≡ x
+  pub settled_none : (app : Application K) (x : Machine K) → x.dead ≡ None → x.work ≡ [] → x.unit ≡ false → settled app x ≡ x
   settled_none app x alive idle no_unit =
       let served_is : served app (rows_left x.work) x ≡ x =
       ap (λ (items : List (Item K)). served app (rows_left items) x) idle
@@ -273,8 +273,15 @@ listeners_update K k a m l ls e =
           );
     }
 
-pub heard_entries_update : (K : Types) → HeardEntriesUpdate K
-heard_entries_update K k a m l ls e alive idle no_unit event waits =
+-- the entry of a listener's call leaves what the call leaves, where nothing else is at work
+pub heard_entry_is : {K : Types} (k : Keeping K.Value) (a : Pages K) (m : Machine K) (l : Listener K) (ls : List (Listener K)) (e : Event K)
+    → m.dead ≡ None
+    → m.work ≡ []
+    → m.unit ≡ false
+    → m.event ≡ Some e
+    → waiting m ≡ l ∷ ls
+    → step (meaning_of_pages k a) m (Heard l.origin) ≡ heard_event (meaning_of_pages k a) m l ls (Some e)
+heard_entry_is {K = K} k a m l ls e alive idle no_unit event waits =
     let app : Application K = meaning_of_pages k a in
     let x : Machine K = heard_event app m l ls (Some e) in
     let now : Updated a m l ls e x = listeners_update K k a m l ls e in
@@ -282,10 +289,12 @@ heard_entries_update K k a m l ls e alive idle no_unit event waits =
     ap (λ (items : List (Item K)). change_by app m items (Heard l.origin)) idle
     ∙ ap (λ (ns : List (Listener K)). heard_first app m ns) waits
     ∙ ap (λ (o : Option (Event K)). heard_event app m l ls o) event in
-    let is : step app m (Heard l.origin) ≡ x =
     ap (λ (y : Machine K). settled app y) changed
-    ∙ settled_none app x (now.rest.0 ∙ alive) (now.rest.1 ∙ idle) (now.rest.2 ∙ no_unit) in
-    subst (λ (y : Machine K). Updated a m l ls e y) (sym is) now
+    ∙ settled_none app x (now.rest.0 ∙ alive) (now.rest.1 ∙ idle) (now.rest.2 ∙ no_unit)
+
+pub heard_entries_update : (K : Types) → HeardEntriesUpdate K
+heard_entries_update K k a m l ls e alive idle no_unit event waits =
+    subst (λ (y : Machine K). Updated a m l ls e y) (sym (heard_entry_is k a m l ls e alive idle no_unit event waits)) (listeners_update K k a m l ls e)
 
 pub kept_pages_ask_nothing : (K : Types) → KeptPagesAskNothing K
 kept_pages_ask_nothing K k page w own h same =
