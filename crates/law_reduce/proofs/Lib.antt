@@ -1,0 +1,13 @@
+mod Owners
+mod Minds
+mod Calm
+mod InTurn
+mod Taking
+mod OneReport
+mod Reports
+mod Alike
+mod Folded
+mod Shown
+mod Bodies
+mod Hooked
+mod Heard

@@ -1,0 +1,328 @@
+-- In one report of a session of pages each cell that stays comes to have what the input makes of the values.
+use Rattle.std.proofs.Common.{ℕ, ◌+◌, Bool, true, false, ◌&&◌, not, List, [], ◌∷◌, ◌++◌, ◌≡◌, inl, inr, refl, sym, ap, ◌∙◌, subst}
+use Rattle.std.specs.Prelude.{Option, Some, None, if◌then◌else◌, is_some}
+use Rattle.rt_model.specs.Lists.{Text, at}
+use Rattle.rt_model.specs.Tree.{Types}
+use Rattle.rt_model.specs.World.{Event, Application}
+use Rattle.rt_model.specs.State.{Fault, Scope, State, CellRow, Item, is_live}
+use Rattle.rt_model.specs.Next.{Work, RunEffects, next, owes, is_before, least}
+use Rattle.rt_model.specs.Heard.{Listener}
+use Rattle.rt_model.specs.Replay.{Entry, Build, Taken, Input, EventAt, WakeOf, WriteOf, MarkOf, Drain, Machine, if_live, no_work, no_listener, waiting, looked_where_quiet, then_looked, taken_in, due_work, due_heard, due_item, due, is_due, step, is_quiet, replay_on}
+use Rattle.rt_model.specs.Causes.{Limits}
+use Rattle.rt_model.specs.Told.{count_entries, is_settled}
+use Rattle.rt_model.specs.Reports.{is_opening, OpensWith}
+use Rattle.rt_model.proofs.Conjunctions.{and-left, and-right}
+use Rattle.rt_model.proofs.OneLogOnly.{same_entry-true, fork}
+use Rattle.law_moves.specs.Moves.{entries, moves_alone, IsSettled, AtRest}
+use Rattle.law_moves.proofs.Limited.{some_limits}
+use Rattle.law_moves.proofs.Logs.{logs_are_moves}
+use Rattle.law_headline.proofs.Reports.{settled_after}
+use Rattle.law_behavior.specs.Along.{NoneRemoves}
+use Rattle.law_behavior.specs.Owed.{IsMarked, MarksAreRun}
+use Rattle.law_behavior.specs.Comes.{emptied, NothingLeft}
+use Rattle.law_behavior.proofs.Coming.{none_is_left}
+use Rattle.author_programs.specs.Cells.{Keeping}
+use Rattle.author_programs.specs.Pages.{Pages, meaning_of_pages}
+use Rattle.law_pages.specs.Updates.{Model, model_of, updates}
+use Rattle.law_pages.proofs.Keeping.{pages_keep_cells}
+use Rattle.law_pages.proofs.Listening.{at_values}
+use Rattle.law_pages.proofs.Hearing.{waits_on, machine_is}
+use Rattle.law_reduce.specs.Reduces.{hearers, reduced, Reduces}
+use Rattle.law_reduce.specs.Reads.{NoneRuns, ReadsStay}
+use Rattle.law_reduce.proofs.Owners.{owners_of, Owned, still_owned}
+use Rattle.law_reduce.proofs.Minds.{Minds}
+use Rattle.law_reduce.proofs.Calm.{none_opens, none_later, Calm, calm_moves}
+use Rattle.law_reduce.proofs.InTurn.{EventDone, first_done, all_done}
+use Rattle.law_reduce.proofs.Taking.{ready, Took, took, took_looked, take_is, hearers_emptied, Made, IsNoEvent, made_at_once}
+
+none_of : {A : Type 0} (o : Option A) → not (is_some o) ≡ true → o ≡ None
+none_of None h = refl
+none_of (Some a) h = cc
+
+-- what no entry of a log removes, none of its end does
+later_stays : (o : ℕ) (xs ys : List Entry) → NoneRemoves o (xs ++ ys) → NoneRemoves o ys
+later_stays o [] ys h = h
+later_stays o (x ∷ xs) ys h = later_stays o xs ys h.1
+
+-- what none runs
+later_unrun : (s : ℕ) (xs ys : List Entry) → NoneRuns s (xs ++ ys) → NoneRuns s ys
+later_unrun s [] ys h = h
+later_unrun s (x ∷ xs) ys h = later_unrun s xs ys h.1
+
+module _ {K : Types} where
+  no_items : (items : List (Item K)) → no_work items ≡ true → items ≡ []
+  no_items [] h = refl
+  no_items (i ∷ rest) h = cc
+
+  -- nothing is at work, nothing is owed, and the build has begun
+  pub record Ready (m : Machine K) : Type 0 where
+    pub rests : AtRest m
+    pub built : m.built ≡ true
+    pub none : next m.state ≡ None
+
+  at_rest_settled : (m : Machine K) → AtRest m → IsSettled m
+  at_rest_settled m h =
+      ap (λ (o : Option Fault). moves_alone o m.work m.unit) h.alive ∙ ap (λ (items : List (Item K)). moves_alone None items m.unit) h.idle ∙ h.unit
+
+  -- where nothing is owed
+  pub settled_ready : (m : Machine K) → m.built ≡ true → IsSettled m → is_settled m ≡ true → Ready m
+  settled_ready m built still h =
+      let quiet : is_quiet m ≡ true = and-left (is_quiet m) (not (owes m.state)) h in
+      let front : not (is_some m.dead) && no_work m.work ≡ true = and-left (not (is_some m.dead) && no_work m.work) (no_listener (waiting m)) quiet in
+      let alive : m.dead ≡ None = none_of m.dead (and-left (not (is_some m.dead)) (no_work m.work) front) in
+      let idle : m.work ≡ [] = no_items m.work (and-right (not (is_some m.dead)) (no_work m.work) front) in
+      record {
+        rests =
+            record {
+              alive = alive;
+              idle = idle;
+              unit =
+                  sym (ap (λ (o : Option Fault). moves_alone o m.work m.unit) alive ∙ ap (λ (items : List (Item K)). moves_alone None items m.unit) idle)
+                  ∙ still;
+            };
+        built = built;
+        none = none_of (next m.state) (and-right (is_quiet m) (not (owes m.state)) h);
+      }
+
+  -- what a state without posts that owes nothing owes once more
+  emptied_owes_none : (w : State K) → next w ≡ None → next (emptied w) ≡ None
+  emptied_owes_none w none =
+      let left : NothingLeft w = none_is_left K w none in
+      ap (λ (xs : List ℕ). elim (least (λ a b. is_before w.scopes a b) xs) as (λ z. Option Work) [ None ↦ None | Some s ↦ Some (RunEffects s) ]) left.effects
+
+module _ {K : Types} (k : Keeping K.Value) (a : Pages K) where
+  abbrev app : Application K
+  app = meaning_of_pages k a
+
+  -- where nothing is owed and nobody waits an entry that is due opens a report
+  due_idly : (x : Machine K) → Ready x → waiting x ≡ [] → due app x ≡ if_live x.state (due_work app x None x.inputs)
+  due_idly x h waits =
+      ap (λ (o : Option Fault). if_live x.state (elim o as (λ z. Option Entry) [ None ↦ (if x.built then due_item app x x.work else Some Build) | Some fault ↦ None ])) (h.rests).alive
+      ∙ ap (λ (b : Bool). if_live x.state (if b then due_item app x x.work else Some Build)) h.built
+      ∙ ap (λ (items : List (Item K)). if_live x.state (due_item app x items)) (h.rests).idle
+      ∙ ap (λ (ls : List (Listener K)). if_live x.state (due_heard app x ls)) waits
+      ∙ ap (λ (o : Option Work). if_live x.state (due_work app x o x.inputs)) h.none
+
+  opens_idly : (x : Machine K) (inputs : List (Input K)) (e : Entry) → is_due app (if_live x.state (due_work app x None inputs)) e ≡ true → is_opening e ≡ true
+  opens_idly x [] e h = cc
+  opens_idly x (input ∷ inputs) e h = sym (ap (λ (d : Entry). is_opening d) (same_entry-true (Taken (x.taken + 1)) e h))
+
+  ends_there : (x v : Machine K) (log : List Entry) → Ready x → waiting x ≡ [] → replay_on app (Some x) log ≡ Some v → count_entries is_opening log ≡ 0 → x ≡ v
+  ends_there x v [] h waits accepted none = machine_is x v accepted
+  ends_there x v (f ∷ fs) h waits accepted none =
+      let due_here = (fork app (is_due app (due app x) f) (step app x f) fs v accepted).0 in
+      let opens : is_opening f ≡ true = opens_idly x x.inputs f (sym (ap (λ (o : Option Entry). is_due app o f) (due_idly x h waits)) ∙ due_here) in
+      let other : is_opening f ≡ false = (none_opens (is_opening f) (count_entries is_opening fs) none).0 in
+      let absurdity : true ≡ false = sym opens ∙ other in
+      cc
+
+  -- what comes of the log of a report
+  pub record Came (m : Machine K) (input : Input K) (more : List (Input K)) (log : List Entry) (v : Machine K) : Type 0 where
+    pub reduces : Reduces a m.state input log v.state
+    pub reads_stay : MarksAreRun app → ReadsStay m.state log v.state
+    pub ready_again : Ready v
+    pub inputs : v.inputs ≡ more
+
+  -- from where nobody is left to wait, and the values are the input's
+  onwards : (m b v : Machine K) (input : Input K) (more : List (Input K)) (before rest log : List Entry) → log ≡ before ++ rest
+      → Calm more b
+      → AtRest b
+      → owners_of b.state ≡ owners_of m.state
+      → Minds (emptied m.state) b.state
+      → model_of b.state ≡ reduced a m.state input
+      → replay_on app (Some b) rest ≡ Some v
+      → count_entries is_opening rest ≡ 0
+      → is_settled v ≡ true
+      → Came m input more log v
+  onwards m b v input more before rest log parts calm rests owners minds model accepted none settled =
+      let found = some_limits app rest b v accepted in
+      let limits : Limits = found.0 in
+      let moved = logs_are_moves app limits b v rest (at_rest_settled b rests) found.1 in
+      let none_moves : count_entries is_opening (entries moved.0) ≡ 0 = ap (λ (es : List Entry). count_entries is_opening es) moved.2 ∙ none in
+      let after : Calm more v = (calm_moves app more limits 0 b v moved.0 moved.1 none_moves calm).1 in
+      let again : Ready v = settled_ready v after.built (settled_after app limits rest b v (at_rest_settled b rests) found.1) settled in
+      record {
+        reads_stay =
+            λ marks s x n row there live unrun named cell stays.
+            let stays_on : NoneRemoves row.owner (entries moved.0) =
+            subst (λ (es : List Entry). NoneRemoves row.owner es) (sym moved.2)
+            (later_stays row.owner before rest (subst (λ (es : List Entry). NoneRemoves row.owner es) parts stays)) in
+            let unrun_on : NoneRuns s (entries moved.0) =
+            subst (λ (es : List Entry). NoneRuns s es) (sym moved.2)
+            (later_unrun s before rest (subst (λ (es : List Entry). NoneRuns s es) parts unrun)) in
+            elim (minds.told s x n row there named cell) [
+              | inl c ↦ pages_keep_cells K k a limits b v moved.0 n row moved.1 stays_on (calm_moves app more limits n b v moved.0 moved.1 none_moves calm).0 c
+              | inr owed ↦
+                  let here : is_live b.state s ≡ true =
+                  ap (λ (o : Option (Scope K)). is_some o) (ap (λ (es : List (ℕ × Scope K)). at es s) minds.scopes ∙ there) in
+                  let marked : IsMarked b.state s = owed here in
+                  let gone : is_live v.state s ≡ false = (marks limits b v moved.0 s moved.1 (again.rests).alive marked unrun_on).1 again.none in
+                  let absurdity : true ≡ false = sym live ∙ gone in
+                  cc
+            ];
+        reduces =
+            λ n row there stays.
+            let o : Owned b.state n row.owner = still_owned m.state b.state n row owners there in
+            let stays_on : NoneRemoves (o.row).owner (entries moved.0) =
+            subst (λ (s : ℕ). NoneRemoves s (entries moved.0)) (sym o.owner_is)
+            (subst (λ (es : List Entry). NoneRemoves row.owner es) (sym moved.2)
+            (later_stays row.owner before rest (subst (λ (es : List Entry). NoneRemoves row.owner es) parts stays))) in
+            let kept : at v.state.cells n ≡ Some o.row =
+            pages_keep_cells K k a limits b v moved.0 n o.row moved.1 stays_on (calm_moves app more limits n b v moved.0 moved.1 none_moves calm).0 o.there in
+            at_values v.state.cells n
+            ∙ ap (λ (r : Option (CellRow K)). elim r as (λ z. Option K.Value) [ None ↦ None | Some d ↦ Some d.value ]) (kept ∙ sym o.there)
+            ∙ sym (at_values b.state.cells n)
+            ∙ ap (λ (x : Model K). at x n) model;
+        ready_again = again;
+        inputs = after.inputs;
+      }
+
+  -- nobody hears the event: the report ends there
+  unheard : (m y v : Machine K) (name : Text) (payload : K.Payload) (element : ℕ) (bubbles : Bool) (more : List (Input K)) (first : Entry) (log : List Entry)
+      → y ≡ taken_in (ready m more) (EventAt name payload element bubbles)
+      → Ready m
+      → hearers m.state name element bubbles ≡ []
+      → replay_on app (Some y) log ≡ Some v
+      → count_entries is_opening log ≡ 0
+      → Came m (EventAt name payload element bubbles) more (first ∷ log) v
+  unheard m y v name payload element bubbles more first log is h silent accepted none =
+      let x : Machine K = taken_in (ready m more) (EventAt name payload element bubbles) in
+      let rests : AtRest x = (took m more (EventAt name payload element bubbles)).rests h.rests in
+      let still : Ready x = record { rests = rests; built = h.built; none = emptied_owes_none m.state h.none } in
+      let waits : waiting x ≡ [] = hearers_emptied m.state name element bubbles ∙ silent in
+      let same : x ≡ v = ends_there x v log still waits (subst (λ (z : Machine K). replay_on app (Some z) log ≡ Some v) is accepted) none in
+      let e : Event K = record { payload = payload; propagates = bubbles; prevented = false } in
+      let made : Came m (EventAt name payload element bubbles) more (first ∷ log) x =
+      record {
+        reduces = λ n row there stays. sym (ap (λ (ls : List (Listener K)). at (updates a bubbles m.state.next.cells ls e (model_of m.state)) n) silent);
+        reads_stay = λ marks s x n row there live unrun named cell stays. cell;
+        ready_again = still;
+        inputs = refl;
+      } in
+      subst (λ (z : Machine K). Came m (EventAt name payload element bubbles) more (first ∷ log) z) same made
+
+  -- somebody hears it
+  heard_by_some : (m y v : Machine K) (name : Text) (payload : K.Payload) (element : ℕ) (bubbles : Bool) (more : List (Input K)) (first : Entry) (log : List Entry) (l : Listener K) (ls : List (Listener K))
+      → y ≡ taken_in (ready m more) (EventAt name payload element bubbles)
+      → Ready m
+      → hearers m.state name element bubbles ≡ l ∷ ls
+      → replay_on app (Some y) log ≡ Some v
+      → count_entries is_opening log ≡ 0
+      → is_settled v ≡ true
+      → Came m (EventAt name payload element bubbles) more (first ∷ log) v
+  heard_by_some m y v name payload element bubbles more first [] l ls is h hears accepted none settled =
+      let x : Machine K = taken_in (ready m more) (EventAt name payload element bubbles) in
+      let waits : waiting x ≡ l ∷ ls = hearers_emptied m.state name element bubbles ∙ hears in
+      let quiet : is_quiet v ≡ true = and-left (is_quiet v) (not (owes v.state)) settled in
+      absurd (waits_on k a x v l ls (machine_is x v (subst (λ (z : Machine K). replay_on app (Some z) [] ≡ Some v) is accepted)) waits quiet)
+  heard_by_some m y v name payload element bubbles more first (f ∷ fs) l ls is h hears accepted none settled =
+      let x : Machine K = taken_in (ready m more) (EventAt name payload element bubbles) in
+      let e : Event K = record { payload = payload; propagates = bubbles; prevented = false } in
+      let waits : waiting x ≡ l ∷ ls = hearers_emptied m.state name element bubbles ∙ hears in
+      let quiet : is_quiet v ≡ true = and-left (is_quiet v) (not (owes v.state)) settled in
+      let goes : replay_on app (Some x) (f ∷ fs) ≡ Some v = subst (λ (z : Machine K). replay_on app (Some z) (f ∷ fs) ≡ Some v) is accepted in
+      let done : EventDone k a x (l ∷ ls) e (f ∷ fs) v =
+      first_done k a l ls x e f fs v
+      (λ u b r ev le li acc. all_done k a ls u (a.reply l.handler e).leaves fs v b r ev le li acc quiet)
+      h.built ((took m more (EventAt name payload element bubbles)).rests h.rests) refl waits goes in
+      onwards m done.between v (EventAt name payload element bubbles) more (first ∷ done.heards) done.rest (first ∷ f ∷ fs)
+      (ap (λ (es : List Entry). first ∷ es) done.parts)
+      (record { built = done.built; listeners = done.listeners; inputs = done.inputs })
+      done.rests
+      done.owners
+      done.minds
+      (done.model ∙ ap (λ (ds : List (Listener K)). updates a bubbles m.state.next.cells ds e (model_of m.state)) (sym hears))
+      done.goes_on
+      (none_later done.heards done.rest (subst (λ (es : List Entry). count_entries is_opening es ≡ 0) done.parts none))
+      settled
+
+  -- an event
+  event_comes : (m y v : Machine K) (name : Text) (payload : K.Payload) (element : ℕ) (bubbles : Bool) (more : List (Input K)) (first : Entry) (log : List Entry) (ls : List (Listener K))
+      → y ≡ taken_in (ready m more) (EventAt name payload element bubbles)
+      → Ready m
+      → hearers m.state name element bubbles ≡ ls
+      → replay_on app (Some y) log ≡ Some v
+      → count_entries is_opening log ≡ 0
+      → is_settled v ≡ true
+      → Came m (EventAt name payload element bubbles) more (first ∷ log) v
+  event_comes m y v name payload element bubbles more first log [] is h hears accepted none settled =
+      unheard m y v name payload element bubbles more first log is h hears accepted none
+  event_comes m y v name payload element bubbles more first log (l ∷ ls) is h hears accepted none settled =
+      heard_by_some m y v name payload element bubbles more first log l ls is h hears accepted none settled
+
+  -- a look changes nothing where nothing is posted
+  look_idle : (y : Machine K) (ls : List (Listener K)) → y ≡ record y { state = emptied y.state } → looked_where_quiet y ls ≡ y
+  look_idle y [] h = ap (λ (x : Machine K). looked_where_quiet x []) h ∙ sym h
+  look_idle y (l ∷ ls) h = refl
+
+  -- what isn't an event
+  other_comes : (m x v : Machine K) (input : Input K) (more : List (Input K)) (first : Entry) (log : List Entry)
+      → IsNoEvent a input
+      → x ≡ then_looked (taken_in (ready m more) input)
+      → AtRest x
+      → x.built ≡ true
+      → x.inputs ≡ more
+      → replay_on app (Some x) log ≡ Some v
+      → count_entries is_opening log ≡ 0
+      → is_settled v ≡ true
+      → Came m input more (first ∷ log) v
+  other_comes m x v input more first log other is rests built inputs accepted none settled =
+      let made : Made a m input x = subst (λ (z : Machine K). Made a m input z) (sym is) (made_at_once a m more input other) in
+      onwards m x v input more (first ∷ []) log (first ∷ log) refl
+      (record { built = built; listeners = made.listeners; inputs = inputs })
+      rests
+      made.owners
+      made.minds
+      made.model
+      accepted
+      none
+      settled
+
+  at_once : (m x v : Machine K) (input : Input K) (more : List (Input K)) (first : Entry) (log : List Entry)
+      → Ready m
+      → IsNoEvent a input
+      → x ≡ then_looked (taken_in (ready m more) input)
+      → replay_on app (Some x) log ≡ Some v
+      → count_entries is_opening log ≡ 0
+      → is_settled v ≡ true
+      → Came m input more (first ∷ log) v
+  at_once m x v input more first log h other is accepted none settled =
+      let y : Machine K = taken_in (ready m more) input in
+      let t : Took m more (then_looked y) = took_looked m more y (waiting y) (took m more input) in
+      other_comes m x v input more first log other is
+      (subst (λ (z : Machine K). AtRest z) (sym is) (t.rests h.rests))
+      (ap (λ (z : Machine K). z.built) is ∙ t.built ∙ h.built)
+      (ap (λ (z : Machine K). z.inputs) is ∙ t.inputs)
+      accepted
+      none
+      settled
+
+  -- by the input
+  input_comes : (m x v : Machine K) (input : Input K) (more : List (Input K)) (first : Entry) (log : List Entry)
+      → Ready m
+      → x ≡ then_looked (taken_in (ready m more) input)
+      → replay_on app (Some x) log ≡ Some v
+      → count_entries is_opening log ≡ 0
+      → is_settled v ≡ true
+      → Came m input more (first ∷ log) v
+  input_comes m x v (EventAt name payload element bubbles) more first log h is accepted none settled =
+      let y : Machine K = taken_in (ready m more) (EventAt name payload element bubbles) in
+      event_comes m x v name payload element bubbles more first log (hearers m.state name element bubbles) (is ∙ look_idle y (waiting y) refl) h refl accepted none settled
+  input_comes m x v (WakeOf t) more first log h is accepted none settled = at_once m x v (WakeOf t) more first log h tt is accepted none settled
+  input_comes m x v (WriteOf n w) more first log h is accepted none settled = at_once m x v (WriteOf n w) more first log h tt is accepted none settled
+  input_comes m x v (MarkOf s) more first log h is accepted none settled = at_once m x v (MarkOf s) more first log h tt is accepted none settled
+  input_comes m x v (Drain messages) more first log h is accepted none settled = at_once m x v (Drain messages) more first log h tt is accepted none settled
+
+  -- the report of an input
+  pub report_comes : (m v : Machine K) (input : Input K) (more : List (Input K)) (i : ℕ) (log : List Entry)
+      → Ready m
+      → m.inputs ≡ input ∷ more
+      → OpensWith (Taken i) log
+      → replay_on app (Some m) log ≡ Some v
+      → is_settled v ≡ true
+      → Came m input more log v
+  report_comes m v input more i [] h inputs opens accepted settled = absurd opens
+  report_comes m v input more i (f ∷ fs) h inputs opens accepted settled =
+      let x : Machine K = step app m f in
+      let is : x ≡ then_looked (taken_in (ready m more) input) = ap (λ (d : Entry). step app m d) opens.0 ∙ take_is app m input more i h.rests h.none inputs in
+      input_comes m x v input more f fs h is (fork app (is_due app (due app m) f) x fs v accepted).1 opens.1 settled

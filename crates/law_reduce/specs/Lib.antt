@@ -1,0 +1,6 @@
+pub mod Reduces
+pub mod Folds
+pub mod Shows
+pub mod Kept
+pub mod Reads
+pub mod Bodies

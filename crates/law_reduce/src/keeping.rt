@@ -1,0 +1,23 @@
+//! What hooks that keep cells are worth later, and what a scope has read.
+
+ghost use Rattle.law_reduce.specs.Kept.{CellsAreKept};
+ghost use Rattle.law_reduce.specs.Reads.{UnrunReadsStay};
+ghost use Rattle.rt_model.specs.OneLog.{types};
+ghost use Rattle.rt_model.specs.World.{Application};
+
+use law_behavior::marks_are_run;
+
+/// Along moves that don't remove a scope whose hooks keep cells they go on to keep them, and each
+/// call of its body is given hooks that do.
+pub fn cells_are_kept<C, P, V, H, T, E, L>()
+    ensures { (app : Application (types C P V H T E L)) → CellsAreKept app }
+{}
+
+/// What a scope of a page has read stays as it was from one report to the next, where the scope
+/// isn't run in between.
+pub fn unrun_reads_stay<C, P, V, H, T, E, L>()
+    ensures { UnrunReadsStay (types C P V H T E L) }
+{
+    // What a write marks is run, or it is gone.
+    marks_are_run::<C, P, V, H, T, E, L>();
+}

@@ -1,0 +1,15 @@
+//! Elm's equation as laws: after each report of an application of pages the values of its cells are
+//! what the input made of those before it, and a page shows its function of them.
+//!
+//! The functions do nothing: what each claims of the definitions is its contract.
+#![tactic(auto)]
+
+mod folding;
+mod keeping;
+mod reducing;
+mod showing;
+
+pub use folding::pages_reduce;
+pub use keeping::{cells_are_kept, unrun_reads_stay};
+pub use reducing::{one_hears, reports_reduce};
+pub use showing::{bodies_show, folds_show, reports_show_bodies, reports_show_reduced};
