@@ -4,4 +4,7 @@
 
 mod laws;
 
-pub use laws::{looking_decides, looking_reads, memos_poll};
+pub use laws::{
+    first_polls_refused, looking_decides, looking_reads, memos_first_poll, memos_poll,
+    resources_first_poll, resources_poll,
+};

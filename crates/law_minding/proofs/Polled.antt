@@ -150,7 +150,7 @@ module _
   abbrev poll : Came K (MemoTask K.Value F)
   poll = came last (memo_polled a (memo cell context f)) (begun false last.given.next)
 
-  pub polls : PollsMemo a last cell context f value poll
+  pub polls : PollsMemo a last [] cell context f value poll
   polls = memos_poll a looks last t cell context f refl
 
   -- the context's row once the sources were read, and the state then
