@@ -2,3 +2,9 @@ pub mod Named
 pub mod Minding
 pub mod Polled
 pub mod Writes
+pub mod ToldOf
+pub mod Values
+pub mod Since
+pub mod Tasked
+pub mod Removing
+pub mod Moved

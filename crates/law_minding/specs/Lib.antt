@@ -1,2 +1,3 @@
 pub mod Minding
 pub mod Hiding
+pub mod Lasting

@@ -4,6 +4,7 @@ ghost use Rattle.rt_model.specs.World.{Application};
 ghost use Rattle.author_formulas.specs.Formulas.{Formulas};
 ghost use Rattle.law_minding.specs.Minding.{MemosGoOn, OwedOrKept, PollsStand, WritesMind};
 ghost use Rattle.law_minding.specs.Hiding.{RowsHideWrites};
+ghost use Rattle.law_minding.specs.Lasting.{MovesMind};
 
 use law_behavior::wakes_are_polled;
 
@@ -22,6 +23,12 @@ pub fn memos_go_on<C, P, V, H, T, E, L, F>()
 /// A write of another cell minds a memo: where its context read that cell, its task is woken.
 pub fn writes_mind<C, P, V, H, T, E, L>()
     ensures { WritesMind (types C P V H T E L) }
+{}
+
+/// Every move of a lawful application minds a memo: while its task isn't polled and nothing is done to
+/// its context, what was read has the values that it had, or the task is owed a poll.
+pub fn moves_mind<C, P, V, H, T, E, L>()
+    ensures { (app : Application (types C P V H T E L)) → MovesMind app }
 {}
 
 /// Where nothing is owed, the cell of a memo that stands is the value of its formula in the present
