@@ -2,6 +2,8 @@
 //! each with its props. Written once, for every application.
 #![tactic(auto)]
 
+mod laws;
 mod props;
 
+pub use laws::given_tests;
 pub use props::{Given, Inside};
