@@ -42,6 +42,12 @@ pub use Rattle.rt_author.specs.OneFinish
 pub use Rattle.rt_author.specs.Keeps
 pub use Rattle.rt_author.specs.OnePage
 pub use Rattle.rt_author.specs.Updates
+pub use Rattle.rt_author.specs.Reduces
+pub use Rattle.rt_author.specs.Folds
+pub use Rattle.rt_author.specs.ReducedShows
+pub use Rattle.rt_author.specs.ReadsStay
+pub use Rattle.rt_author.specs.CellsKept
+pub use Rattle.rt_author.specs.BodiesShow
 pub use Rattle.rt_author.specs.Along
 pub use Rattle.rt_author.specs.Moves
 pub use Rattle.rt_author.specs.Mirror

@@ -42,6 +42,12 @@ pub use Rattle.law_lasting.specs.OneFinish
 pub use Rattle.law_pages.specs.Keeps
 pub use Rattle.law_pages.specs.OnePage
 pub use Rattle.law_pages.specs.Updates
+pub use Rattle.law_reduce.specs.Reduces
+pub use Rattle.law_reduce.specs.Folds
+pub use Rattle.law_reduce.specs.Shows as ReducedShows
+pub use Rattle.law_reduce.specs.Reads as ReadsStay
+pub use Rattle.law_reduce.specs.Kept as CellsKept
+pub use Rattle.law_reduce.specs.Bodies as BodiesShow
 pub use Rattle.law_behavior.specs.Along
 pub use Rattle.law_moves.specs.Moves
 pub use Rattle.tree_mirror.specs.Mirror
