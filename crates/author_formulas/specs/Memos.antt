@@ -1,8 +1,8 @@
 -- Memos and resources: where their tasks stand between two polls, what a poll does, and how a body comes to its cell.
-use Rattle.std.specs.Prelude.{ℕ, ◌+◌, min, Bool, true, false, Option, Some, None}
-use Rattle.rt_model.specs.Program.{Program, done, current_task, read, write, new_cell, new_context, reset_and_run_in, leave, spawn, hook_is_new}
+use Rattle.std.specs.Prelude.{ℕ, ◌+◌, min, Bool, true, false, Option, Some, None, ◌≡◌}
+use Rattle.rt_model.specs.Program.{Program, done, current_task, read, write, new_cell, new_context, reset_and_run_in, leave, spawn, hook_is_new, call_means}
 use Rattle.rt_model.specs.Tree.{Types}
-use Rattle.rt_model.specs.World.{Nothing, nothing, TaskTarget, last_number}
+use Rattle.rt_model.specs.World.{Nothing, nothing, TaskTarget, last_number, World, pending, Application}
 use Rattle.author_programs.specs.Cells.{Keeping, kept_cell}
 use Rattle.author_programs.specs.Sequence.{go_on}
 use Rattle.author_formulas.specs.Formulas.{Formulas, Load, wait, loaded}
@@ -22,6 +22,12 @@ module _ {V F : Type 0} where
   cell_of (fresh cell f loads) = cell
   cell_of (memo cell context f) = cell
   cell_of (resource cell context f key step is_done) = cell
+
+  -- its reactive context, which it has from its first poll on
+  abbrev pub context_of : MemoTask V F → Option ℕ
+  context_of (fresh cell f loads) = None
+  context_of (memo cell context f) = Some context
+  context_of (resource cell context f key step is_done) = Some context
 
   -- the formula of a task
   abbrev pub formula_of : MemoTask V F → F
@@ -103,6 +109,12 @@ module _ {K : Types} {F : Type 0} where
   -- a poll of a memo or of a resource, which answers where its task stands then
   abbrev pub memo_polled : Formulas K F → MemoTask K.Value F → Program K (MemoTask K.Value F)
   memo_polled a m = current_task (λ t. polled_by a m t)
+
+  -- an application polls its memos and resources: in each of their states its poll means this one, and goes on with the state of the
+  -- place that this one answers
+  abbrev pub PollsMemos : Formulas K F → Application K → (MemoTask K.Value F → K.TaskState) → Type 0
+  PollsMemos a app state =
+      (m : MemoTask K.Value F) (w : World K) → app.poll (state m) w ≡ call_means (go_on (memo_polled a m) (λ n. done (pending (state n)))) w
 
   -- a cell that was made gets the task that keeps it, and the hook that keeps its number
   abbrev pub made_memo : Keeping K.Value → (MemoTask K.Value F → K.TaskState) → F → Bool → Option ℕ → Program K (Option ℕ)

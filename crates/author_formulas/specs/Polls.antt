@@ -52,7 +52,8 @@ module _ {K : Types} {F : Type 0} (a : Formulas K F) where
 
   -- a poll of a memo whose formula came to this: after what was asked for before, the sources are read into the emptied context
   pub record PollsMemo
-      (w : World K) (before : List (Command K)) (cell context : ℕ) (f : F) (x : Came K K.Value) (poll : Came K (MemoTask K.Value F)) : Type 0 where
+      (w : World K) (before : List (Command K)) (cell context : ℕ) (f : F) (x : Came K K.Value)
+      (poll : Came K (MemoTask K.Value F)) : Type 0 where
     pub answer : poll.answer ≡ memo cell context f
     pub sources : List Source
     pub looked : x.call.aside ≡ reverse sources

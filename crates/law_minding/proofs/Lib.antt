@@ -8,3 +8,17 @@ pub mod Since
 pub mod Tasked
 pub mod Removing
 pub mod Moved
+pub mod Numbers
+pub mod Ending
+pub mod Polling
+pub mod Rested
+pub mod Fitting
+pub mod Holding
+pub mod Firsts
+pub mod Along
+pub mod Entries
+pub mod Parents
+pub mod Ways
+pub mod Level
+pub mod Logged
+pub mod PollsDone

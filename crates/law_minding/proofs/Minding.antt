@@ -36,7 +36,7 @@ module _ {K : Types} where
   alike_then u v w f g = record { scope = f.scope ∙ g.scope; way = f.way ∙ g.way }
 
   -- worlds that agree on the sources of a context agree on those that it names
-  agree : (v w : World K) (xs ys : List Source)
+  pub agree : (v w : World K) (xs ys : List Source)
       → ((i : Source) → names_source xs i ≡ true → SameAt v w i)
       → AllByRecursion (λ i. names_source xs i ≡ true) ys
       → Agree v w ys
@@ -44,11 +44,14 @@ module _ {K : Types} where
   agree v w xs (y ∷ ys) h all = (h y all.0, agree v w xs ys h all.1)
 
   -- where nothing is owed no task that is active is owed a poll
-  none_owes_poll : (app : Application K) → WakesArePolled app → (m : Machine K) (t : ℕ) → m.dead ≡ None → next m.state ≡ None
+  pub none_owes_poll : (app : Application K) → WakesArePolled app → (m : Machine K) (t : ℕ) → m.dead ≡ None → next m.state ≡ None
       → OwesPoll m.state t
       → is_active m.state t ≡ false
   none_owes_poll app polled m t alive none owes =
       by_test (is_active m.state t) (λ q. (polled usual m m [] t refl alive (owes q) tt).1 none) (λ q. q)
+
+  pub begun_anew : (v : World K) (firsts : Firsts) → firsts.cells ≡ v.given.next.cells → MadeNothing v (begun false firsts)
+  begun_anew v firsts e = record { outside = refl; cells = refl; provided = refl; next = e }
 
 module _ {K : Types} {F : Type 0} (a : Formulas K F) where
   minded : (w v : State K) (t : ℕ) (last : World K) (task later : TaskRow K) (reads : ContextRow K)
@@ -78,9 +81,6 @@ module _ {K : Types} {F : Type 0} (a : Formulas K F) where
         holds = λ x e. stands.holds x (minds.holds x e);
         minds = minded w v t last task later reads minds.stays minds.told stands.minds;
       }
-
-  begun_anew : (v : World K) (firsts : Firsts) → firsts.cells ≡ v.given.next.cells → MadeNothing v (begun false firsts)
-  begun_anew v firsts e = record { outside = refl; cells = refl; provided = refl; next = e }
 
   -- where each source has the value that it had, what was computed is the formula's value now
   current_value : (w : State K) (t cell context : ℕ) (f : F) (last : World K) (call : Call K) (task : TaskRow K) (reads : ContextRow K)

@@ -39,9 +39,9 @@ module _ {K : Types} where
 
 module _ {K : Types} (app : Application K) (s : ℕ) (polled : Option ℕ) (n : ℕ) where
   -- only a context changes, which has this row then
-  record Gathers (w v : State K) (r : ContextRow K) : Type 0 where
-    alike : v ≡ record w { contexts = v.contexts }
-    row : at v.contexts n ≡ Some r
+  pub record Gathers (w v : State K) (r : ContextRow K) : Type 0 where
+    pub alike : v ≡ record w { contexts = v.contexts }
+    pub row : at v.contexts n ≡ Some r
 
   changed_row : (w : State K) (r : ContextRow K) (g : ContextRow K → ContextRow K)
       → at w.contexts n ≡ Some r
@@ -72,13 +72,13 @@ module _ {K : Types} (app : Application K) (s : ℕ) (polled : Option ℕ) (n : 
       (all_gather xs v one g.row)
 
   -- commands, and then others
-  one_by_one : (cs ds : List (Command K)) (w : State K)
+  pub one_by_one : (cs ds : List (Command K)) (w : State K)
       → commands app w s polled (cs ++ ds) ≡ commands app (commands app w s polled cs) s polled ds
   one_by_one [] ds w = refl
   one_by_one (c ∷ cs) ds w = one_by_one cs ds (command app w s polled c)
 
   -- an emptied context that reads these sources
-  emptied_gathers : (xs : List Source) (w : State K) (r : ContextRow K) → at w.contexts n ≡ Some r
+  pub emptied_gathers : (xs : List Source) (w : State K) (r : ContextRow K) → at w.contexts n ≡ Some r
       → Gathers w (commands app w s polled (Reset n ∷ reads_into n xs)) (record r { sources = gathered [] xs })
   emptied_gathers xs w r e =
       let none : ContextRow K = record r { sources = [] } in
@@ -118,7 +118,7 @@ module _ {K : Types} where
       }
 
 -- the value that a poll didn't write is there
-present_holds : {V : Type 0} (same : V → V → Bool) → Tests V same → (b : Bool) (o : Option V) (y v : V)
+pub present_holds : {V : Type 0} (same : V → V → Bool) → Tests V same → (b : Bool) (o : Option V) (y v : V)
     → is_present same (if b then o else None) v ≡ true
     → o ≡ Some y
     → y ≡ v

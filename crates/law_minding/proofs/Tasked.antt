@@ -5,7 +5,7 @@ use Rattle.std.proofs.lemmas.Bool.{eqb-true}
 use Rattle.rt_model.specs.Lists.{at, put, without, drop_number}
 use Rattle.rt_model.specs.Tree.{Types}
 use Rattle.rt_model.specs.World.{Source, Cell, Error, Context, same_source, TaskTarget, World}
-use Rattle.rt_model.specs.State.{Woken, ContextRow, TaskRow, State}
+use Rattle.rt_model.specs.State.{Woken, CellRow, ContextRow, TaskRow, State}
 use Rattle.rt_model.specs.Commands.{drop_posted, holding, released, names_source, post, tell, activated}
 use Rattle.rt_model.specs.Removal.{tell_all}
 use Rattle.rt_model.proofs.Maps.{by_test, pick_true, eq_same, at_put_here, at_put_other, at_put_none, at_without_none, at_without_here, at_without_other, at_append_none}
@@ -16,12 +16,12 @@ use Rattle.law_behavior.specs.Owed.{IsWoken, OwesPoll}
 use Rattle.law_behavior.proofs.Readers.{Posts, posted_first, posted_last, post_posts, tell_posts, tell_readers}
 use Rattle.law_behavior.proofs.Stays.{posted_stays}
 use Rattle.law_minding.proofs.Writes.{owes_on}
-use Rattle.law_minding.proofs.Values.{apart, equal_le, active_in, released_error, released_context}
+use Rattle.law_minding.proofs.Values.{apart, equal_le, active_in, released_error, released_context, released_live}
 use Rattle.law_minding.proofs.Since.{Low, Passes, low_then, posts_low, wakes}
 
-module _ {K : Types} (last : World K) (t n scope : ℕ) (reads : ContextRow K) (target : reads.target ≡ TaskTarget t) (home : reads.scope ≡ scope) where
-  pub task_passes : (w : State K) (u : ℕ) (x y : TaskRow K) → at w.tasks u ≡ Some x → y.scope ≡ x.scope → (y.active ≡ true → x.active ≡ true) → Passes last t n scope reads target home w (record w { tasks = put w.tasks u y })
-  task_passes w u x y e scope_is active_is =
+module _ {K : Types} (last : World K) (t n cell scope : ℕ) (held : CellRow K) (place : K.TaskState) (polled : Bool) (reads : ContextRow K) (target : reads.target ≡ TaskTarget t) (home : reads.scope ≡ scope) where
+  pub task_passes : (w : State K) (u : ℕ) (x y : TaskRow K) → at w.tasks u ≡ Some x → y.scope ≡ x.scope → (nat_eq u t ≡ true → y.state ≡ x.state) → (y.active ≡ true → x.active ≡ true) → Passes last t n cell scope held place polled reads target home w (record w { tasks = put w.tasks u y })
+  task_passes w u x y e scope_is state_is active_is =
       record {
         low = equal_le w.next.tasks w.next.tasks refl;
         none = λ gone. at_put_none w.tasks u y x t e gone;
@@ -32,9 +32,11 @@ module _ {K : Types} (last : World K) (t n scope : ℕ) (reads : ContextRow K) (
             λ q.
             let found_row : Some x ≡ Some z = sym e ∙ ap (λ (m : ℕ). at w.tasks m) (eqb-true u t q) ∙ there in
             let same : x ≡ z = cc in
-            inr (y, at_put_here w.tasks u y t q, scope_is ∙ ap (λ (r : TaskRow K). r.scope) same)
+            inr (y, at_put_here w.tasks u y t q, scope_is ∙ ap (λ (r : TaskRow K). r.scope) same, state_is q ∙ ap (λ (r : TaskRow K). r.state) same)
             )
-            (λ q. inr (z, at_put_other w.tasks u y t q ∙ there, refl));
+            (λ q. inr (z, at_put_other w.tasks u y t q ∙ there, refl, refl));
+        lives = λ there. there;
+        holds = λ there. there;
         context = λ there. there;
         owes =
             λ h active.
@@ -45,17 +47,17 @@ module _ {K : Types} (last : World K) (t n scope : ℕ) (reads : ContextRow K) (
             h (ap (λ (o : Option (TaskRow K)). active_in o) (ap (λ (m : ℕ). at w.tasks m) (sym (eqb-true u t q)) ∙ e) ∙ active_is now)
             )
             (λ q. h (sym (ap (λ (o : Option (TaskRow K)). active_in o) (at_put_other w.tasks u y t q)) ∙ active));
-        told = λ here i named. inl (same_values i);
+        told = λ here once i named. inl (same_values i);
       }
     where
-      same_values : (i : Source) → Low last t n scope reads target home w (record w { tasks = put w.tasks u y }) i
+      same_values : (i : Source) → Low last t n cell scope held place polled reads target home w (record w { tasks = put w.tasks u y }) i
       same_values (Cell m) = λ low. refl
       same_values (Error r) = refl
       same_values (Context k r) = refl
 
   -- a task that is resumed has a wake
-  resumed_passes : (w : State K) (u : ℕ) (x y : TaskRow K) → at w.tasks u ≡ Some x → y.scope ≡ x.scope → Passes last t n scope reads target home w (post (record w { tasks = put w.tasks u y }) (Woken u))
-  resumed_passes w u x y e scope_is =
+  resumed_passes : (w : State K) (u : ℕ) (x y : TaskRow K) → at w.tasks u ≡ Some x → y.scope ≡ x.scope → y.state ≡ x.state → Passes last t n cell scope held place polled reads target home w (post (record w { tasks = put w.tasks u y }) (Woken u))
+  resumed_passes w u x y e scope_is state_is =
       record {
         low = equal_le w.next.tasks (post v (Woken u)).next.tasks (ap (λ (z : State K). z.next.tasks) posts.alike);
         none = λ gone. ap (λ (z : State K). at z.tasks t) posts.alike ∙ at_put_none w.tasks u y x t e gone;
@@ -66,10 +68,17 @@ module _ {K : Types} (last : World K) (t n scope : ℕ) (reads : ContextRow K) (
             λ q.
             let found_row : Some x ≡ Some z = sym e ∙ ap (λ (m : ℕ). at w.tasks m) (eqb-true u t q) ∙ there in
             let same : x ≡ z = cc in
-            inr (y, ap (λ (r : State K). at r.tasks t) posts.alike ∙ at_put_here w.tasks u y t q, scope_is ∙ ap (λ (r : TaskRow K). r.scope) same)
+            inr (
+              y,
+              ap (λ (r : State K). at r.tasks t) posts.alike ∙ at_put_here w.tasks u y t q,
+              scope_is ∙ ap (λ (r : TaskRow K). r.scope) same,
+              state_is ∙ ap (λ (r : TaskRow K). r.state) same,
             )
-            (λ q. inr (z, ap (λ (r : State K). at r.tasks t) posts.alike ∙ at_put_other w.tasks u y t q ∙ there, refl));
-        context = λ there. ap (λ (z : State K). at z.contexts n) posts.alike ∙ there;
+            )
+            (λ q. inr (z, ap (λ (r : State K). at r.tasks t) posts.alike ∙ at_put_other w.tasks u y t q ∙ there, refl, refl));
+        lives = λ there. ap (λ (z : State K). is_some (at z.scopes scope)) posts.alike ∙ there;
+        holds = λ there. ap (λ (z : State K). at z.cells cell) posts.alike ∙ there;
+        context = λ there once. ap (λ (z : State K). at z.contexts n) posts.alike ∙ there once;
         owes =
             λ h active.
             by_test (nat_eq u t)
@@ -80,7 +89,7 @@ module _ {K : Types} (last : World K) (t n scope : ℕ) (reads : ContextRow K) (
             (λ there. h (sym (ap (λ (o : Option (TaskRow K)). active_in o) (at_put_other w.tasks u y t q)) ∙ there))
             active
             );
-        told = λ here i named. inl (low_then last t n scope reads target home w v (post v (Woken u)) i (same_values i) (posts_low last t n scope reads target home v (post v (Woken u)) posts i));
+        told = λ here once i named. inl (low_then last t n cell scope held place polled reads target home w v (post v (Woken u)) i (same_values i) (posts_low last t n cell scope held place polled reads target home v (post v (Woken u)) posts i));
       }
     where
       v : State K
@@ -97,48 +106,52 @@ module _ {K : Types} (last : World K) (t n scope : ℕ) (reads : ContextRow K) (
           subst (λ (z : State K). IsPosted z.posted (Woken u)) (sym (pick_true (record v { posted = v.posted ++ Woken u ∷ [] }) v there_is))
           (posted_last v.posted (Woken u ∷ []) (Woken u) (inl refl))
 
-      same_values : (i : Source) → Low last t n scope reads target home w v i
+      same_values : (i : Source) → Low last t n cell scope held place polled reads target home w v i
       same_values (Cell m) = λ low. refl
       same_values (Error r) = refl
       same_values (Context k r) = refl
 
-  pub activated_passes : (w : State K) (u : ℕ) (active : Bool) (x : TaskRow K) → at w.tasks u ≡ Some x → Passes last t n scope reads target home w (activated w u active (Some x))
+  pub activated_passes : (w : State K) (u : ℕ) (active : Bool) (x : TaskRow K) → at w.tasks u ≡ Some x → Passes last t n cell scope held place polled reads target home w (activated w u active (Some x))
   activated_passes w u active x e = by active x.active refl
     where
       by : (b c : Bool) → x.active ≡ c
-          → Passes last t n scope reads target home w (if b && not c then post (record w { tasks = put w.tasks u (record x { active = b }) }) (Woken u) else record w { tasks = put w.tasks u (record x { active = b }) })
-      by true true h = task_passes w u x (record x { active = true }) e refl (λ g. h)
-      by true false h = resumed_passes w u x (record x { active = true }) e refl
-      by false c h = task_passes w u x (record x { active = false }) e refl (λ g. clash g refl)
+          → Passes last t n cell scope held place polled reads target home w (if b && not c then post (record w { tasks = put w.tasks u (record x { active = b }) }) (Woken u) else record w { tasks = put w.tasks u (record x { active = b }) })
+      by true true h = task_passes w u x (record x { active = true }) e refl (λ q. refl) (λ g. h)
+      by true false h = resumed_passes w u x (record x { active = true }) e refl refl
+      by false c h = task_passes w u x (record x { active = false }) e refl (λ q. refl) (λ g. clash g refl)
 
   -- a task is spawned, which isn't this one
-  pub spawned_passes : (w : State K) (u : ℕ) (y : TaskRow K) → t + 1 ≤ u → Passes last t n scope reads target home w (record w { tasks = w.tasks ++ (u, y) ∷ [] })
+  pub spawned_passes : (w : State K) (u : ℕ) (y : TaskRow K) → t + 1 ≤ u → Passes last t n cell scope held place polled reads target home w (record w { tasks = w.tasks ++ (u, y) ∷ [] })
   spawned_passes w u y low =
       record {
         low = equal_le w.next.tasks w.next.tasks refl;
         none = λ gone. at_append_none w.tasks u y t other ∙ gone;
-        row = λ x e. inr (x, at_append_none w.tasks u y t other ∙ e, refl);
+        row = λ x e. inr (x, at_append_none w.tasks u y t other ∙ e, refl, refl);
+        lives = λ e. e;
+        holds = λ e. e;
         context = λ e. e;
         owes = λ h active. h (sym (ap (λ (o : Option (TaskRow K)). active_in o) (at_append_none w.tasks u y t other)) ∙ active);
-        told = λ here i e. inl (same_values i);
+        told = λ here once i e. inl (same_values i);
       }
     where
       other : nat_eq u t ≡ false
       other = apart t u low
 
-      same_values : (i : Source) → Low last t n scope reads target home w (record w { tasks = w.tasks ++ (u, y) ∷ [] }) i
+      same_values : (i : Source) → Low last t n cell scope held place polled reads target home w (record w { tasks = w.tasks ++ (u, y) ∷ [] }) i
       same_values (Cell m) = λ low. refl
       same_values (Error r) = refl
       same_values (Context k r) = refl
 
   -- a task ends
   pub ended_passes : (w : State K) (u : ℕ)
-      → Passes last t n scope reads target home w (record w { tasks = without w.tasks u; posted = drop_posted w.posted (Woken u) ++ holding w.scopes u; queued = drop_number w.queued u; scopes = released w.scopes u })
+      → Passes last t n cell scope held place polled reads target home w (record w { tasks = without w.tasks u; posted = drop_posted w.posted (Woken u) ++ holding w.scopes u; queued = drop_number w.queued u; scopes = released w.scopes u })
   ended_passes w u =
       record {
         low = equal_le w.next.tasks w.next.tasks refl;
         none = λ gone. at_without_none w.tasks u t gone;
-        row = λ x e. by_test (nat_eq u t) (λ q. inl (at_without_here w.tasks u t q)) (λ q. inr (x, at_without_other w.tasks u t q ∙ e, refl));
+        row = λ x e. by_test (nat_eq u t) (λ q. inl (at_without_here w.tasks u t q)) (λ q. inr (x, at_without_other w.tasks u t q ∙ e, refl, refl));
+        lives = λ e. released_live u w.scopes scope e;
+        holds = λ e. e;
         context = λ e. e;
         owes =
             λ h active.
@@ -151,13 +164,13 @@ module _ {K : Types} (last : World K) (t n scope : ℕ) (reads : ContextRow K) (
               | inr b ↦ inr (number_stays w.queued u t q b)
             ]
             );
-        told = λ here i e. inl (same_values i);
+        told = λ here once i e. inl (same_values i);
       }
     where
       v : State K
       v = record w { tasks = without w.tasks u; posted = drop_posted w.posted (Woken u) ++ holding w.scopes u; queued = drop_number w.queued u; scopes = released w.scopes u }
 
-      same_values : (i : Source) → Low last t n scope reads target home w v i
+      same_values : (i : Source) → Low last t n cell scope held place polled reads target home w v i
       same_values (Cell m) = λ low. refl
       same_values (Error r) = released_error u w.scopes r
       same_values (Context k r) = released_context u k w.scopes r
@@ -184,7 +197,7 @@ module _ {K : Types} (last : World K) (t n scope : ℕ) (reads : ContextRow K) (
       (
       λ q.
       let same : names_source reads.sources y ≡ true = ap (λ (j : Source). names_source reads.sources j) (source_tests.0 y i q) ∙ named in
-      owes_on v (tell_all v ys) t (all_post ys v) (λ active. inl ((tell_readers w y).contexts n reads (Woken t) context same (wakes last t n scope reads target home w x is)))
+      owes_on v (tell_all v ys) t (all_post ys v) (λ active. inl ((tell_readers w y).contexts n reads (Woken t) context same (wakes last t n cell scope held place polled reads target home w x is)))
       )
       (
       λ q.

@@ -138,6 +138,30 @@ module _ {K : Types} where
           (λ q. at_here e.0 e.1 later n q ∙ sym (at_here e.0 e.1 es n q) ∙ h)
           (λ q. at_there e.0 e.1 later n q ∙ go (sym (at_there e.0 e.1 es n q) ∙ h))
 
+  -- and the cell of another scope
+  pub cell_kept : (s n : ℕ) (x : CellRow K) → nat_eq x.owner s ≡ false → (es : List (ℕ × CellRow K)) → at es n ≡ Some x
+      → at (kept_by (λ e. not (nat_eq (e.1).owner s)) es) n ≡ Some x
+  cell_kept s n x other [] h = cc
+  cell_kept s n x other (e ∷ es) h = on (nat_eq (e.1).owner s) refl (cell_kept s n x other es)
+    where
+      on : (b : Bool) → nat_eq (e.1).owner s ≡ b
+          → (at es n ≡ Some x → at (kept_by (λ d. not (nat_eq (d.1).owner s)) es) n ≡ Some x)
+          → at (if not b then e ∷ kept_by (λ d. not (nat_eq (d.1).owner s)) es else kept_by (λ d. not (nat_eq (d.1).owner s)) es) n ≡ Some x
+      on true is go =
+          by_test (nat_eq e.0 n)
+          (
+          λ q.
+          let found : Some e.1 ≡ Some x = sym (at_here e.0 e.1 es n q) ∙ h in
+          let same : e.1 ≡ x = cc in
+          clash (sym (ap (λ (y : CellRow K). nat_eq y.owner s) same) ∙ is) other
+          )
+          (λ q. go (sym (at_there e.0 e.1 es n q) ∙ h))
+      on false is go =
+          let later : List (ℕ × CellRow K) = kept_by (λ d. not (nat_eq (d.1).owner s)) es in
+          by_test (nat_eq e.0 n)
+          (λ q. at_here e.0 e.1 later n q ∙ sym (at_here e.0 e.1 es n q) ∙ h)
+          (λ q. at_there e.0 e.1 later n q ∙ go (sym (at_there e.0 e.1 es n q) ∙ h))
+
   abbrev others : ℕ → List (ℕ × CellRow K) → List (ℕ × CellRow K)
   others s es = kept_by (λ e. not (nat_eq (e.1).owner s)) es
 

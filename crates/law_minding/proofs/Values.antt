@@ -2,13 +2,13 @@
 use Rattle.std.proofs.Common.{ℕ, ◌+◌, ◌≤◌, Bool, true, false, ◌||◌, not, List, [], ◌∷◌, ◌++◌, ◌≡◌, refl, sym, ap, ◌∙◌, subst, nat_eq, arith}
 use Rattle.std.specs.Prelude.{Option, Some, None, is_some, if◌then◌else◌}
 use Rattle.std.proofs.lemmas.Bool.{eqb-true}
-use Rattle.rt_model.specs.Lists.{at, put, join, kept_by}
+use Rattle.rt_model.specs.Lists.{at, put, without, join, kept_by}
 use Rattle.rt_model.specs.Tree.{Types}
 use Rattle.rt_model.specs.State.{Posted, Mark, Woken, SideName, MainSide, ChildrenSide, FallbackSide, Side, Scope, TaskRow, State, is_live, with_side, is_shown}
 use Rattle.rt_model.specs.Commands.{released}
 use Rattle.rt_model.specs.Next.{Work, RerunScope, PollTask, RunEffects, is_active, look_on, found, paused}
 use Rattle.rt_model.specs.Replay.{mounted}
-use Rattle.rt_model.proofs.Maps.{by_test, pick_true, pick_false, at_here, at_there, at_put_here, at_put_other}
+use Rattle.rt_model.proofs.Maps.{by_test, pick_true, pick_false, at_here, at_there, at_put_here, at_put_other, at_without_other}
 use Rattle.law_minding.proofs.Polled.{error_value, context_value}
 
 -- a list that is longer at its end still answers what it did
@@ -25,6 +25,23 @@ apart low high h =
     by_test (nat_eq high low)
     (λ q. let e : high ≡ low = eqb-true high low q in absurd (omega (arith, e, h)))
     (λ q. q)
+
+-- what is there stays there in longer lists, and where something else is put
+pub put_live : {A : Type 0} (es : List (ℕ × A)) (s : ℕ) (y : A) (r : ℕ) → is_some (at es r) ≡ true → is_some (at (put es s y) r) ≡ true
+put_live {A = A} es s y r h =
+    by_test (nat_eq s r)
+    (λ q. ap (λ (o : Option A). is_some o) (at_put_here es s y r q))
+    (λ q. ap (λ (o : Option A). is_some o) (at_put_other es s y r q) ∙ h)
+
+pub longer_live : {A : Type 0} (es : List (ℕ × A)) (m : ℕ) (x : A) (r : ℕ) → is_some (at es r) ≡ true → is_some (at (es ++ (m, x) ∷ []) r) ≡ true
+longer_live {A = A} es m x r h = by (at es r) refl h
+  where
+    by : (o : Option A) → at es r ≡ o → is_some o ≡ true → is_some (at (es ++ (m, x) ∷ []) r) ≡ true
+    by None e g = cc
+    by (Some y) e g = ap (λ (o : Option A). is_some o) (at_longer es r m x y e)
+
+pub without_live : {A : Type 0} (es : List (ℕ × A)) (s r : ℕ) → nat_eq s r ≡ false → is_some (at es r) ≡ true → is_some (at (without es s) r) ≡ true
+without_live {A = A} es s r other h = ap (λ (o : Option A). is_some o) (at_without_other es s r other) ∙ h
 
 pub equal_le : (a b : ℕ) → b ≡ a → a ≤ b
 equal_le a b e = omega (arith, e)
@@ -159,6 +176,29 @@ module _ {K : Types} where
       ap (λ (o : Option (Scope K)). context_value k o) (at_there e.0 e.1 es r q)
       ∙ released_context t k es r
       ∙ sym (ap (λ (o : Option (Scope K)). context_value k o) (at_there e.0 (freed e.1 t) (released es t) r q))
+      )
+
+  pub released_live : (t : ℕ) (es : List (ℕ × Scope K)) (r : ℕ) → is_some (at es r) ≡ true → is_some (at (released es t) r) ≡ true
+  released_live t [] r h = h
+  released_live t (e ∷ es) r h =
+      by_test (nat_eq e.0 r)
+      (λ q. ap (λ (o : Option (Scope K)). is_some o) (at_here e.0 (freed e.1 t) (released es t) r q))
+      (
+      λ q.
+      ap (λ (o : Option (Scope K)). is_some o) (at_there e.0 (freed e.1 t) (released es t) r q)
+      ∙ released_live t es r (sym (ap (λ (o : Option (Scope K)). is_some o) (at_there e.0 e.1 es r q)) ∙ h)
+      )
+
+  pub mounted_live : (w : State K) (es : List (ℕ × Scope K)) (r : ℕ) → is_some (at es r) ≡ true → is_some (at (mounted w es) r) ≡ true
+  mounted_live w [] r h = h
+  mounted_live w (e ∷ es) r h =
+      let y : Scope K = record (e.1) { mounted = (e.1).mounted || is_shown w e.0 } in
+      by_test (nat_eq e.0 r)
+      (λ q. ap (λ (o : Option (Scope K)). is_some o) (at_here e.0 y (mounted w es) r q))
+      (
+      λ q.
+      ap (λ (o : Option (Scope K)). is_some o) (at_there e.0 y (mounted w es) r q)
+      ∙ mounted_live w es r (sym (ap (λ (o : Option (Scope K)). is_some o) (at_there e.0 e.1 es r q)) ∙ h)
       )
 
   -- a look changes nothing but what is posted, seen and queued

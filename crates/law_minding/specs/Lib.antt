@@ -1,3 +1,3 @@
 pub mod Minding
 pub mod Hiding
-pub mod Lasting
+pub mod Held

@@ -2,9 +2,10 @@
 ghost use Rattle.rt_model.specs.OneLog.{types};
 ghost use Rattle.rt_model.specs.World.{Application};
 ghost use Rattle.author_formulas.specs.Formulas.{Formulas};
+ghost use Rattle.author_formulas.specs.Memos.{MemoTask};
 ghost use Rattle.law_minding.specs.Minding.{MemosGoOn, OwedOrKept, PollsStand, WritesMind};
+ghost use Rattle.law_minding.specs.Held.{HeldAreKept, LoggedHeldAreKept, PollsAreDone};
 ghost use Rattle.law_minding.specs.Hiding.{RowsHideWrites};
-ghost use Rattle.law_minding.specs.Lasting.{MovesMind};
 
 use law_behavior::wakes_are_polled;
 
@@ -25,12 +26,6 @@ pub fn writes_mind<C, P, V, H, T, E, L>()
     ensures { WritesMind (types C P V H T E L) }
 {}
 
-/// Every move of a lawful application minds a memo: while its task isn't polled and nothing is done to
-/// its context, what was read has the values that it had, or the task is owed a poll.
-pub fn moves_mind<C, P, V, H, T, E, L>()
-    ensures { (app : Application (types C P V H T E L)) → MovesMind app }
-{}
-
 /// Where nothing is owed, the cell of a memo that stands is the value of its formula in the present
 /// world.
 pub fn owed_or_kept<C, P, V, H, T, E, L, F>()
@@ -45,3 +40,31 @@ pub fn owed_or_kept<C, P, V, H, T, E, L, F>()
 pub fn rows_hide_writes<C, P, V, H, T, E, L>()
     ensures { RowsHideWrites (types C P V H T E L) }
 {}
+
+/// A poll of a memo or of a resource that no fault ends does what the definitions' poll asks for, and
+/// leaves the task where that answers.
+pub fn polls_are_done<C, P, V, H, T, E, L, F>()
+    ensures { (app : Application (types C P V H T E L)) (a : Formulas (types C P V H T E L) F)
+        (state : MemoTask V F → T)
+        → PollsAreDone a app state }
+{}
+
+/// From its first poll on a memo that nobody else touches is its formula's value wherever nothing is
+/// owed and its task is active. So is a resource's key, and its cell is empty until what was loaded
+/// for that key is there.
+pub fn held_are_kept<C, P, V, H, T, E, L, F>()
+    ensures { (app : Application (types C P V H T E L)) (a : Formulas (types C P V H T E L) F)
+        (state : MemoTask V F → T)
+        → HeldAreKept a app state }
+{
+    wakes_are_polled::<C, P, V, H, T, E, L>();
+}
+
+/// So it is along an accepted log, from the entry of the first poll on.
+pub fn logged_held_are_kept<C, P, V, H, T, E, L, F>()
+    ensures { (app : Application (types C P V H T E L)) (a : Formulas (types C P V H T E L) F)
+        (state : MemoTask V F → T)
+        → LoggedHeldAreKept a app state }
+{
+    wakes_are_polled::<C, P, V, H, T, E, L>();
+}
