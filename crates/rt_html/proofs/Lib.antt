@@ -1,0 +1,9 @@
+pub mod Escapes
+pub mod Spelt
+pub mod Back
+pub mod Alike
+pub mod Told
+pub mod Orders
+pub mod Plains
+pub mod Cuts
+pub mod Stands
