@@ -21,7 +21,7 @@ pub(crate) struct Kept {
 }
 
 /// It is kept, where it was made.
-fn kept(made: Result<VirtualDom<Script>, Fault>) -> Result<Kept, Fault> {
+fn once_made(made: Result<VirtualDom<Script>, Fault>) -> Result<Kept, Fault> {
     match made {
         Ok(dom) => Ok(Kept { dom }),
         Err(fault) => Err(fault),
@@ -50,11 +50,11 @@ impl Driven for Kept {
     }
 
     fn new(alloc: Global, script: Script, limits: Limits) -> Result<Kept, Fault> {
-        kept(VirtualDom::new(alloc, script, limits))
+        once_made(VirtualDom::new(alloc, script, limits))
     }
 
     fn prebuilt(alloc: Global, script: Script, limits: Limits) -> Result<Kept, Fault> {
-        kept(VirtualDom::prebuilt(alloc, script, limits))
+        once_made(VirtualDom::prebuilt(alloc, script, limits))
     }
 
     fn new_with_props(
@@ -63,7 +63,7 @@ impl Driven for Kept {
         props: Props,
         limits: Limits,
     ) -> Result<Kept, Fault> {
-        kept(VirtualDom::new_with_props(alloc, script, props, limits))
+        once_made(VirtualDom::new_with_props(alloc, script, props, limits))
     }
 
     fn new_from(
@@ -73,12 +73,12 @@ impl Driven for Kept {
         limits: Limits,
         firsts: Firsts,
     ) -> Result<Kept, Fault> {
-        kept(VirtualDom::new_from(alloc, script, props, limits, firsts))
+        once_made(VirtualDom::new_from(alloc, script, props, limits, firsts))
     }
 
     fn with_root_context(self, kind: u32, value: Value) -> Result<Kept, Fault> {
         let Kept { dom } = self;
-        kept(dom.with_root_context(kind, value))
+        once_made(dom.with_root_context(kind, value))
     }
 
     fn close(self) -> Result<Script, Fault> {

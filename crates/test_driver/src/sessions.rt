@@ -68,10 +68,10 @@ fn run(
     let inputs = inputs_of(alloc, described.inputs.as_slice())?;
     let script = Script::new(alloc, described)?;
     let props = script.props(alloc)?;
-    Ok(Some(ended(session(alloc, script, props, inputs, sink, limits))))
+    Ok(Some(end_of(session(alloc, script, props, inputs, sink, limits))))
 }
 
-fn ended(done: Result<List<Report>, SessionFault>) -> Ended {
+fn end_of(done: Result<List<Report>, SessionFault>) -> Ended {
     match done {
         Ok(reports) => Ended {
             fault: None,
