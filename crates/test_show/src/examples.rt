@@ -32,9 +32,15 @@ impl Twins for Examples {
     /// The units after each of three writes of the memo's cells.
     fn memo(alloc: Global) -> Result<List<u8>, OutOfMemory> {
         let end = match woken(alloc) {
-            Ok([unread, first, second]) => format!(in alloc; "units {unread} {first} {second}\n")?,
+            Ok(units) => units_line(alloc, units[0], units[1], units[2])?,
             Err(fault) => format!(in alloc; "{fault}\n")?,
         };
         List::from_slice(alloc, end.as_bytes())
     }
+}
+
+/// The line of the units after three writes.
+fn units_line(alloc: Global, unread: u64, first: u64, second: u64) -> Result<String, OutOfMemory> {
+    let line = format!(in alloc; "units {unread} {first} {second}\n")?;
+    Ok(line)
 }
