@@ -1,6 +1,8 @@
 -- The child scopes at spots, one spot at a time; the way down to the scope that a removal takes first.
-use Rattle.std.proofs.Common.{ℕ, zero, suc, true, false, get_or, drop, append_assoc, List, [], ◌∷◌, ◌++◌, ◌≡◌, ◌+◌, ◌-◌, ◌<◌, ◌≤◌, length, refl, sym, ap, ◌∙◌, map, append-nil, arith}
-use Rattle.std.specs.Prelude.{Option, Some, None, if◌then◌else◌}
+use Rattle.std.proofs.Common.{ℕ, zero, suc, Bool, true, false, get_or, drop, append_assoc, List, [], ◌∷◌, ◌++◌, ◌≡◌, ◌+◌, ◌-◌, ◌<◌, ◌≤◌, length, refl, sym, ap, ◌∙◌, map, append-nil, arith}
+use Rattle.std.specs.Prelude.{◌==◌, Option, Some, None, if◌then◌else◌}
+use Rattle.std.proofs.lemmas.Bool.{eqb-true}
+use Rattle.std.proofs.lemmas.List.{nil_from_length}
 use Rattle.std.specs.List.{slice_get}
 use Rattle.std.proofs.Math.ListN.{drop_of_length-le}
 use Rattle.tree_nodes.specs.declared.vnode.VComponent.{VComponent}
@@ -20,7 +22,7 @@ use Rattle.run_places.specs.declared.spot.Spot.TheVariants as spots
 use Rattle.run_places.specs.declared.place.Kind as kinds
 use Rattle.run_places.specs.declared.place.Step as steps
 use Rattle.run_places.specs.declared.side.Side.{Side}
-use Rattle.run_places.specs.Places.{output_of, place_of, spot_of, side_of}
+use Rattle.run_places.specs.Places.{output_of, place_of, seated, spot_of, side_of}
 use Rattle.run_places.specs.Sides.{child_in}
 use Rattle.run_places.specs.Spots.{tree_spots}
 use Rattle.run_records.specs.Kept.{each}
@@ -46,6 +48,10 @@ pub all_done : {A B : Type 0} (given : List A → List B) (xs : List A) (i : ℕ
     → length xs ≤ i → given [] ≡ [] → all ++ given (drop i xs) ≡ whole → all ≡ whole
 all_done given xs i all whole end none so_far =
     sym (append-nil all) ∙ ap (λ ys. all ++ ys) (sym none ∙ ap given (sym (drop_of_length-le xs end))) ∙ so_far
+
+-- a list that answers that it is empty
+pub none_kept : (es : List (ℕ × ℕ)) (b : Bool) → b ≡ (length es == 0) → b ≡ true → es ≡ []
+none_kept es b is none = nil_from_length es (eqb-true (length es) 0 (sym is ∙ none))
 
 -- as many values as before
 pub length-each : {A B : Type 0} (f : A → B) (es : List (ℕ × A)) → length (each f es) ≡ length es
@@ -136,6 +142,13 @@ module _ {K : model.Types} where
   pub none_fed : (w : state.State K) (s : ℕ) (name : state.SideName) (p : Place) → at w.scopes s ≡ None → None ≡ fed_child w s name p
   none_fed w s name p gone = ap (λ (o : Option (state.Scope K)). elim o as (λ _. Option ℕ) [ None ↦ None | Some y ↦ child_at (state.side_of y name).children p ]) (sym gone)
 
+module _ {C Q V H T E L : Type 0} where
+  -- spots have no child scopes among none
+  childless : (w : state.State (types C Q V H T E L)) (found : List (model.Spot (types C Q V H T E L))) → children_among w [] found ≡ []
+  childless w [] = refl
+  childless w (model.node_at p kind ∷ found) = childless w found
+  childless w (model.component_at p c ∷ found) = childless w found
+
 module _ {P C Q V H T E L : Type 0} where
   -- the child at a place of a side
   pub fed_found : (w : state.State (types C Q V H T E L)) (s : ℕ) (name : state.SideName) (p : Place) (x : state.Scope (types C Q V H T E L)) (side : Side P C Q V H T E L)
@@ -182,3 +195,10 @@ module _ {P C Q V H T E L : Type 0} where
   -- a side without a tree has none
   pub side_none : (w : state.State (types C Q V H T E L)) (side : Side P C Q V H T E L) → side.output ≡ None → [] ≡ side_scopes w (side_of side)
   side_none w side none = ap (λ (o : Option (VNode P C Q V H T E L)). children_among w (side_of side).children (spots_of (output_of o))) (sym none)
+
+  -- nor has one without child scopes
+  pub side_childless : (w : state.State (types C Q V H T E L)) (side : Side P C Q V H T E L) → side.children ≡ [] → [] ≡ side_scopes w (side_of side)
+  side_childless w side none =
+      sym
+      (ap (λ (es : List (ℕ × ℕ)). children_among w (seated (map place_of side.seats) es) (spots_of (output_of side.output))) none
+      ∙ childless w (spots_of (output_of side.output)))

@@ -15,7 +15,8 @@ use run_state::{State, side_of};
 use std::alloc::Global;
 use tree_nodes::Parts;
 
-/// The live child scopes of a side, in tree order.
+/// The live child scopes of a side, in tree order. The tree is gone through only where the side has
+/// child scopes.
 pub fn side_scopes<P: Parts>(
     alloc: Global,
     state: &State<P>,
@@ -25,6 +26,9 @@ pub fn side_scopes<P: Parts>(
         scopes ≡ scopes_on (state_of g state.now) (side_of side.now)) }
 {
     let mut scopes = List::new(alloc);
+    if side.children.as_slice().is_empty() {
+        return Ok(scopes);
+    }
     let Some(tree) = &side.output else {
         return Ok(scopes);
     };
