@@ -1,4 +1,5 @@
 pub mod Meant
+pub mod Asked
 pub mod Refused
 pub mod Contexts
 pub mod Following

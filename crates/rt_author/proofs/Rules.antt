@@ -1,5 +1,6 @@
 -- The rules that an author's functions name, and the lemmas that answers cite, as author_bodies has them.
 pub use Rattle.author_bodies.proofs.Rules.{hooking, looking, reacting, spawning, throwing, others}
+pub use Rattle.author_bodies.proofs.Asked.{at_has_context, at_parent, at_rendering}
 pub use Rattle.author_bodies.proofs.Refused.{drawn, unkept}
 pub use Rattle.author_bodies.proofs.Contexts.{at_new_context, at_run_in, at_reset, at_leave}
 pub use Rattle.author_bodies.proofs.Following.{one_after}
