@@ -55,7 +55,7 @@ module _ {K : Types} where
   looks_calls (Woken t ∷ ps) w =
       let v : State K = record w { queued = join w.queued t } in looks_calls ps (if is_some (at w.tasks t) then v else w) ∙ either_calls w v w (is_some (at w.tasks t)) refl refl
 
-  changes_calls : (w : State K) (s : ℕ) (f : Scope K → Scope K) (o : Option (Scope K)) → (changed_scope w s f o).last_calls ≡ w.last_calls
+  pub changes_calls : (w : State K) (s : ℕ) (f : Scope K → Scope K) (o : Option (Scope K)) → (changed_scope w s f o).last_calls ≡ w.last_calls
   changes_calls w s f None = refl
   changes_calls w s f (Some x) = refl
 
@@ -96,10 +96,10 @@ module _ {K : Types} where
 module _ {K : Types} (k : Keeping K.Value) (s : ℕ) (own : List ℕ) (old : Option (LastCall K)) where
   -- the hooks of the scope keep the cells
 
-  abbrev Keeps : Scope K → Type 0
+  abbrev pub Keeps : Scope K → Type 0
   Keeps x = KeepAll k x.hooks 0 own
 
-  kept_longer : (hs : List (Hook K)) (h : Hook K) (i : ℕ) (ns : List ℕ) → KeepAll k hs i ns → KeepAll k (hs ++ h ∷ []) i ns
+  pub kept_longer : (hs : List (Hook K)) (h : Hook K) (i : ℕ) (ns : List ℕ) → KeepAll k hs i ns → KeepAll k (hs ++ h ∷ []) i ns
   kept_longer hs h i [] f = tt
   kept_longer hs h i (n ∷ ns) f = (
     record { value = (f.0).value; is = nth_longer hs i (HookValue k.kind (f.0).value) h (f.0).is; keeps = (f.0).keeps },
@@ -123,7 +123,7 @@ module _ {K : Types} (k : Keeping K.Value) (s : ℕ) (own : List ℕ) (old : Opt
 
   -- its last call is the old one, or it was given hooks that do
 
-  abbrev Given : State K → Type 0
+  abbrev pub Given : State K → Type 0
   Given w = (last : LastCall K) → at w.last_calls s ≡ Some last → (old ≡ Some last) ⊎ KeepAll k last.given.given.hooks 0 own
 
   by_calls : (w v : State K) → v.last_calls ≡ w.last_calls → Given w → Given v
@@ -137,19 +137,19 @@ module _ {K : Types} (k : Keeping K.Value) (s : ℕ) (own : List ℕ) (old : Opt
       (λ q. let absurdity : None ≡ Some last = sym (at_without_here w.last_calls t s q) ∙ there in cc)
       (λ q. h last (sym (at_without_other w.last_calls t s q) ∙ there))
 
-  abbrev Both : State K → Type 0
+  abbrev pub Both : State K → Type 0
   Both w = Of s Keeps w × Given w
 
   module _ (app : Application K) where
     one : Frame app (λ w. Of s Keeps w) (λ w. Of s Keeps w) 0 (permits Free Free Free (λ t. Other s t))
     one = finely (λ w. Of s Keeps w) 0 Free Free Free (λ t. Other s t) keeps_endure app
 
-    one_called : Called app (λ w. Of s Keeps w) 0
+    pub one_called : Called app (λ w. Of s Keeps w) 0
     one_called =
         kept_so (λ w. Of s Keeps w) 0 Free Free Free (λ t. Other s t) keeps_endure app
         (of_again s Keeps (λ x y same q. subst (λ (hs : List (Hook K)). KeepAll k hs 0 own) (sym same.hooks) q))
 
-    both_frame : Frame app (λ w. Both w) (λ w. Both w) 0 (permits Free Free Free (λ t. Other s t))
+    pub both_frame : Frame app (λ w. Both w) (λ w. Both w) 0 (permits Free Free Free (λ t. Other s t))
     both_frame =
         record {
           low = λ w h. from_zero w.next.tasks;
@@ -216,7 +216,7 @@ module _ {K : Types} (k : Keeping K.Value) (s : ℕ) (own : List ℕ) (old : Opt
         )
         (λ q. given last (sym (at_put_other w.last_calls t call s q) ∙ there))
 
-    both_called : Called app (λ w. Both w) 0
+    pub both_called : Called app (λ w. Both w) 0
     both_called =
         record {
           bodies = λ w t c low h. (one_called.bodies w t c low h.0, called_given w t c h.0 h.1);
@@ -229,7 +229,7 @@ module _ {K : Types} (k : Keeping K.Value) (s : ℕ) (own : List ℕ) (old : Opt
         → AllAllowed app (λ v. Both v) (λ v. Both v) 0 (permits Free Free Free (λ t. Other s t)) both_frame w r polled cs
     freely w r polled cs f g = all_allowed app (λ v. Both v) (λ v. Both v) 0 Free (λ t. Other s t) both_frame w r polled cs f
 
-    both_last : (limits : Limits) (m v : Machine K) (moves : List Move) (leads : Leads app limits m moves v) → NoneRemoves s (entries moves) → Both m.state → Both v.state
+    pub both_last : (limits : Limits) (m v : Machine K) (moves : List Move) (leads : Leads app limits m moves v) → NoneRemoves s (entries moves) → Both m.state → Both v.state
     both_last limits m v moves leads stays h =
         moves_on app (λ w. Both w) (λ w. Both w) 0 (permits Free Free Free (λ t. Other s t)) both_frame (λ t. tt) both_called (λ w r polled cs. Unit {0}) (λ w r polled cs f g. freely w r polled cs f g) (draw_anyway app)
         limits m v moves leads

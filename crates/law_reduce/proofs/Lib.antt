@@ -11,3 +11,5 @@ mod Shown
 mod Bodies
 mod Hooked
 mod Heard
+mod Calling
+mod Runs

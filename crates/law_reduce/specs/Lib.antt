@@ -3,4 +3,5 @@ pub mod Folds
 pub mod Shows
 pub mod Kept
 pub mod Reads
+pub mod Runs
 pub mod Bodies

@@ -2,6 +2,7 @@
 
 ghost use Rattle.law_reduce.specs.Kept.{CellsAreKept};
 ghost use Rattle.law_reduce.specs.Reads.{UnrunReadsStay};
+ghost use Rattle.law_reduce.specs.Runs.{RunsAreGiven};
 ghost use Rattle.rt_model.specs.OneLog.{types};
 ghost use Rattle.rt_model.specs.World.{Application};
 
@@ -21,3 +22,9 @@ pub fn unrun_reads_stay<C, P, V, H, T, E, L>()
     // What a write marks is run, or it is gone.
     marks_are_run::<C, P, V, H, T, E, L>();
 }
+
+/// Where moves run a scope of a page whose hooks keep its cells, its last call was given hooks that
+/// do, if nothing removes it or hands it a component.
+pub fn runs_are_given<C, P, V, H, T, E, L>()
+    ensures { RunsAreGiven (types C P V H T E L) }
+{}
