@@ -101,7 +101,7 @@ module _ {K : Types} (k : Keeping K.Value) (a : Pages K) (s : ℕ) (own : List �
   page_bears =
       record {
         same = λ x y same q. (subst (λ (hs : List (Hook K)). KeepAll k hs 0 own) (sym (same.but).hooks) q.0, (same.but).component ∙ q.1);
-        hooks = λ x h q. (kept_longer k s own None x.hooks h 0 own q.0, q.1);
+        hooks = λ x h q. (kept_longer k s own None [] x.hooks h 0 own q.0, q.1);
         joins = λ x t origin q. q;
         throws = λ x e none q. q;
         clears = λ x may q. q;
@@ -122,7 +122,7 @@ module _ {K : Types} (k : Keeping K.Value) (a : Pages K) (s : ℕ) (own : List �
 
   -- its last call was given such hooks
   abbrev pub Told : State K → Type 0
-  Told w = Both k s own None w
+  Told w = Both k s own None [] w
 
   -- where a change came to its end
   abbrev pub DoneSo : Outcome K → Type 0
@@ -130,7 +130,7 @@ module _ {K : Types} (k : Keeping K.Value) (a : Pages K) (s : ℕ) (own : List �
   DoneSo (Cut v fault) = Unit {0}
 
   abbrev Ended : Outcome K → Type 0
-  Ended o = End app (λ w. Told w) Free (λ t. Other s t) (both_frame k s own None app) (both_called k s own None app) o
+  Ended o = End app (λ w. Told w) Free (λ t. Other s t) (both_frame k s own None [] app) (both_called k s own None [] app) o
 
   done_so : (o : Outcome K) → Ended o → DoneSo o
   done_so (Done v work) h = h
@@ -138,12 +138,12 @@ module _ {K : Types} (k : Keeping K.Value) (a : Pages K) (s : ℕ) (own : List �
 
   -- the call itself
   called_anew : (w : State K) → Page_is w → Told (kept_call (called_once w) s (world_of w s None true) (body_of app (Own c p) (world_of w s None true)))
-  called_anew w h = ((one_called k s own None app).bodies w s (Own c p) (from_zero (body_of app (Own c p) (world_of w s None true)).next.tasks) kept, given)
+  called_anew w h = ((one_called k s own None [] app).bodies w s (Own c p) (from_zero (body_of app (Own c p) (world_of w s None true)).next.tasks) kept, given)
     where
-      kept : Of s (Keeps k s own None) w
+      kept : Of s (Keeps k s own None []) w
       kept = record { row = h.row; there = h.there; holds = (h.holds).0 }
 
-      given : Given k s own None (kept_call (called_once w) s (world_of w s None true) (body_of app (Own c p) (world_of w s None true)))
+      given : Given k s own None [] (kept_call (called_once w) s (world_of w s None true) (body_of app (Own c p) (world_of w s None true)))
       given last e =
           let world : World K = world_of w s None true in
           let m : Meaning K (Element K) = body_of app (Own c p) world in
@@ -188,8 +188,8 @@ module _ {K : Types} (k : Keeping K.Value) (a : Pages K) (s : ℕ) (own : List �
         after =
             subst (λ (e : Element K). DoneSo (after_answer app u s e)) (sym answer_is)
             (done_so (after_answer app u s (rendered tree))
-            (answer_ends app (λ v. Told v) Free (λ t. Other s t) (both_frame k s own None app) (both_called k s own None app) u s tree
-            (commands_end app (λ v. Told v) Free (λ t. Other s t) (both_frame k s own None app) (both_called k s own None app) (kept_call (called_once w) s world m) s m.commands (called_anew w h))))
+            (answer_ends app (λ v. Told v) Free (λ t. Other s t) (both_frame k s own None [] app) (both_called k s own None [] app) u s tree
+            (commands_end app (λ v. Told v) Free (λ t. Other s t) (both_frame k s own None [] app) (both_called k s own None [] app) (kept_call (called_once w) s world m) s m.commands (called_anew w h))))
 
         by_fit : (b : Bool) → DoneSo (if b then after_answer app u s m.answer else Cut (kept_call (called_once w) s world m) (BadNode s))
         by_fit true = after

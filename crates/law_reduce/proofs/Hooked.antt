@@ -12,7 +12,7 @@ use Rattle.rt_model.specs.Run.{with_next, called_where, is_own, output_of, kept_
 use Rattle.rt_model.specs.Removal.{without_scope, gone, cell_sources, cells_in, read_contexts, tell_all}
 use Rattle.rt_model.specs.Replay.{Machine, numbered}
 use Rattle.rt_model.specs.Causes.{Limits}
-use Rattle.rt_model.proofs.Maps.{by_test, at_put_here, at_put_other, at_without_here, at_without_other}
+use Rattle.rt_model.proofs.Maps.{by_test, eq_same, at_put_here, at_put_other, at_without_here, at_without_other}
 use Rattle.rt_model.proofs.Tour.{AllFresh}
 use Rattle.law_moves.specs.Moves.{Move, entries, Leads}
 use Rattle.law_behavior.specs.Along.{NoneRemoves}
@@ -21,7 +21,7 @@ use Rattle.law_behavior.proofs.Frames.{Free, permits, Frame, Called}
 use Rattle.law_behavior.proofs.Enduring.{Enduring, finely, kept_so}
 use Rattle.law_behavior.proofs.Commanded.{AllAllowed}
 use Rattle.law_behavior.proofs.Onwards.{moves_on, good_anyway, spares_all}
-use Rattle.law_behavior.proofs.Steadfast.{Of, Other, Bears, from_zero, draw_anyway, of_again, of_endures, all_allowed}
+use Rattle.law_behavior.proofs.Steadfast.{Of, Other, Bears, from_zero, draw_anyway, of_others, of_put, of_again, of_endures, all_allowed}
 use Rattle.author_programs.specs.Cells.{Keeping}
 use Rattle.author_programs.specs.Shows.{KeepAll}
 use Rattle.law_reduce.specs.Kept.{CellsAreKept}
@@ -34,10 +34,10 @@ nth_longer (z ∷ xs) (suc i) x y h = nth_longer xs i x y h
 module _ {K : Types} where
   -- what no post, tell or look changes
 
-  posts_calls : (w v : State K) → Posts w v → v.last_calls ≡ w.last_calls
+  pub posts_calls : (w v : State K) → Posts w v → v.last_calls ≡ w.last_calls
   posts_calls w v f = ap (λ (x : State K). x.last_calls) f.alike
 
-  tell_calls : (w : State K) (i : Source) → (tell w i).last_calls ≡ w.last_calls
+  pub tell_calls : (w : State K) (i : Source) → (tell w i).last_calls ≡ w.last_calls
   tell_calls w i = posts_calls w (tell w i) (tell_posts w i)
 
   tells_calls : (xs : List Source) (w : State K) → (tell_all w xs).last_calls ≡ w.last_calls
@@ -48,7 +48,7 @@ module _ {K : Types} where
   either_calls w x y true f g = f
   either_calls w x y false f g = g
 
-  looks_calls : (ps : List Posted) (w : State K) → (look_on ps w).last_calls ≡ w.last_calls
+  pub looks_calls : (ps : List Posted) (w : State K) → (look_on ps w).last_calls ≡ w.last_calls
   looks_calls [] w = refl
   looks_calls (Mark s ∷ ps) w =
       let v : State K = record w { seen = join w.seen s } in looks_calls ps (if is_live w s then v else w) ∙ either_calls w v w (is_live w s) refl refl
@@ -62,6 +62,10 @@ module _ {K : Types} where
   calls_where : (b : Bool) (w : State K) → (called_where b w).last_calls ≡ w.last_calls
   calls_where true w = refl
   calls_where false w = refl
+
+  scopes_where : (b : Bool) (w : State K) → (called_where b w).scopes ≡ w.scopes
+  scopes_where true w = refl
+  scopes_where false w = refl
 
   provided_calls : (app : Application K) (w : State K) (s k : ℕ) (v : K.Value) (o : Option K.Value) → (provided_at app w s k v o).last_calls ≡ w.last_calls
   provided_calls app w s k v o = on o
@@ -93,7 +97,12 @@ module _ {K : Types} where
       let v : State K = record w { tasks = put w.tasks t (record x { active = active }) } in
       either_calls w (post v (Woken t)) v (active && not x.active) (posts_calls v (post v (Woken t)) (post_posts v (Woken t))) refl
 
-module _ {K : Types} (k : Keeping K.Value) (s : ℕ) (own : List ℕ) (old : Option (LastCall K)) where
+-- what came with one of two facts goes on
+so_far : {A R T G : Type 0} → (R → T) → (A × R) ⊎ G → (A × T) ⊎ G
+so_far f (inl h) = inl (h.0, f h.1)
+so_far f (inr g) = inr g
+
+module _ {K : Types} (k : Keeping K.Value) (s : ℕ) (own : List ℕ) (old : Option (LastCall K)) (read : List Source) where
   -- the hooks of the scope keep the cells
 
   abbrev pub Keeps : Scope K → Type 0
@@ -121,21 +130,55 @@ module _ {K : Types} (k : Keeping K.Value) (s : ℕ) (own : List ℕ) (old : Opt
   keeps_endure : Enduring {K = K} (λ w. Of s Keeps w) 0 Free Free Free (λ t. Other s t)
   keeps_endure = of_endures s Keeps Free Free Free keeps_bear
 
-  -- its last call is the old one, or it was given hooks that do
+  -- it reads what it did
+
+  abbrev pub Reads : Scope K → Type 0
+  Reads x = x.reads ≡ read
+
+  reads_bear : Bears {K = K} s Reads Free Free Free
+  reads_bear =
+      record {
+        same = λ x y same q. same.reads ∙ q;
+        hooks = λ x h q. q;
+        joins = λ x t origin q. q;
+        throws = λ x e none q. q;
+        clears = λ x may q. q;
+        feeds = λ x c may q. q;
+        ends = λ x t may q. q;
+      }
+
+  reads_endure : Enduring {K = K} (λ w. Of s Reads w) 0 Free Free Free (λ t. Other s t)
+  reads_endure = of_endures s Reads Free Free Free reads_bear
+
+  -- its last call is the old one and it reads what it did, or it was given hooks that do
 
   abbrev pub Given : State K → Type 0
-  Given w = (last : LastCall K) → at w.last_calls s ≡ Some last → (old ≡ Some last) ⊎ KeepAll k last.given.given.hooks 0 own
+  Given w = (last : LastCall K) → at w.last_calls s ≡ Some last → ((old ≡ Some last) × Of s Reads w) ⊎ KeepAll k last.given.given.hooks 0 own
 
-  by_calls : (w v : State K) → v.last_calls ≡ w.last_calls → Given w → Given v
-  by_calls w v same h = λ last e. h last (ap (λ (es : List (ℕ × LastCall K)). at es s) (sym same) ∙ e)
+  by_calls : (w v : State K) → v.last_calls ≡ w.last_calls → (Of s Reads w → Of s Reads v) → Given w → Given v
+  by_calls w v same f h = λ last e. so_far f (h last (ap (λ (es : List (ℕ × LastCall K)). at es s) (sym same) ∙ e))
 
   -- where the call of a scope goes
-  by_without : (w v : State K) (t : ℕ) → v.last_calls ≡ without w.last_calls t → Given w → Given v
-  by_without w v t same h = λ last e.
+  by_without : (w v : State K) (t : ℕ) → v.last_calls ≡ without w.last_calls t → (nat_eq t s ≡ false → Of s Reads w → Of s Reads v) → Given w → Given v
+  by_without w v t same f h = λ last e.
       let there : at (without w.last_calls t) s ≡ Some last = ap (λ (es : List (ℕ × LastCall K)). at es s) (sym same) ∙ e in
       by_test (nat_eq t s)
       (λ q. let absurdity : None ≡ Some last = sym (at_without_here w.last_calls t s q) ∙ there in cc)
-      (λ q. h last (sym (at_without_other w.last_calls t s q) ∙ there))
+      (λ q. so_far (f q) (h last (sym (at_without_other w.last_calls t s q) ∙ there)))
+
+  -- another scope reads otherwise
+  others_read : (w : State K) (t : ℕ) (x y : Scope K) → at w.scopes t ≡ Some x → nat_eq t s ≡ false → Of s Reads w → Of s Reads (record w { scopes = put w.scopes t y })
+  others_read w t x y e q r =
+      of_put s Reads w t x y e
+      (λ is z. let absurdity : true ≡ false = sym (eq_same t) ∙ ap (λ (n : ℕ). nat_eq t n) is ∙ q in cc)
+      r
+
+  others_change : (w : State K) (t : ℕ) (xs : List Source) → nat_eq t s ≡ false → Of s Reads w → Of s Reads (change w t (λ x. record x { reads = xs }))
+  others_change w t xs q r = on (at w.scopes t) refl
+    where
+      on : (o : Option (Scope K)) → at w.scopes t ≡ o → Of s Reads (changed_scope w t (λ x. record x { reads = xs }) o)
+      on None e = r
+      on (Some x) e = others_read w t x (record x { reads = xs }) e q r
 
   abbrev pub Both : State K → Type 0
   Both w = Of s Keeps w × Given w
@@ -143,6 +186,9 @@ module _ {K : Types} (k : Keeping K.Value) (s : ℕ) (own : List ℕ) (old : Opt
   module _ (app : Application K) where
     one : Frame app (λ w. Of s Keeps w) (λ w. Of s Keeps w) 0 (permits Free Free Free (λ t. Other s t))
     one = finely (λ w. Of s Keeps w) 0 Free Free Free (λ t. Other s t) keeps_endure app
+
+    reads : Frame app (λ w. Of s Reads w) (λ w. Of s Reads w) 0 (permits Free Free Free (λ t. Other s t))
+    reads = finely (λ w. Of s Reads w) 0 Free Free Free (λ t. Other s t) reads_endure app
 
     pub one_called : Called app (λ w. Of s Keeps w) 0
     one_called =
@@ -154,41 +200,41 @@ module _ {K : Types} (k : Keeping K.Value) (s : ℕ) (own : List ℕ) (old : Opt
         record {
           low = λ w h. from_zero w.next.tasks;
           leaves = λ w h. h;
-          posts = λ w v f h. (one.posts w v f h.0, by_calls w v (posts_calls w v f) h.1);
-          looks = λ w h. (one.looks w h.0, by_calls w (look w) (looks_calls w.posted (record w { posted = [] })) h.1);
-          pauses = λ w t e h. (one.pauses w t e h.0, h.1);
-          unqueues = λ w t a h. (one.unqueues w t a h.0, h.1);
-          unmarks = λ w t h. (one.unmarks w t h.0, h.1);
-          asides = λ w v e h. (one.asides w v e h.0, by_calls w v (ap (λ (x : State K). x.last_calls) e) h.1);
-          nexts = λ w next low h. (one.nexts w next low h.0, h.1);
+          posts = λ w v f h. (one.posts w v f h.0, by_calls w v (posts_calls w v f) (λ r. reads.posts w v f r) h.1);
+          looks = λ w h. (one.looks w h.0, by_calls w (look w) (looks_calls w.posted (record w { posted = [] })) (λ r. reads.looks w r) h.1);
+          pauses = λ w t e h. (one.pauses w t e h.0, λ last is. so_far (λ r. reads.pauses w t e r) (h.1 last is));
+          unqueues = λ w t a h. (one.unqueues w t a h.0, λ last is. so_far (λ r. reads.unqueues w t a r) (h.1 last is));
+          unmarks = λ w t h. (one.unmarks w t h.0, λ last is. so_far (λ r. reads.unmarks w t r) (h.1 last is));
+          asides = λ w v e h. (one.asides w v e h.0, by_calls w v (ap (λ (x : State K). x.last_calls) e) (λ r. reads.asides w v e r) h.1);
+          nexts = λ w next low h. (one.nexts w next low h.0, λ last is. so_far (λ r. reads.nexts w next low r) (h.1 last is));
           writes = λ w n v row e a h.
-              (one.writes w n v row e a h.0, by_calls w (tell (record w { cells = put w.cells n (record row { value = v }) }) (Cell n)) (tell_calls (record w { cells = put w.cells n (record row { value = v }) }) (Cell n)) h.1);
-          drops = λ w n a h. (one.drops w n a h.0, by_calls w (tell (record w { cells = without w.cells n }) (Cell n)) (tell_calls (record w { cells = without w.cells n }) (Cell n)) h.1);
-          new_cells = λ w t n v a h. (one.new_cells w t n v a h.0, h.1);
-          new_contexts = λ w n x a h. (one.new_contexts w n x a h.0, h.1);
-          sources = λ w n x y e a h. (one.sources w n x y e a h.0, h.1);
-          rows = λ w t x y e same h. (one.rows w t x y e same h.0, h.1);
-          hooks = λ w t x hook e h. (one.hooks w t x hook e h.0, h.1);
-          joins = λ w b t origin x e h. (one.joins w b t origin x e h.0, h.1);
+              (one.writes w n v row e a h.0, by_calls w (tell (record w { cells = put w.cells n (record row { value = v }) }) (Cell n)) (tell_calls (record w { cells = put w.cells n (record row { value = v }) }) (Cell n)) (λ r. reads.writes w n v row e a r) h.1);
+          drops = λ w n a h. (one.drops w n a h.0, by_calls w (tell (record w { cells = without w.cells n }) (Cell n)) (tell_calls (record w { cells = without w.cells n }) (Cell n)) (λ r. reads.drops w n a r) h.1);
+          new_cells = λ w t n v a h. (one.new_cells w t n v a h.0, λ last is. so_far (λ r. reads.new_cells w t n v a r) (h.1 last is));
+          new_contexts = λ w n x a h. (one.new_contexts w n x a h.0, λ last is. so_far (λ r. reads.new_contexts w n x a r) (h.1 last is));
+          sources = λ w n x y e a h. (one.sources w n x y e a h.0, λ last is. so_far (λ r. reads.sources w n x y e a r) (h.1 last is));
+          rows = λ w t x y e same h. (one.rows w t x y e same h.0, λ last is. so_far (λ r. reads.rows w t x y e same r) (h.1 last is));
+          hooks = λ w t x hook e h. (one.hooks w t x hook e h.0, λ last is. so_far (λ r. reads.hooks w t x hook e r) (h.1 last is));
+          joins = λ w b t origin x e h. (one.joins w b t origin x e h.0, λ last is. so_far (λ r. reads.joins w b t origin x e r) (h.1 last is));
           throws = λ w b x e live none h.
-              (one.throws w b x e live none h.0, by_calls w (tell (record w { scopes = put w.scopes b (record x { error = Some e }) }) (Error b)) (tell_calls (record w { scopes = put w.scopes b (record x { error = Some e }) }) (Error b)) h.1);
+              (one.throws w b x e live none h.0, by_calls w (tell (record w { scopes = put w.scopes b (record x { error = Some e }) }) (Error b)) (tell_calls (record w { scopes = put w.scopes b (record x { error = Some e }) }) (Error b)) (λ r. reads.throws w b x e live none r) h.1);
           clears = λ w b x live a h.
-              (one.clears w b x live a h.0, by_calls w (tell (record w { scopes = put w.scopes b (record x { error = None }) }) (Error b)) (tell_calls (record w { scopes = put w.scopes b (record x { error = None }) }) (Error b)) h.1);
-          provides = λ w t kind v x e h. (one.provides w t kind v x e h.0, by_calls w (provided_at app w t kind v (at x.contexts kind)) (provided_calls app w t kind v (at x.contexts kind)) h.1);
-          feeds = λ w t c x e a h. (one.feeds w t c x e a h.0, h.1);
-          patches = λ w t side tree x e h. (one.patches w t side tree x e h.0, h.1);
-          draws = λ w t side p kind h. (one.draws w t side p kind h.0, by_calls w (numbered w t side p kind) (numbered_calls w t side p kind) h.1);
-          empties = λ w b x e h. (one.empties w b x e h.0, h.1);
-          makes = λ w t side p c x e h. (one.makes w t side p c x e h.0, h.1);
-          goes = λ w t free h. (one.goes w t free h.0, by_without w (gone w t) t (gone_calls w t) h.1);
-          mounts = λ w h. (one.mounts w h.0, h.1);
-          ends = λ w t a h. (one.ends w t a h.0, h.1);
+              (one.clears w b x live a h.0, by_calls w (tell (record w { scopes = put w.scopes b (record x { error = None }) }) (Error b)) (tell_calls (record w { scopes = put w.scopes b (record x { error = None }) }) (Error b)) (λ r. reads.clears w b x live a r) h.1);
+          provides = λ w t kind v x e h. (one.provides w t kind v x e h.0, by_calls w (provided_at app w t kind v (at x.contexts kind)) (provided_calls app w t kind v (at x.contexts kind)) (λ r. reads.provides w t kind v x e r) h.1);
+          feeds = λ w t c x e a h. (one.feeds w t c x e a h.0, λ last is. so_far (λ r. reads.feeds w t c x e a r) (h.1 last is));
+          patches = λ w t side tree x e h. (one.patches w t side tree x e h.0, λ last is. so_far (λ r. reads.patches w t side tree x e r) (h.1 last is));
+          draws = λ w t side p kind h. (one.draws w t side p kind h.0, by_calls w (numbered w t side p kind) (numbered_calls w t side p kind) (λ r. reads.draws w t side p kind r) h.1);
+          empties = λ w b x e h. (one.empties w b x e h.0, λ last is. so_far (λ r. reads.empties w b x e r) (h.1 last is));
+          makes = λ w t side p c x e h. (one.makes w t side p c x e h.0, λ last is. so_far (λ r. reads.makes w t side p c x e r) (h.1 last is));
+          goes = λ w t free h. (one.goes w t free h.0, by_without w (gone w t) t (gone_calls w t) (λ q r. reads.goes w t free r) h.1);
+          mounts = λ w h. (one.mounts w h.0, λ last is. so_far (λ r. reads.mounts w r) (h.1 last is));
+          ends = λ w t a h. (one.ends w t a h.0, λ last is. so_far (λ r. reads.ends w t a r) (h.1 last is));
           spawns = λ w t x low h.
               let v : State K = record w { tasks = w.tasks ++ (t, x) ∷ [] } in
-              (one.spawns w t x low h.0, by_calls w (post v (Woken t)) (posts_calls v (post v (Woken t)) (post_posts v (Woken t))) h.1);
-          goes_on = λ w t x a e may h. (one.goes_on w t x a e may h.0, h.1);
-          suspends = λ w t x e h. (one.suspends w t x e h.0, h.1);
-          activates = λ w t active x e h. (one.activates w t active x e h.0, by_calls w (activated w t active (Some x)) (activated_calls w t active x) h.1);
+              (one.spawns w t x low h.0, by_calls w (post v (Woken t)) (posts_calls v (post v (Woken t)) (post_posts v (Woken t))) (λ r. reads.spawns w t x low r) h.1);
+          goes_on = λ w t x a e may h. (one.goes_on w t x a e may h.0, λ last is. so_far (λ r. reads.goes_on w t x a e may r) (h.1 last is));
+          suspends = λ w t x e h. (one.suspends w t x e h.0, λ last is. so_far (λ r. reads.suspends w t x e r) (h.1 last is));
+          activates = λ w t active x e h. (one.activates w t active x e h.0, by_calls w (activated w t active (Some x)) (activated_calls w t active x) (λ r. reads.activates w t active x e r) h.1);
         }
 
     -- a call of a body: another scope's leaves the scope's own, and the scope's own is given what its hooks are
@@ -214,15 +260,32 @@ module _ {K : Types} (k : Keeping K.Value) (s : ℕ) (own : List ℕ) (old : Opt
         ∙ ap (λ (o : Option (Scope K)). elim o as (λ z. List (Hook K)) [ None ↦ [] | Some x ↦ x.hooks ]) kept.there in
         inr (subst (λ (l : LastCall K). KeepAll k l.given.given.hooks 0 own) this (subst (λ (hs : List (Hook K)). KeepAll k hs 0 own) (sym hooks) kept.holds))
         )
-        (λ q. given last (sym (at_put_other w.last_calls t call s q) ∙ there))
+        (
+        λ q.
+        so_far
+        (
+        λ r.
+        of_others s Reads v (kept_call u t world m) refl
+        (others_change n t m.reads q (of_others s Reads w n (scopes_where b w) r))
+        )
+        (given last (sym (at_put_other w.last_calls t call s q) ∙ there))
+        )
 
     pub both_called : Called app (λ w. Both w) 0
     both_called =
         record {
           bodies = λ w t c low h. (one_called.bodies w t c low h.0, called_given w t c h.0 h.1);
-          turns = λ w b x e h.
-              (one_called.turns w b x e h.0, by_without w (record w { last_calls = without w.last_calls b; scopes = put w.scopes b (record x { shows = Some ChildrenSide; reads = [] }) }) b refl h.1);
-          turns_nowhere = λ w b e h. (one_called.turns_nowhere w b e h.0, by_without w (record w { last_calls = without w.last_calls b }) b refl h.1);
+          turns = λ w b x e h. (
+            one_called.turns w b x e h.0,
+            by_without w (record w { last_calls = without w.last_calls b; scopes = put w.scopes b (record x { shows = Some ChildrenSide; reads = [] }) }) b refl
+                (
+                λ q r.
+                let y : Scope K = record x { shows = Some ChildrenSide; reads = [] } in
+                of_others s Reads (record w { scopes = put w.scopes b y }) (record w { last_calls = without w.last_calls b; scopes = put w.scopes b y }) refl (others_read w b x y e q r)
+                )
+                h.1,
+          );
+          turns_nowhere = λ w b e h. (one_called.turns_nowhere w b e h.0, by_without w (record w { last_calls = without w.last_calls b }) b refl (λ q r. of_others s Reads w (record w { last_calls = without w.last_calls b }) refl r) h.1);
         }
 
     freely : (w : State K) (r : ℕ) (polled : Option ℕ) (cs : List (Command K)) → AllFresh app 0 cs → Unit {0}
@@ -246,9 +309,13 @@ module _ {K : Types} (k : Keeping K.Value) (s : ℕ) (own : List ℕ) (old : Opt
 pub cells_are_kept : {K : Types} (app : Application K) → CellsAreKept app
 cells_are_kept {K = K} app k limits m v moves s x own leads stays there keeps =
     let old : Option (LastCall K) = at m.state.last_calls s in
-    let begins : Both k s own old m.state = (record { row = x; there = there; holds = keeps }, λ last e. inl e) in
-    let ends : Both k s own old v.state = both_last k s own old app limits m v moves leads stays begins in
+    let begins : Both k s own old x.reads m.state =
+    (record { row = x; there = there; holds = keeps }, λ last e. inl (e, record { row = x; there = there; holds = refl })) in
+    let ends : Both k s own old x.reads v.state = both_last k s own old x.reads app limits m v moves leads stays begins in
     let kept = ends.0 in (
       subst (λ (o : Option (Scope K)). KeepAll k (elim o as (λ z. List (Hook K)) [ None ↦ [] | Some y ↦ y.hooks ]) 0 own) (sym kept.there) kept.holds,
-      ends.1,
+      λ last e.
+          so_far
+          (λ (r : Of s (Reads k s own old x.reads) v.state). ap (λ (o : Option (Scope K)). elim o as (λ z. List Source) [ None ↦ [] | Some y ↦ y.reads ]) r.there ∙ r.holds)
+          (ends.1 last e),
     )

@@ -22,22 +22,25 @@ use Rattle.author_programs.specs.Pages.{Pages, meaning_of_pages}
 use Rattle.law_lasting.proofs.Told.{posts_same, tell_same, look_same}
 use Rattle.law_pages.proofs.Listening.{commands_with, one_later, reply_reads}
 use Rattle.law_reduce.proofs.Owners.{called_on, heard_is}
+use Rattle.law_reduce.proofs.Hooked.{posts_calls, tell_calls, looks_calls}
 
 module _ {K : Types} where
   -- no scope comes or goes, marks stay, and a cell that a scope has read keeps its row, or the scope is marked
   pub record Minds (w v : State K) : Type 0 where
     pub scopes : v.scopes ≡ w.scopes
+    pub calls : v.last_calls ≡ w.last_calls
     pub marks : (s : ℕ) → OwesRun w s → OwesRun v s
     pub told : (s : ℕ) (x : Scope K) (n : ℕ) (row : CellRow K) → at w.scopes s ≡ Some x → names_source x.reads (Cell n) ≡ true → at w.cells n ≡ Some row
         → (at v.cells n ≡ Some row) ⊎ OwesRun v s
 
   pub minds_refl : (w : State K) → Minds w w
-  minds_refl w = record { scopes = refl; marks = λ s h. h; told = λ s x n row there reads cell. inl cell }
+  minds_refl w = record { scopes = refl; calls = refl; marks = λ s h. h; told = λ s x n row there reads cell. inl cell }
 
   pub minds_then : (u v w : State K) → Minds u v → Minds v w → Minds u w
   minds_then u v w f g =
       record {
         scopes = g.scopes ∙ f.scopes;
+        calls = g.calls ∙ f.calls;
         marks = λ s h. g.marks s (f.marks s h);
         told =
             λ s x n row there reads cell.
@@ -48,9 +51,9 @@ module _ {K : Types} where
       }
 
   -- where cells are as they were
-  pub minds_by : (w v : State K) → v.scopes ≡ w.scopes → v.cells ≡ w.cells → ((s : ℕ) → OwesRun w s → OwesRun v s) → Minds w v
-  minds_by w v scopes cells marks =
-      record { scopes = scopes; marks = marks; told = λ s x n row there reads cell. inl (ap (λ (es : List (ℕ × CellRow K)). at es n) cells ∙ cell) }
+  pub minds_by : (w v : State K) → v.scopes ≡ w.scopes → v.last_calls ≡ w.last_calls → v.cells ≡ w.cells → ((s : ℕ) → OwesRun w s → OwesRun v s) → Minds w v
+  minds_by w v scopes calls cells marks =
+      record { scopes = scopes; calls = calls; marks = marks; told = λ s x n row there reads cell. inl (ap (λ (es : List (ℕ × CellRow K)). at es n) cells ∙ cell) }
 
   -- a write
   pub minds_write : (w : State K) (n : ℕ) (v : K.Value) → Minds w (write_cell w n v)
@@ -62,6 +65,7 @@ module _ {K : Types} where
           let u : State K = record w { cells = put w.cells n (record old { value = v }) } in
           record {
             scopes = (tell_same u (Cell n)).scopes;
+            calls = tell_calls u (Cell n);
             marks = λ s h. (written_stays w n v (Some old)).runs s refl h;
             told =
                 λ s x m row there reads cell.
@@ -82,7 +86,7 @@ module _ {K : Types} where
 
   -- a look
   pub minds_look : (w : State K) → Minds w (look w)
-  minds_look w = minds_by w (look w) (look_same w).scopes (look_same w).cells (λ s h. (look_stays w).runs s refl h)
+  minds_look w = minds_by w (look w) (look_same w).scopes (looks_calls w.posted (record w { posted = [] })) (look_same w).cells (λ s h. (look_stays w).runs s refl h)
 
   pub looked_minds : (m : Machine K) (ls : List (Listener K)) → Minds m.state (looked_where_quiet m ls).state
   looked_minds m [] = minds_look m.state
@@ -92,7 +96,7 @@ module _ {K : Types} where
   pub minds_post : (w : State K) (p : Posted) → Minds w (post w p)
   minds_post w p =
       let same = posts_same w (post w p) (post_posts w p) in
-      minds_by w (post w p) same.scopes same.cells (λ s h. (post_stays w p).runs s refl h)
+      minds_by w (post w p) same.scopes (posts_calls w (post w p) (post_posts w p)) same.cells (λ s h. (post_stays w p).runs s refl h)
 
   minds_all : (es : List (ℕ × Scope K)) (w : State K) → Minds w (post_all es w)
   minds_all [] w = minds_refl w
@@ -128,6 +132,6 @@ module _ {K : Types} where
       subst (λ (y : Machine K). Minds m.state y.state) (sym (heard_is k a m l ls e))
       (
       minds_then m.state x.state (looked_where_quiet x (waiting x)).state
-      (minds_then m.state n x.state (minds_by m.state n refl refl (λ s h. h)) (minds_writes app l.origin n [] ws))
+      (minds_then m.state n x.state (minds_by m.state n refl refl refl (λ s h. h)) (minds_writes app l.origin n [] ws))
       (looked_minds x (waiting x))
       )

@@ -3,7 +3,7 @@ use Rattle.std.proofs.Common.{ℕ, ◌+◌, Bool, true, false, ◌&&◌, not, Li
 use Rattle.std.specs.Prelude.{Option, Some, None, if◌then◌else◌, is_some}
 use Rattle.rt_model.specs.Lists.{Text, at}
 use Rattle.rt_model.specs.Tree.{Types}
-use Rattle.rt_model.specs.World.{Event, Application}
+use Rattle.rt_model.specs.World.{Cell, Event, Application}
 use Rattle.rt_model.specs.State.{Fault, Scope, State, CellRow, Item, is_live}
 use Rattle.rt_model.specs.Next.{Work, RunEffects, next, owes, is_before, least}
 use Rattle.rt_model.specs.Heard.{Listener}
@@ -28,9 +28,12 @@ use Rattle.law_pages.proofs.Keeping.{pages_keep_cells}
 use Rattle.law_pages.proofs.Listening.{at_values}
 use Rattle.law_pages.proofs.Hearing.{waits_on, machine_is}
 use Rattle.law_reduce.specs.Reduces.{hearers, reduced, Reduces}
+use Rattle.law_lasting.specs.ComponentsLast.{NoneFeeds}
 use Rattle.law_reduce.specs.Reads.{NoneRuns, ReadsStay}
+use Rattle.law_reduce.proofs.GoesOn.{later_stays, later_unrun, later_unfed, PagesGoOn, page_after}
 use Rattle.law_reduce.proofs.Owners.{owners_of, Owned, still_owned}
 use Rattle.law_reduce.proofs.Minds.{Minds}
+use Rattle.rt_model.specs.Commands.{names_source}
 use Rattle.law_reduce.proofs.Calm.{none_opens, none_later, Calm, calm_moves}
 use Rattle.law_reduce.proofs.InTurn.{EventDone, first_done, all_done}
 use Rattle.law_reduce.proofs.Taking.{ready, Took, took, took_looked, take_is, hearers_emptied, Made, IsNoEvent, made_at_once}
@@ -38,16 +41,6 @@ use Rattle.law_reduce.proofs.Taking.{ready, Took, took, took_looked, take_is, he
 none_of : {A : Type 0} (o : Option A) → not (is_some o) ≡ true → o ≡ None
 none_of None h = refl
 none_of (Some a) h = cc
-
--- what no entry of a log removes, none of its end does
-later_stays : (o : ℕ) (xs ys : List Entry) → NoneRemoves o (xs ++ ys) → NoneRemoves o ys
-later_stays o [] ys h = h
-later_stays o (x ∷ xs) ys h = later_stays o xs ys h.1
-
--- what none runs
-later_unrun : (s : ℕ) (xs ys : List Entry) → NoneRuns s (xs ++ ys) → NoneRuns s ys
-later_unrun s [] ys h = h
-later_unrun s (x ∷ xs) ys h = later_unrun s xs ys h.1
 
 module _ {K : Types} where
   no_items : (items : List (Item K)) → no_work items ≡ true → items ≡ []
@@ -120,6 +113,7 @@ module _ {K : Types} (k : Keeping K.Value) (a : Pages K) where
   pub record Came (m : Machine K) (input : Input K) (more : List (Input K)) (log : List Entry) (v : Machine K) : Type 0 where
     pub reduces : Reduces a m.state input log v.state
     pub reads_stay : MarksAreRun app → ReadsStay m.state log v.state
+    pub pages_go_on : MarksAreRun app → PagesGoOn k a m.state log v.state
     pub ready_again : Ready v
     pub inputs : v.inputs ≡ more
 
@@ -141,25 +135,38 @@ module _ {K : Types} (k : Keeping K.Value) (a : Pages K) where
       let none_moves : count_entries is_opening (entries moved.0) ≡ 0 = ap (λ (es : List Entry). count_entries is_opening es) moved.2 ∙ none in
       let after : Calm more v = (calm_moves app more limits 0 b v moved.0 moved.1 none_moves calm).1 in
       let again : Ready v = settled_ready v after.built (settled_after app limits rest b v (at_rest_settled b rests) found.1) settled in
+      let stays_on : (s : ℕ) → NoneRemoves s log → NoneRemoves s (entries moved.0) =
+      λ s stays. subst (λ (es : List Entry). NoneRemoves s es) (sym moved.2) (later_stays s before rest (subst (λ (es : List Entry). NoneRemoves s es) parts stays)) in
+      let cell_stays : MarksAreRun app → (s : ℕ) (x : Scope K) (n : ℕ) (row : CellRow K) → at m.state.scopes s ≡ Some x → is_live v.state s ≡ true → NoneRuns s (entries moved.0)
+      → names_source x.reads (Cell n) ≡ true → at m.state.cells n ≡ Some row → NoneRemoves row.owner (entries moved.0) → at v.state.cells n ≡ Some row =
+      λ marks s x n row there live unrun named cell stays.
+      elim (minds.told s x n row there named cell) [
+        | inl c ↦ pages_keep_cells K k a limits b v moved.0 n row moved.1 stays (calm_moves app more limits n b v moved.0 moved.1 none_moves calm).0 c
+        | inr owed ↦
+            let here : is_live b.state s ≡ true =
+            ap (λ (o : Option (Scope K)). is_some o) (ap (λ (es : List (ℕ × Scope K)). at es s) minds.scopes ∙ there) in
+            let marked : IsMarked b.state s = owed here in
+            let gone : is_live v.state s ≡ false = (marks limits b v moved.0 s moved.1 (again.rests).alive marked unrun).1 again.none in
+            let absurdity : true ≡ false = sym live ∙ gone in
+            cc
+      ] in
       record {
         reads_stay =
             λ marks s x n row there live unrun named cell stays.
-            let stays_on : NoneRemoves row.owner (entries moved.0) =
-            subst (λ (es : List Entry). NoneRemoves row.owner es) (sym moved.2)
-            (later_stays row.owner before rest (subst (λ (es : List Entry). NoneRemoves row.owner es) parts stays)) in
-            let unrun_on : NoneRuns s (entries moved.0) =
-            subst (λ (es : List Entry). NoneRuns s es) (sym moved.2)
-            (later_unrun s before rest (subst (λ (es : List Entry). NoneRuns s es) parts unrun)) in
-            elim (minds.told s x n row there named cell) [
-              | inl c ↦ pages_keep_cells K k a limits b v moved.0 n row moved.1 stays_on (calm_moves app more limits n b v moved.0 moved.1 none_moves calm).0 c
-              | inr owed ↦
-                  let here : is_live b.state s ≡ true =
-                  ap (λ (o : Option (Scope K)). is_some o) (ap (λ (es : List (ℕ × Scope K)). at es s) minds.scopes ∙ there) in
-                  let marked : IsMarked b.state s = owed here in
-                  let gone : is_live v.state s ≡ false = (marks limits b v moved.0 s moved.1 (again.rests).alive marked unrun_on).1 again.none in
-                  let absurdity : true ≡ false = sym live ∙ gone in
-                  cc
-            ];
+            cell_stays marks s x n row there live
+            (subst (λ (es : List Entry). NoneRuns s es) (sym moved.2) (later_unrun s before rest (subst (λ (es : List Entry). NoneRuns s es) parts unrun)))
+            named cell (stays_on row.owner stays);
+        pages_go_on =
+            λ marks s x c p own same there page keeps stays unfed.
+            let stays_here : NoneRemoves s (entries moved.0) = stays_on s stays in
+            let unfed_here : NoneFeeds s (entries moved.0) =
+            subst (λ (es : List Entry). NoneFeeds s es) (sym moved.2) (later_unfed s before rest (subst (λ (es : List Entry). NoneFeeds s es) parts unfed)) in
+            let at_b : at b.state.scopes s ≡ Some x = ap (λ (es : List (ℕ × Scope K)). at es s) minds.scopes ∙ there in
+            page_after k a marks m.state b v limits moved.0 moved.1 (again.rests).alive none_moves minds.calls s x c p own same at_b page keeps stays_here unfed_here
+            (
+            λ live unrun n r named cell mine.
+            cell_stays marks s x n r there live unrun named cell (subst (λ (o : ℕ). NoneRemoves o (entries moved.0)) (sym mine) stays_here)
+            );
         reduces =
             λ n row there stays.
             let o : Owned b.state n row.owner = still_owned m.state b.state n row owners there in
@@ -196,6 +203,9 @@ module _ {K : Types} (k : Keeping K.Value) (a : Pages K) where
       record {
         reduces = λ n row there stays. sym (ap (λ (ls : List (Listener K)). at (updates a bubbles m.state.next.cells ls e (model_of m.state)) n) silent);
         reads_stay = λ marks s x n row there live unrun named cell stays. cell;
+        pages_go_on =
+            λ marks s x c p own same there page keeps stays unfed.
+            record { row = x; there = there; page = page; keeps = keeps; calls = λ last e. inr (e, refl, λ n r named cell mine. cell) };
         ready_again = still;
         inputs = refl;
       } in

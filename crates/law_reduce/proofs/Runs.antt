@@ -212,6 +212,14 @@ module _ {K : Types} (k : Keeping K.Value) (a : Pages K) (s : ℕ) (own : List �
       (sparing limits m u move (u, leads, refl) stays unfed)
       h
 
+  -- so it is after moves
+  pub here_last : (limits : Limits) (m v : Machine K) (moves : List Move) → Leads app limits m moves v → NoneRemoves s (entries moves) → NoneFeeds s (entries moves) → Here m.state → Here v.state
+  here_last limits m v [] leads stays unfed h = subst (λ (x : Machine K). Here x.state) (sym leads) h
+  here_last limits m v (Silent ∷ moves) leads stays unfed h = here_last limits leads.0 v moves leads.2 stays unfed (move_leaves limits m leads.0 Silent leads.1 tt tt h)
+  here_last limits m v (Closed ∷ moves) leads stays unfed h = here_last limits leads.0 v moves leads.2 stays unfed (move_leaves limits m leads.0 Closed leads.1 tt tt h)
+  here_last limits m v (Logged e ∷ moves) leads stays unfed h =
+      here_last limits leads.0 v moves leads.2 stays.1 unfed.1 (move_leaves limits m leads.0 (Logged e) leads.1 (stays.0, tt) (unfed.0, tt) h)
+
   -- along moves
   after_moves : (limits : Limits) (m v : Machine K) (moves : List Move) → Leads app limits m moves v → v.dead ≡ None
       → count_entries is_opening (entries moves) ≡ 0
@@ -234,7 +242,7 @@ module _ {K : Types} (k : Keeping K.Value) (a : Pages K) (s : ℕ) (own : List �
       let there : u.dead ≡ None = alive_before app limits u v moves u.dead refl leads.2 alive in
       let gives = leads.1.gives in
       let now : So u.state = subst (λ (x : Machine K). x.dead ≡ None → So x.state) (sym gives) (logged_by m e leads.1.due_is q opens.0 unfed.0 h) there in
-      both_last k s own None app limits u v moves leads.2 stays.1 now
+      both_last k s own None [] app limits u v moves leads.2 stays.1 now
       )
       (
       λ q.
@@ -246,7 +254,7 @@ pub runs_are_given : (K : Types) → RunsAreGiven K
 runs_are_given K k a limits m v moves s x c p own leads alive none stays unfed there page keeps same runs last e =
     let begins : Page_is k a s own c p m.state = record { row = x; there = there; holds = (keeps, page) } in
     let ends = after_moves k a s own c p same limits m v moves leads alive none stays unfed runs begins in
-    elim (ends.1 last e) [ inl old ↦ impossible old | inr kept ↦ kept ]
+    elim (ends.1 last e) [ inl old ↦ impossible old.0 | inr kept ↦ kept ]
   where
     impossible : None ≡ Some last → KeepAll k last.given.given.hooks 0 own
     impossible h = cc

@@ -31,7 +31,7 @@ module _ {K : Types} (k : Keeping K.Value) (a : Pages K) where
   ran_of props inputs limits taken reports h = record { told = h.told; recorded = (h.holds).recorded; done = h.done }
 
   -- what is read now is what a model answers
-  reads_now : (v : State K) (last : LastCall K) (m : Model K) (ns : List ℕ) → AllByRecursion (λ (n : ℕ). at (model_of v) n ≡ at m n) ns
+  pub reads_now : (v : State K) (last : LastCall K) (m : Model K) (ns : List ℕ) → AllByRecursion (λ (n : ℕ). at (model_of v) n ≡ at m n) ns
       → map (value_now v last) ns ≡ map (read_in m last.given.given.next.cells) ns
   reads_now v last m [] h = refl
   reads_now v last m (n ∷ ns) h =

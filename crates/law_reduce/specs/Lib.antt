@@ -4,4 +4,5 @@ pub mod Shows
 pub mod Kept
 pub mod Reads
 pub mod Runs
+pub mod Values
 pub mod Bodies

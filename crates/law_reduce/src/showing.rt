@@ -2,7 +2,10 @@
 
 ghost use Rattle.law_reduce.specs.Bodies.{BodiesShow, ReportsShowBodies};
 ghost use Rattle.law_reduce.specs.Shows.{FoldsShow, ReportsShowReduced};
+ghost use Rattle.law_reduce.specs.Values.{PagesShowValues};
 ghost use Rattle.rt_model.specs.OneLog.{types};
+
+use law_behavior::marks_are_run;
 
 /// After each report a scope of a page whose hooks kept its cells shows the page's function of what
 /// the input made of the values, where the cells that it reads stay.
@@ -26,3 +29,12 @@ pub fn bodies_show<C, P, V, H, T, E, L>()
 pub fn reports_show_bodies<C, P, V, H, T, E, L>()
     ensures { ReportsShowBodies (types C P V H T E L) }
 {}
+
+/// From its first run on a scope of a page shows after each report what the page's function gives of
+/// the present values, as long as nothing removes it or hands it a component.
+pub fn pages_show_values<C, P, V, H, T, E, L>()
+    ensures { PagesShowValues (types C P V H T E L) }
+{
+    // What a write marks is run, or it is gone.
+    marks_are_run::<C, P, V, H, T, E, L>();
+}
