@@ -22,3 +22,7 @@ pub mod Ways
 pub mod Level
 pub mod Logged
 pub mod PollsDone
+pub mod Under
+pub mod Below
+pub mod Numbering
+pub mod Unpolled

@@ -1,17 +1,22 @@
 -- The same along logs.
-use Rattle.std.proofs.Common.{true, false, List, [], ◌∷◌, ◌≡◌, sym, ap, ◌∙◌, subst}
-use Rattle.std.specs.Prelude.{Option, None}
+use Rattle.std.proofs.Common.{true, false, List, [], ◌∷◌, ◌≡◌, sym, ap, ◌∙◌, subst, not, refl}
+use Rattle.std.specs.Prelude.{Option, Some, None, is_some}
 use Rattle.rt_model.specs.Tree.{Types}
 use Rattle.rt_model.specs.World.{Application}
 use Rattle.rt_model.specs.State.{Fault, Item}
-use Rattle.rt_model.specs.Replay.{Entry, Poll, Machine}
+use Rattle.rt_model.specs.Next.{Work, next, owes}
+use Rattle.rt_model.specs.Replay.{Entry, Poll, Machine, is_quiet, start}
+use Rattle.rt_model.proofs.Conjunctions.{and-left, and-right}
 use Rattle.rt_model.specs.Causes.{Limits}
 use Rattle.law_moves.specs.Moves.{Move, Silent, Closed, Logged, entries, moves_alone, IsSettled, Leads}
 use Rattle.law_moves.proofs.Logs.{logs_are_moves}
+use Rattle.law_moves.proofs.Ways.{start_reached, reached_moved}
+use Rattle.law_headline.proofs.Reports.{settled_after}
+use Rattle.law_behavior.proofs.Leading.{quiet_alive}
 use Rattle.law_behavior.specs.Owed.{WakesArePolled}
 use Rattle.author_formulas.specs.Formulas.{Formulas}
 use Rattle.author_formulas.specs.Memos.{MemoTask}
-use Rattle.law_minding.specs.Held.{LoggedHeldAreKept}
+use Rattle.law_minding.specs.Held.{LoggedHeldAreKept, SessionsKeep}
 use Rattle.law_minding.proofs.Level.{held_are_kept}
 
 module _ {K : Types} (app : Application K) (limits : Limits) where
@@ -48,3 +53,21 @@ logged_held_are_kept a app state woken lawful looks polls limits props inputs m 
       λ held alive none active task there.
           held_are_kept a app state woken lawful looks polls limits props inputs m v first.0 t cell scope owner f loads first.1 reached start held alive none active task there,
     )
+
+-- what isn't owed doesn't come next
+none_next : (o : Option Work) → not (is_some o) ≡ true → o ≡ None
+none_next None h = refl
+none_next (Some x) h = cc
+
+pub sessions_keep : {K : Types} {F : Type 0} (a : Formulas K F) (app : Application K) (state : MemoTask K.Value F → K.TaskState)
+    → WakesArePolled app
+    → SessionsKeep a app state
+sessions_keep {K = K} a app state woken lawful looks polls limits props inputs m v before log t cell scope owner f loads first then_on settled fresh =
+    let from : Machine K = start app props inputs in
+    let led = logs_are_moves app limits from m before refl first in
+    let waits : IsSettled m = settled_after app limits before from m refl first in
+    let reached = reached_moved app limits props inputs from m led.0 (start_reached app limits props inputs) led.1 in
+    let found = logged_held_are_kept a app state woken lawful looks polls limits props inputs m v log t cell scope owner f loads waits reached then_on fresh in
+    let quiet : is_quiet v ≡ true = and-left (is_quiet v) (not (owes v.state)) settled in
+    let none : next v.state ≡ None = none_next (next v.state) (and-right (is_quiet v) (not (owes v.state)) settled) in
+    (found.0, found.1, found.2, λ held active task there. found.3 held (quiet_alive v quiet) none active task there)

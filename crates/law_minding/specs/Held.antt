@@ -9,8 +9,9 @@ use Rattle.rt_model.specs.World.{Command, Write, DropCell, Reset, ReadInto, Worl
 use Rattle.rt_model.specs.State.{CellRow, TaskRow, State, world_of, values_of}
 use Rattle.rt_model.specs.Commands.{unqueued, commands}
 use Rattle.rt_model.specs.Next.{look, is_active, at_rest, next}
-use Rattle.rt_model.specs.Replay.{Entry, Poll, Input, Machine}
+use Rattle.rt_model.specs.Replay.{Entry, Poll, Input, Machine, start}
 use Rattle.rt_model.specs.Causes.{Limits, replay_within}
+use Rattle.rt_model.specs.Told.{is_settled}
 use Rattle.law_moves.specs.Moves.{Move, Silent, Closed, Logged, entries, IsSettled, Moves, Leads}
 use Rattle.law_moves.specs.Reached.{Reached}
 use Rattle.law_behavior.specs.Along.{removed_in}
@@ -195,6 +196,28 @@ module _ {K : Types} {F : Type 0} (a : Formulas K F) (app : Application K) (stat
       × (HeldOn a app limits t scope owner (after_poll a (next_poll_world m t scope) t (fresh cell f loads)) leads.0 v moves leads.2
       → v.dead ≡ None
       → next v.state ≡ None
+      → is_active v.state t ≡ true
+      → (task : TaskRow K)
+      → at v.state.tasks t ≡ Some task
+      → IsKept a v.state t task
+      (held_to a app limits t scope (after_poll a (next_poll_world m t scope) t (fresh cell f loads)) leads.0 v moves leads.2))
+
+  -- and so it is after each report of a session, where nothing is at work and nothing is owed: from the entry of the first poll on
+  abbrev pub SessionsKeep : Type 0
+  SessionsKeep =
+      IsLawful K app
+      → FormulasLook a
+      → PollsMemos a app state
+      → (limits : Limits) (props : K.Props) (inputs : List (Input K)) (m v : Machine K) (before log : List Entry)
+      → (t cell scope owner : ℕ) (f : F) (loads : Bool)
+      → replay_within app limits (Some (start app props inputs)) before ≡ Some m
+      → replay_within app limits (Some m) (Poll t ∷ log) ≡ Some v
+      → is_settled v ≡ true
+      → IsFresh state m.state t cell scope owner f loads
+      → (moves : List Move)
+      × (leads : Leads app limits m (Logged (Poll t) ∷ moves) v)
+      × (entries moves ≡ log)
+      × (HeldOn a app limits t scope owner (after_poll a (next_poll_world m t scope) t (fresh cell f loads)) leads.0 v moves leads.2
       → is_active v.state t ≡ true
       → (task : TaskRow K)
       → at v.state.tasks t ≡ Some task

@@ -1,3 +1,5 @@
 pub mod Minding
 pub mod Hiding
 pub mod Held
+pub mod Numbering
+pub mod Unpolled

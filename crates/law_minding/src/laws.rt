@@ -4,7 +4,9 @@ ghost use Rattle.rt_model.specs.World.{Application};
 ghost use Rattle.author_formulas.specs.Formulas.{Formulas};
 ghost use Rattle.author_formulas.specs.Memos.{MemoTask};
 ghost use Rattle.law_minding.specs.Minding.{MemosGoOn, OwedOrKept, PollsStand, WritesMind};
-ghost use Rattle.law_minding.specs.Held.{HeldAreKept, LoggedHeldAreKept, PollsAreDone};
+ghost use Rattle.law_minding.specs.Held.{HeldAreKept, LoggedHeldAreKept, PollsAreDone, SessionsKeep};
+ghost use Rattle.law_minding.specs.Numbering.{MovesNumber};
+ghost use Rattle.law_minding.specs.Unpolled.{FreshIsOwed, FreshStay};
 ghost use Rattle.law_minding.specs.Hiding.{RowsHideWrites};
 
 use law_behavior::wakes_are_polled;
@@ -65,6 +67,37 @@ pub fn logged_held_are_kept<C, P, V, H, T, E, L, F>()
     ensures { (app : Application (types C P V H T E L)) (a : Formulas (types C P V H T E L) F)
         (state : MemoTask V F → T)
         → LoggedHeldAreKept a app state }
+{
+    wakes_are_polled::<C, P, V, H, T, E, L>();
+}
+
+/// And so it is after each report of a session.
+pub fn sessions_keep<C, P, V, H, T, E, L, F>()
+    ensures { (app : Application (types C P V H T E L)) (a : Formulas (types C P V H T E L) F)
+        (state : MemoTask V F → T)
+        → SessionsKeep a app state }
+{
+    wakes_are_polled::<C, P, V, H, T, E, L>();
+}
+
+/// The calls of a move number what they make from the next ones on, contexts below the next one
+/// behind it.
+pub fn moves_number<C, P, V, H, T, E, L>()
+    ensures { (app : Application (types C P V H T E L)) → MovesNumber app }
+{}
+
+/// Along moves that don't poll it and spare it, a task that wasn't polled yet stands as it stood, and
+/// is owed its first poll.
+pub fn fresh_stay<C, P, V, H, T, E, L, F>()
+    ensures { (app : Application (types C P V H T E L)) (a : Formulas (types C P V H T E L) F)
+        (state : MemoTask V F → T)
+        → FreshStay a app state }
+{}
+
+/// So where nothing is owed it is paused.
+pub fn fresh_is_owed<C, P, V, H, T, E, L, F>()
+    ensures { (app : Application (types C P V H T E L)) (state : MemoTask V F → T)
+        → FreshIsOwed app state }
 {
     wakes_are_polled::<C, P, V, H, T, E, L>();
 }
