@@ -6,6 +6,7 @@ use Rattle.rt_model.specs.Tree.{Types, CapturedError}
 use Rattle.rt_model.specs.World.{Source, Cell, Error, Hook, Command, KeepHook, NewCell, Write, DropCell, NewContext, Reset, ReadInto, Spawn, RemoveFuture, Wake, SetActive, QueueEffect, Provide, Update, Throw, ClearErrors, Resolved, Freeze, Application}
 use Rattle.rt_model.specs.State.{Posted, Mark, Woken, ClientOnly, Isomorphic, Scope, CellRow, ContextRow, TaskRow, State, is_live, changed_scope, change, error_context, suspense_context}
 use Rattle.rt_model.specs.Commands.{drop_posted, holding, released, one_more_source, post, tell, end, written_at, write_cell, caught_at, thrown_to, throw_error, cleared_at, activated, spawned, registered, frozen_at, provided_at, command, commands}
+use Rattle.rt_model.proofs.Maps.{by_test}
 use Rattle.law_behavior.proofs.Readers.{Posts, post_posts, tell_posts}
 use Rattle.law_behavior.proofs.Frames.{Permits, Still, Frame}
 
@@ -85,7 +86,9 @@ module _ {K : Types} (app : Application K) (P Q : State K → Type 0) (bound : �
   spawned_on w polled scope t a isomorphic low h =
       let row : TaskRow K = record { scope = scope; parent = polled; state = a; active = true; kind = if isomorphic then Isomorphic else ClientOnly } in
       let v : State K = record w { tasks = w.tasks ++ (t, row) ∷ [] } in
-      either (post v (Woken t)) w (is_live w scope) (law.spawns w t row low h) h
+      by_test (is_live w scope)
+      (λ q. subst (λ (b : Bool). P (if b then post v (Woken t) else w)) (sym q) (law.spawns w t row q low h))
+      (λ q. subst (λ (b : Bool). P (if b then post v (Woken t) else w)) (sym q) h)
 
   activated_on : (w : State K) (t : ℕ) (active : Bool) (o : Option (TaskRow K)) → at w.tasks t ≡ o → P w → P (activated w t active o)
   activated_on w t active None e h = h
@@ -116,7 +119,7 @@ module _ {K : Types} (app : Application K) (P Q : State K → Type 0) (bound : �
   Allowed w s (Write n v) = may.writable n
   Allowed w s (NewCell n v) = may.makeable n
   Allowed w s (DropCell n) = may.droppable n
-  Allowed w s (NewContext n target) = may.readable n
+  Allowed w s (NewContext n target) = may.openable n
   Allowed w s (Reset n) = may.readable n
   Allowed w s (ReadInto n source) = may.readable n
   Allowed w s _ = Unit {0}

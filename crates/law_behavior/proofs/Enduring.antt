@@ -49,8 +49,8 @@ module _ {K : Types} where
     pub clears : (w : State K) (b : ℕ) (x : Scope K) → at w.scopes b ≡ Some x → clearable b → P w → P (record w { scopes = put w.scopes b (record x { error = None }) })
     pub feeds : (w : State K) (t : ℕ) (c : VComponent K) (x : Scope K) → at w.scopes t ≡ Some x → feedable t → P w → P (record w { scopes = put w.scopes t (record x { component = c }) })
     pub ends : (w : State K) (t : ℕ) → endable t → P w → P (record w { tasks = without w.tasks t; scopes = released w.scopes t })
-    pub spawns : (w : State K) (t : ℕ) (x : TaskRow K) → bound ≤ t → P w → P (record w { tasks = w.tasks ++ (t, x) ∷ [] })
-    pub tasks : (w : State K) (t : ℕ) (x y : TaskRow K) → at w.tasks t ≡ Some x → P w → P (record w { tasks = put w.tasks t y })
+    pub spawns : (w : State K) (t : ℕ) (x : TaskRow K) → is_live w x.scope ≡ true → bound ≤ t → P w → P (record w { tasks = w.tasks ++ (t, x) ∷ [] })
+    pub tasks : (w : State K) (t : ℕ) (x y : TaskRow K) → at w.tasks t ≡ Some x → y.scope ≡ x.scope → P w → P (record w { tasks = put w.tasks t y })
     pub makes : (w : State K) (n : ℕ) (x : Scope K) → P w → P (record w { scopes = w.scopes ++ (n, x) ∷ [] })
     pub removes : (w : State K) (s : ℕ) → removable s → P w → P (record w { scopes = without w.scopes s })
     pub mounts : (w : State K) → P w → P (mounted_state w)
@@ -130,7 +130,7 @@ module _ {K : Types} where
     activated_keeps : (w : State K) (t : ℕ) (active : Bool) (x : TaskRow K) → at w.tasks t ≡ Some x → P w → P (activated w t active (Some x))
     activated_keeps w t active x e h =
         let v : State K = record w { tasks = put w.tasks t (record x { active = active }) } in
-        let now : P v = law.tasks w t x (record x { active = active }) e h in
+        let now : P v = law.tasks w t x (record x { active = active }) e refl h in
         one_of (post v (Woken t)) v (active && not x.active) (posts_keep v (post v (Woken t)) (post_posts v (Woken t)) now) now
 
     pub finely : (app : Application K) → Frame app P P bound (permits clearable endable feedable removable)
@@ -171,10 +171,10 @@ module _ {K : Types} where
               (record w { tasks = without w.tasks t; posted = drop_posted w.posted (Woken t) ++ holding w.scopes t; queued = drop_number w.queued t; scopes = released w.scopes t })
               refl refl refl (law.ends w t a h);
           spawns =
-              λ w t x low h.
-              let v : State K = record w { tasks = w.tasks ++ (t, x) ∷ [] } in posts_keep v (post v (Woken t)) (post_posts v (Woken t)) (law.spawns w t x low h);
-          goes_on = λ w t x a e may h. law.tasks w t x (record x { state = a }) e h;
-          suspends = λ w t x e h. law.tasks w t x (record x { kind = SuspendedTask }) e h;
+              λ w t x live low h.
+              let v : State K = record w { tasks = w.tasks ++ (t, x) ∷ [] } in posts_keep v (post v (Woken t)) (post_posts v (Woken t)) (law.spawns w t x live low h);
+          goes_on = λ w t x a e may h. law.tasks w t x (record x { state = a }) e refl h;
+          suspends = λ w t x e h. law.tasks w t x (record x { kind = SuspendedTask }) e refl h;
           activates = λ w t active x e h. activated_keeps w t active x e h;
         }
 

@@ -4,7 +4,7 @@ use Rattle.std.specs.Prelude.{Some, None}
 use Rattle.rt_model.specs.Lists.{at, put, without, drop_number}
 use Rattle.rt_model.specs.Tree.{Types, CapturedError, Tree, VComponent, Place, Kind, spots}
 use Rattle.rt_model.specs.World.{Cell, Error, Firsts, Hook, Application}
-use Rattle.rt_model.specs.State.{SideName, ChildrenSide, Woken, SuspendedTask, Side, Scope, CellRow, ContextRow, TaskRow, State, empty_side, side_of, with_side, world_of}
+use Rattle.rt_model.specs.State.{SideName, ChildrenSide, Woken, SuspendedTask, Side, Scope, CellRow, ContextRow, TaskRow, State, empty_side, side_of, with_side, is_live, world_of}
 use Rattle.rt_model.specs.Commands.{unqueued, drop_posted, holding, released, post, tell, activated, provided_at}
 use Rattle.rt_model.specs.Next.{look, found, paused}
 use Rattle.rt_model.specs.Removal.{gone}
@@ -16,13 +16,14 @@ use Rattle.law_behavior.proofs.Readers.{Posts}
 abbrev pub Free : ℕ → Type 0
 Free n = Unit {0}
 
--- what may be done, by number: the error of a boundary cleared, a cell made, written or dropped, a reactive context made or read
+-- what may be done, by number: the error of a boundary cleared, a cell made, written or dropped, a reactive context made, or read
 -- into, a task polled or ended by a command, a scope handed a component or removed
 pub record Permits : Type 1 where
   pub clearable : ℕ → Type 0
   pub makeable : ℕ → Type 0
   pub writable : ℕ → Type 0
   pub droppable : ℕ → Type 0
+  pub openable : ℕ → Type 0
   pub readable : ℕ → Type 0
   pub pollable : ℕ → Type 0
   pub endable : ℕ → Type 0
@@ -37,6 +38,7 @@ permits clearable endable feedable removable =
       makeable = Free;
       writable = Free;
       droppable = Free;
+      openable = Free;
       readable = Free;
       pollable = Free;
       endable = endable;
@@ -74,7 +76,7 @@ module _ {K : Types} where
     pub drops : (w : State K) (n : ℕ) → may.droppable n → P w → P (tell (record w { cells = without w.cells n }) (Cell n))
     pub new_cells : (w : State K) (s n : ℕ) (v : K.Value) → may.makeable n → P w → P (record w { cells = w.cells ++ (n, record { owner = s; value = v }) ∷ [] })
     -- reactive contexts
-    pub new_contexts : (w : State K) (n : ℕ) (x : ContextRow K) → may.readable n → P w → P (record w { contexts = w.contexts ++ (n, x) ∷ [] })
+    pub new_contexts : (w : State K) (n : ℕ) (x : ContextRow K) → may.openable n → P w → P (record w { contexts = w.contexts ++ (n, x) ∷ [] })
     pub sources : (w : State K) (n : ℕ) (x y : ContextRow K) → at w.contexts n ≡ Some x → may.readable n → P w → P (record w { contexts = put w.contexts n y })
     -- what a scope keeps
     pub rows : (w : State K) (s : ℕ) (x y : Scope K) → at w.scopes s ≡ Some x → Still x y → P w → P (record w { scopes = put w.scopes s y })
@@ -94,7 +96,7 @@ module _ {K : Types} where
     pub mounts : (w : State K) → P w → P (mounted_state w)
     -- tasks
     pub ends : (w : State K) (t : ℕ) → may.endable t → P w → P (record w { tasks = without w.tasks t; posted = drop_posted w.posted (Woken t) ++ holding w.scopes t; queued = drop_number w.queued t; scopes = released w.scopes t })
-    pub spawns : (w : State K) (t : ℕ) (x : TaskRow K) → bound ≤ t → P w → P (post (record w { tasks = w.tasks ++ (t, x) ∷ [] }) (Woken t))
+    pub spawns : (w : State K) (t : ℕ) (x : TaskRow K) → is_live w x.scope ≡ true → bound ≤ t → P w → P (post (record w { tasks = w.tasks ++ (t, x) ∷ [] }) (Woken t))
     pub goes_on : (w : State K) (t : ℕ) (x : TaskRow K) (a : K.TaskState) → at w.tasks t ≡ Some x → may.pollable t → P w → P (record w { tasks = put w.tasks t (record x { state = a }) })
     pub suspends : (w : State K) (t : ℕ) (x : TaskRow K) → at w.tasks t ≡ Some x → P w → P (record w { tasks = put w.tasks t (record x { kind = SuspendedTask }) })
     pub activates : (w : State K) (t : ℕ) (active : Bool) (x : TaskRow K) → at w.tasks t ≡ Some x → P w → P (activated w t active (Some x))

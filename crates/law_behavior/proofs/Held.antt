@@ -173,10 +173,10 @@ module _ {K : Types} where
         feeds = λ w s c x e may h. carried b t w (record w { scopes = put w.scopes s (record x { component = c }) }) h.0 (λ none. none) (λ held. base.feeds w s c x e may held) h;
         ends = λ w u may h. ended_or b t w u h;
         spawns =
-            λ w n x low h.
+            λ w n x live low h.
             carried b t w (record w { tasks = w.tasks ++ (n, x) ∷ [] }) h.0 (λ none. at_append_none w.tasks n x t (above_bound t n low) ∙ none)
-            (λ held. base.spawns w n x (from_zero n) held) h;
-        tasks = λ w u x y e h. carried b t w (record w { tasks = put w.tasks u y }) h.0 (λ none. at_put_none w.tasks u y x t e none) (λ held. base.tasks w u x y e held) h;
+            (λ held. base.spawns w n x live (from_zero n) held) h;
+        tasks = λ w u x y e same h. carried b t w (record w { tasks = put w.tasks u y }) h.0 (λ none. at_put_none w.tasks u y x t e none) (λ held. base.tasks w u x y e same held) h;
         makes = λ w n x h. carried b t w (record w { scopes = w.scopes ++ (n, x) ∷ [] }) h.0 (λ none. none) (λ held. base.makes w n x held) h;
         removes = λ w s other h. carried b t w (record w { scopes = without w.scopes s }) h.0 (λ none. none) (λ held. base.removes w s other held) h;
         mounts = λ w h. carried b t w (mounted_state w) h.0 (λ none. none) (λ held. base.mounts w held) h;

@@ -186,8 +186,8 @@ module _ {K : Types} where
             λ w t may h.
             of_others b Q (record w { scopes = released w.scopes t }) (record w { tasks = without w.tasks t; scopes = released w.scopes t }) refl
             (of_released b Q w t (λ x g. law.ends x t may g) h);
-        spawns = λ w t x low h. of_others b Q w (record w { tasks = w.tasks ++ (t, x) ∷ [] }) refl h;
-        tasks = λ w t x y e h. of_others b Q w (record w { tasks = put w.tasks t y }) refl h;
+        spawns = λ w t x live low h. of_others b Q w (record w { tasks = w.tasks ++ (t, x) ∷ [] }) refl h;
+        tasks = λ w t x y e same h. of_others b Q w (record w { tasks = put w.tasks t y }) refl h;
         makes = λ w n x h. record { row = h.row; there = at_more w.scopes n b x h.row h.there; holds = h.holds };
         removes = λ w s other h. record { row = h.row; there = at_without_other w.scopes s b other ∙ h.there; holds = h.holds };
         mounts =

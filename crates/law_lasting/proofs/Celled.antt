@@ -105,6 +105,7 @@ module _ {K : Types} (n : ℕ) (row : CellRow K) where
         makeable = Free;
         writable = λ c. Other n c;
         droppable = λ c. Other n c;
+        openable = Free;
         readable = Free;
         pollable = Free;
         endable = Free;
@@ -154,7 +155,7 @@ module _ {K : Types} (n : ℕ) (row : CellRow K) where
           mounts = λ w h. h;
           ends = λ w t a h. h;
           spawns =
-              λ w t x low h.
+              λ w t x live low h.
               let v : State K = record w { tasks = w.tasks ++ (t, x) ∷ [] } in by_cells v (post v (Woken t)) (posts_same v (post v (Woken t)) (post_posts v (Woken t))).cells h;
           goes_on = λ w t x a e may h. h;
           suspends = λ w t x e h. h;

@@ -245,7 +245,7 @@ module _ {K : Types} (s : ℕ) (side : SideName) (p : Place) (k : Kind) (n : ℕ
               of_others s Has (record w { scopes = released w.scopes t }) _ refl
               (of_released s Has w t (λ x b. let y : Scope K = record x { holders = kept_by (λ d. not (nat_eq d.0 t)) x.holders } in stays x y refl refl refl b) h);
           spawns =
-              λ w t x low h.
+              λ w t x live low h.
               let v : State K = record w { tasks = w.tasks ++ (t, x) ∷ [] } in
               of_others s Has w (post v (Woken t)) (posts_same v (post v (Woken t)) (post_posts v (Woken t))).scopes h;
           goes_on = λ w t x a e may h. of_others s Has w _ refl h;

@@ -1,4 +1,4 @@
--- What is told and looked at leaves cells, scopes and the next numbers as they were.
+-- What is told and looked at leaves cells, scopes, reactive contexts and the next numbers as they were.
 use Rattle.std.proofs.Common.{Bool, true, false, ℕ, List, [], ◌∷◌, ◌≡◌, ◌&&◌, not, refl, ap, ◌∙◌}
 use Rattle.std.specs.Prelude.{Some, if◌then◌else◌, is_some}
 use Rattle.rt_model.specs.Lists.{at, put, join}
@@ -12,17 +12,18 @@ use Rattle.rt_model.specs.Removal.{without_scope, gone, tell_all, cell_sources, 
 use Rattle.law_behavior.proofs.Readers.{Posts, post_posts, tell_posts}
 
 module _ {K : Types} where
-  -- cells, scopes and next numbers are as they were
+  -- cells, scopes, reactive contexts and next numbers are as they were
   pub record Same (w v : State K) : Type 0 where
     pub cells : v.cells ≡ w.cells
     pub scopes : v.scopes ≡ w.scopes
     pub next : v.next ≡ w.next
+    pub contexts : v.contexts ≡ w.contexts
 
   same_state : (w : State K) → Same w w
-  same_state w = record { cells = refl; scopes = refl; next = refl }
+  same_state w = record { cells = refl; scopes = refl; next = refl; contexts = refl }
 
   same_on : (w v u : State K) → Same w v → Same v u → Same w u
-  same_on w v u f g = record { cells = g.cells ∙ f.cells; scopes = g.scopes ∙ f.scopes; next = g.next ∙ f.next }
+  same_on w v u f g = record { cells = g.cells ∙ f.cells; scopes = g.scopes ∙ f.scopes; next = g.next ∙ f.next; contexts = g.contexts ∙ f.contexts }
 
   pub same_either : (w x y : State K) (b : Bool) → Same w x → Same w y → Same w (if b then x else y)
   same_either w x y true f g = f
@@ -31,7 +32,7 @@ module _ {K : Types} where
   -- a post
   pub posts_same : (w v : State K) → Posts w v → Same w v
   posts_same w v f =
-      record { cells = ap (λ (x : State K). x.cells) f.alike; scopes = ap (λ (x : State K). x.scopes) f.alike; next = ap (λ (x : State K). x.next) f.alike }
+      record { cells = ap (λ (x : State K). x.cells) f.alike; scopes = ap (λ (x : State K). x.scopes) f.alike; next = ap (λ (x : State K). x.next) f.alike; contexts = ap (λ (x : State K). x.contexts) f.alike }
 
   -- the readers of a source told
   pub tell_same : (w : State K) (i : Source) → Same w (tell w i)
@@ -46,27 +47,27 @@ module _ {K : Types} where
   looks_same (Mark s ∷ ps) w =
       let v : State K = record w { seen = join w.seen s } in
       let u : State K = if is_live w s then v else w in
-      same_on w u (look_on ps u) (same_either w v w (is_live w s) (record { cells = refl; scopes = refl; next = refl }) (same_state w)) (looks_same ps u)
+      same_on w u (look_on ps u) (same_either w v w (is_live w s) (record { cells = refl; scopes = refl; next = refl; contexts = refl }) (same_state w)) (looks_same ps u)
   looks_same (Woken t ∷ ps) w =
       let v : State K = record w { queued = join w.queued t } in
       let u : State K = if is_some (at w.tasks t) then v else w in
-      same_on w u (look_on ps u) (same_either w v w (is_some (at w.tasks t)) (record { cells = refl; scopes = refl; next = refl }) (same_state w)) (looks_same ps u)
+      same_on w u (look_on ps u) (same_either w v w (is_some (at w.tasks t)) (record { cells = refl; scopes = refl; next = refl; contexts = refl }) (same_state w)) (looks_same ps u)
 
   -- a look
   pub look_same : (w : State K) → Same w (look w)
   look_same w =
-      let v : State K = record w { posted = [] } in same_on w v (look w) (record { cells = refl; scopes = refl; next = refl }) (looks_same w.posted v)
+      let v : State K = record w { posted = [] } in same_on w v (look w) (record { cells = refl; scopes = refl; next = refl; contexts = refl }) (looks_same w.posted v)
 
   -- a call that is counted
   pub calls_same : (b : Bool) (w : State K) → Same w (called_where b w)
-  calls_same true w = record { cells = refl; scopes = refl; next = refl }
+  calls_same true w = record { cells = refl; scopes = refl; next = refl; contexts = refl }
   calls_same false w = same_state w
 
   -- a task that is paused or resumed
   pub activated_same : (w : State K) (t : ℕ) (active : Bool) (x : TaskRow K) → Same w (activated w t active (Some x))
   activated_same w t active x =
       let v : State K = record w { tasks = put w.tasks t (record x { active = active }) } in
-      let now : Same w v = record { cells = refl; scopes = refl; next = refl } in
+      let now : Same w v = record { cells = refl; scopes = refl; next = refl; contexts = refl } in
       same_either w (post v (Woken t)) v (active && not x.active) (same_on w v (post v (Woken t)) now (posts_same v (post v (Woken t)) (post_posts v (Woken t)))) now
 
   -- a scope that goes, beyond its own rows

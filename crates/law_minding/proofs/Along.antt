@@ -313,14 +313,16 @@ pub first_stands : {K : Types} {F : Type 0} (a : Formulas K F) (app : Applicatio
     → (limits : Limits) (t cell scope owner : ℕ) (m v : Machine K) (moves : List Move) (leads : Leads app limits m (Logged (Poll t) ∷ moves) v)
     → (f : F) (loads : Bool)
     → IsFresh state m.state t cell scope owner f loads
+    → is_some (at m.state.scopes scope) ≡ true
+    → at m.state.contexts m.state.next.contexts ≡ None
     → v.dead ≡ None
     → Stage a state t cell scope owner (after_poll a (next_poll_world m t scope) t (fresh cell f loads)) leads.0
-first_stands a app state lawful looks polls limits t cell scope owner m v moves leads f loads start alive =
+first_stands a app state lawful looks polls limits t cell scope owner m v moves leads f loads start home free alive =
     subst (λ (o : ℕ). Stage a state t cell scope o (after_poll a (next_poll_world m t scope) t (fresh cell f loads)) leads.0) start.owner_is
     (subst (λ (s : ℕ). Stage a state t cell s start.row.owner (after_poll a (next_poll_world m t s) t (fresh cell f loads)) leads.0) start.scope_is
     (fresh_stage a app state lawful looks polls m leads.0 limits t leads.1 start.task start.task_is (omega (arith, start.drawn)) cell f loads start.state_is
     start.row
-    (ap (λ (s : ℕ). is_some (at m.state.scopes s)) start.scope_is ∙ start.lives)
+    (ap (λ (s : ℕ). is_some (at m.state.scopes s)) start.scope_is ∙ home)
     start.row_is
-    start.free
+    free
     (alive_before app limits leads.0 v moves leads.2 alive)))

@@ -117,7 +117,7 @@ module _ {K : Types} {F : Type 0} (a : Formulas K F) (app : Application K) (lawf
 pub held_are_kept : {K : Types} {F : Type 0} (a : Formulas K F) (app : Application K) (state : MemoTask K.Value F → K.TaskState)
     → WakesArePolled app
     → HeldAreKept a app state
-held_are_kept {K = K} {F = F} a app state woken lawful looks polls limits props inputs m v moves t cell scope owner f loads leads reached start held alive none active task there =
+held_are_kept {K = K} {F = F} a app state woken lawful looks polls limits props inputs m v moves t cell scope owner f loads leads reached start home free held alive none active task there =
     by (stage.minded).stands
   where
     first : Since K F
@@ -129,7 +129,7 @@ held_are_kept {K = K} {F = F} a app state woken lawful looks polls limits props 
     stage : Stage a state t cell scope owner h v
     stage =
         stands_on a app state lawful looks polls limits t cell scope owner first leads.0 v moves leads.2 held alive
-        (first_stands a app state lawful looks polls limits t cell scope owner m v moves leads f loads start alive)
+        (first_stands a app state lawful looks polls limits t cell scope owner m v moves leads f loads start home free alive)
 
     living : m.dead ≡ None
     living = alive_before app limits m v (Logged (Poll t) ∷ moves) leads alive
@@ -143,7 +143,7 @@ held_are_kept {K = K} {F = F} a app state woken lawful looks polls limits props 
         (
         λ q.
         let none : at m.state.scopes scope ≡ None = (reached_sound app lawful limits props inputs m reached).rooted.drawn scope q in
-        clash start.lives (ap (λ (o : Option (Scope K)). is_some o) none)
+        clash home (ap (λ (o : Option (Scope K)). is_some o) none)
         )
 
     level : Level a app lawful limits t scope h v

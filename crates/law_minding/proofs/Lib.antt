@@ -25,4 +25,6 @@ pub mod PollsDone
 pub mod Under
 pub mod Below
 pub mod Numbering
+pub mod Opened
+pub mod Homes
 pub mod Unpolled

@@ -51,6 +51,7 @@ module _ {K : Types} (last : World K) (t n cell scope : ℕ) (held : CellRow K) 
         makeable = λ c. last.given.next.cells ≤ c;
         writable = λ c. nat_eq c cell ≡ false;
         droppable = λ c. nat_eq c cell ≡ false;
+        openable = λ c. polled ≡ true → nat_eq c n ≡ false;
         readable = λ c. polled ≡ true → nat_eq c n ≡ false;
         pollable = λ u. nat_eq u t ≡ false;
         endable = Free;
@@ -195,7 +196,7 @@ module _ {K : Types} (last : World K) (t n cell scope : ℕ) (held : CellRow K) 
           mounts = λ w h. keep_on w (mounted_state w) (mounts_pass last t n cell scope held place polled reads target home w) h;
           ends = λ w u a h. keep_on w _ (ended_passes last t n cell scope held place polled reads target home w u) h;
           spawns =
-              λ w u x low h.
+              λ w u x live low h.
               let v : State K = record w { tasks = w.tasks ++ (u, x) ∷ [] } in
               keep_on v (post v (Woken u)) (posts_pass last t n cell scope held place polled reads target home v (post v (Woken u)) (post_posts v (Woken u)))
               (keep_on w v (spawned_passes last t n cell scope held place polled reads target home w u x low) h);

@@ -114,18 +114,16 @@ module _ {K : Types} {F : Type 0} (a : Formulas K F) (app : Application K) where
   held_to limits t scope h m v (move ∷ moves) leads = held_to limits t scope (after_move a m t scope move h) leads.0 v moves leads.2
 
 module _ {K : Types} {F : Type 0} (state : MemoTask K.Value F → K.TaskState) where
-  -- a task that is about to be polled first: it is there, in a scope that is live, with its cell; and no context has the next number
+  -- a task that is about to be polled first: it is there, with its cell
   pub record IsFresh (w : State K) (t cell scope owner : ℕ) (f : F) (loads : Bool) : Type 0 where
     pub task : TaskRow K
     pub task_is : at w.tasks t ≡ Some task
     pub state_is : task.state ≡ state (fresh cell f loads)
     pub scope_is : task.scope ≡ scope
-    pub lives : is_some (at w.scopes scope) ≡ true
     pub row : CellRow K
     pub row_is : at w.cells cell ≡ Some row
     pub owner_is : row.owner ≡ owner
     pub drawn : t < w.next.tasks
-    pub free : at w.contexts w.next.contexts ≡ None
 
 module _ {K : Types} {F : Type 0} (a : Formulas K F) where
   -- in a state the cell of a task holds what its formula gives there, with the cells drawn that its last poll found drawn
@@ -157,8 +155,8 @@ module _ {K : Types} {F : Type 0} (a : Formulas K F) (app : Application K) (stat
       (Some t)
       poll.call.commands)
 
-  -- of every machine that moves reach: from its first poll on a memo or a resource that nobody else touches is kept, wherever nothing is
-  -- owed and its task is active
+  -- of every machine that moves reach: from its first poll on, in a scope that is live, and where no context has the next number, a memo
+  -- or a resource that nobody else touches is kept, wherever nothing is owed and its task is active
   abbrev pub HeldAreKept : Type 0
   HeldAreKept =
       IsLawful K app
@@ -169,6 +167,8 @@ module _ {K : Types} {F : Type 0} (a : Formulas K F) (app : Application K) (stat
       → (leads : Leads app limits m (Logged (Poll t) ∷ moves) v)
       → Reached app limits props inputs m
       → IsFresh state m.state t cell scope owner f loads
+      → is_some (at m.state.scopes scope) ≡ true
+      → at m.state.contexts m.state.next.contexts ≡ None
       → HeldOn a app limits t scope owner (after_poll a (next_poll_world m t scope) t (fresh cell f loads)) leads.0 v moves leads.2
       → v.dead ≡ None
       → next v.state ≡ None
@@ -190,6 +190,8 @@ module _ {K : Types} {F : Type 0} (a : Formulas K F) (app : Application K) (stat
       → Reached app limits props inputs m
       → replay_within app limits (Some m) (Poll t ∷ log) ≡ Some v
       → IsFresh state m.state t cell scope owner f loads
+      → is_some (at m.state.scopes scope) ≡ true
+      → at m.state.contexts m.state.next.contexts ≡ None
       → (moves : List Move)
       × (leads : Leads app limits m (Logged (Poll t) ∷ moves) v)
       × (entries moves ≡ log)
@@ -202,7 +204,8 @@ module _ {K : Types} {F : Type 0} (a : Formulas K F) (app : Application K) (stat
       → IsKept a v.state t task
       (held_to a app limits t scope (after_poll a (next_poll_world m t scope) t (fresh cell f loads)) leads.0 v moves leads.2))
 
-  -- and so it is after each report of a session, where nothing is at work and nothing is owed: from the entry of the first poll on
+  -- and so it is after each report of a session, where nothing is at work and nothing is owed: from the entry of the first poll on, where
+  -- the scope of a task that is there is live, and no context has the next number
   abbrev pub SessionsKeep : Type 0
   SessionsKeep =
       IsLawful K app

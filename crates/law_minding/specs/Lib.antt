@@ -3,3 +3,4 @@ pub mod Hiding
 pub mod Held
 pub mod Numbering
 pub mod Unpolled
+pub mod Homes

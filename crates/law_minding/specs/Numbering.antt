@@ -1,12 +1,13 @@
 -- The numbers that the calls of a move give to new cells and contexts.
-use Rattle.std.specs.Prelude.{◌+◌, ◌≤◌}
+use Rattle.std.specs.Prelude.{◌+◌, ◌≤◌, List, None, ◌≡◌}
 use Rattle.std.specs.List.{AllByRecursion}
+use Rattle.rt_model.specs.Lists.{at}
 use Rattle.rt_model.specs.Laws.{IsLawful}
 use Rattle.rt_model.specs.Tree.{Types}
 use Rattle.rt_model.specs.World.{Firsts, Command, NewCell, NewContext, Application}
-use Rattle.rt_model.specs.Replay.{Machine}
+use Rattle.rt_model.specs.Replay.{Input, Machine, start}
 use Rattle.rt_model.specs.Causes.{Limits}
-use Rattle.law_moves.specs.Moves.{Move, Moves}
+use Rattle.law_moves.specs.Moves.{Move, Moves, Leads}
 use Rattle.law_behavior.specs.Deeds.{Deed, move_deeds}
 
 module _ {K : Types} where
@@ -25,3 +26,11 @@ module _ {K : Types} where
       → AllByRecursion
       (λ (d : Deed K). AllByRecursion (λ (c : Command K). NumberedIn m.state.next u.state.next c) d.wants)
       (move_deeds app m move)
+
+  -- at no machine that moves reach from a replay's start a context has the next number
+  abbrev pub NextIsFree : Application K → Type 0
+  NextIsFree app =
+      IsLawful K app
+      → (limits : Limits) (props : K.Props) (inputs : List (Input K)) (m : Machine K) (moves : List Move)
+      → Leads app limits (start app props inputs) moves m
+      → at m.state.contexts m.state.next.contexts ≡ None

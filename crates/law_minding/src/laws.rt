@@ -5,7 +5,8 @@ ghost use Rattle.author_formulas.specs.Formulas.{Formulas};
 ghost use Rattle.author_formulas.specs.Memos.{MemoTask};
 ghost use Rattle.law_minding.specs.Minding.{MemosGoOn, OwedOrKept, PollsStand, WritesMind};
 ghost use Rattle.law_minding.specs.Held.{HeldAreKept, LoggedHeldAreKept, PollsAreDone, SessionsKeep};
-ghost use Rattle.law_minding.specs.Numbering.{MovesNumber};
+ghost use Rattle.law_minding.specs.Numbering.{MovesNumber, NextIsFree};
+ghost use Rattle.law_minding.specs.Homes.{HomesAreLive};
 ghost use Rattle.law_minding.specs.Unpolled.{FreshIsOwed, FreshStay};
 ghost use Rattle.law_minding.specs.Hiding.{RowsHideWrites};
 
@@ -84,6 +85,16 @@ pub fn sessions_keep<C, P, V, H, T, E, L, F>()
 /// behind it.
 pub fn moves_number<C, P, V, H, T, E, L>()
     ensures { (app : Application (types C P V H T E L)) → MovesNumber app }
+{}
+
+/// So at no machine that moves reach from a replay's start a context has the next number.
+pub fn next_is_free<C, P, V, H, T, E, L>()
+    ensures { (app : Application (types C P V H T E L)) → NextIsFree app }
+{}
+
+/// At each machine that moves reach from a replay's start the scope of a task that is there is live.
+pub fn homes_are_live<C, P, V, H, T, E, L>()
+    ensures { (app : Application (types C P V H T E L)) → HomesAreLive app }
 {}
 
 /// Along moves that don't poll it and spare it, a task that wasn't polled yet stands as it stood, and
