@@ -28,3 +28,4 @@ pub mod Numbering
 pub mod Opened
 pub mod Homes
 pub mod Unpolled
+pub mod Spawned

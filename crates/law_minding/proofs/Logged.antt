@@ -24,7 +24,7 @@ use Rattle.law_minding.proofs.Level.{held_are_kept}
 
 module _ {K : Types} (app : Application K) (limits : Limits) where
   -- who waits for an entry accepts it first
-  begins_with : (m v : Machine K) (moves : List Move) (e : Entry) (log : List Entry) → IsSettled m → Leads app limits m moves v → entries moves ≡ e ∷ log
+  pub begins_with : (m v : Machine K) (moves : List Move) (e : Entry) (log : List Entry) → IsSettled m → Leads app limits m moves v → entries moves ≡ e ∷ log
       → (rest : List Move) × (Leads app limits m (Logged e ∷ rest) v) × (entries rest ≡ log)
   begins_with m v [] e log settled leads is = cc
   begins_with m v (Silent ∷ moves) e log settled leads is =
@@ -58,7 +58,7 @@ logged_held_are_kept a app state woken lawful looks polls limits props inputs m 
     )
 
 -- what isn't owed doesn't come next
-none_next : (o : Option Work) → not (is_some o) ≡ true → o ≡ None
+pub none_next : (o : Option Work) → not (is_some o) ≡ true → o ≡ None
 none_next None h = refl
 none_next (Some x) h = cc
 

@@ -6,13 +6,14 @@ use Rattle.rt_model.specs.Tree.{Types}
 use Rattle.rt_model.specs.World.{Application}
 use Rattle.rt_model.specs.State.{CellRow, TaskRow, State}
 use Rattle.rt_model.specs.Next.{is_active, next}
-use Rattle.rt_model.specs.Replay.{Machine}
-use Rattle.rt_model.specs.Causes.{Limits}
-use Rattle.law_moves.specs.Moves.{Move, Leads}
+use Rattle.rt_model.specs.Replay.{Entry, Poll, Input, Machine, start}
+use Rattle.rt_model.specs.Causes.{Limits, replay_within}
+use Rattle.rt_model.specs.Told.{is_settled}
+use Rattle.law_moves.specs.Moves.{Move, Logged, entries, Leads}
 use Rattle.law_behavior.specs.Owed.{OwesPoll}
-use Rattle.author_formulas.specs.Formulas.{Formulas}
-use Rattle.author_formulas.specs.Memos.{MemoTask, fresh}
-use Rattle.law_minding.specs.Held.{move_polls, MoveSpares}
+use Rattle.author_formulas.specs.Formulas.{Formulas, FormulasLook}
+use Rattle.author_formulas.specs.Memos.{MemoTask, fresh, PollsMemos}
+use Rattle.law_minding.specs.Held.{move_polls, next_poll_world, after_poll, MoveSpares, HeldOn, held_to, IsKept}
 
 module _ {K : Types} {F : Type 0} (state : MemoTask K.Value F → K.TaskState) where
   -- it is there in state fresh, in a scope that is live, with its cell, and is owed a poll
@@ -57,3 +58,32 @@ module _ {K : Types} {F : Type 0} (app : Application K) (state : MemoTask K.Valu
       → m.dead ≡ None
       → next m.state ≡ None
       → is_active m.state t ≡ false
+
+module _ {K : Types} {F : Type 0} (a : Formulas K F) (app : Application K) (state : MemoTask K.Value F → K.TaskState) where
+  -- a task that stands fresh after some entries of a session, is polled first after others that spare it, and is held from there on, is
+  -- kept after each report where it is active
+  abbrev pub FreshAreKept : Type 0
+  FreshAreKept =
+      IsLawful K app
+      → FormulasLook a
+      → PollsMemos a app state
+      → (limits : Limits) (props : K.Props) (inputs : List (Input K)) (m u v : Machine K) (before between log : List Entry)
+      → (t cell scope : ℕ) (held : CellRow K) (f : F) (loads : Bool)
+      → replay_within app limits (Some (start app props inputs)) before ≡ Some m
+      → replay_within app limits (Some m) between ≡ Some u
+      → replay_within app limits (Some u) (Poll t ∷ log) ≡ Some v
+      → is_settled v ≡ true
+      → StandsFresh state m.state t cell scope held f loads
+      → (first : List Move)
+      × (leads_first : Leads app limits m first u)
+      × (entries first ≡ between)
+      × (moves : List Move)
+      × (leads : Leads app limits u (Logged (Poll t) ∷ moves) v)
+      × (entries moves ≡ log)
+      × (UnpolledOn a app limits t held.owner (fresh cell f loads) m u first leads_first
+      → HeldOn a app limits t scope held.owner (after_poll a (next_poll_world u t scope) t (fresh cell f loads)) leads.0 v moves leads.2
+      → is_active v.state t ≡ true
+      → (task : TaskRow K)
+      → at v.state.tasks t ≡ Some task
+      → IsKept a v.state t task
+      (held_to a app limits t scope (after_poll a (next_poll_world u t scope) t (fresh cell f loads)) leads.0 v moves leads.2))

@@ -7,7 +7,7 @@ ghost use Rattle.law_minding.specs.Minding.{MemosGoOn, OwedOrKept, PollsStand, W
 ghost use Rattle.law_minding.specs.Held.{HeldAreKept, LoggedHeldAreKept, PollsAreDone, SessionsKeep};
 ghost use Rattle.law_minding.specs.Numbering.{MovesNumber, NextIsFree};
 ghost use Rattle.law_minding.specs.Homes.{HomesAreLive};
-ghost use Rattle.law_minding.specs.Unpolled.{FreshIsOwed, FreshStay};
+ghost use Rattle.law_minding.specs.Unpolled.{FreshAreKept, FreshIsOwed, FreshStay};
 ghost use Rattle.law_minding.specs.Hiding.{RowsHideWrites};
 
 use law_behavior::wakes_are_polled;
@@ -109,6 +109,16 @@ pub fn fresh_stay<C, P, V, H, T, E, L, F>()
 pub fn fresh_is_owed<C, P, V, H, T, E, L, F>()
     ensures { (app : Application (types C P V H T E L)) (state : MemoTask V F → T)
         → FreshIsOwed app state }
+{
+    wakes_are_polled::<C, P, V, H, T, E, L>();
+}
+
+/// A task that stands fresh at some report of a session, and is spared before its first poll and held
+/// from there on, is kept at each later one.
+pub fn fresh_are_kept<C, P, V, H, T, E, L, F>()
+    ensures { (app : Application (types C P V H T E L)) (a : Formulas (types C P V H T E L) F)
+        (state : MemoTask V F → T)
+        → FreshAreKept a app state }
 {
     wakes_are_polled::<C, P, V, H, T, E, L>();
 }
