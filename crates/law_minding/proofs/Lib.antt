@@ -29,3 +29,4 @@ pub mod Opened
 pub mod Homes
 pub mod Unpolled
 pub mod Spawned
+pub mod Sessions

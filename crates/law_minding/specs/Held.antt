@@ -134,6 +134,19 @@ module _ {K : Types} {F : Type 0} (a : Formulas K F) where
       × Holds a h.place (value_of a (polled_world w t task) h.last.given.next.cells (formula_of h.place)) v
 
 module _ {K : Types} {F : Type 0} (a : Formulas K F) (app : Application K) (state : MemoTask K.Value F → K.TaskState) where
+  -- the state after the poll of a task as the definitions have it: it has done what that asks for, stands where that answers, and looked
+  abbrev pub state_after_poll : Machine K → ℕ → TaskRow K → MemoTask K.Value F → State K
+  state_after_poll m t task x =
+      let w : State K = unqueued (at_rest m.state) t in
+      let poll = came (polled_world w t task) (memo_polled a x) (begun false w.next) in
+      look
+      (commands
+      app
+      (record w { calls = w.calls + 1; next = poll.call.next; tasks = put w.tasks t (record task { state = state poll.answer }) })
+      task.scope
+      (Some t)
+      poll.call.commands)
+
   -- a poll that no fault ends does what the definitions' poll asks for, leaves the task where that answers, and then looks
   abbrev pub PollsAreDone : Type 0
   PollsAreDone =
@@ -143,17 +156,7 @@ module _ {K : Types} {F : Type 0} (a : Formulas K F) (app : Application K) (stat
       → at m.state.tasks t ≡ Some task
       → task.state ≡ state x
       → u.dead ≡ None
-      → let w : State K = unqueued (at_rest m.state) t in
-      let poll = came (polled_world w t task) (memo_polled a x) (begun false w.next) in
-      u.state
-      ≡
-      look
-      (commands
-      app
-      (record w { calls = w.calls + 1; next = poll.call.next; tasks = put w.tasks t (record task { state = state poll.answer }) })
-      task.scope
-      (Some t)
-      poll.call.commands)
+      → u.state ≡ state_after_poll m t task x
 
   -- of every machine that moves reach: from its first poll on, in a scope that is live, and where no context has the next number, a memo
   -- or a resource that nobody else touches is kept, wherever nothing is owed and its task is active

@@ -4,3 +4,4 @@ pub mod Held
 pub mod Numbering
 pub mod Unpolled
 pub mod Homes
+pub mod Sessions

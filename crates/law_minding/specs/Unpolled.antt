@@ -59,6 +59,35 @@ module _ {K : Types} {F : Type 0} (app : Application K) (state : MemoTask K.Valu
       → next m.state ≡ None
       → is_active m.state t ≡ false
 
+module _ {K : Types} {F : Type 0} (a : Formulas K F) (app : Application K) where
+  -- two logs in a row are made of moves, the second log opens with the first poll of a task: where the first moves don't poll the task and
+  -- spare it, and those after the poll leave it to its polls, it is kept at their end, where it is there and active
+  abbrev pub KeptFrom :
+      (limits : Limits) (m u v : Machine K) (between log : List Entry) (t scope owner : ℕ) (x : MemoTask K.Value F)
+      → Type 0
+  KeptFrom limits m u v between log t scope owner x =
+      (first : List Move)
+      × (leads_first : Leads app limits m first u)
+      × (entries first ≡ between)
+      × (moves : List Move)
+      × (leads : Leads app limits u (Logged (Poll t) ∷ moves) v)
+      × (entries moves ≡ log)
+      × (UnpolledOn a app limits t owner x m u first leads_first
+      → HeldOn a app limits t scope owner (after_poll a (next_poll_world u t scope) t x) leads.0 v moves leads.2
+      → is_active v.state t ≡ true
+      → (task : TaskRow K)
+      → at v.state.tasks t ≡ Some task
+      → IsKept a v.state t task
+      (held_to a app limits t scope (after_poll a (next_poll_world u t scope) t x) leads.0 v moves leads.2))
+
+  -- moves that a log is made of: where none polls the task and each spares it, it is paused at their end
+  abbrev pub PausedFrom : (limits : Limits) (m v : Machine K) (log : List Entry) (t owner : ℕ) (x : MemoTask K.Value F) → Type 0
+  PausedFrom limits m v log t owner x =
+      (moves : List Move)
+      × (leads : Leads app limits m moves v)
+      × (entries moves ≡ log)
+      × (UnpolledOn a app limits t owner x m v moves leads → is_some (at v.state.tasks t) ≡ true → is_active v.state t ≡ false)
+
 module _ {K : Types} {F : Type 0} (a : Formulas K F) (app : Application K) (state : MemoTask K.Value F → K.TaskState) where
   -- a task that stands fresh after some entries of a session, is polled first after others that spare it, and is held from there on, is
   -- kept after each report where it is active
@@ -74,16 +103,4 @@ module _ {K : Types} {F : Type 0} (a : Formulas K F) (app : Application K) (stat
       → replay_within app limits (Some u) (Poll t ∷ log) ≡ Some v
       → is_settled v ≡ true
       → StandsFresh state m.state t cell scope held f loads
-      → (first : List Move)
-      × (leads_first : Leads app limits m first u)
-      × (entries first ≡ between)
-      × (moves : List Move)
-      × (leads : Leads app limits u (Logged (Poll t) ∷ moves) v)
-      × (entries moves ≡ log)
-      × (UnpolledOn a app limits t held.owner (fresh cell f loads) m u first leads_first
-      → HeldOn a app limits t scope held.owner (after_poll a (next_poll_world u t scope) t (fresh cell f loads)) leads.0 v moves leads.2
-      → is_active v.state t ≡ true
-      → (task : TaskRow K)
-      → at v.state.tasks t ≡ Some task
-      → IsKept a v.state t task
-      (held_to a app limits t scope (after_poll a (next_poll_world u t scope) t (fresh cell f loads)) leads.0 v moves leads.2))
+      → KeptFrom a app limits m u v between log t scope held.owner (fresh cell f loads)

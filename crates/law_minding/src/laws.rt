@@ -8,6 +8,7 @@ ghost use Rattle.law_minding.specs.Held.{HeldAreKept, LoggedHeldAreKept, PollsAr
 ghost use Rattle.law_minding.specs.Numbering.{MovesNumber, NextIsFree};
 ghost use Rattle.law_minding.specs.Homes.{HomesAreLive};
 ghost use Rattle.law_minding.specs.Unpolled.{FreshAreKept, FreshIsOwed, FreshStay};
+ghost use Rattle.law_minding.specs.Sessions.{SessionsKeepMemos};
 ghost use Rattle.law_minding.specs.Hiding.{RowsHideWrites};
 
 use law_behavior::wakes_are_polled;
@@ -119,6 +120,16 @@ pub fn fresh_are_kept<C, P, V, H, T, E, L, F>()
     ensures { (app : Application (types C P V H T E L)) (a : Formulas (types C P V H T E L) F)
         (state : MemoTask V F → T)
         → FreshAreKept a app state }
+{
+    wakes_are_polled::<C, P, V, H, T, E, L>();
+}
+
+/// So it is with the reports of a session: each poll is done as defined, who stands fresh is kept
+/// after each report from its first poll on, and is paused where it wasn't polled.
+pub fn sessions_keep_memos<C, P, V, H, T, E, L, F>()
+    ensures { (app : Application (types C P V H T E L)) (a : Formulas (types C P V H T E L) F)
+        (state : MemoTask V F → T)
+        → SessionsKeepMemos a app state }
 {
     wakes_are_polled::<C, P, V, H, T, E, L>();
 }
