@@ -6,4 +6,7 @@ pub mod Told
 pub mod Orders
 pub mod Plains
 pub mod Cuts
+pub mod Reread
+pub mod Forward
 pub mod Stands
+pub mod Found

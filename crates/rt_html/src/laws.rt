@@ -1,7 +1,8 @@
 //! What is spelt comes back. The functions have empty bodies: what each claims of the definitions is
 //! its contract.
-ghost use Rattle.std.specs.Prelude.{◌≡◌, Some};
+ghost use Rattle.std.specs.Prelude.{◌≡◌, Some, true};
 ghost use Rattle.rt_model.specs.Document.{Forest};
+ghost use Rattle.rt_html.specs.Reading.{are_fit};
 ghost use Rattle.rt_html.specs.Spelling.{html};
 ghost use Rattle.rt_html.specs.Tokens.{nodes_of_tokens, plain, tokens, tokens_html};
 
@@ -18,4 +19,10 @@ pub fn plain_is_spelt_alike()
 /// Nodes are spelt as their tokens are, one after another.
 pub fn nodes_are_spelt_in_tokens()
     ensures { (nodes : Forest) → html nodes ≡ tokens_html (tokens nodes) }
+{}
+
+/// Nodes that may be read and have one spelling are the same but for their numbers and listeners.
+pub fn spellings_are_apart()
+    ensures { (nodes : Forest) (others : Forest) → are_fit 1024 nodes ≡ true
+        → are_fit 1024 others ≡ true → html nodes ≡ html others → plain nodes ≡ plain others }
 {}

@@ -14,7 +14,9 @@ mod tokens;
 mod writer;
 
 pub use error::HtmlError;
-pub use laws::{nodes_are_spelt_in_tokens, nodes_come_back, plain_is_spelt_alike};
+pub use laws::{
+    nodes_are_spelt_in_tokens, nodes_come_back, plain_is_spelt_alike, spellings_are_apart,
+};
 pub use names::are_namable;
 pub use pages::{page_of, piece_of};
 pub use plain::Plain;

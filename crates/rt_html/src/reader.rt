@@ -1,10 +1,12 @@
 //! Nodes of a text: what was read is written again, and is the answer only where this is the text.
 ghost use Rattle.std.specs.Prelude.{◌≡◌, ◌↔◌, Some, IfOk, IfSome, IsTrue, OnOk, map, option_map};
 ghost use Rattle.std.specs.List.{fold};
+ghost use Rattle.rt_model.specs.Document.{Forest};
 ghost use Rattle.rt_html.specs.Parts as reading;
 ghost use Rattle.rt_html.specs.Parts.{Standing, added, end_by, standing_of, take_token};
 ghost use Rattle.rt_html.specs.Reading.{IsSpelling, plain_below, plain_content, plain_row};
 ghost use Rattle.rt_html.specs.Spelling.{html};
+ghost use Rattle.rt_html.specs.Tokens.{plain};
 
 use crate::again::put_row;
 use crate::fitting::are_fit;
@@ -174,6 +176,8 @@ fn is_spelling(alloc: Global, text: &str, nodes: &[Plain]) -> Result<bool, OutOf
 pub fn read_html(alloc: Global, text: &str) -> Result<Option<List<Plain>>, OutOfMemory>
     ensures read { IfOk result (λ found. IfSome found (λ nodes.
         IsSpelling text.now (plain_row nodes))) }
+    ensures found { IfOk result (λ found. (nodes : Forest) → IsSpelling text.now nodes
+        → option_map plain_row found ≡ Some (plain nodes)) }
 {
     let Some(nodes) = nodes_in(alloc, text)? else {
         return Ok(None);

@@ -4,5 +4,6 @@ mod blocks;
 mod cells;
 mod documents;
 mod inbox;
+mod pages;
 mod sched;
 mod trees;
