@@ -1,2 +1,1 @@
-mod Placeholders
 mod Short

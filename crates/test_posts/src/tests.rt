@@ -1,0 +1,6 @@
+//! The tables, a file each.
+
+mod lines;
+mod meeting;
+mod posters;
+mod reports;
