@@ -1,17 +1,17 @@
-mod Owners
-mod Hooked
-mod Minds
-mod Calm
-mod InTurn
-mod Taking
-mod Calling
-mod Runs
-mod GoesOn
-mod OneReport
-mod Reports
-mod Alike
-mod Folded
-mod Shown
-mod Values
-mod Bodies
-mod Heard
+pub mod Owners
+pub mod Hooked
+pub mod Minds
+pub mod Calm
+pub mod InTurn
+pub mod Taking
+pub mod Calling
+pub mod Runs
+pub mod GoesOn
+pub mod OneReport
+pub mod Reports
+pub mod Alike
+pub mod Folded
+pub mod Shown
+pub mod Values
+pub mod Bodies
+pub mod Heard
