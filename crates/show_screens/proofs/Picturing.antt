@@ -1,5 +1,5 @@
 -- The rows of reports that are put one after the other, by the documents that their edits lead to.
-use Rattle.std.proofs.Common.{◌≡◌, ℕ, ◌+◌, ◌<◌, ◌≤◌, List, [], ◌∷◌, ◌++◌, length, map, take, drop, get_or, Option, Some, None, Result, Ok, Err, refl, sym, ap, ◌∙◌, subst, append_assoc, append-nil, arith}
+use Rattle.std.proofs.Common.{◌≡◌, ℕ, ◌+◌, ◌<◌, ◌≤◌, List, [], ◌∷◌, ◌++◌, length, map, take, drop, get_or, Result, Ok, Err, refl, sym, ap, ◌∙◌, subst, append_assoc, append-nil}
 use Rattle.std.specs.Prelude.{OnOk}
 use Rattle.std.proofs.Math.ListN.{drop_of_length-le, get_or-map}
 use Rattle.std.proofs.lemmas.List.{drop_more, length-map}
@@ -11,7 +11,8 @@ use Rattle.rt_model.specs.Document.{Forest}
 use Rattle.rt_model.specs.Reports as sessions
 use Rattle.run_reports.specs.Seen.{report_of}
 use Rattle.run_reports.specs.declared.report.Report.{Report}
-use Rattle.show_streams.specs.Writes.{grown, Writes, Puts}
+use Rattle.show_streams.specs.Writes.{Writes, Puts}
+use Rattle.show_streams.proofs.OnePut.{nothing_put, writes_none}
 use Rattle.show_streams.specs.declared.out.OutError.{OutError}
 use Rattle.show_streams.specs.declared.out.OutError.TheVariants as errors
 use Rattle.rt_text.specs.Layout.{fitted, layout}
@@ -56,19 +57,6 @@ drawn number edits next old mid new rows written now before after result led lea
       rows = always (rows_of new ≡ layout (width_of old) (height_of old) (forest_of next)) result laid;
       size = (sized.0 ∙ size.0, sized.1 ∙ size.1);
     }
-
-grown_none : (written : Puts) → written ≡ grown written []
-grown_none None = refl
-grown_none (Some bytes) = ap Some (sym (append-nil bytes))
-
--- for want of memory nothing was put
-pub nothing_put : (text : List (List ℕ)) (written : Puts) (faults : ℕ) → Writes text written written faults faults (Err errors.OutOfMemory)
-nothing_put text written faults = record {
-  ok = tt;
-  front = record { front = []; rest = text; whole = refl; added = grown_none written };
-  later = omega arith;
-  cause = λ failed. absurd (cc failed);
-}
 
 pub drawn_nothing : (number : ℕ) (next : List DocNode) (old mid new : Screen) (written : Puts) (faults : ℕ) → KeepsSize old mid → KeepsSize mid new
     → Draws number next old new written written faults faults (Err errors.OutOfMemory)
@@ -196,15 +184,6 @@ pictures_put width height rows documents reports number left screen old new befo
     ∙ ap (λ (ds : List (List DocNode)). so_far.text ++ pictures (width_of screen) (height_of screen) number (rows_of screen) (map forest_of ds)) last
     ∙ append-nil so_far.text in
     subst (λ (text : List (List ℕ)). Writes text old new before after (Ok tt)) (sym all) so_far.put
-
--- nothing was put
-writes_none : (written : Puts) (faults : ℕ) → Writes [] written written faults faults (Ok tt)
-writes_none written faults = record {
-  ok = grown_none written;
-  front = record { front = []; rest = []; whole = refl; added = grown_none written };
-  later = omega arith;
-  cause = λ failed. absurd (cc);
-}
 
 -- before the first report
 pub pictures_begin : (reports : List Report) (edits : List Edit) (screen : Screen) (documents : List (List DocNode)) (written : Puts) (faults : ℕ)

@@ -41,6 +41,7 @@ impl Out for BytesOut {
 
     ghost faults = { λ out. failures out.schedule.fails out.schedule.calls };
 
+    #[tactic(auto, using(crate::proofs::OnePut::puts))]
     fn put(&mut self, bytes: &[u8]) -> Result<(), OutError> {
         if self.schedule.fails_next() {
             return Err(OutError::Failed);
@@ -81,6 +82,7 @@ impl Out for SureOut {
 
     ghost faults = { λ _. 0 };
 
+    #[tactic(auto, using(crate::proofs::OnePut::puts))]
     fn put(&mut self, bytes: &[u8]) -> Result<(), OutError> {
         let kept = List::from_slice(self.alloc, bytes)?;
         self.puts.push(kept)?;

@@ -38,13 +38,13 @@ impl From<OutOfMemory> for OutError {
 
 /// A place that takes bytes in order.
 pub trait Out: Drop {
-    /// What each put that came through was of, in order, where the out tells it.
+    /// What each put wrote, in order, where the out tells it.
     ghost puts: { Self → Puts };
 
     /// How many puts have failed.
     ghost faults: { Self → ℕ };
 
-    /// Writes all of the bytes. After an error an out that tells its puts took all of them or none.
+    /// Writes all of the bytes. After an error it has written a front of them, or made no put at all.
     fn put(&mut self, bytes: &[u8]) -> Result<(), OutError>
         ensures writes { Writes (bytes.now ∷ []) (puts self.old) (puts self.new) (faults self.old) (faults self.new) result };
 }

@@ -10,7 +10,7 @@ use Rattle.rt_model.specs.Lists.{joined}
 use Rattle.rt_model.specs.Reports as sessions
 use Rattle.run_reports.specs.declared.report.Report.{Report}
 use Rattle.rt_edits.specs.declared.edit.Edit.{Edit}
-use Rattle.show_streams.specs.Writes.{grown, Writes, Puts}
+use Rattle.show_streams.specs.Writes.{grown, AddsFront, Begins, Writes, Puts}
 use Rattle.show_streams.specs.declared.out.OutError.{OutError}
 
 -- what is written twice is written at once
@@ -18,28 +18,37 @@ grown_twice : (old : Puts) (xs ys : List (List ℕ)) → grown (grown old xs) ys
 grown_twice None xs ys = refl
 grown_twice (Some es) xs ys = ap Some (append_assoc es xs ys)
 
+-- texts that were put, and behind them a front of others
+fronts_both : (a b : List (List ℕ)) (old mid new : Puts) → mid ≡ grown old a → AddsFront mid new b → AddsFront old new (a ++ b)
+fronts_both a b old mid new first second = record {
+  front = a ++ second.front;
+  part = second.part;
+  rest = second.rest;
+  whole = ap (λ text. a ++ text) second.whole ∙ sym (append_assoc a second.front second.rest);
+  begun = second.begun;
+  added =
+      second.added ∙ ap (λ o. grown o (second.front ++ second.part)) first ∙ grown_twice old a (second.front ++ second.part)
+      ∙ ap (λ text. grown old text) (sym (append_assoc a second.front second.part));
+}
+
+-- what was put of texts is of these and of more
+begins_more : (part texts more : List (List ℕ)) → Begins part texts → Begins part (texts ++ more)
+begins_more [] texts more begun = tt
+begins_more (part ∷ parts) [] more begun = absurd begun
+begins_more (part ∷ parts) (text ∷ texts) more begun = begun
+
 -- one text and then another
 pub writes_both : (a b : List (List ℕ)) (old mid new : Puts) (before between after : ℕ) (result : Result (Unit {0}) OutError) →
     Writes a old mid before between (Ok tt) → Writes b mid new between after result → Writes (a ++ b) old new before after result
 writes_both a b old mid new before between after (Ok u) first second = record {
   ok = second.ok ∙ ap (λ o. grown o b) first.ok ∙ grown_twice old a b;
-  front = record {
-    front = a ++ second.front.front;
-    rest = second.front.rest;
-    whole = ap (λ text. a ++ text) second.front.whole ∙ sym (append_assoc a second.front.front second.front.rest);
-    added = second.front.added ∙ ap (λ o. grown o second.front.front) first.ok ∙ grown_twice old a second.front.front;
-  };
+  front = fronts_both a b old mid new first.ok second.front;
   later = omega arith;
   cause = λ failed. absurd (cc);
 }
 writes_both a b old mid new before between after (Err error) first second = record {
   ok = tt;
-  front = record {
-    front = a ++ second.front.front;
-    rest = second.front.rest;
-    whole = ap (λ text. a ++ text) second.front.whole ∙ sym (append_assoc a second.front.front second.front.rest);
-    added = second.front.added ∙ ap (λ o. grown o second.front.front) first.ok ∙ grown_twice old a second.front.front;
-  };
+  front = fronts_both a b old mid new first.ok second.front;
   later = omega arith;
   cause = λ failed. omega (arith, second.cause failed);
 }
@@ -51,8 +60,10 @@ writes_first a b old new before after error first = record {
   ok = tt;
   front = record {
     front = first.front.front;
+    part = first.front.part;
     rest = first.front.rest ++ b;
     whole = ap (λ text. text ++ b) first.front.whole ∙ append_assoc first.front.front first.front.rest b;
+    begun = begins_more first.front.part first.front.rest b first.front.begun;
     added = first.front.added;
   };
   later = first.later;

@@ -1,7 +1,11 @@
--- The lines of one more drain are put, or none after them.
+-- Nothing is put before the first drain; then the lines of one more, or none after them.
 use Rattle.std.proofs.Common.{rules, ◌≡◌, Err}
+use Rattle.show_streams.proofs.OnePut.{writes_none}
 use Rattle.show_posts.proofs.Messages.{drain_put, drain_failed, drains_put}
 use Rattle.show_posts.proofs.taking.put_drains.Goals as goal
+
+pub loop-at-init : goal.loop-at-init
+loop-at-init g c = writes_none _ _
 
 pub loop-at-preserved : goal.loop-at-preserved
 loop-at-preserved g c = drain_put c.args.drains.now c.loop-at.at c.index-drains-at.result c.as_slice.result.now _ _ _ _ _ _ c.loop-at-test.true c.index-drains-at.is c.as_slice.ensures.items c.loop-at.invariant c.in_ok-put_drain.ensures.writes

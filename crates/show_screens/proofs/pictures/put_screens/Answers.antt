@@ -1,7 +1,8 @@
 -- A new screen has no nodes, and empty rows.
 use Rattle.std.proofs.Common.{rules, ◌≡◌, Err}
 use Rattle.show_streams.specs.declared.out.OutError.TheVariants as errors
-use Rattle.show_screens.proofs.Picturing.{nothing_put, screen_put}
+use Rattle.show_streams.proofs.OnePut.{nothing_put}
+use Rattle.show_screens.proofs.Picturing.{screen_put}
 use Rattle.show_screens.proofs.pictures.put_screens.Goals as goal
 
 pub returns-in_err-screen : goal.returns-in_err-screen

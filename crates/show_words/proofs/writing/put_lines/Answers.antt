@@ -1,7 +1,11 @@
--- One more line is put, or none after it.
+-- Nothing is put before the first line; then one more, or none after it.
 use Rattle.std.proofs.Common.{rules, ◌≡◌, Err}
+use Rattle.show_streams.proofs.OnePut.{writes_none}
 use Rattle.show_words.proofs.Puts.{line_put, line_failed, lines_put}
 use Rattle.show_words.proofs.writing.put_lines.Goals as goal
+
+pub loop-line-init : goal.loop-line-init
+loop-line-init g c = writes_none _ _
 
 pub loop-line-preserved : goal.loop-line-preserved
 loop-line-preserved g c =

@@ -1,7 +1,11 @@
--- One more line is put, or none after it.
+-- Nothing is put before the first line; then one more, or none after it.
 use Rattle.std.proofs.Common.{rules, ◌≡◌, Err}
+use Rattle.show_streams.proofs.OnePut.{writes_none}
 use Rattle.show_words.proofs.Puts.{report_put, report_failed, reports_put}
 use Rattle.show_words.proofs.writing.put_reports.Goals as goal
+
+pub loop-number-init : goal.loop-number-init
+loop-number-init g c = writes_none _ _
 
 pub loop-number-preserved : goal.loop-number-preserved
 loop-number-preserved g c = report_put c.args.reports.now c.loop-number.number c.index-reports-number.result _ _ _ _ _ _ c.loop-number-test.true c.index-reports-number.is c.loop-number.invariant c.in_ok-put_report.ensures.writes
