@@ -1,10 +1,10 @@
--- A child is of the kind of the component at its slot: both are a suspense boundary, or neither.
-use Rattle.std.proofs.Common.{ℕ, Bool, true, false, List, [], ◌∷◌, ◌++◌, ◌≡◌, ◌<◌, ◌⊎◌, refl, sym, ap, ◌∙◌, nat_eq, arith, inl, inr}
+-- A child is of the sort of the component at its slot: one of the application's, the same, or the same built-in one.
+use Rattle.std.proofs.Common.{ℕ, true, false, List, [], ◌∷◌, ◌++◌, ◌≡◌, ◌<◌, ◌⊎◌, refl, sym, ap, ◌∙◌, nat_eq, arith, inl, inr}
 use Rattle.std.proofs.lemmas.Bool.{eqb-true}
 use Rattle.std.specs.Prelude.{Option, Some, None, is_some}
 use Rattle.std.specs.List.{AllByRecursion}
 use Rattle.rt_model.specs.Lists.{at}
-use Rattle.rt_model.specs.Tree.{Types, Place, same_place, VComponent, is_suspense_boundary, Spot}
+use Rattle.rt_model.specs.Tree.{Types, Place, same_place, VComponent, Own, Root, Fragment, ErrorBoundary, SuspenseBoundary, is_suspense_boundary, Spot}
 use Rattle.rt_model.specs.State.{SideName, MainSide, ChildrenSide, FallbackSide, Side, Scope, State, Item, Draw, Row, Feed, Make, Drop, side_of, with_side, empty_side, is_live}
 use Rattle.rt_model.specs.Run.{child_at, spots_of, component_in}
 use Rattle.rt_model.specs.Boundary.{drop_items}
@@ -22,6 +22,7 @@ use Rattle.law_moves.proofs.Made.{at_child, part, side_else, side_child, kids_he
 use Rattle.law_moves.proofs.Opens.{OwnRows}
 use Rattle.law_moves.proofs.Weaves.{put_side, put_turns}
 use Rattle.law_moves.specs.Heeds.{Leavings, leavings}
+use Rattle.law_moves.specs.Sorts.{ComponentSort, is_boundary_sort, sort_of}
 
 -- a child that was found after one more joined the end was there, or is that one, at its place
 kid_or_new : (xs : List (Place × ℕ)) (p : Place) (n : ℕ) (q : Place) (t : ℕ) → child_at (xs ++ (p, n) ∷ []) q ≡ Some t → (child_at xs q ≡ Some t) ⊎ ((p ≡ q) × (n ≡ t))
@@ -43,21 +44,32 @@ kid_or_new (e ∷ xs) p n q t h =
 old_kid : (t n : ℕ) → t < n → nat_eq n t ≡ false
 old_kid t n h = grind (arith, h)
 
-some_bool : (a b : Bool) → Some a ≡ Some b → a ≡ b
-some_bool a b h = cc
-
 module _ {K : Types} where
+  some_sort : (a b : ComponentSort K) → Some a ≡ Some b → a ≡ b
+  some_sort a b h = cc
+
   some_component : (c d : VComponent K) → Some c ≡ Some d → c ≡ d
   some_component c d h = cc
 
-  -- whether a live scope is a suspense boundary
-  abbrev pub kind_of : Option (Scope K) → Option Bool
-  kind_of None = None
-  kind_of (Some x) = Some (is_suspense_boundary x.component)
+  boundary_of : (c : VComponent K) → is_suspense_boundary c ≡ is_boundary_sort (sort_of c)
+  boundary_of (Own a p) = refl
+  boundary_of (Root a p) = refl
+  boundary_of (Fragment t) = refl
+  boundary_of (ErrorBoundary t f) = refl
+  boundary_of (SuspenseBoundary t f) = refl
 
-  abbrev kind_left : Option (Leavings K) → Option Bool
+  -- of one sort both are a suspense boundary, or neither
+  pub boundary_sorts : (c d : VComponent K) → sort_of c ≡ sort_of d → is_suspense_boundary c ≡ is_suspense_boundary d
+  boundary_sorts c d h = boundary_of c ∙ ap (λ (a : ComponentSort K). is_boundary_sort a) h ∙ sym (boundary_of d)
+
+  -- the sort of a live scope's component
+  abbrev pub kind_of : Option (Scope K) → Option (ComponentSort K)
+  kind_of None = None
+  kind_of (Some x) = Some (sort_of x.component)
+
+  abbrev kind_left : Option (Leavings K) → Option (ComponentSort K)
   kind_left None = None
-  kind_left (Some f) = Some (is_suspense_boundary f.0)
+  kind_left (Some f) = Some (sort_of f.0)
 
   kind_leavings : (o : Option (Scope K)) → kind_of o ≡ kind_left (leavings o)
   kind_leavings None = refl
@@ -66,9 +78,9 @@ module _ {K : Types} where
   pub kind_by : (o p : Option (Scope K)) → leavings o ≡ leavings p → kind_of o ≡ kind_of p
   kind_by o p h = kind_leavings o ∙ ap (λ (f : Option (Leavings K)). kind_left f) h ∙ sym (kind_leavings p)
 
-  abbrev kind_framed : Option (Frame K) → Option Bool
+  abbrev kind_framed : Option (Frame K) → Option (ComponentSort K)
   kind_framed None = None
-  kind_framed (Some f) = Some (is_suspense_boundary f.0)
+  kind_framed (Some f) = Some (sort_of f.0)
 
   kind_frame : (o : Option (Scope K)) → kind_of o ≡ kind_framed (framed o)
   kind_frame None = refl
@@ -85,22 +97,22 @@ module _ {K : Types} where
   Placed w (Row b step) = Unit {0}
   Placed w (Drop t s a) = Unit {0}
 
-  -- a child is of the kind of its slot's component, by these kinds, and so is what the open work feeds or makes
-  pub record KindsBy (kind : ℕ → Option Bool) (w : State K) (work : List (Item K)) : Type 0 where
-    pub kids_fit : (s t : ℕ) (a : SideName) (p : Place) (c : VComponent K) (b : Bool) → child_at (kids w s a) p ≡ Some t → component_in (slots w s a) p ≡ Some c → kind t ≡ Some b → b ≡ is_suspense_boundary c
+  -- a child is of the sort of its slot's component, by these sorts, and what the open work feeds or makes stands in its slot
+  pub record KindsBy (kind : ℕ → Option (ComponentSort K)) (w : State K) (work : List (Item K)) : Type 0 where
+    pub kids_fit : (s t : ℕ) (a : SideName) (p : Place) (c : VComponent K) (b : ComponentSort K) → child_at (kids w s a) p ≡ Some t → component_in (slots w s a) p ≡ Some c → kind t ≡ Some b → b ≡ sort_of c
     pub placed : AllByRecursion (λ (i : Item K). Placed w i) work
 
   -- of the scopes as they are
   abbrev pub Kinds : State K → List (Item K) → Type 0
   Kinds w work = KindsBy (λ t. kind_of (at w.scopes t)) w work
 
-  pub kinds_fewer : (k l : ℕ → Option Bool) (w : State K) (work : List (Item K)) → ((t : ℕ) (b : Bool) → l t ≡ Some b → k t ≡ Some b) → KindsBy k w work → KindsBy l w work
+  pub kinds_fewer : (k l : ℕ → Option (ComponentSort K)) (w : State K) (work : List (Item K)) → ((t : ℕ) (b : ComponentSort K) → l t ≡ Some b → k t ≡ Some b) → KindsBy k w work → KindsBy l w work
   kinds_fewer k l w work f h = record { kids_fit = λ s t a p c b e d q. h.kids_fit s t a p c b e d (f t b q); placed = h.placed }
 
-  pub kinds_alike : (k l : ℕ → Option Bool) (w : State K) (work : List (Item K)) → ((t : ℕ) → l t ≡ k t) → KindsBy k w work → KindsBy l w work
+  pub kinds_alike : (k l : ℕ → Option (ComponentSort K)) (w : State K) (work : List (Item K)) → ((t : ℕ) → l t ≡ k t) → KindsBy k w work → KindsBy l w work
   kinds_alike k l w work f h = kinds_fewer k l w work (λ t b q. sym (f t) ∙ q) h
 
-  pub kinds_later : (k : ℕ → Option Bool) (w : State K) (i : Item K) (rest : List (Item K)) → KindsBy k w (i ∷ rest) → KindsBy k w rest
+  pub kinds_later : (k : ℕ → Option (ComponentSort K)) (w : State K) (i : Item K) (rest : List (Item K)) → KindsBy k w (i ∷ rest) → KindsBy k w rest
   kinds_later k w i rest h = record { kids_fit = h.kids_fit; placed = h.placed.1 }
 
   placed_all : (w v : State K) (work : List (Item K)) → ((i : Item K) → Placed w i → Placed v i) → AllByRecursion (λ (i : Item K). Placed w i) work → AllByRecursion (λ (i : Item K). Placed v i) work
@@ -116,7 +128,7 @@ module _ {K : Types} where
     placed_same (Row b step) h = tt
     placed_same (Drop t s a) h = tt
 
-    pub kinds_same : (k : ℕ → Option Bool) (work : List (Item K)) → KindsBy k w work → KindsBy k v work
+    pub kinds_same : (k : ℕ → Option (ComponentSort K)) (work : List (Item K)) → KindsBy k w work → KindsBy k v work
     kinds_same k work h =
         record {
           kids_fit =
@@ -136,12 +148,12 @@ module _ {K : Types} where
   rows_placed w s [] h = tt
   rows_placed w s (i ∷ work) h = (row_placed w i h.0.1, rows_placed w s work h.1)
 
-  pub kinds_more : (k : ℕ → Option Bool) (w : State K) (work rest : List (Item K)) → AllByRecursion (λ (i : Item K). Placed w i) work → KindsBy k w rest → KindsBy k w (work ++ rest)
+  pub kinds_more : (k : ℕ → Option (ComponentSort K)) (w : State K) (work rest : List (Item K)) → AllByRecursion (λ (i : Item K). Placed w i) work → KindsBy k w rest → KindsBy k w (work ++ rest)
   kinds_more k w work rest f h = record { kids_fit = h.kids_fit; placed = every_join (λ (i : Item K). Placed w i) work rest f h.placed }
 
   -- one side has other children and another output
-  module _ (w v : State K) (u : ℕ) (a : SideName) (new : List (Spot K)) (left : List (Place × ℕ)) (f : Turns w v u a new left) (k : ℕ → Option Bool)
-      (here : (t : ℕ) (p : Place) (c : VComponent K) (b : Bool) → child_at left p ≡ Some t → component_in new p ≡ Some c → k t ≡ Some b → b ≡ is_suspense_boundary c) where
+  module _ (w v : State K) (u : ℕ) (a : SideName) (new : List (Spot K)) (left : List (Place × ℕ)) (f : Turns w v u a new left) (k : ℕ → Option (ComponentSort K))
+      (here : (t : ℕ) (p : Place) (c : VComponent K) (b : ComponentSort K) → child_at left p ≡ Some t → component_in new p ≡ Some c → k t ≡ Some b → b ≡ sort_of c) where
     slots_else_by : (s : ℕ) (b : SideName) (p : Place) (c : VComponent K) → (s ≡ u → b ≡ a → ⊥) → component_in (slots w s b) p ≡ Some c → component_in (slots v s b) p ≡ Some c
     slots_else_by s b p c other h = ap (λ (z : Side K). component_in (spots_of z.output) p) (f.others s b other) ∙ h
 
@@ -156,7 +168,7 @@ module _ {K : Types} where
     rest_turned [] idle h = tt
     rest_turned (i ∷ rest) idle h = (placed_turned i idle.0 h.0, rest_turned rest idle.1 h.1)
 
-    fit_turned : (rest : List (Item K)) → KindsBy k w rest → (s t : ℕ) (b : SideName) (p : Place) (c : VComponent K) (q : Bool) → child_at (kids v s b) p ≡ Some t → component_in (slots v s b) p ≡ Some c → k t ≡ Some q → q ≡ is_suspense_boundary c
+    fit_turned : (rest : List (Item K)) → KindsBy k w rest → (s t : ℕ) (b : SideName) (p : Place) (c : VComponent K) (q : ComponentSort K) → child_at (kids v s b) p ≡ Some t → component_in (slots v s b) p ≡ Some c → k t ≡ Some q → q ≡ sort_of c
     fit_turned rest h s t b p c q e d is =
         by_side s u b a
         (
@@ -183,7 +195,7 @@ module _ {K : Types} where
   drops_placed v b a (t ∷ ts) = (tt, drops_placed v b a ts)
 
   -- a fallback is emptied
-  pub kinds_emptied : (w : State K) (b : ℕ) (x : Scope K) (found : at w.scopes b ≡ Some x) (k : ℕ → Option Bool) (ts : List ℕ) (rest : List (Item K)) → Idle w b rest → KindsBy k w rest
+  pub kinds_emptied : (w : State K) (b : ℕ) (x : Scope K) (found : at w.scopes b ≡ Some x) (k : ℕ → Option (ComponentSort K)) (ts : List ℕ) (rest : List (Item K)) → Idle w b rest → KindsBy k w rest
       → KindsBy k (put_side w b FallbackSide x empty_side found) (drop_items b FallbackSide ts ++ rest)
   kinds_emptied w b x found k ts rest idle h =
       let v : State K = put_side w b FallbackSide x empty_side found in
@@ -198,7 +210,7 @@ module _ {K : Types} where
     gone_at : (t : ℕ) → nat_eq l t ≡ true → at v.scopes t ≡ None
     gone_at t q = ap (λ (i : ℕ). at v.scopes i) (sym (eqb-true l t q)) ∙ took.gone
 
-    kind_fewer : (t : ℕ) (b : Bool) → kind_of (at v.scopes t) ≡ Some b → kind_of (at w.scopes t) ≡ Some b
+    kind_fewer : (t : ℕ) (b : ComponentSort K) → kind_of (at v.scopes t) ≡ Some b → kind_of (at w.scopes t) ≡ Some b
     kind_fewer t b q =
         by_test (nat_eq l t)
         (λ same. let absurdity : None ≡ Some b = sym (ap (λ (o : Option (Scope K)). kind_of o) (gone_at t same)) ∙ q in cc)
@@ -261,15 +273,15 @@ module _ {K : Types} where
         kind_child ChildrenSide = refl
         kind_child FallbackSide = refl
 
-    kind_new : kind_of (at made_state.scopes w.next_scope) ≡ Some (is_suspense_boundary c)
+    kind_new : kind_of (at made_state.scopes w.next_scope) ≡ Some (sort_of c)
     kind_new = ap (λ (o : Option (Scope K)). kind_of o) (at_child w s a p c x found fresh)
 
-    old_fit : (r t : ℕ) (b : SideName) (q : Place) (d : VComponent K) (i : Bool) → child_at (kids w r b) q ≡ Some t → component_in (slots w r b) q ≡ Some d → kind_of (at made_state.scopes t) ≡ Some i → i ≡ is_suspense_boundary d
+    old_fit : (r t : ℕ) (b : SideName) (q : Place) (d : VComponent K) (i : ComponentSort K) → child_at (kids w r b) q ≡ Some t → component_in (slots w r b) q ≡ Some d → kind_of (at made_state.scopes t) ≡ Some i → i ≡ sort_of d
     old_fit r t b q d i e g is =
         h.kids_fit r t b q d i e g (sym (kind_old t (old_kid t w.next_scope (drawn_kid w (Make s a p c ∷ rest) st r t b q e))) ∙ is)
 
-    made_fit : (r t : ℕ) (b : SideName) (q : Place) (d : VComponent K) (i : Bool) → child_at (kids made_state r b) q ≡ Some t → component_in (slots made_state r b) q ≡ Some d → kind_of (at made_state.scopes t) ≡ Some i
-        → i ≡ is_suspense_boundary d
+    made_fit : (r t : ℕ) (b : SideName) (q : Place) (d : VComponent K) (i : ComponentSort K) → child_at (kids made_state r b) q ≡ Some t → component_in (slots made_state r b) q ≡ Some d → kind_of (at made_state.scopes t) ≡ Some i
+        → i ≡ sort_of d
     made_fit r t b q d i e g is =
         by_test (nat_eq w.next_scope r)
         (
@@ -292,8 +304,8 @@ module _ {K : Types} where
           | inl kid ↦ old_fit s t a q d i kid slot_here is
           | inr new ↦
               let one : c ≡ d = some_component c d (sym h.placed.0 ∙ ap (λ (j : Place). component_in (slots w s a) j) new.0 ∙ slot_here) in
-              let kind : Some i ≡ Some (is_suspense_boundary c) = sym is ∙ ap (λ (j : ℕ). kind_of (at made_state.scopes j)) (sym new.1) ∙ kind_new in
-              some_bool i (is_suspense_boundary c) kind ∙ ap (λ (j : VComponent K). is_suspense_boundary j) one
+              let kind : Some i ≡ Some (sort_of c) = sym is ∙ ap (λ (j : ℕ). kind_of (at made_state.scopes j)) (sym new.1) ∙ kind_new in
+              some_sort i (sort_of c) kind ∙ ap (λ (j : VComponent K). sort_of j) one
         ]
         )
         (

@@ -1,4 +1,4 @@
--- What a tree feeds is of its child's kind; and where a fed component lets the output stay, it means the same.
+-- What a tree feeds is of its child's sort; and where a fed component lets the output stay, it means the same.
 use Rattle.std.proofs.Common.{ℕ, Bool, true, false, ◌&&◌, List, [], ◌++◌, ◌≡◌, refl, sym, ap, ◌∙◌, subst, inl, inr}
 use Rattle.std.specs.Prelude.{Option, Some, None}
 use Rattle.std.specs.List.{AllByRecursion}
@@ -24,28 +24,29 @@ use Rattle.law_moves.proofs.Owed.{Alike}
 use Rattle.law_moves.proofs.Alone.{Then}
 use Rattle.law_moves.proofs.BodyCalled.{new_side, with_tree, agenda_of, agenda_is}
 use Rattle.law_moves.proofs.ChildKinds.{Placed, KindsBy, kinds_same, rows_placed, kinds_more, kinds_turned}
+use Rattle.law_moves.specs.Sorts.{ComponentSort, own_sort, sort_of}
 
-module _ {K : Types} (app : Application K) where
-  -- components that may be fed are of one kind
-  same_kind : (c d : VComponent K) → is_same_component app c d ≡ true → is_suspense_boundary c ≡ is_suspense_boundary d
-  same_kind (Own a p) (Own b q) h = refl
-  same_kind (Own a p) (Root b q) h = refl
-  same_kind (Own a p) (Fragment u) h = refl
-  same_kind (Own a p) (ErrorBoundary u g) h = refl
+module _ {K : Types} (app : Application K) (lawful : IsLawful K app) where
+  -- components that may be fed are of one sort
+  same_kind : (c d : VComponent K) → is_same_component app c d ≡ true → sort_of c ≡ sort_of d
+  same_kind (Own a p) (Own b q) h = ap (λ (e : K.Component). own_sort e) (lawful.tests_components.0 a b h)
+  same_kind (Own a p) (Root b q) h = let absurdity : false ≡ true = h in cc
+  same_kind (Own a p) (Fragment u) h = let absurdity : false ≡ true = h in cc
+  same_kind (Own a p) (ErrorBoundary u g) h = let absurdity : false ≡ true = h in cc
   same_kind (Own a p) (SuspenseBoundary u g) h = let absurdity : false ≡ true = h in cc
-  same_kind (Root a p) (Own b q) h = refl
+  same_kind (Root a p) (Own b q) h = let absurdity : false ≡ true = h in cc
   same_kind (Root a p) (Root b q) h = refl
-  same_kind (Root a p) (Fragment u) h = refl
-  same_kind (Root a p) (ErrorBoundary u g) h = refl
+  same_kind (Root a p) (Fragment u) h = let absurdity : false ≡ true = h in cc
+  same_kind (Root a p) (ErrorBoundary u g) h = let absurdity : false ≡ true = h in cc
   same_kind (Root a p) (SuspenseBoundary u g) h = let absurdity : false ≡ true = h in cc
-  same_kind (Fragment t) (Own b q) h = refl
-  same_kind (Fragment t) (Root b q) h = refl
+  same_kind (Fragment t) (Own b q) h = let absurdity : false ≡ true = h in cc
+  same_kind (Fragment t) (Root b q) h = let absurdity : false ≡ true = h in cc
   same_kind (Fragment t) (Fragment u) h = refl
-  same_kind (Fragment t) (ErrorBoundary u g) h = refl
+  same_kind (Fragment t) (ErrorBoundary u g) h = let absurdity : false ≡ true = h in cc
   same_kind (Fragment t) (SuspenseBoundary u g) h = let absurdity : false ≡ true = h in cc
-  same_kind (ErrorBoundary t f) (Own b q) h = refl
-  same_kind (ErrorBoundary t f) (Root b q) h = refl
-  same_kind (ErrorBoundary t f) (Fragment u) h = refl
+  same_kind (ErrorBoundary t f) (Own b q) h = let absurdity : false ≡ true = h in cc
+  same_kind (ErrorBoundary t f) (Root b q) h = let absurdity : false ≡ true = h in cc
+  same_kind (ErrorBoundary t f) (Fragment u) h = let absurdity : false ≡ true = h in cc
   same_kind (ErrorBoundary t f) (ErrorBoundary u g) h = refl
   same_kind (ErrorBoundary t f) (SuspenseBoundary u g) h = let absurdity : false ≡ true = h in cc
   same_kind (SuspenseBoundary t f) (Own b q) h = let absurdity : false ≡ true = h in cc
@@ -59,7 +60,7 @@ module _ {K : Types} (app : Application K) where
   fed_pair (Some d) c h = (d, refl, h)
 
   -- a tree becomes the output of a side
-  module _ (w : State K) (s : ℕ) (a : SideName) (tree : Tree K) (x : Scope K) (live : at w.scopes s ≡ Some x) (k : ℕ → Option Bool) (rest : List (Item K)) (idle : Idle w s rest) (h : KindsBy k w rest) where
+  module _ (w : State K) (s : ℕ) (a : SideName) (tree : Tree K) (x : Scope K) (live : at w.scopes s ≡ Some x) (k : ℕ → Option (ComponentSort K)) (rest : List (Item K)) (idle : Idle w s rest) (h : KindsBy k w rest) where
     abbrev new : List (Spot K)
     new = spots [] tree
 
@@ -74,7 +75,7 @@ module _ {K : Types} (app : Application K) where
         put_turns w s a x (new_side app w s a tree x live) live left
         (sym (ap (λ (i : Side K). kept_children app (spots_of i.output) new i.children) (side_found w s a x live)))
 
-    fit_here : (t : ℕ) (p : Place) (c : VComponent K) (b : Bool) → child_at left p ≡ Some t → component_in new p ≡ Some c → k t ≡ Some b → b ≡ is_suspense_boundary c
+    fit_here : (t : ℕ) (p : Place) (c : VComponent K) (b : ComponentSort K) → child_at left p ≡ Some t → component_in new p ≡ Some c → k t ≡ Some b → b ≡ sort_of c
     fit_here t p c b e d is =
         let old : List (Spot K) = slots w s a in
         let fed : fed_at app old new p ≡ true = kept_fed app old new (kids w s a) (p, t) (child_among left p t e) in
@@ -98,7 +99,7 @@ module _ {K : Types} (app : Application K) where
         (kinds_turned w after s a new left turns k fit_here (agenda_of app w s a tree x live) rest idle agenda_placed h)
 
   -- what a run or a step opens
-  pub kinds_opened : (w : State K) (s : ℕ) (v : State K) (work rest : List (Item K)) (k : ℕ → Option Bool) → Opens app w s (Done v work) → is_live w s ≡ true → Idle w s rest → KindsBy k w rest → KindsBy k v (work ++ rest)
+  pub kinds_opened : (w : State K) (s : ℕ) (v : State K) (work rest : List (Item K)) (k : ℕ → Option (ComponentSort K)) → Opens app w s (Done v work) → is_live w s ≡ true → Idle w s rest → KindsBy k w rest → KindsBy k v (work ++ rest)
   kinds_opened w s v work rest k (inl how) live idle h = kinds_more k v work rest (rows_placed v s work how.1) (kinds_same w v how.0 k rest h)
   kinds_opened w s v work rest k (inr how) live idle h =
       let u : State K = how.2 in

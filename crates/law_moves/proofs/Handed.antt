@@ -24,7 +24,8 @@ use Rattle.law_moves.proofs.RunStages.{Stage}
 use Rattle.law_moves.proofs.Owed.{still_at, rows_of, Alike, Called, called_again, BodyCurrent, StageHolds, OwesAs}
 use Rattle.law_moves.proofs.Alone.{Alone, alone_calm, change_alone}
 use Rattle.law_moves.proofs.Runs.{Starts, OthersOwe, others_stay, all_owe}
-use Rattle.law_moves.proofs.ChildKinds.{kind_of, Kinds, kinds_alike, kinds_same}
+use Rattle.law_moves.specs.Sorts.{ComponentSort, sort_of}
+use Rattle.law_moves.proofs.ChildKinds.{kind_of, Kinds, kinds_alike, kinds_same, boundary_sorts}
 use Rattle.law_moves.proofs.FedKinds.{keeps_all}
 use Rattle.law_moves.proofs.Children.{no_rows, fed_others}
 use Rattle.law_moves.proofs.Moving.{Scheduled, but_scheduled, Holding, HoldingOn, HoldingO, ended, later_holding, kinds_stay, run_holding, starts_here}
@@ -33,7 +34,10 @@ use Rattle.law_moves.proofs.Moving.{Scheduled, but_scheduled, Holding, HoldingOn
 module _ {K : Types} (app : Application K) (lawful : IsLawful K app) (Q : Type 0) where
   -- a scope is handed a component
 
-  module _ (w : State K) (rest : List (Item K)) (t : ℕ) (c : VComponent K) (y : Scope K) (live : at w.scopes t ≡ Some y) (none : rows_of t rest ≡ []) (idle : Idle w t rest) (kind : is_suspense_boundary c ≡ is_suspense_boundary y.component) (h : Holding app lawful Q w rest) where
+  module _ (w : State K) (rest : List (Item K)) (t : ℕ) (c : VComponent K) (y : Scope K) (live : at w.scopes t ≡ Some y) (none : rows_of t rest ≡ []) (idle : Idle w t rest) (kind : sort_of c ≡ sort_of y.component) (h : Holding app lawful Q w rest) where
+    boundary : is_suspense_boundary c ≡ is_suspense_boundary y.component
+    boundary = boundary_sorts c y.component kind
+
     abbrev given : State K
     given = with_props app w t c
 
@@ -56,7 +60,7 @@ module _ {K : Types} (app : Application K) (lawful : IsLawful K app) (Q : Type 0
     given_others = others_stay app lawful t w given rest rest given_calm (λ u q. refl) (λ u x q e. h.owes u x e)
 
     same_kinds : (u : ℕ) → kind_of (at given.scopes u) ≡ kind_of (at w.scopes u)
-    same_kinds = kinds_stay app lawful Q t w given given_calm (ap (λ (o : Option (Scope K)). kind_of o) given_there ∙ ap (λ (b : Bool). Some b) kind ∙ sym (ap (λ (o : Option (Scope K)). kind_of o) live))
+    same_kinds = kinds_stay app lawful Q t w given given_calm (ap (λ (o : Option (Scope K)). kind_of o) given_there ∙ ap (λ (b : ComponentSort K). Some b) kind ∙ sym (ap (λ (o : Option (Scope K)). kind_of o) live))
 
     given_kinds : Kinds given rest
     given_kinds =
@@ -64,7 +68,7 @@ module _ {K : Types} (app : Application K) (lawful : IsLawful K app) (Q : Type 0
         (kinds_same w given (props_twigs app w t c) (λ u. kind_of (at w.scopes u)) rest h.kinds)
 
     given_starts : is_suspense_boundary c ≡ true → Starts app y2
-    given_starts true_is = starts_here app lawful Q w (rows_of t rest) t y none (h.owes t y live) (sym kind ∙ true_is)
+    given_starts true_is = starts_here app lawful Q w (rows_of t rest) t y none (h.owes t y live) (sym boundary ∙ true_is)
 
     given_scheduled : Scheduled app lawful Q given
     given_scheduled = but_scheduled app lawful Q w.next.cells t w given given_calm (λ q. ap (λ (o : Option (Scope K)). is_some o) given_there) h.scheduled
@@ -122,7 +126,7 @@ module _ {K : Types} (app : Application K) (lawful : IsLawful K app) (Q : Type 0
           record {
             owes =
                 all_owe app lawful t given rest y2 given_there given_others
-                (subst (λ (b : Bool). OwesAs app b given (rows_of t rest) t y2) (sym kind) (owes_on (is_suspense_boundary y.component) (rows_of t rest) (h.owes t y live)));
+                (subst (λ (b : Bool). OwesAs app b given (rows_of t rest) t y2) (sym boundary) (owes_on (is_suspense_boundary y.component) (rows_of t rest) (h.owes t y live)));
             kinds = given_kinds;
             orderly = given_calm.orderly h.orderly;
             scheduled = given_scheduled;
@@ -148,8 +152,8 @@ module _ {K : Types} (app : Application K) (lawful : IsLawful K app) (Q : Type 0
       let y : Scope K = child.0 in
       let none : rows_of t rest ≡ [] = no_rows t rest (fed_others w s t a p c rest step woven.stack.2) in
       let idle : Idle w t rest = feeds_idle w s t a p c rest step woven.stack.2 in
-      let kind : is_suspense_boundary y.component ≡ is_suspense_boundary c =
-      h.kinds.kids_fit s t a p c (is_suspense_boundary y.component) kid.1 h.kinds.placed.0 (ap (λ (i : Option (Scope K)). kind_of i) child.1) in
+      let kind : sort_of y.component ≡ sort_of c =
+      h.kinds.kids_fit s t a p c (sort_of y.component) kid.1 h.kinds.placed.0 (ap (λ (i : Option (Scope K)). kind_of i) child.1) in
       let later : Holding app lawful Q w rest = later_holding app lawful Q w (Feed s a p c) rest (λ u. refl) h in
       ended app lawful Q m (Some (Feed s a p c)) rest o
       (subst (λ (z : Option ℕ). HoldingO app lawful Q rest (elim z as (λ i. Outcome K) [ None ↦ Done w [] | Some u ↦ handed app w u c ])) (sym (fed_kid w s a p ∙ kid.1))

@@ -22,6 +22,7 @@ mod Children
 mod Moving
 mod Handed
 mod Moved
+mod Sorted
 pub mod Settled
 pub mod Reported
 mod Due

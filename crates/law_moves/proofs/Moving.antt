@@ -33,6 +33,7 @@ use Rattle.law_moves.proofs.Alone.{Alone, alone_calm, Then, then_if}
 use Rattle.law_moves.proofs.BodyCalled.{run_calm, step_calm}
 use Rattle.law_moves.proofs.Runs.{Starts, starts_of, OthersOwe, others_stay, stay_all, run_component, run_owes}
 use Rattle.law_moves.proofs.Steps.{step_component, step_owes}
+use Rattle.law_moves.specs.Sorts.{ComponentSort, sort_of}
 use Rattle.law_moves.proofs.ChildKinds.{kind_of, kind_by, KindsBy, Kinds, kinds_alike, kinds_later, kinds_same, kinds_emptied, kinds_left, kinds_made}
 use Rattle.law_moves.proofs.FedKinds.{kinds_opened}
 use Rattle.law_moves.proofs.Removed.{removed_calm}
@@ -127,7 +128,7 @@ module _ {K : Types} (app : Application K) (lawful : IsLawful K app) (Q : Type 0
 
   own_kind : (w v : State K) (s : ℕ) (x y : Scope K) → at w.scopes s ≡ Some x → at v.scopes s ≡ Some y → y.component ≡ x.component → kind_of (at v.scopes s) ≡ kind_of (at w.scopes s)
   own_kind w v s x y e d same =
-      ap (λ (o : Option (Scope K)). kind_of o) d ∙ ap (λ (c : VComponent K). Some (is_suspense_boundary c)) same ∙ sym (ap (λ (o : Option (Scope K)). kind_of o) e)
+      ap (λ (o : Option (Scope K)). kind_of o) d ∙ ap (λ (c : VComponent K). Some (sort_of c)) same ∙ sym (ap (λ (o : Option (Scope K)). kind_of o) e)
 
   -- a run
   pub run_holding : (w : State K) (rest : List (Item K)) (s : ℕ) (x : Scope K) → at w.scopes s ≡ Some x → rows_of s rest ≡ [] → OthersOwe app lawful s w rest → (is_suspense_boundary x.component ≡ true → Starts app x) → Idle w s rest → Kinds w rest → Orderly w → Scheduled w
@@ -143,7 +144,7 @@ module _ {K : Types} (app : Application K) (lawful : IsLawful K app) (Q : Type 0
         owes = run_owes app lawful w rest s x live none others v work is starts;
         kinds =
             kinds_alike (λ t. kind_of (at w.scopes t)) (λ t. kind_of (at v.scopes t)) v (work ++ rest) (kinds_stay s w v calm (own_kind w v s x y.0 live y.1 y.2))
-            (kinds_opened app w s v work rest (λ t. kind_of (at w.scopes t)) opens (live_found w s x live) idle kinds);
+            (kinds_opened app lawful w s v work rest (λ t. kind_of (at w.scopes t)) opens (live_found w s x live) idle kinds);
         orderly = calm.orderly orderly;
         scheduled = but_scheduled w.next.cells s w v calm (λ q. ap (λ (o : Option (Scope K)). is_some o) y.1) scheduled;
       }
@@ -171,7 +172,7 @@ module _ {K : Types} (app : Application K) (lawful : IsLawful K app) (Q : Type 0
   -- a step of a boundary's run
 
   step_holding : (w : State K) (rest : List (Item K)) (b : ℕ) (x : Scope K) (step : RowStep) → at w.scopes b ≡ Some x → Idle w b rest → Holding w (Row b step ∷ rest)
-      → ((k : ℕ → Option Bool) (v : State K) (work : List (Item K)) → boundary_step app w b step ≡ Done v work → KindsBy k w rest → KindsBy k v (work ++ rest))
+      → ((k : ℕ → Option (ComponentSort K)) (v : State K) (work : List (Item K)) → boundary_step app w b step ≡ Done v work → KindsBy k w rest → KindsBy k v (work ++ rest))
       → HoldingO rest (boundary_step app w b step)
   step_holding w rest b x step live idle h opened =
       then_is (λ v work. Holding v (work ++ rest)) (boundary_step app w b step)
@@ -192,14 +193,14 @@ module _ {K : Types} (app : Application K) (lawful : IsLawful K app) (Q : Type 0
   step_found : (w : State K) (b : ℕ) (x : Scope K) (step : RowStep) → at w.scopes b ≡ Some x → boundary_step app w b step ≡ row_step app w b x step
   step_found w b x step live = ap (λ (o : Option (Scope K)). elim o as (λ z. Outcome K) [ None ↦ Done w [] | Some y ↦ row_step app w b y step ]) live
 
-  step_opened : (w : State K) (rest : List (Item K)) (b : ℕ) (x : Scope K) (step : RowStep) → at w.scopes b ≡ Some x → Idle w b rest → (step ≡ DropFallback → ⊥) → (k : ℕ → Option Bool) (v : State K) (work : List (Item K))
+  step_opened : (w : State K) (rest : List (Item K)) (b : ℕ) (x : Scope K) (step : RowStep) → at w.scopes b ≡ Some x → Idle w b rest → (step ≡ DropFallback → ⊥) → (k : ℕ → Option (ComponentSort K)) (v : State K) (work : List (Item K))
       → boundary_step app w b step ≡ Done v work → KindsBy k w rest
       → KindsBy k v (work ++ rest)
   step_opened w rest b x step live idle other k v work is h =
       let opens : Opens app w b (Done v work) = subst (λ (o : Outcome K). Opens app w b o) (sym (step_found w b x step live) ∙ is) (row_opens app lawful w b x step other) in
-      kinds_opened app w b v work rest k opens (live_found w b x live) idle h
+      kinds_opened app lawful w b v work rest k opens (live_found w b x live) idle h
 
-  clear_opened : (w : State K) (rest : List (Item K)) (b : ℕ) (x : Scope K) → at w.scopes b ≡ Some x → Idle w b rest → (k : ℕ → Option Bool) (v : State K) (work : List (Item K)) → boundary_step app w b DropFallback ≡ Done v work → KindsBy k w rest
+  clear_opened : (w : State K) (rest : List (Item K)) (b : ℕ) (x : Scope K) → at w.scopes b ≡ Some x → Idle w b rest → (k : ℕ → Option (ComponentSort K)) (v : State K) (work : List (Item K)) → boundary_step app w b DropFallback ≡ Done v work → KindsBy k w rest
       → KindsBy k v (work ++ rest)
   clear_opened w rest b x live idle k v work is h =
       let ts : List ℕ = side_scopes w x.fallback_side in
@@ -208,7 +209,7 @@ module _ {K : Types} (app : Application K) (lawful : IsLawful K app) (Q : Type 0
       let there : Done u (drop_items b FallbackSide ts) ≡ Done v work = ap (λ (z : State K). Done z (drop_items b FallbackSide ts)) (sym emptied) ∙ sym (step_found w b x DropFallback live) ∙ is in
       subst (λ (o : Outcome K). Then (λ z more. KindsBy k z (more ++ rest)) o) there (kinds_emptied w b x live k ts rest idle h)
 
-  step_kinds : (w : State K) (rest : List (Item K)) (b : ℕ) (x : Scope K) (step : RowStep) → at w.scopes b ≡ Some x → Idle w b rest → (k : ℕ → Option Bool) (v : State K) (work : List (Item K)) → boundary_step app w b step ≡ Done v work → KindsBy k w rest
+  step_kinds : (w : State K) (rest : List (Item K)) (b : ℕ) (x : Scope K) (step : RowStep) → at w.scopes b ≡ Some x → Idle w b rest → (k : ℕ → Option (ComponentSort K)) (v : State K) (work : List (Item K)) → boundary_step app w b step ≡ Done v work → KindsBy k w rest
       → KindsBy k v (work ++ rest)
   step_kinds w rest b x DropFallback live idle k v work is h = clear_opened w rest b x live idle k v work is h
   step_kinds w rest b x PatchChildren live idle k v work is h = step_opened w rest b x PatchChildren live idle (λ e. cc) k v work is h

@@ -28,3 +28,4 @@ pub mod Reruns
 pub mod Current
 pub mod Frame
 pub mod Ready
+pub mod Sorts

@@ -29,8 +29,8 @@ pub use rendering::{all_rendered_are_current_or_owed, rendered_are_current_or_ow
 pub use reporting::{ran_is_current, ran_to_is_current};
 pub use running::{fuel_suffices, logs_are_moves, moves_are_accepted, one_move, stops_come_to};
 pub use settling::{
-    all_are_current_or_owed, due_is_any, others_are_current_or_owed, settled_are_current,
-    settled_show_held,
+    all_are_current_or_owed, children_fit_slots, due_is_any, fed_fit, others_are_current_or_owed,
+    settled_are_current, settled_show_held,
 };
 pub use telling::{logs_join, moves_are_told, reports_go_on, unit_ends, unit_is_told, unit_stops};
 pub use turns::{reports_join, reports_ran, reports_ran_to, rest_owes_none};
