@@ -10,7 +10,7 @@ use Rattle.rt_model.proofs.Maps.{by_test}
 use Rattle.law_behavior.proofs.Readers.{Posts, post_posts, tell_posts}
 use Rattle.law_behavior.proofs.Frames.{Permits, Still, Frame}
 
-module _ {K : Types} (app : Application K) (P Q : State K → Type 0) (bound : ℕ) (may : Permits) (law : Frame app P Q bound may) where
+module _ {K : Types} (app : Application K) (P Q : State K → Type 0) (bound : ℕ) (may : Permits K) (law : Frame app P Q bound may) where
   pub either : (x y : State K) (b : Bool) → P x → P y → P (if b then x else y)
   either x y true f g = f
   either x y false f g = g
@@ -82,12 +82,12 @@ module _ {K : Types} (app : Application K) (P Q : State K → Type 0) (bound : �
       } in
       either v w (is_some (at w.tasks t)) (law.ends w t a h) h
 
-  spawned_on : (w : State K) (polled : Option ℕ) (scope t : ℕ) (a : K.TaskState) (isomorphic : Bool) → bound ≤ t → P w → P (spawned w polled scope t a isomorphic)
-  spawned_on w polled scope t a isomorphic low h =
+  spawned_on : (w : State K) (polled : Option ℕ) (scope t : ℕ) (a : K.TaskState) (isomorphic : Bool) → bound ≤ t → may.spawnable w t scope a → P w → P (spawned w polled scope t a isomorphic)
+  spawned_on w polled scope t a isomorphic low free h =
       let row : TaskRow K = record { scope = scope; parent = polled; state = a; active = true; kind = if isomorphic then Isomorphic else ClientOnly } in
       let v : State K = record w { tasks = w.tasks ++ (t, row) ∷ [] } in
       by_test (is_live w scope)
-      (λ q. subst (λ (b : Bool). P (if b then post v (Woken t) else w)) (sym q) (law.spawns w t row q low h))
+      (λ q. subst (λ (b : Bool). P (if b then post v (Woken t) else w)) (sym q) (law.spawns w t row q low free h))
       (λ q. subst (λ (b : Bool). P (if b then post v (Woken t) else w)) (sym q) h)
 
   activated_on : (w : State K) (t : ℕ) (active : Bool) (o : Option (TaskRow K)) → at w.tasks t ≡ o → P w → P (activated w t active o)
@@ -115,7 +115,7 @@ module _ {K : Types} (app : Application K) (P Q : State K → Type 0) (bound : �
   abbrev pub Allowed : State K → ℕ → Command K → Type 0
   Allowed w s ClearErrors = MayClear (error_context w s)
   Allowed w s (RemoveFuture t) = may.endable t
-  Allowed w s (Spawn t a forever isomorphic) = bound ≤ t
+  Allowed w s (Spawn t a forever isomorphic) = (bound ≤ t) × may.spawnable w t (if forever then 0 else s) a
   Allowed w s (Write n v) = may.writable n
   Allowed w s (NewCell n v) = may.makeable n
   Allowed w s (DropCell n) = may.droppable n
@@ -136,7 +136,7 @@ module _ {K : Types} (app : Application K) (P Q : State K → Type 0) (bound : �
       either u w (is_live w s) (law.new_contexts w n (record { scope = s; target = target; sources = [] }) a p) p
   command_on w s polled (Reset n) a p = context_on w n (λ x. record x { sources = [] }) (at w.contexts n) refl a p
   command_on w s polled (ReadInto n source) a p = context_on w n (λ x. record x { sources = one_more_source x.sources source }) (at w.contexts n) refl a p
-  command_on w s polled (Spawn t b forever isomorphic) a p = spawned_on w polled (if forever then 0 else s) t b isomorphic a p
+  command_on w s polled (Spawn t b forever isomorphic) a p = spawned_on w polled (if forever then 0 else s) t b isomorphic a.0 a.1 p
   command_on w s polled (RemoveFuture t) a p = end_on w t a p
   command_on w s polled (Wake t) a p = post_on w (Woken t) p
   command_on w s polled (SetActive t active) a p = activated_on w t active (at w.tasks t) refl p

@@ -171,7 +171,7 @@ module _ {K : Types} where
               (record w { tasks = without w.tasks t; posted = drop_posted w.posted (Woken t) ++ holding w.scopes t; queued = drop_number w.queued t; scopes = released w.scopes t })
               refl refl refl (law.ends w t a h);
           spawns =
-              λ w t x live low h.
+              λ w t x live low free h.
               let v : State K = record w { tasks = w.tasks ++ (t, x) ∷ [] } in posts_keep v (post v (Woken t)) (post_posts v (Woken t)) (law.spawns w t x live low h);
           goes_on = λ w t x a e may h. law.tasks w t x (record x { state = a }) e refl h;
           suspends = λ w t x e h. law.tasks w t x (record x { kind = SuspendedTask }) e refl h;

@@ -17,8 +17,9 @@ abbrev pub Free : ℕ → Type 0
 Free n = Unit {0}
 
 -- what may be done, by number: the error of a boundary cleared, a cell made, written or dropped, a reactive context made, or read
--- into, a task polled or ended by a command, a scope handed a component or removed
-pub record Permits : Type 1 where
+-- into, a task polled or ended by a command, a scope handed a component or removed; and which task may be spawned, in which scope
+-- and with which state
+pub record Permits (K : Types) : Type 1 where
   pub clearable : ℕ → Type 0
   pub makeable : ℕ → Type 0
   pub writable : ℕ → Type 0
@@ -27,11 +28,12 @@ pub record Permits : Type 1 where
   pub readable : ℕ → Type 0
   pub pollable : ℕ → Type 0
   pub endable : ℕ → Type 0
+  pub spawnable : State K → ℕ → ℕ → K.TaskState → Type 0
   pub feedable : ℕ → Type 0
   pub removable : ℕ → Type 0
 
 -- all but clearing, ending, feeding and removing may be done freely
-abbrev pub permits : (clearable endable feedable removable : ℕ → Type 0) → Permits
+abbrev pub permits : {K : Types} → (clearable endable feedable removable : ℕ → Type 0) → Permits K
 permits clearable endable feedable removable =
     record {
       clearable = clearable;
@@ -42,6 +44,7 @@ permits clearable endable feedable removable =
       readable = Free;
       pollable = Free;
       endable = endable;
+      spawnable = λ w t s a. Unit {0};
       feedable = feedable;
       removable = removable;
     }
@@ -59,7 +62,7 @@ module _ {K : Types} where
   -- a fact of a state that each change keeps, told apart so far that a change and those who are told of it come at once: errors are
   -- cleared, cells written and dropped, tasks polled and ended, scopes handed a component and removed only where that is allowed, and
   -- tasks come from a bound on; a side that is given another tree, or is emptied, leaves what is left of the fact
-  pub record Frame (app : Application K) (P Q : State K → Type 0) (bound : ℕ) (may : Permits) : Type 0 where
+  pub record Frame (app : Application K) (P Q : State K → Type 0) (bound : ℕ) (may : Permits K) : Type 0 where
     pub low : (w : State K) → P w → bound ≤ w.next.tasks
     pub leaves : (w : State K) → P w → Q w
     -- what is owed
@@ -96,7 +99,7 @@ module _ {K : Types} where
     pub mounts : (w : State K) → P w → P (mounted_state w)
     -- tasks
     pub ends : (w : State K) (t : ℕ) → may.endable t → P w → P (record w { tasks = without w.tasks t; posted = drop_posted w.posted (Woken t) ++ holding w.scopes t; queued = drop_number w.queued t; scopes = released w.scopes t })
-    pub spawns : (w : State K) (t : ℕ) (x : TaskRow K) → is_live w x.scope ≡ true → bound ≤ t → P w → P (post (record w { tasks = w.tasks ++ (t, x) ∷ [] }) (Woken t))
+    pub spawns : (w : State K) (t : ℕ) (x : TaskRow K) → is_live w x.scope ≡ true → bound ≤ t → may.spawnable w t x.scope x.state → P w → P (post (record w { tasks = w.tasks ++ (t, x) ∷ [] }) (Woken t))
     pub goes_on : (w : State K) (t : ℕ) (x : TaskRow K) (a : K.TaskState) → at w.tasks t ≡ Some x → may.pollable t → P w → P (record w { tasks = put w.tasks t (record x { state = a }) })
     pub suspends : (w : State K) (t : ℕ) (x : TaskRow K) → at w.tasks t ≡ Some x → P w → P (record w { tasks = put w.tasks t (record x { kind = SuspendedTask }) })
     pub activates : (w : State K) (t : ℕ) (active : Bool) (x : TaskRow K) → at w.tasks t ≡ Some x → P w → P (activated w t active (Some x))

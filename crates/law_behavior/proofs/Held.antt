@@ -123,7 +123,7 @@ module _ {K : Types} where
   ends_other : (app : Application K) (b t : ℕ) (w : State K) (s : ℕ) (c : Command K) → EndsOther t c
       → Allowed app (λ w. Of b (λ x. holds x t ≡ true) w) (λ w. Of b (λ x. holds x t ≡ true) w) 0 (permits Free (λ u. Other t u) Free (λ s. Other b s)) (holders_frame app b t) w s c
   ends_other app b t w s ClearErrors h = any_clear app b t (error_context w s)
-  ends_other app b t w s (Spawn u a forever isomorphic) h = from_zero u
+  ends_other app b t w s (Spawn u a forever isomorphic) h = (from_zero u, tt)
   ends_other app b t w s (RemoveFuture u) h = h
   ends_other app b t w s (Write n v) h = tt
   ends_other app b t w s (DropCell n) h = tt

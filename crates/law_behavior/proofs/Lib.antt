@@ -19,7 +19,7 @@ pub mod Enduring
 pub mod Commanded
 pub mod Calling
 pub mod Lived
-mod Polled
+pub mod Polled
 pub mod Onwards
 pub mod Steadfast
 mod Held

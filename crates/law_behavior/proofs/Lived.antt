@@ -17,7 +17,7 @@ use Rattle.law_behavior.proofs.Frames.{Permits, Still, Called, Frame}
 use Rattle.law_behavior.proofs.Commanded.{either, post_on, tell_on, change_on, throw_on, end_on, AllAllowed, commands_on}
 use Rattle.law_behavior.proofs.Calling.{all_first, all_last, AllDraw, fresh_both, body_draws}
 
-module _ {K : Types} (app : Application K) (P Q : State K → Type 0) (bound : ℕ) (may : Permits) (law : Frame app P Q bound may) (ends : (t : ℕ) → may.endable t) (bodies : Called app P bound)
+module _ {K : Types} (app : Application K) (P Q : State K → Type 0) (bound : ℕ) (may : Permits K) (law : Frame app P Q bound may) (ends : (t : ℕ) → may.endable t) (bodies : Called app P bound)
     (Good : State K → ℕ → Option ℕ → List (Command K) → Type 0)
     (allows : (w : State K) (s : ℕ) (polled : Option ℕ) (cs : List (Command K)) → AllFresh app bound cs → Good w s polled cs → AllAllowed app P Q bound may law w s polled cs)
     (draws : AllDraw app bound) where

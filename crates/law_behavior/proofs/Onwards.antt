@@ -22,7 +22,7 @@ use Rattle.law_behavior.proofs.Calling.{AllDraw}
 use Rattle.law_behavior.proofs.Lived.{AllGood, Ends, Leaves, leaves, called, once_on, run_on, step_on, number_on, made_on, MayFeed, fed_on, removed_on}
 use Rattle.law_behavior.proofs.Polled.{looks_on, rest_on, polled_on, effects_on}
 
-module _ {K : Types} (app : Application K) (P Q : State K → Type 0) (bound : ℕ) (may : Permits) (law : Frame app P Q bound may) (ends : (t : ℕ) → may.endable t) (bodies : Called app P bound)
+module _ {K : Types} (app : Application K) (P Q : State K → Type 0) (bound : ℕ) (may : Permits K) (law : Frame app P Q bound may) (ends : (t : ℕ) → may.endable t) (bodies : Called app P bound)
     (Good : State K → ℕ → Option ℕ → List (Command K) → Type 0)
     (allows : (w : State K) (s : ℕ) (polled : Option ℕ) (cs : List (Command K)) → AllFresh app bound cs → Good w s polled cs → AllAllowed app P Q bound may law w s polled cs)
     (draws : AllDraw app bound) where

@@ -16,7 +16,7 @@ use Rattle.law_behavior.proofs.Commanded.{end_on, AllAllowed}
 use Rattle.law_behavior.proofs.Calling.{AllDraw}
 use Rattle.law_behavior.proofs.Lived.{AllGood, good_first, good_last, Ends, onward_on, changes, called, once_on, acted_on}
 
-module _ {K : Types} (app : Application K) (P Q : State K → Type 0) (bound : ℕ) (may : Permits) (law : Frame app P Q bound may) (ends : (t : ℕ) → may.endable t) (bodies : Called app P bound)
+module _ {K : Types} (app : Application K) (P Q : State K → Type 0) (bound : ℕ) (may : Permits K) (law : Frame app P Q bound may) (ends : (t : ℕ) → may.endable t) (bodies : Called app P bound)
     (Good : State K → ℕ → Option ℕ → List (Command K) → Type 0)
     (allows : (w : State K) (s : ℕ) (polled : Option ℕ) (cs : List (Command K)) → AllFresh app bound cs → Good w s polled cs → AllAllowed app P Q bound may law w s polled cs)
     (draws : AllDraw app bound) where

@@ -71,7 +71,7 @@ module _ {K : Types} (app : Application K) (P Q : State K → Type 0) (bound : �
 
   allowed_freely : (w : State K) (s : ℕ) (c : Command K) (cs : List (Command K)) → AllFresh app bound (c ∷ cs) → Allowed app P Q bound (permits Free Free feedable removable) law w s c
   allowed_freely w s ClearErrors cs f = clears_freely (error_context w s)
-  allowed_freely w s (Spawn t a forever isomorphic) cs f = f.0
+  allowed_freely w s (Spawn t a forever isomorphic) cs f = (f.0, tt)
   allowed_freely w s (RemoveFuture t) cs f = tt
   allowed_freely w s (Write n v) cs f = tt
   allowed_freely w s (NewCell n v) cs f = tt
@@ -242,7 +242,7 @@ module _ {K : Types} (b : ℕ) (first : CapturedError) where
 
     spared_command : (w : State K) (s : ℕ) (c : Command K) → ClearsOther w s b c → Allowed app (λ w. ErrorKept w) (λ w. ErrorKept w) 0 (permits (λ c. Other b c) Free Free (λ s. Other b s)) (errors_last app) w s c
     spared_command w s ClearErrors h = clears_other (error_context w s) h
-    spared_command w s (Spawn t a forever isomorphic) h = from_zero t
+    spared_command w s (Spawn t a forever isomorphic) h = (from_zero t, tt)
     spared_command w s (RemoveFuture t) h = tt
     spared_command w s (Write n v) h = tt
     spared_command w s (DropCell n) h = tt

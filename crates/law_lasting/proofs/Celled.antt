@@ -98,7 +98,7 @@ module _ {K : Types} (n : ℕ) (row : CellRow K) where
       )
 
   -- another cell may be written or dropped, another scope removed
-  abbrev leaving : Permits
+  abbrev leaving : Permits K
   leaving =
       record {
         clearable = Free;
@@ -109,6 +109,7 @@ module _ {K : Types} (n : ℕ) (row : CellRow K) where
         readable = Free;
         pollable = Free;
         endable = Free;
+        spawnable = λ w t s a. Unit {0};
         feedable = Free;
         removable = λ s. Other row.owner s;
       }
@@ -155,7 +156,7 @@ module _ {K : Types} (n : ℕ) (row : CellRow K) where
           mounts = λ w h. h;
           ends = λ w t a h. h;
           spawns =
-              λ w t x live low h.
+              λ w t x live low free h.
               let v : State K = record w { tasks = w.tasks ++ (t, x) ∷ [] } in by_cells v (post v (Woken t)) (posts_same v (post v (Woken t)) (post_posts v (Woken t))).cells h;
           goes_on = λ w t x a e may h. h;
           suspends = λ w t x e h. h;
@@ -181,7 +182,7 @@ module _ {K : Types} (n : ℕ) (row : CellRow K) where
     left_alone w s (Write c v) h = h
     left_alone w s (DropCell c) h = h
     left_alone w s ClearErrors h = may_clear (error_context w s)
-    left_alone w s (Spawn t a forever isomorphic) h = from_zero t
+    left_alone w s (Spawn t a forever isomorphic) h = (from_zero t, tt)
     left_alone w s (RemoveFuture t) h = tt
     left_alone w s (NewCell c v) h = tt
     left_alone w s (NewContext c target) h = tt

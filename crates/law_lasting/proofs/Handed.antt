@@ -27,7 +27,7 @@ module _ {K : Types} (s : ℕ) (c : VComponent K) where
   ComponentIs w = Of s Keeps w
 
   -- another scope may be fed or removed
-  abbrev leaving : Permits
+  abbrev leaving : Permits K
   leaving = permits Free Free (λ t. Other s t) (λ t. Other s t)
 
   component_bears : Bears {K = K} s Keeps Free Free (λ t. Other s t)

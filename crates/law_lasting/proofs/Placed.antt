@@ -29,7 +29,7 @@ use Rattle.law_lasting.proofs.Told.{posts_same, tell_same, look_same, calls_same
 use Rattle.law_lasting.specs.NumbersLast.{number_on, node_on, NodeStays, NumbersLast, LoggedNumbersLast}
 
 -- another scope may be removed
-abbrev others_go : ℕ → Permits
+abbrev others_go : {K : Types} → ℕ → Permits K
 others_go s = permits Free Free Free (λ t. Other s t)
 
 abbrev Numbers : Type 0
@@ -245,7 +245,7 @@ module _ {K : Types} (s : ℕ) (side : SideName) (p : Place) (k : Kind) (n : ℕ
               of_others s Has (record w { scopes = released w.scopes t }) _ refl
               (of_released s Has w t (λ x b. let y : Scope K = record x { holders = kept_by (λ d. not (nat_eq d.0 t)) x.holders } in stays x y refl refl refl b) h);
           spawns =
-              λ w t x live low h.
+              λ w t x live low free h.
               let v : State K = record w { tasks = w.tasks ++ (t, x) ∷ [] } in
               of_others s Has w (post v (Woken t)) (posts_same v (post v (Woken t)) (post_posts v (Woken t))).scopes h;
           goes_on = λ w t x a e may h. of_others s Has w _ refl h;

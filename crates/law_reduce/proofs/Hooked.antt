@@ -229,9 +229,9 @@ module _ {K : Types} (k : Keeping K.Value) (s : ℕ) (own : List ℕ) (old : Opt
           goes = λ w t free h. (one.goes w t free h.0, by_without w (gone w t) t (gone_calls w t) (λ q r. reads.goes w t free r) h.1);
           mounts = λ w h. (one.mounts w h.0, λ last is. so_far (λ r. reads.mounts w r) (h.1 last is));
           ends = λ w t a h. (one.ends w t a h.0, λ last is. so_far (λ r. reads.ends w t a r) (h.1 last is));
-          spawns = λ w t x live low h.
+          spawns = λ w t x live low free h.
               let v : State K = record w { tasks = w.tasks ++ (t, x) ∷ [] } in
-              (one.spawns w t x live low h.0, by_calls w (post v (Woken t)) (posts_calls v (post v (Woken t)) (post_posts v (Woken t))) (λ r. reads.spawns w t x live low r) h.1);
+              (one.spawns w t x live low tt h.0, by_calls w (post v (Woken t)) (posts_calls v (post v (Woken t)) (post_posts v (Woken t))) (λ r. reads.spawns w t x live low tt r) h.1);
           goes_on = λ w t x a e may h. (one.goes_on w t x a e may h.0, λ last is. so_far (λ r. reads.goes_on w t x a e may r) (h.1 last is));
           suspends = λ w t x e h. (one.suspends w t x e h.0, λ last is. so_far (λ r. reads.suspends w t x e r) (h.1 last is));
           activates = λ w t active x e h. (one.activates w t active x e h.0, by_calls w (activated w t active (Some x)) (activated_calls w t active x) (λ r. reads.activates w t active x e r) h.1);
