@@ -29,7 +29,7 @@ module _ {K : Types} (app : Application K) (P Q : State K → Type 0) (bound : �
   drop_on go w None e g h = h
   drop_on go w (Some t) e g h = g (record w { queued = drop_number w.queued t }) (law.pauses w t e h)
 
-  drops_on : (qs : List ℕ) (w : State K) → P w → P (drops qs w)
+  pub drops_on : (qs : List ℕ) (w : State K) → P w → P (drops qs w)
   drops_on [] w h = h
   drops_on (q ∷ qs) w h = drop_on (λ v. drops qs v) w (paused w (found w)) refl (λ v p. drops_on qs v p) h
 
@@ -43,7 +43,7 @@ module _ {K : Types} (app : Application K) (P Q : State K → Type 0) (bound : �
 
   -- polls and effects
 
-  poll_left : (w : State K) (t : ℕ) (x : TaskRow K) (m : Meaning K (TaskStep K)) (step : TaskStep K) → at w.tasks t ≡ Some x → AllFresh app bound m.commands
+  pub poll_left : (w : State K) (t : ℕ) (x : TaskRow K) (m : Meaning K (TaskStep K)) (step : TaskStep K) → at w.tasks t ≡ Some x → AllFresh app bound m.commands
       → may.pollable t
       → Good (poll_finds w t x step) x.scope (Some t) m.commands
       → P w

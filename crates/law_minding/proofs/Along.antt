@@ -33,7 +33,8 @@ use Rattle.law_minding.proofs.Minding.{agree, begun_anew, none_owes_poll}
 use Rattle.law_minding.proofs.Values.{apart}
 use Rattle.law_minding.proofs.Entries.{removes, polls_it}
 use Rattle.law_minding.proofs.Since.{sees, Minding, Here, Minded}
-use Rattle.law_minding.proofs.Moved.{Leaves, MoveLeaves, move_minds}
+use Rattle.law_minding.proofs.Leaving.{Leaves, MoveLeaves}
+use Rattle.law_minding.proofs.Moved.{move_minds}
 use Rattle.law_minding.proofs.Numbers.{NewFrom, AllNew, move_new, move_rises}
 use Rattle.law_minding.proofs.Ending.{goes_with_scope}
 use Rattle.law_minding.proofs.Fitting.{HeldFor}
@@ -53,7 +54,7 @@ module _
     MindedAt v =
         Minded h.last t stage.context cell scope stage.held (state h.place) true stage.reads stage.target stage.home v.state
 
-    onward : Rises m.state.next u.state.next → MindedAt u → Stands h u
+    pub onward : Rises m.state.next u.state.next → MindedAt u → Stands h u
     onward rises minded =
         record {
           context = stage.context;
@@ -72,7 +73,7 @@ module _
 
     abbrev LeavesIt : Command K → Type 0
     LeavesIt c =
-        Leaves h.last t stage.context cell scope stage.held (state h.place) true stage.reads stage.target stage.home app lawful.tests_values c
+        Leaves h.last t stage.context cell scope stage.held true c
 
     other_number : (n : ℕ) → OtherThan (context_of h.place) n → nat_eq n stage.context ≡ false
     other_number n s = subst (λ (o : Option ℕ). OtherThan o n) stage.fits.its s
@@ -89,13 +90,13 @@ module _
     leaves_it (NewCell n v) s k = k
     leaves_it c s k = tt
 
-    all_leave : (cs : List (Command K)) → AllByRecursion (λ (c : Command K). Spares h.place c) cs
+    pub all_leave : (cs : List (Command K)) → AllByRecursion (λ (c : Command K). Spares h.place c) cs
         → AllNew {K = K} h.last.given.next.cells (stage.context + 1) cs
         → AllByRecursion (λ (c : Command K). LeavesIt c) cs
     all_leave [] s k = tt
     all_leave (c ∷ cs) s k = (leaves_it c s.0 k.0, all_leave cs s.1 k.1)
 
-    deeds_leave : (ds : List (Deed K)) → AllByRecursion (λ (d : Deed K). AllByRecursion (λ (c : Command K). Spares h.place c) d.wants) ds
+    pub deeds_leave : (ds : List (Deed K)) → AllByRecursion (λ (d : Deed K). AllByRecursion (λ (c : Command K). Spares h.place c) d.wants) ds
         → AllByRecursion (λ (d : Deed K). AllNew {K = K} h.last.given.next.cells (stage.context + 1) d.wants) ds
         → AllByRecursion (λ (d : Deed K). AllByRecursion (λ (c : Command K). LeavesIt c) d.wants) ds
     deeds_leave [] s k = tt
@@ -117,7 +118,7 @@ module _
       owner_stays : move_removes stage.held.owner move ≡ false
       owner_stays = ap (λ (k : ℕ). move_removes k move) stage.owner_is ∙ (spares none).2
 
-      by_frame : MoveLeaves h.last t stage.context cell scope stage.held (state h.place) true stage.reads stage.target stage.home app lawful.tests_values m.inputs move
+      by_frame : MoveLeaves h.last t stage.context cell scope stage.held true m.inputs move
           → Stands h u
       by_frame leaves =
           onward rises

@@ -1,4 +1,4 @@
--- The contexts that the calls of a move make have numbers below the next one behind it.
+-- What the calls of a move make has numbers below the next one behind it.
 use Rattle.std.proofs.Common.{ℕ, ◌+◌, ◌≤◌, Bool, true, false, not, List, [], ◌∷◌, ◌++◌, ◌≡◌, refl, sym, ap, ◌∙◌, subst, nat_eq, arith}
 use Rattle.std.specs.Prelude.{Option, Some, None, if◌then◌else◌}
 use Rattle.rt_model.specs.Lists.{at, put}
@@ -22,40 +22,41 @@ use Rattle.rt_model.proofs.StepFrames.{look_same, gone_same}
 use Rattle.law_moves.specs.Moves.{Move, Silent, Closed, Logged, Moves}
 use Rattle.law_moves.proofs.Insides.{live_due, made_due, fed_due, fed_change}
 use Rattle.law_behavior.specs.Deeds.{Deed, deeds_on, effect_deeds, after_deeds, run_deeds, callback_deeds, row_deeds, clean_deeds, removed_deeds, batch_deeds, poll_finds, poll_deeds, heard_deeds, first_deeds, item_deeds, work_deeds, entry_deeds, move_deeds}
+use Rattle.law_minding.proofs.Counting.{Counting}
 use Rattle.law_minding.proofs.Under.{AllLow, AllUnder, Ends, EndsO, low_both, under_both, numbered_low, first_ends, then_under, acted_under, after_under, body_under, run_under}
 
-module _ {K : Types} (bound : ℕ) (app : Application K) (lawful : IsLawful K app) where
+module _ {K : Types} (tally : Counting K) (bound : ℕ) (app : Application K) (lawful : IsLawful K app) where
   -- after the commands of a call the next number is that of the call
-  commands_next : (w : State K) (s : ℕ) (polled : Option ℕ) (cs : List (Command K)) → (commands app w s polled cs).next.contexts ≡ w.next.contexts
-  commands_next w s polled cs = ap (λ (f : Firsts). f.contexts) (commands_same app 0 w s polled cs (all_fresh app cs)).next
+  commands_next : (w : State K) (s : ℕ) (polled : Option ℕ) (cs : List (Command K)) → tally.count (commands app w s polled cs).next ≡ tally.count w.next
+  commands_next w s polled cs = ap (λ (f : Firsts). tally.count f) (commands_same app 0 w s polled cs (all_fresh app cs)).next
 
-  look_next : (w : State K) → (look w).next.contexts ≡ w.next.contexts
-  look_next w = ap (λ (f : Firsts). f.contexts) (look_same 0 w).next
+  look_next : (w : State K) → tally.count (look w).next ≡ tally.count w.next
+  look_next w = ap (λ (f : Firsts). tally.count f) (look_same 0 w).next
 
-  callbacks_under : (w : State K) (es : List (ℕ × K.Effect)) → EndsO bound (called_back app w es) → AllUnder bound (callback_deeds app w es)
+  callbacks_under : (w : State K) (es : List (ℕ × K.Effect)) → EndsO tally bound (called_back app w es) → AllUnder tally bound (callback_deeds app w es)
   callbacks_under w [] l = tt
   callbacks_under w (e ∷ es) l = by (is_live w e.0) (λ v k. callbacks_under v es k) l
     where
       by : (b : Bool)
-          → ((v : State K) → EndsO bound (called_back app v es) → AllUnder bound (callback_deeds app v es))
-          → EndsO bound (if b then onward (acted app w e.0 e.1 false) (λ v. called_back app v es) else called_back app w es)
-          → AllUnder bound (if b then effect_deeds app w e.0 e.1 false ++ deeds_on (acted app w e.0 e.1 false) (λ v. callback_deeds app v es) else callback_deeds app w es)
+          → ((v : State K) → EndsO tally bound (called_back app v es) → AllUnder tally bound (callback_deeds app v es))
+          → EndsO tally bound (if b then onward (acted app w e.0 e.1 false) (λ v. called_back app v es) else called_back app w es)
+          → AllUnder tally bound (if b then effect_deeds app w e.0 e.1 false ++ deeds_on (acted app w e.0 e.1 false) (λ v. callback_deeds app v es) else callback_deeds app w es)
       by true go g =
-          under_both bound (effect_deeds app w e.0 e.1 false) (deeds_on (acted app w e.0 e.1 false) (λ v. callback_deeds app v es))
-          (acted_under bound app lawful w e.0 e.1 false (first_ends bound (acted app w e.0 e.1 false) (λ v. called_back app v es) (λ v. called_back_later app lawful v es) g))
-          (then_under bound (acted app w e.0 e.1 false) (λ v. called_back app v es) (λ v. callback_deeds app v es) go g)
+          under_both tally bound (effect_deeds app w e.0 e.1 false) (deeds_on (acted app w e.0 e.1 false) (λ v. callback_deeds app v es))
+          (acted_under tally bound app lawful w e.0 e.1 false (first_ends tally bound (acted app w e.0 e.1 false) (λ v. called_back app v es) (λ v. called_back_later app lawful v es) g))
+          (then_under tally bound (acted app w e.0 e.1 false) (λ v. called_back app v es) (λ v. callback_deeds app v es) go g)
       by false go g = go w g
 
-  row_under : (w : State K) (b : ℕ) (x : Scope K) (step : RowStep) → EndsO bound (row_step app w b x step) → AllUnder bound (row_deeds app w b x step)
+  row_under : (w : State K) (b : ℕ) (x : Scope K) (step : RowStep) → EndsO tally bound (row_step app w b x step) → AllUnder tally bound (row_deeds app w b x step)
   row_under w b x RunFallback l =
-      body_under bound app lawful w b x.component (λ v answer. fallback_answered app v b x.component answer)
+      body_under tally bound app lawful w b x.component (λ v answer. fallback_answered app v b x.component answer)
       (λ v answer. deeds_on (counted_render app v b (counts_render x.component answer)) (λ u. after_deeds app u b))
       (λ v answer. onward_later v (counted v answer) (λ u. start_agenda app u b FallbackSide (tree_or_placeholder answer)) (counted_on v answer) (λ u. agenda_later app lawful u b FallbackSide (tree_or_placeholder answer)))
       (
       λ v answer k.
-      then_under bound (counted_render app v b (counts_render x.component answer)) (λ u. after_hooks app u b) (λ u. after_deeds app u b)
-      (λ u j. after_under bound app lawful u b j)
-      (first_ends bound (counted v answer) (λ u. start_agenda app u b FallbackSide (tree_or_placeholder answer)) (λ u. agenda_later app lawful u b FallbackSide (tree_or_placeholder answer)) k)
+      then_under tally bound (counted_render app v b (counts_render x.component answer)) (λ u. after_hooks app u b) (λ u. after_deeds app u b)
+      (λ u j. after_under tally bound app lawful u b j)
+      (first_ends tally bound (counted v answer) (λ u. start_agenda app u b FallbackSide (tree_or_placeholder answer)) (λ u. agenda_later app lawful u b FallbackSide (tree_or_placeholder answer)) k)
       )
       l
     where
@@ -73,33 +74,33 @@ module _ {K : Types} (bound : ℕ) (app : Application K) (lawful : IsLawful K ap
   row_under w b x ShowChildren l = tt
   row_under w b x DropFallback l = tt
 
-  cleaned_rises : (s : ℕ) (es : List K.Effect) (w : State K) (waits : List (Command K)) → w.next.contexts ≤ (state_of (cleaned app s es w waits)).next.contexts
+  cleaned_rises : (s : ℕ) (es : List K.Effect) (w : State K) (waits : List (Command K)) → tally.count w.next ≤ tally.count (state_of (cleaned app s es w waits)).next
   cleaned_rises s [] w waits =
-      let same : (commands app (gone w s) s None waits).next.contexts ≡ (gone w s).next.contexts = commands_next (gone w s) s None waits in
-      let before : (gone w s).next.contexts ≡ w.next.contexts = ap (λ (f : Firsts). f.contexts) (gone_same 0 w s).next in
+      let same : tally.count (commands app (gone w s) s None waits).next ≡ tally.count (gone w s).next = commands_next (gone w s) s None waits in
+      let before : tally.count (gone w s).next ≡ tally.count w.next = ap (λ (f : Firsts). tally.count f) (gone_same 0 w s).next in
       omega (arith, same, before)
   cleaned_rises s (e ∷ es) w waits = by m.fault (λ v cs. cleaned_rises s es v cs)
     where
       m : Meaning K Nothing
       m = app.effect e (world_of w s None true)
 
-      rises : w.next.contexts ≤ m.next.contexts
-      rises = (numbered_rises w.next m.commands m.next (lawful.effects_number e (world_of w s None true))).contexts
+      rises : tally.count w.next ≤ tally.count m.next
+      rises = tally.rises w.next m.next (numbered_rises w.next m.commands m.next (lawful.effects_number e (world_of w s None true)))
 
       by : (o : Option CallFault)
-          → ((v : State K) (cs : List (Command K)) → v.next.contexts ≤ (state_of (cleaned app s es v cs)).next.contexts)
-          → w.next.contexts
-          ≤ (state_of (elim o as (λ z. Outcome K) [
+          → ((v : State K) (cs : List (Command K)) → tally.count v.next ≤ tally.count (state_of (cleaned app s es v cs)).next)
+          → tally.count w.next
+          ≤ tally.count (state_of (elim o as (λ z. Outcome K) [
             | None ↦ cleaned app s es (with_next (called_once w) m.next) (waits ++ m.commands)
             | Some f ↦ Cut (with_next (called_once w) m.next) (fault_of f)
-          ])).next.contexts
+          ])).next
       by None go =
-          let more : m.next.contexts ≤ (state_of (cleaned app s es (with_next (called_once w) m.next) (waits ++ m.commands))).next.contexts =
+          let more : tally.count m.next ≤ tally.count (state_of (cleaned app s es (with_next (called_once w) m.next) (waits ++ m.commands))).next =
           go (with_next (called_once w) m.next) (waits ++ m.commands) in
           omega (arith, rises, more)
       by (Some f) go = rises
 
-  clean_under : (s : ℕ) (es : List K.Effect) (w : State K) (waits : List (Command K)) → AllLow bound waits → EndsO bound (cleaned app s es w waits) → AllUnder bound (clean_deeds app s es w waits)
+  clean_under : (s : ℕ) (es : List K.Effect) (w : State K) (waits : List (Command K)) → AllLow tally bound waits → EndsO tally bound (cleaned app s es w waits) → AllUnder tally bound (clean_deeds app s es w waits)
   clean_under s [] w waits h l = (h, tt)
   clean_under s (e ∷ es) w waits h l = by m.fault (λ v cs f k. clean_under s es v cs f k) l
     where
@@ -107,22 +108,22 @@ module _ {K : Types} (bound : ℕ) (app : Application K) (lawful : IsLawful K ap
       m = app.effect e (world_of w s None true)
 
       by : (o : Option CallFault)
-          → ((v : State K) (cs : List (Command K)) → AllLow bound cs → EndsO bound (cleaned app s es v cs) → AllUnder bound (clean_deeds app s es v cs))
-          → EndsO bound (elim o as (λ z. Outcome K) [
+          → ((v : State K) (cs : List (Command K)) → AllLow tally bound cs → EndsO tally bound (cleaned app s es v cs) → AllUnder tally bound (clean_deeds app s es v cs))
+          → EndsO tally bound (elim o as (λ z. Outcome K) [
             | None ↦ cleaned app s es (with_next (called_once w) m.next) (waits ++ m.commands)
             | Some f ↦ Cut (with_next (called_once w) m.next) (fault_of f)
           ])
-          → AllUnder bound (elim o as (λ z. List (Deed K)) [ None ↦ clean_deeds app s es (with_next (called_once w) m.next) (waits ++ m.commands) | Some f ↦ [] ])
+          → AllUnder tally bound (elim o as (λ z. List (Deed K)) [ None ↦ clean_deeds app s es (with_next (called_once w) m.next) (waits ++ m.commands) | Some f ↦ [] ])
       by None go k =
           let more = cleaned_rises s es (with_next (called_once w) m.next) (waits ++ m.commands) in
-          let end : (state_of (cleaned app s es (with_next (called_once w) m.next) (waits ++ m.commands))).next.contexts ≤ bound = k in
-          let low : m.next.contexts ≤ bound = omega (arith, more, end) in
+          let end : tally.count (state_of (cleaned app s es (with_next (called_once w) m.next) (waits ++ m.commands))).next ≤ bound = k in
+          let low : tally.count m.next ≤ bound = omega (arith, more, end) in
           go (with_next (called_once w) m.next) (waits ++ m.commands)
-          (low_both bound waits m.commands h (numbered_low bound w.next m.commands m.next (lawful.effects_number e (world_of w s None true)) low))
+          (low_both tally bound waits m.commands h (numbered_low tally bound w.next m.commands m.next (lawful.effects_number e (world_of w s None true)) low))
           k
       by (Some f) go k = tt
 
-  removed_under : (w : State K) (s : ℕ) → EndsO bound (removed app w s) → AllUnder bound (removed_deeds app w s)
+  removed_under : (w : State K) (s : ℕ) → EndsO tally bound (removed app w s) → AllUnder tally bound (removed_deeds app w s)
   removed_under w s l = clean_under s (clean_ups (hooks_of (stopped w s) s) []) (stopped w s) [] tt l
 
   batch_later : (w : State K) (s : ℕ) (es : List K.Effect) → LaterO w (batch_then app (λ v. look v) w s es)
@@ -130,23 +131,23 @@ module _ {K : Types} (bound : ℕ) (app : Application K) (lawful : IsLawful K ap
   batch_later w s (e ∷ es) =
       onward_later w (acted app w s e false) (λ v. batch_then app (λ u. look u) v s es) (acted_later app lawful w s e false) (λ v. batch_later v s es)
 
-  batch_under : (w : State K) (s : ℕ) (es : List K.Effect) → EndsO bound (batch_then app (λ v. look v) w s es) → AllUnder bound (batch_deeds app w s es)
+  batch_under : (w : State K) (s : ℕ) (es : List K.Effect) → EndsO tally bound (batch_then app (λ v. look v) w s es) → AllUnder tally bound (batch_deeds app w s es)
   batch_under w s [] l = tt
   batch_under w s (e ∷ es) l =
-      under_both bound (effect_deeds app w s e false) (deeds_on (acted app w s e false) (λ v. batch_deeds app v s es))
-      (acted_under bound app lawful w s e false (first_ends bound (acted app w s e false) (λ v. batch_then app (λ u. look u) v s es) (λ v. batch_later v s es) l))
-      (then_under bound (acted app w s e false) (λ v. batch_then app (λ u. look u) v s es) (λ v. batch_deeds app v s es) (λ v k. batch_under v s es k) l)
+      under_both tally bound (effect_deeds app w s e false) (deeds_on (acted app w s e false) (λ v. batch_deeds app v s es))
+      (acted_under tally bound app lawful w s e false (first_ends tally bound (acted app w s e false) (λ v. batch_then app (λ u. look u) v s es) (λ v. batch_later v s es) l))
+      (then_under tally bound (acted app w s e false) (λ v. batch_then app (λ u. look u) v s es) (λ v. batch_deeds app v s es) (λ v k. batch_under v s es k) l)
 
   -- a poll leaves the next number of its call
-  poll_next : (w : State K) (t : ℕ) (x : TaskRow K) (m : Meaning K (TaskStep K)) (step : TaskStep K) → (polled_to app w t x m step).next.contexts ≡ w.next.contexts
+  poll_next : (w : State K) (t : ℕ) (x : TaskRow K) (m : Meaning K (TaskStep K)) (step : TaskStep K) → tally.count (polled_to app w t x m step).next ≡ tally.count w.next
   poll_next w t x m (pending a) =
       look_next (left_by_poll app w t x m (pending a)) ∙ commands_next (record w { tasks = put w.tasks t (record x { state = a }) }) x.scope (Some t) m.commands
   poll_next w t x m ready =
       look_next (left_by_poll app w t x m ready)
-      ∙ ap (λ (f : Firsts). f.contexts) (end_same 0 (commands app w x.scope (Some t) m.commands) t).next
+      ∙ ap (λ (f : Firsts). tally.count f) (end_same 0 (commands app w x.scope (Some t) m.commands) t).next
       ∙ commands_next w x.scope (Some t) m.commands
 
-  poll_under : (w : State K) (t : ℕ) (o : Option (TaskRow K)) → EndsO bound (polled_at app w t o) → AllUnder bound (poll_deeds app w t o)
+  poll_under : (w : State K) (t : ℕ) (o : Option (TaskRow K)) → EndsO tally bound (polled_at app w t o) → AllUnder tally bound (poll_deeds app w t o)
   poll_under w t None l = tt
   poll_under w t (Some x) l = by m.fault l
     where
@@ -157,23 +158,23 @@ module _ {K : Types} (bound : ℕ) (app : Application K) (lawful : IsLawful K ap
       v = with_next (called_once w) m.next
 
       by : (o : Option CallFault)
-          → EndsO bound (elim o as (λ z. Outcome K) [ None ↦ Done (polled_to app v t x m m.answer) [] | Some f ↦ Cut v (fault_of f) ])
-          → AllUnder bound (elim o as (λ z. List (Deed K)) [
+          → EndsO tally bound (elim o as (λ z. Outcome K) [ None ↦ Done (polled_to app v t x m m.answer) [] | Some f ↦ Cut v (fault_of f) ])
+          → AllUnder tally bound (elim o as (λ z. List (Deed K)) [
             | None ↦ record { state = poll_finds v t x m.answer; scope = x.scope; polled = Some t; wants = m.commands } ∷ []
             | Some f ↦ []
           ])
       by None k =
-          let same : (polled_to app v t x m m.answer).next.contexts ≡ m.next.contexts = poll_next v t x m m.answer in
-          let end : (polled_to app v t x m m.answer).next.contexts ≤ bound = k in
-          let low : m.next.contexts ≤ bound = omega (arith, same, end) in
-          (numbered_low bound w.next m.commands m.next (lawful.polls_number x.state (world_of w x.scope (Some t) false)) low, tt)
+          let same : tally.count (polled_to app v t x m m.answer).next ≡ tally.count m.next = poll_next v t x m m.answer in
+          let end : tally.count (polled_to app v t x m m.answer).next ≤ bound = k in
+          let low : tally.count m.next ≤ bound = omega (arith, same, end) in
+          (numbered_low tally bound w.next m.commands m.next (lawful.polls_number x.state (world_of w x.scope (Some t) false)) low, tt)
       by (Some f) k = tt
 
-  quiet_next : (m : Machine K) (ls : List (Listener K)) → (looked_where_quiet m ls).state.next.contexts ≡ m.state.next.contexts
+  quiet_next : (m : Machine K) (ls : List (Listener K)) → tally.count (looked_where_quiet m ls).state.next ≡ tally.count m.state.next
   quiet_next m [] = look_next m.state
   quiet_next m (l ∷ ls) = refl
 
-  heard_under : (m : Machine K) (l : Listener K) (ls : List (Listener K)) (o : Option (Event K)) → Ends bound (heard_event app m l ls o).state → AllUnder bound (heard_deeds app m.state l o)
+  heard_under : (m : Machine K) (l : Listener K) (ls : List (Listener K)) (o : Option (Event K)) → Ends tally bound (heard_event app m l ls o).state → AllUnder tally bound (heard_deeds app m.state l o)
   heard_under m l ls None k = tt
   heard_under m l ls (Some event) k = by meaning.fault k
     where
@@ -196,56 +197,56 @@ module _ {K : Types} (bound : ℕ) (app : Application K) (lawful : IsLawful K ap
       faulted f = record m { state = v; listeners = ls; dead = Some (fault_of f); refused = None }
 
       by : (o : Option CallFault)
-          → Ends bound (elim o as (λ z. Machine K) [ None ↦ then_looked after | Some f ↦ faulted f ]).state
-          → AllUnder bound (elim o as (λ z. List (Deed K)) [
+          → Ends tally bound (elim o as (λ z. Machine K) [ None ↦ then_looked after | Some f ↦ faulted f ]).state
+          → AllUnder tally bound (elim o as (λ z. List (Deed K)) [
             | None ↦ record { state = v; scope = l.origin; polled = None; wants = meaning.commands } ∷ []
             | Some f ↦ []
           ])
       by None g =
-          let same : (then_looked after).state.next.contexts ≡ after.state.next.contexts = quiet_next after (waiting after) in
-          let done_next : after.state.next.contexts ≡ meaning.next.contexts = commands_next v l.origin None meaning.commands in
-          let end : (then_looked after).state.next.contexts ≤ bound = g in
-          let low : meaning.next.contexts ≤ bound = omega (arith, same, done_next, end) in
-          (numbered_low bound m.state.next meaning.commands meaning.next (lawful.handlers_number l.handler event (world_of m.state l.origin None false)) low, tt)
+          let same : tally.count (then_looked after).state.next ≡ tally.count after.state.next = quiet_next after (waiting after) in
+          let done_next : tally.count after.state.next ≡ tally.count meaning.next = commands_next v l.origin None meaning.commands in
+          let end : tally.count (then_looked after).state.next ≤ bound = g in
+          let low : tally.count meaning.next ≤ bound = omega (arith, same, done_next, end) in
+          (numbered_low tally bound m.state.next meaning.commands meaning.next (lawful.handlers_number l.handler event (world_of m.state l.origin None false)) low, tt)
       by (Some f) g = tt
 
-  first_under : (m : Machine K) (ls : List (Listener K)) → Ends bound (heard_first app m ls).state → AllUnder bound (first_deeds app m ls)
+  first_under : (m : Machine K) (ls : List (Listener K)) → Ends tally bound (heard_first app m ls).state → AllUnder tally bound (first_deeds app m ls)
   first_under m [] k = tt
   first_under m (l ∷ ls) k = heard_under m l ls m.event k
 
-  item_under : (w : State K) (item : Item K) → EndsO bound (outcome_of app w item) → AllUnder bound (item_deeds app w item)
+  item_under : (w : State K) (item : Item K) → EndsO tally bound (outcome_of app w item) → AllUnder tally bound (item_deeds app w item)
   item_under w (Draw s side p k) l = tt
   item_under w (Row b step) l = by (at w.scopes b) l
     where
-      by : (o : Option (Scope K)) → EndsO bound (elim o as (λ z. Outcome K) [ None ↦ Done w [] | Some x ↦ row_step app w b x step ])
-          → AllUnder bound (elim o as (λ z. List (Deed K)) [ None ↦ [] | Some x ↦ row_deeds app w b x step ])
+      by : (o : Option (Scope K)) → EndsO tally bound (elim o as (λ z. Outcome K) [ None ↦ Done w [] | Some x ↦ row_step app w b x step ])
+          → AllUnder tally bound (elim o as (λ z. List (Deed K)) [ None ↦ [] | Some x ↦ row_deeds app w b x step ])
       by None k = tt
       by (Some x) k = row_under w b x step k
   item_under w (Feed s side p c) l = by (fed_child w s side p) l
     where
-      fed : (t : ℕ) (b : Bool) → EndsO bound (if b then Done (with_props app w t c) [] else run app (with_props app w t c) t)
-          → AllUnder bound (if b then [] else run_deeds app (with_props app w t c) t)
+      fed : (t : ℕ) (b : Bool) → EndsO tally bound (if b then Done (with_props app w t c) [] else run app (with_props app w t c) t)
+          → AllUnder tally bound (if b then [] else run_deeds app (with_props app w t c) t)
       fed t true k = tt
-      fed t false k = run_under bound app lawful (with_props app w t c) t k
+      fed t false k = run_under tally bound app lawful (with_props app w t c) t k
 
       by : (o : Option ℕ)
-          → EndsO bound (elim o as (λ z. Outcome K) [
+          → EndsO tally bound (elim o as (λ z. Outcome K) [
             | None ↦ Done w []
             | Some t ↦ if keeps app w t c then Done (with_props app w t c) [] else run app (with_props app w t c) t
           ])
-          → AllUnder bound (elim o as (λ z. List (Deed K)) [ None ↦ [] | Some t ↦ if keeps app w t c then [] else run_deeds app (with_props app w t c) t ])
+          → AllUnder tally bound (elim o as (λ z. List (Deed K)) [ None ↦ [] | Some t ↦ if keeps app w t c then [] else run_deeds app (with_props app w t c) t ])
       by None k = tt
       by (Some t) k = fed t (keeps app w t c) k
   item_under w (Make s side p c) l = by (at w.scopes s) l
     where
       makes : (x : Scope K) (b : Bool)
-          → EndsO bound (if b then Cut w (IdsExhausted Scopes) else run app (with_new_scope w s side p c x) w.next_scope)
-          → AllUnder bound (if b then [] else run_deeds app (with_new_scope w s side p c x) w.next_scope)
+          → EndsO tally bound (if b then Cut w (IdsExhausted Scopes) else run app (with_new_scope w s side p c x) w.next_scope)
+          → AllUnder tally bound (if b then [] else run_deeds app (with_new_scope w s side p c x) w.next_scope)
       makes x true k = tt
-      makes x false k = run_under bound app lawful (with_new_scope w s side p c x) w.next_scope k
+      makes x false k = run_under tally bound app lawful (with_new_scope w s side p c x) w.next_scope k
 
-      by : (o : Option (Scope K)) → EndsO bound (elim o as (λ z. Outcome K) [ None ↦ Done w [] | Some x ↦ made_in app w s side p c x ])
-          → AllUnder bound (elim o as (λ z. List (Deed K)) [
+      by : (o : Option (Scope K)) → EndsO tally bound (elim o as (λ z. Outcome K) [ None ↦ Done w [] | Some x ↦ made_in app w s side p c x ])
+          → AllUnder tally bound (elim o as (λ z. List (Deed K)) [
             | None ↦ []
             | Some x ↦ if at_end w.next_scope then [] else run_deeds app (with_new_scope w s side p c x) w.next_scope
           ])
@@ -253,20 +254,20 @@ module _ {K : Types} (bound : ℕ) (app : Application K) (lawful : IsLawful K ap
       by (Some x) k = makes x (at_end w.next_scope) k
   item_under w (Drop t s side) l = tt
 
-  ended_ends : (m : Machine K) (item : Option (Item K)) (rest : List (Item K)) (o : Outcome K) → Ends bound (ended_by m item rest o).state → EndsO bound o
+  ended_ends : (m : Machine K) (item : Option (Item K)) (rest : List (Item K)) (o : Outcome K) → Ends tally bound (ended_by m item rest o).state → EndsO tally bound o
   ended_ends m item rest (Done v work) k = k
   ended_ends m item rest (Cut v fault) k = k
 
   -- entries, by what is due
 
   abbrev After : Machine K → Entry → Machine K → Type 0
-  After m e u = Ends bound u.state → AllUnder bound (entry_deeds app m e)
+  After m e u = Ends tally bound u.state → AllUnder tally bound (entry_deeds app m e)
 
   owed_by : (m : Machine K) (work : Option Work) (e : Entry) → if_live m.state (due_work app m work m.inputs) ≡ Some e → After m e (change_by app m [] e)
   owed_by m (Some (RerunScope r)) e due_is =
       let same : e ≡ Rerun r = (live_due app m.state (Rerun r) e due_is).0 in
       subst (λ (x : Entry). After m x (change_by app m [] x)) (sym same)
-      (λ k. run_under bound app lawful (at_rest m.state) r (ended_ends (one_more_unit (rested app m)) None [] (run app (at_rest m.state) r) k))
+      (λ k. run_under tally bound app lawful (at_rest m.state) r (ended_ends (one_more_unit (rested app m)) None [] (run app (at_rest m.state) r) k))
   owed_by m (Some (PollTask r)) e due_is =
       let same : e ≡ Poll r = (live_due app m.state (Poll r) e due_is).0 in
       subst (λ (x : Entry). After m x (change_by app m [] x)) (sym same)
@@ -304,9 +305,9 @@ module _ {K : Types} (bound : ℕ) (app : Application K) (lawful : IsLawful K ap
   feed_same m t true = refl
   feed_same m t false = refl
 
-  by_work : (m : Machine K) (item : Item K) (rest : List (Item K)) → m.work ≡ item ∷ rest → EndsO bound (outcome_of app m.state item) → AllUnder bound (work_deeds app m.state m.work)
+  by_work : (m : Machine K) (item : Item K) (rest : List (Item K)) → m.work ≡ item ∷ rest → EndsO tally bound (outcome_of app m.state item) → AllUnder tally bound (work_deeds app m.state m.work)
   by_work m item rest first l =
-      subst (λ (items : List (Item K)). AllUnder bound (work_deeds app m.state items)) (sym first) (item_under m.state item l)
+      subst (λ (items : List (Item K)). AllUnder tally bound (work_deeds app m.state items)) (sym first) (item_under m.state item l)
 
   dropped_by : (m : Machine K) (r child parent : ℕ) (side : SideName) (rest : List (Item K)) (b : Bool)
       → After m (Removed r)
@@ -331,7 +332,7 @@ module _ {K : Types} (bound : ℕ) (app : Application K) (lawful : IsLawful K ap
       (subst (λ (x : Machine K). After m (if b then Kept t else Fed t) x) (sym (fed_change app m s side p c rest t b))
       (
       λ k.
-      subst (λ (ds : List (Deed K)). AllUnder bound ds) (sym (feed_same m t b))
+      subst (λ (ds : List (Deed K)). AllUnder tally bound ds) (sym (feed_same m t b))
       (by_work m (Feed s side p c) rest first (ended_ends m (Some (Feed s side p c)) rest (outcome_of app m.state (Feed s side p c)) k))
       ))
   item_by m (Drop child parent side ∷ rest) e first due_is =
@@ -342,7 +343,7 @@ module _ {K : Types} (bound : ℕ) (app : Application K) (lawful : IsLawful K ap
   build_by : (m : Machine K) (work : List (Item K)) → After m Build (change_by app m work Build)
   build_by m work =
       subst (λ (x : Machine K). After m Build x) (sym (is work))
-      (λ k. run_under bound app lawful m.state 0 (ended_ends (record m { built = true; unit = true }) None [] (run app m.state 0) k))
+      (λ k. run_under tally bound app lawful m.state 0 (ended_ends (record m { built = true; unit = true }) None [] (run app m.state 0) k))
     where
       is : (items : List (Item K)) → change_by app m items Build ≡ ended_by (record m { built = true; unit = true }) None [] (run app m.state 0)
       is [] = refl
@@ -367,9 +368,9 @@ module _ {K : Types} (bound : ℕ) (app : Application K) (lawful : IsLawful K ap
       by (Some fault) h = cc
 
   -- so it is of each move
-  pub move_under : (limits : Limits) (m u : Machine K) (move : Move) → Moves app limits m move u → Ends bound u.state → AllUnder bound (move_deeds app m move)
+  pub move_under : (limits : Limits) (m u : Machine K) (move : Move) → Moves app limits m move u → Ends tally bound u.state → AllUnder tally bound (move_deeds app m move)
   move_under limits m u Silent step k =
       by_work m step.item step.later step.next
-      (ended_ends m (Some step.item) step.later (outcome_of app m.state step.item) (subst (λ (x : Machine K). Ends bound x.state) step.gives k))
+      (ended_ends m (Some step.item) step.later (outcome_of app m.state step.item) (subst (λ (x : Machine K). Ends tally bound x.state) step.gives k))
   move_under limits m u Closed step k = tt
-  move_under limits m u (Logged e) step k = logged_by m e step.due_is (subst (λ (x : Machine K). Ends bound x.state) step.gives k)
+  move_under limits m u (Logged e) step k = logged_by m e step.due_is (subst (λ (x : Machine K). Ends tally bound x.state) step.gives k)

@@ -32,7 +32,7 @@ abbrev Never : ℕ → Type 0
 Never n = ⊥
 
 -- no scope may be removed
-abbrev none_goes : Permits
+abbrev none_goes : {K : Types} → Permits K
 none_goes = permits Free Free Free Never
 
 module _ {K : Types} where

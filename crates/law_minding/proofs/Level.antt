@@ -114,6 +114,35 @@ module _ {K : Types} {F : Type 0} (a : Formulas K F) (app : Application K) (lawf
       alive
       (level_next props inputs m u move leads.1 reached living lives level.drawn h level)
 
+-- after the first poll and the moves behind it
+pub first_level : {K : Types} {F : Type 0} (a : Formulas K F) (app : Application K) (lawful : IsLawful K app) (limits : Limits) (t scope : ℕ)
+    → (props : K.Props) (inputs : List (Input K)) (m v : Machine K) (moves : List Move) (leads : Leads app limits m (Logged (Poll t) ∷ moves) v)
+    → Reached app limits props inputs m
+    → v.dead ≡ None
+    → is_some (at m.state.scopes scope) ≡ true
+    → (x : MemoTask K.Value F)
+    → Level a app lawful limits t scope (held_to a app limits t scope (after_poll a (next_poll_world m t scope) t x) leads.0 v moves leads.2) v
+first_level {K = K} a app lawful limits t scope props inputs m v moves leads reached alive home x =
+    level_on a app lawful limits t scope props inputs (after_poll a (next_poll_world m t scope) t x) leads.0 v moves leads.2
+    (after a app lawful limits t scope props inputs m leads.0 (Logged (Poll t)) leads.1 reached living lives low)
+    alive
+    (begins a app lawful limits t scope props inputs m leads.0 (Logged (Poll t)) leads.1 reached living lives low x)
+  where
+    living : m.dead ≡ None
+    living = alive_before app limits m v (Logged (Poll t) ∷ moves) leads alive
+
+    lives : (leads.0).dead ≡ None
+    lives = alive_before app limits leads.0 v moves leads.2 alive
+
+    low : scope < m.state.next_scope
+    low =
+        by_order scope m.state.next_scope (λ q. q)
+        (
+        λ q.
+        let none : at m.state.scopes scope ≡ None = (reached_sound app lawful limits props inputs m reached).rooted.drawn scope q in
+        clash home (ap (λ (o : Option (Scope K)). is_some o) none)
+        )
+
 pub held_are_kept : {K : Types} {F : Type 0} (a : Formulas K F) (app : Application K) (state : MemoTask K.Value F → K.TaskState)
     → WakesArePolled app
     → HeldAreKept a app state
@@ -131,27 +160,8 @@ held_are_kept {K = K} {F = F} a app state woken lawful looks polls limits props 
         stands_on a app state lawful looks polls limits t cell scope owner first leads.0 v moves leads.2 held alive
         (first_stands a app state lawful looks polls limits t cell scope owner m v moves leads f loads start home free alive)
 
-    living : m.dead ≡ None
-    living = alive_before app limits m v (Logged (Poll t) ∷ moves) leads alive
-
-    lives : (leads.0).dead ≡ None
-    lives = alive_before app limits leads.0 v moves leads.2 alive
-
-    low : scope < m.state.next_scope
-    low =
-        by_order scope m.state.next_scope (λ q. q)
-        (
-        λ q.
-        let none : at m.state.scopes scope ≡ None = (reached_sound app lawful limits props inputs m reached).rooted.drawn scope q in
-        clash home (ap (λ (o : Option (Scope K)). is_some o) none)
-        )
-
     level : Level a app lawful limits t scope h v
-    level =
-        level_on a app lawful limits t scope props inputs first leads.0 v moves leads.2
-        (after a app lawful limits t scope props inputs m leads.0 (Logged (Poll t)) leads.1 reached living lives low)
-        alive
-        (begins a app lawful limits t scope props inputs m leads.0 (Logged (Poll t)) leads.1 reached living lives low (fresh cell f loads))
+    level = first_level a app lawful limits t scope props inputs m v moves leads reached alive home (fresh cell f loads)
 
     by : (at v.state.tasks t ≡ None)
         ⊎ Here h.last t stage.context cell scope stage.held (state h.place) true stage.reads stage.target stage.home v.state

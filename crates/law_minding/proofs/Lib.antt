@@ -7,6 +7,8 @@ pub mod Values
 pub mod Since
 pub mod Tasked
 pub mod Removing
+pub mod Leaving
+pub mod Carried
 pub mod Moved
 pub mod Numbers
 pub mod Ending
@@ -22,6 +24,7 @@ pub mod Ways
 pub mod Level
 pub mod Logged
 pub mod PollsDone
+pub mod Counting
 pub mod Under
 pub mod Below
 pub mod Numbering
@@ -29,4 +32,6 @@ pub mod Opened
 pub mod Homes
 pub mod Unpolled
 pub mod Spawned
+pub mod Tended
+pub mod Coming
 pub mod Sessions

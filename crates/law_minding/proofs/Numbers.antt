@@ -63,7 +63,7 @@ module _ {K : Types} (cells contexts : ℕ) where
   counted_new a b c d (x ∷ cs) l k g h = (tt, counted_new a b c d cs l k g h)
 
   -- a call's are
-  numbered_new : (f : Firsts) (cs : List (Command K)) (g : Firsts) → IsNumbered f cs g → Above cells contexts f → AllNew cs
+  pub numbered_new : (f : Firsts) (cs : List (Command K)) (g : Firsts) → IsNumbered f cs g → Above cells contexts f → AllNew cs
   numbered_new f cs g n a = counted_new f.cells g.cells f.contexts g.contexts cs a.0 a.1 n.cells n.contexts
 
   module _ (app : Application K) (lawful : IsLawful K app) where
@@ -248,7 +248,7 @@ module _ {K : Types} (cells contexts : ℕ) where
         all_both (effect_deeds app w s e false) (deeds_on (acted app w s e false) (λ v. batch_deeds app v s es)) (effect_new w s e false a)
         (then_new w (acted app w s e false) (λ v. batch_deeds app v s es) (acted_later app lawful w s e false) a (λ v b. batch_new v s es b))
 
-    poll_new : (w : State K) (t : ℕ) (o : Option (TaskRow K)) → Above cells contexts w.next → AllOf (poll_deeds app w t o)
+    pub poll_new : (w : State K) (t : ℕ) (o : Option (TaskRow K)) → Above cells contexts w.next → AllOf (poll_deeds app w t o)
     poll_new w t None a = tt
     poll_new w t (Some x) a =
         deed_new _ x.scope (Some t) (poll_meant app w t x)

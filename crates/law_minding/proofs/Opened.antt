@@ -29,7 +29,7 @@ use Rattle.law_minding.proofs.Numbers.{move_rises}
 use Rattle.law_minding.proofs.Numbering.{moves_number}
 
 -- a context of another number may be made
-abbrev opening : ℕ → Permits
+abbrev opening : {K : Types} → ℕ → Permits K
 opening n =
     record {
       clearable = Free;
@@ -40,6 +40,7 @@ opening n =
       readable = Free;
       pollable = Free;
       endable = Free;
+      spawnable = λ w t s a. Unit {0};
       feedable = Free;
       removable = Free;
     }
@@ -155,7 +156,7 @@ module _ {K : Types} (n : ℕ) where
           mounts = λ w h. h;
           ends = λ w t a h. h;
           spawns =
-              λ w t x live low h.
+              λ w t x live low free h.
               let v : State K = record w { tasks = w.tasks ++ (t, x) ∷ [] } in by_contexts v (post v (Woken t)) (posts_same v (post v (Woken t)) (post_posts v (Woken t))).contexts h;
           goes_on = λ w t x a e may h. h;
           suspends = λ w t x e h. h;
@@ -180,7 +181,7 @@ module _ {K : Types} (n : ℕ) where
     allowed : (w : State K) (s : ℕ) (c : Command K) → Opens c → Allowed app (λ w. Is w) (λ w. Is w) 0 (opening n) frame w s c
     allowed w s (NewContext c target) h = h
     allowed w s ClearErrors h = may_clear (error_context w s)
-    allowed w s (Spawn t a forever isomorphic) h = from_zero t
+    allowed w s (Spawn t a forever isomorphic) h = (from_zero t, tt)
     allowed w s (RemoveFuture t) h = tt
     allowed w s (NewCell c v) h = tt
     allowed w s (Write c v) h = tt

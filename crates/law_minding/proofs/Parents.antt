@@ -23,7 +23,7 @@ use Rattle.law_behavior.proofs.Steadfast.{Of, Other, from_zero, draw_anyway, all
 use Rattle.law_lasting.proofs.Told.{posts_same, tell_same, look_same, calls_same, activated_same, gone_same}
 
 -- another scope may be removed
-abbrev others_go : ℕ → Permits
+abbrev others_go : {K : Types} → ℕ → Permits K
 others_go s = permits Free Free Free (λ t. Other s t)
 
 module _ {K : Types} (s : ℕ) (parent : Option ℕ) (height : ℕ) where
@@ -154,7 +154,7 @@ module _ {K : Types} (s : ℕ) (parent : Option ℕ) (height : ℕ) where
               of_others s (λ z. Has z) (record w { scopes = released w.scopes t }) _ refl
               (of_released s (λ z. Has z) w t (λ x b. let y : Scope K = record x { holders = kept_by (λ d. not (nat_eq d.0 t)) x.holders } in stays x y refl refl b) h);
           spawns =
-              λ w t x live low h.
+              λ w t x live low free h.
               let v : State K = record w { tasks = w.tasks ++ (t, x) ∷ [] } in
               of_others s (λ z. Has z) w (post v (Woken t)) (posts_same v (post v (Woken t)) (post_posts v (Woken t))).scopes h;
           goes_on = λ w t x a e may h. of_others s (λ z. Has z) w _ refl h;

@@ -30,6 +30,8 @@ use Rattle.law_minding.specs.Sessions.{MemosKept, SessionsKeepMemos}
 use Rattle.law_minding.proofs.Logged.{begins_with, none_next}
 use Rattle.law_minding.proofs.Rested.{alive_before}
 use Rattle.law_minding.proofs.PollsDone.{polls_are_done}
+use Rattle.law_minding.specs.Coming.{FreshFrom}
+use Rattle.law_minding.proofs.Coming.{spawned_stand}
 use Rattle.law_minding.proofs.Spawned.{fresh_are_kept}
 use Rattle.law_minding.proofs.Unpolled.{fresh_stay, fresh_is_owed}
 
@@ -117,6 +119,24 @@ module _ {K : Types} {F : Type 0} (a : Formulas K F) (app : Application K) (stat
       let alive : u.dead ≡ None = alive_before app limits u last poll.0 (poll.1).2 (living last last_settled) in
       (u, (poll.1).1, polls_are_done a app state polls limits m u t task x (poll.1).1 there stands alive)
 
+  who_is_spawned : (before : List Entry) (e : Entry) (m n : Machine K) (t cell scope : ℕ) (held : CellRow K) (f : F) (loads : Bool)
+      → replay_within app limits (Some from) before ≡ Some m
+      → replay_within app limits (Some m) (e ∷ []) ≡ Some n
+      → at m.state.tasks t ≡ None
+      → FreshFrom a app state limits m n e t cell scope held f loads
+  who_is_spawned before e m n t cell scope held f loads first second none =
+      let waits : IsSettled m = settled_after app limits before from m refl first in
+      let found = logs_are_moves app limits m n (e ∷ []) waits second in
+      let opened = begins_with app limits m n found.0 e [] waits found.1 found.2 in (
+        opened.0,
+        opened.1,
+        opened.2,
+        λ spawns spares stays calm there later.
+            fresh_stay a app state lawful limits (opened.1).0 n opened.0 t cell scope held f loads (opened.1).2
+            (spawned_stand a app state lawful limits m (opened.1).0 (Logged e) t cell scope held f loads (opened.1).1 none spawns spares stays there)
+            calm later,
+      )
+
   who_is_kept : (done later : List Report) (before between log : List Entry) (m u v : Machine K)
       → (t cell scope : ℕ) (held : CellRow K) (f : F) (loads : Bool)
       → reports ≡ done ++ later
@@ -170,6 +190,7 @@ module _ {K : Types} {F : Type 0} (a : Formulas K F) (app : Application K) (stat
   memos_kept =
       record {
         polls = λ before log m t task x parts first there stands. each_poll before log m t task x parts first there stands;
+        spawned = λ before rest e m n t cell scope held f loads parts first second none. who_is_spawned before e m n t cell scope held f loads first second none;
         kept =
             λ done later before between log m u v t cell scope held f loads parts logs first second third stands.
             who_is_kept done later before between log m u v t cell scope held f loads parts logs first second third stands;

@@ -82,12 +82,13 @@ module _ {K : Types} (last : World K) (t n cell scope : ℕ) (held : CellRow K) 
   low_refl w (Error s) = refl
   low_refl w (Context k s) = refl
 
-  pub pass : (w v : State K) → Passes w v → Minded w → Minded v
-  pass w v p h =
-      record {
-        low = let a : t + 1 ≤ w.next.tasks = h.low in let b : w.next.tasks ≤ v.next.tasks = p.low in omega (arith, a, b);
-        stands = elim h.stands as (λ z. (at v.tasks t ≡ None) ⊎ Here v) [ inl gone ↦ inl (p.none gone) | inr here ↦ on here (p.row here.row here.is) ];
-      }
+  -- the task is there so, or it isn't there
+  abbrev pub Standing : State K → Type 0
+  Standing w = (at w.tasks t ≡ None) ⊎ Here w
+
+  pub stand_on : (w v : State K) → Passes w v → Standing w → Standing v
+  stand_on w v p (inl gone) = inl (p.none gone)
+  stand_on w v p (inr here) = on here (p.row here.row here.is)
     where
       with_poll : polled ≡ true → OwesPoll v t ⊎ ((i : Source) → names_source reads.sources i ≡ true → SameAt last (sees v) i) → Minding v
       with_poll once (inl owed) = inl owed
@@ -106,7 +107,7 @@ module _ {K : Types} (last : World K) (t n cell scope : ℕ) (held : CellRow K) 
           ]
           ))
 
-      on : (here : Here w) → (at v.tasks t ≡ None) ⊎ Goes_on here.row v → (at v.tasks t ≡ None) ⊎ Here v
+      on : (here : Here w) → (at v.tasks t ≡ None) ⊎ Goes_on here.row v → Standing v
       on here (inl gone) = inl gone
       on here (inr y) =
           inr
@@ -120,6 +121,13 @@ module _ {K : Types} (last : World K) (t n cell scope : ℕ) (held : CellRow K) 
             context = p.context here.context;
             minds = minded here here.minds;
           })
+
+  pub pass : (w v : State K) → Passes w v → Minded w → Minded v
+  pass w v p h =
+      record {
+        low = let a : t + 1 ≤ w.next.tasks = h.low in let b : w.next.tasks ≤ v.next.tasks = p.low in omega (arith, a, b);
+        stands = stand_on w v p h.stands;
+      }
 
   -- tasks and what is owed are as they were
   pub still_owes : (w v : State K) → v.tasks ≡ w.tasks → v.posted ≡ w.posted → v.queued ≡ w.queued → OwesPoll w t → OwesPoll v t

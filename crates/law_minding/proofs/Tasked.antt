@@ -16,8 +16,15 @@ use Rattle.law_behavior.specs.Owed.{IsWoken, OwesPoll}
 use Rattle.law_behavior.proofs.Readers.{Posts, posted_first, posted_last, post_posts, tell_posts, tell_readers}
 use Rattle.law_behavior.proofs.Stays.{posted_stays}
 use Rattle.law_minding.proofs.Writes.{owes_on}
-use Rattle.law_minding.proofs.Values.{apart, equal_le, active_in, released_error, released_context, released_live}
+use Rattle.law_minding.proofs.Values.{equal_le, active_in, released_error, released_context, released_live}
 use Rattle.law_minding.proofs.Since.{Low, Passes, low_then, posts_low, wakes}
+
+module _ {K : Types} where
+  -- a wake that is posted for who is there
+  pub posted_now : (v : State K) (u : ℕ) → is_some (at v.tasks u) ≡ true → IsPosted (post v (Woken u)).posted (Woken u)
+  posted_now v u there =
+      subst (λ (z : State K). IsPosted z.posted (Woken u)) (sym (pick_true (record v { posted = v.posted ++ Woken u ∷ [] }) v there))
+      (posted_last v.posted (Woken u ∷ []) (Woken u) (inl refl))
 
 module _ {K : Types} (last : World K) (t n cell scope : ℕ) (held : CellRow K) (place : K.TaskState) (polled : Bool) (reads : ContextRow K) (target : reads.target ≡ TaskTarget t) (home : reads.scope ≡ scope) where
   pub task_passes : (w : State K) (u : ℕ) (x y : TaskRow K) → at w.tasks u ≡ Some x → y.scope ≡ x.scope → (nat_eq u t ≡ true → y.state ≡ x.state) → (y.active ≡ true → x.active ≡ true) → Passes last t n cell scope held place polled reads target home w (record w { tasks = put w.tasks u y })
@@ -102,9 +109,7 @@ module _ {K : Types} (last : World K) (t n cell scope : ℕ) (held : CellRow K) 
       there_is = ap (λ (o : Option (TaskRow K)). is_some o) (at_put_here w.tasks u y u (eq_same u))
 
       woken : IsPosted (post v (Woken u)).posted (Woken u)
-      woken =
-          subst (λ (z : State K). IsPosted z.posted (Woken u)) (sym (pick_true (record v { posted = v.posted ++ Woken u ∷ [] }) v there_is))
-          (posted_last v.posted (Woken u ∷ []) (Woken u) (inl refl))
+      woken = posted_now v u there_is
 
       same_values : (i : Source) → Low last t n cell scope held place polled reads target home w v i
       same_values (Cell m) = λ low. refl
@@ -121,8 +126,8 @@ module _ {K : Types} (last : World K) (t n cell scope : ℕ) (held : CellRow K) 
       by false c h = task_passes w u x (record x { active = false }) e refl (λ q. refl) (λ g. clash g refl)
 
   -- a task is spawned, which isn't this one
-  pub spawned_passes : (w : State K) (u : ℕ) (y : TaskRow K) → t + 1 ≤ u → Passes last t n cell scope held place polled reads target home w (record w { tasks = w.tasks ++ (u, y) ∷ [] })
-  spawned_passes w u y low =
+  pub spawned_passes : (w : State K) (u : ℕ) (y : TaskRow K) → nat_eq u t ≡ false → Passes last t n cell scope held place polled reads target home w (record w { tasks = w.tasks ++ (u, y) ∷ [] })
+  spawned_passes w u y other =
       record {
         low = equal_le w.next.tasks w.next.tasks refl;
         none = λ gone. at_append_none w.tasks u y t other ∙ gone;
@@ -134,9 +139,6 @@ module _ {K : Types} (last : World K) (t n cell scope : ℕ) (held : CellRow K) 
         told = λ here once i e. inl (same_values i);
       }
     where
-      other : nat_eq u t ≡ false
-      other = apart t u low
-
       same_values : (i : Source) → Low last t n cell scope held place polled reads target home w (record w { tasks = w.tasks ++ (u, y) ∷ [] }) i
       same_values (Cell m) = λ low. refl
       same_values (Error r) = refl

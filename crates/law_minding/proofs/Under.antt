@@ -1,11 +1,11 @@
--- The contexts that the calls of a run make have numbers below the next one behind it.
+-- What the calls of a run make has numbers below the next one behind it.
 use Rattle.std.proofs.Common.{ℕ, ◌+◌, ◌≤◌, Bool, true, false, List, [], ◌∷◌, ◌++◌, ◌≡◌, ap, arith}
-use Rattle.std.specs.Prelude.{Option, Some, None, if◌then◌else◌, flat_map}
+use Rattle.std.specs.Prelude.{Option, Some, None, if◌then◌else◌}
 use Rattle.std.specs.List.{AllByRecursion}
 use Rattle.rt_model.specs.Lists.{at}
-use Rattle.rt_model.specs.Laws.{CountUp, IsNumbered, IsLawful, new_context}
+use Rattle.rt_model.specs.Laws.{IsNumbered, IsLawful}
 use Rattle.rt_model.specs.Tree.{Types, placeholder_tree, VComponent, Own, Root, Fragment, ErrorBoundary, SuspenseBoundary, Element, rendered, failed, suspended}
-use Rattle.rt_model.specs.World.{before_render_kind, after_render_kind, CallFault, Firsts, Hook, HookValue, HookEffect, Command, NewContext, World, Meaning, Nothing, Application}
+use Rattle.rt_model.specs.World.{before_render_kind, after_render_kind, CallFault, Firsts, Hook, HookValue, HookEffect, Command, World, Meaning, Nothing, Application}
 use Rattle.rt_model.specs.State.{MainSide, BadNode, RowStep, Scope, State, Outcome, Done, Cut, onward, is_held, hooks_of, world_of}
 use Rattle.rt_model.specs.Commands.{commands}
 use Rattle.rt_model.specs.Run.{fault_of, with_next, called_once, called_where, is_own, answer_fits, kept_call, is_kind, unmarked, has_output, row_of, row_items, runs_fallback, body_of, acted, hook_called, hooks_called, after_hooks, answered_with, call_body, start_agenda, settled_answer, new_output, after_answer, run_as, run}
@@ -14,26 +14,19 @@ use Rattle.rt_model.proofs.TourCalls.{state_of}
 use Rattle.rt_model.proofs.Frames.{commands_same}
 use Rattle.rt_model.proofs.RunFrames.{Later, later_refl, LaterO, onward_later, later_either, body_numbered, kept_same, call_later, hooks_later, after_hooks_later, agenda_later, settled_later}
 use Rattle.law_behavior.specs.Deeds.{Deed, deeds_on, effect_deeds, hook_deeds, hooks_deeds, after_deeds, answered_deeds, body_deeds, answer_deeds, run_as_deeds, run_deeds}
+use Rattle.law_minding.proofs.Counting.{Counting}
 
-count_high : (c d : ℕ) (ns : List ℕ) → CountUp c ns d → c ≤ d
-count_high c d [] h = omega (arith, h)
-count_high c d (n ∷ ns) h = let more : c + 1 ≤ d = count_high (c + 1) d ns h.1 in omega (arith, more)
-
-module _ {K : Types} (bound : ℕ) where
-  -- a context that a command makes has a number below the bound
-  abbrev pub LowContext : Command K → Type 0
-  LowContext (NewContext n target) = n + 1 ≤ bound
-  LowContext _ = Unit {0}
-
+module _ {K : Types} (tally : Counting K) (bound : ℕ) where
+  -- what a command makes of what is counted has a number below the bound
   abbrev pub AllLow : List (Command K) → Type 0
-  AllLow cs = AllByRecursion (λ (c : Command K). LowContext c) cs
+  AllLow cs = AllByRecursion (λ (c : Command K). tally.Low bound c) cs
 
   abbrev pub AllUnder : List (Deed K) → Type 0
   AllUnder ds = AllByRecursion (λ (d : Deed K). AllLow d.wants) ds
 
   -- the next number is no greater than the bound
   abbrev pub Ends : State K → Type 0
-  Ends w = w.next.contexts ≤ bound
+  Ends w = tally.count w.next ≤ bound
 
   abbrev pub EndsO : Outcome K → Type 0
   EndsO o = Ends (state_of o)
@@ -46,23 +39,15 @@ module _ {K : Types} (bound : ℕ) where
   under_both [] ys f g = g
   under_both (x ∷ xs) ys f g = (f.0, under_both xs ys f.1 g)
 
-  counted_low : (c d : ℕ) (cs : List (Command K)) → CountUp c (flat_map new_context cs) d → d ≤ bound → AllLow cs
-  counted_low c d [] h l = tt
-  counted_low c d (NewContext n target ∷ cs) h l =
-      let more : c + 1 ≤ d = count_high (c + 1) d (flat_map new_context cs) h.1 in
-      let here : n + 1 ≤ bound = omega (arith, h.0, more, l) in
-      (here, counted_low (c + 1) d cs h.1 l)
-  counted_low c d (x ∷ cs) h l = (tt, counted_low c d cs h l)
-
-  pub numbered_low : (f : Firsts) (cs : List (Command K)) (g : Firsts) → IsNumbered f cs g → g.contexts ≤ bound → AllLow cs
-  numbered_low f cs g n l = counted_low f.contexts g.contexts cs n.contexts l
+  pub numbered_low : (f : Firsts) (cs : List (Command K)) (g : Firsts) → IsNumbered f cs g → tally.count g ≤ bound → AllLow cs
+  numbered_low f cs g n l = tally.numbered bound f cs g n l
 
   -- who comes before ends no later
   pub ends_before : (w v : State K) → Later w v → Ends v → Ends w
   ends_before w v later l =
-      let high : v.next.contexts ≤ bound = l in
-      let rises : w.next.contexts ≤ v.next.contexts = later.rises.contexts in
-      let low : w.next.contexts ≤ bound = omega (arith, high, rises) in
+      let high : tally.count v.next ≤ bound = l in
+      let rises : tally.count w.next ≤ tally.count v.next = tally.rises w.next v.next later.rises in
+      let low : tally.count w.next ≤ bound = omega (arith, high, rises) in
       low
 
   pub first_ends : (o : Outcome K) (f : State K → Outcome K) → ((v : State K) → LaterO v (f v)) → EndsO (onward o f) → EndsO o
@@ -92,10 +77,10 @@ module _ {K : Types} (bound : ℕ) where
               | Some f ↦ []
             ])
         by None g =
-            let same : left.next.contexts ≡ m.next.contexts =
-            ap (λ (f : Firsts). f.contexts) (commands_same app 0 (with_next (called_once w) m.next) s None m.commands (all_fresh app m.commands)).next in
-            let end : left.next.contexts ≤ bound = g in
-            let low : m.next.contexts ≤ bound = omega (arith, same, end) in
+            let same : tally.count left.next ≡ tally.count m.next =
+            ap (λ (f : Firsts). tally.count f) (commands_same app 0 (with_next (called_once w) m.next) s None m.commands (all_fresh app m.commands)).next in
+            let end : tally.count left.next ≤ bound = g in
+            let low : tally.count m.next ≤ bound = omega (arith, same, end) in
             (numbered_low w.next m.commands m.next (lawful.effects_number e (world_of w s None rendering)) low, tt)
         by (Some f) g = tt
 
@@ -135,17 +120,17 @@ module _ {K : Types} (bound : ℕ) where
         left : State K
         left = commands app called s None m.commands
 
-        kept_next : called.next.contexts ≡ m.next.contexts
-        kept_next = ap (λ (x : Firsts). x.contexts) (kept_same app lawful w s world m).next
+        kept_next : tally.count called.next ≡ tally.count m.next
+        kept_next = ap (λ (x : Firsts). tally.count x) (kept_same app lawful w s world m).next
 
-        left_next : left.next.contexts ≡ called.next.contexts
-        left_next = ap (λ (x : Firsts). x.contexts) (commands_same app 0 called s None m.commands (all_fresh app m.commands)).next
+        left_next : tally.count left.next ≡ tally.count called.next
+        left_next = ap (λ (x : Firsts). tally.count x) (commands_same app 0 called s None m.commands (all_fresh app m.commands)).next
 
         fits : (b : Bool) → EndsO (if b then f left m.answer else Cut called (BadNode s))
             → AllUnder (if b then record { state = called; scope = s; polled = None; wants = m.commands } ∷ g left m.answer else [])
         fits true k =
-            let then_on : left.next.contexts ≤ bound = ends_before left (state_of (f left m.answer)) (later left m.answer) k in
-            let low : m.next.contexts ≤ bound = omega (arith, left_next, kept_next, then_on) in
+            let then_on : tally.count left.next ≤ bound = ends_before left (state_of (f left m.answer)) (later left m.answer) k in
+            let low : tally.count m.next ≤ bound = omega (arith, left_next, kept_next, then_on) in
             (numbered_low w.next m.commands m.next n low, go left m.answer k)
         fits false k = tt
 

@@ -25,7 +25,8 @@ use Rattle.law_minding.specs.Unpolled.{StandsFresh, UnpolledOn, FreshStay, Fresh
 use Rattle.law_minding.proofs.Minding.{none_owes_poll}
 use Rattle.law_minding.proofs.Entries.{removes}
 use Rattle.law_minding.proofs.Since.{Minding, Here, Minded}
-use Rattle.law_minding.proofs.Moved.{Leaves, MoveLeaves, move_minds}
+use Rattle.law_minding.proofs.Leaving.{Leaves, MoveLeaves}
+use Rattle.law_minding.proofs.Moved.{move_minds}
 use Rattle.law_minding.proofs.Numbers.{NewFrom, AllNew, AllOf, move_new, move_rises}
 use Rattle.law_minding.proofs.Ending.{goes_with_scope}
 
@@ -44,7 +45,7 @@ module _
   Is w = Minded last t 0 cell scope held place false reads refl refl w
 
   abbrev LeavesIt : Command K → Type 0
-  LeavesIt c = Leaves last t 0 cell scope held place false reads refl refl app lawful.tests_values c
+  LeavesIt c = Leaves last t 0 cell scope held false c
 
   leaves_it : (c : Command K) → Spares task_then c → NewFrom {K = K} last.given.next.cells 0 c → LeavesIt c
   leaves_it (Write n v) s k = s
@@ -61,7 +62,7 @@ module _
   all_leave [] s k = tt
   all_leave (c ∷ cs) s k = (leaves_it c s.0 k.0, all_leave cs s.1 k.1)
 
-  deeds_leave : (ds : List (Deed K)) → AllByRecursion (λ (d : Deed K). AllByRecursion (λ (c : Command K). Spares task_then c) d.wants) ds
+  pub deeds_leave : (ds : List (Deed K)) → AllByRecursion (λ (d : Deed K). AllByRecursion (λ (c : Command K). Spares task_then c) d.wants) ds
       → AllOf {K = K} last.given.next.cells 0 ds
       → AllByRecursion (λ (d : Deed K). AllByRecursion (λ (c : Command K). LeavesIt c) d.wants) ds
   deeds_leave [] s k = tt
@@ -91,7 +92,7 @@ module _
 
     module _ (move : Move) (step : Moves app limits m move u) (none : move_polls t move ≡ false)
         (spares : MoveSpares a app m t held.owner task_then move) where
-      by_frame : MoveLeaves last t 0 cell scope held place false reads refl refl app lawful.tests_values m.inputs move → Is u.state
+      by_frame : MoveLeaves last t 0 cell scope held false m.inputs move → Is u.state
       by_frame leaves =
           move_minds last t 0 cell scope held place false reads refl refl app lawful.tests_values lawful limits m u move step
           (deeds_leave (move_deeds app m move) (spares none).0 (move_new last.given.next.cells 0 app lawful m move (low_cells, omega arith)))

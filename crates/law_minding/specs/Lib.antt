@@ -4,4 +4,6 @@ pub mod Held
 pub mod Numbering
 pub mod Unpolled
 pub mod Homes
+pub mod Tended
+pub mod Coming
 pub mod Sessions

@@ -1,5 +1,5 @@
 -- What a session that finished says of its memos and resources.
-use Rattle.std.specs.Prelude.{ℕ, Bool, List, ◌∷◌, ◌++◌, Option, Some, None, ◌≡◌}
+use Rattle.std.specs.Prelude.{ℕ, Bool, List, [], ◌∷◌, ◌++◌, Option, Some, None, ◌≡◌}
 use Rattle.rt_model.specs.Lists.{at, joined}
 use Rattle.rt_model.specs.Laws.{IsLawful}
 use Rattle.rt_model.specs.Tree.{Types}
@@ -15,6 +15,7 @@ use Rattle.author_formulas.specs.Formulas.{Formulas, FormulasLook}
 use Rattle.author_formulas.specs.Memos.{MemoTask, fresh, PollsMemos}
 use Rattle.law_minding.specs.Held.{state_after_poll}
 use Rattle.law_minding.specs.Unpolled.{StandsFresh, KeptFrom, PausedFrom}
+use Rattle.law_minding.specs.Coming.{FreshFrom}
 
 module _ {K : Types} {F : Type 0} (a : Formulas K F) (app : Application K) (state : MemoTask K.Value F → K.TaskState) where
   -- of the reports of a session, with machines that replay comes to: m after some entries, v after some reports
@@ -27,6 +28,14 @@ module _ {K : Types} {F : Type 0} (a : Formulas K F) (app : Application K) (stat
         → at m.state.tasks t ≡ Some task
         → task.state ≡ state x
         → (u : Machine K) × Moves app limits m (Logged (Poll t)) u × (u.state ≡ state_after_poll a app state m t task x)
+    -- who is spawned fresh by an entry, and isn't touched until the next one, stands fresh then
+    pub spawned :
+        (before rest : List Entry) (e : Entry) (m n : Machine K) (t cell scope : ℕ) (held : CellRow K) (f : F) (loads : Bool)
+        → joined (logs_of reports) ≡ before ++ e ∷ rest
+        → replay_within app limits (Some (start app props inputs)) before ≡ Some m
+        → replay_within app limits (Some m) (e ∷ []) ≡ Some n
+        → at m.state.tasks t ≡ None
+        → FreshFrom a app state limits m n e t cell scope held f loads
     -- who stands fresh at m, isn't touched before its first poll, and left to its polls from there on, is kept at v, where it is active
     pub kept :
         (done later : List Report) (before between log : List Entry) (m u v : Machine K)

@@ -9,6 +9,8 @@ ghost use Rattle.law_minding.specs.Numbering.{MovesNumber, NextIsFree};
 ghost use Rattle.law_minding.specs.Homes.{HomesAreLive};
 ghost use Rattle.law_minding.specs.Unpolled.{FreshAreKept, FreshIsOwed, FreshStay};
 ghost use Rattle.law_minding.specs.Sessions.{SessionsKeepMemos};
+ghost use Rattle.law_minding.specs.Coming.{SpawnedStand};
+ghost use Rattle.law_minding.specs.Tended.{TendedAreKept};
 ghost use Rattle.law_minding.specs.Hiding.{RowsHideWrites};
 
 use law_behavior::wakes_are_polled;
@@ -130,6 +132,24 @@ pub fn sessions_keep_memos<C, P, V, H, T, E, L, F>()
     ensures { (app : Application (types C P V H T E L)) (a : Formulas (types C P V H T E L) F)
         (state : MemoTask V F → T)
         → SessionsKeepMemos a app state }
+{
+    wakes_are_polled::<C, P, V, H, T, E, L>();
+}
+
+/// A task that is spawned fresh, with its cell there, stands fresh behind the move that spawns it,
+/// where it is there then and nobody else touched it in that move.
+pub fn spawned_stand<C, P, V, H, T, E, L, F>()
+    ensures { (app : Application (types C P V H T E L)) (a : Formulas (types C P V H T E L) F)
+        (state : MemoTask V F → T)
+        → SpawnedStand a app state }
+{}
+
+/// And so it is along all of a program's way with a runtime that it keeps, past calls that log no
+/// entry, where these spare it too.
+pub fn tended_are_kept<C, P, V, H, T, E, L, F>()
+    ensures { (app : Application (types C P V H T E L)) (a : Formulas (types C P V H T E L) F)
+        (state : MemoTask V F → T)
+        → TendedAreKept a app state }
 {
     wakes_are_polled::<C, P, V, H, T, E, L>();
 }

@@ -39,6 +39,10 @@ pub use Rattle.rt_author.specs.CellsLast
 pub use Rattle.rt_author.specs.ComponentsLast
 pub use Rattle.rt_author.specs.NumbersLast
 pub use Rattle.rt_author.specs.OneFinish
+pub use Rattle.rt_author.specs.Coming
+pub use Rattle.rt_author.specs.Held
+pub use Rattle.rt_author.specs.Sessions as MemoSessions
+pub use Rattle.rt_author.specs.Unpolled
 pub use Rattle.rt_author.specs.Keeps
 pub use Rattle.rt_author.specs.OnePage
 pub use Rattle.rt_author.specs.Updates
