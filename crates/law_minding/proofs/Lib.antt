@@ -34,4 +34,9 @@ pub mod Unpolled
 pub mod Spawned
 pub mod Tended
 pub mod Coming
+pub mod Hearing
+pub mod Unwoken
+pub mod Caused
+pub mod Through
+pub mod Settling
 pub mod Sessions

@@ -55,7 +55,7 @@ module _ {K : Types} where
 
 module _ {K : Types} (app : Application K) (t : ℕ) where
   -- what a poll's entry does
-  poll_change : (m : Machine K) (work : List (Item K)) → change_by app m work (Poll t) ≡ ended_by (one_more_unit (rested app m)) None [] (polled app (at_rest m.state) t)
+  pub poll_change : (m : Machine K) (work : List (Item K)) → change_by app m work (Poll t) ≡ ended_by (one_more_unit (rested app m)) None [] (polled app (at_rest m.state) t)
   poll_change m [] = refl
   poll_change m (Draw s side p k ∷ rest) = refl
   poll_change m (Row b step ∷ rest) = refl

@@ -1,5 +1,5 @@
 -- The memos and resources of a session's reports.
-use Rattle.std.proofs.Common.{ℕ, Bool, true, false, not, List, [], ◌∷◌, ◌++◌, ◌≡◌, refl, sym, ap, ◌∙◌, subst, append_assoc}
+use Rattle.std.proofs.Common.{ℕ, ◌<◌, Bool, true, false, not, List, [], ◌∷◌, ◌++◌, ◌≡◌, refl, sym, ap, ◌∙◌, subst, append_assoc}
 use Rattle.std.proofs.lemmas.List.{append-nil}
 use Rattle.std.specs.Prelude.{Some, None}
 use Rattle.std.specs.List.{AllByRecursion}
@@ -17,7 +17,7 @@ use Rattle.rt_model.specs.Reports.{Report, logs_of}
 use Rattle.rt_model.specs.Headline.{Headline}
 use Rattle.rt_model.proofs.Conjunctions.{and-left, and-right}
 use Rattle.rt_model.proofs.ToldReplayed.{First, first-of, log-replays, replay-append, within-replays}
-use Rattle.law_moves.specs.Moves.{Move, Logged, Moves, IsSettled, Leads}
+use Rattle.law_moves.specs.Moves.{Move, Logged, entries, Moves, IsSettled, Leads}
 use Rattle.law_moves.proofs.Logs.{logs_are_moves}
 use Rattle.law_headline.proofs.Reports.{one_machine, settled_after}
 use Rattle.law_behavior.specs.Owed.{WakesArePolled}
@@ -30,6 +30,8 @@ use Rattle.law_minding.specs.Sessions.{MemosKept, SessionsKeepMemos}
 use Rattle.law_minding.proofs.Logged.{begins_with, none_next}
 use Rattle.law_minding.proofs.Rested.{alive_before}
 use Rattle.law_minding.proofs.PollsDone.{polls_are_done}
+use Rattle.law_minding.specs.Waking.{some_wakes}
+use Rattle.law_minding.proofs.Caused.{polls_are_caused}
 use Rattle.law_minding.specs.Coming.{FreshFrom}
 use Rattle.law_minding.proofs.Coming.{spawned_stand}
 use Rattle.law_minding.proofs.Spawned.{fresh_are_kept}
@@ -119,6 +121,34 @@ module _ {K : Types} {F : Type 0} (a : Formulas K F) (app : Application K) (stat
       let alive : u.dead ≡ None = alive_before app limits u last poll.0 (poll.1).2 (living last last_settled) in
       (u, (poll.1).1, polls_are_done a app state polls limits m u t task x (poll.1).1 there stands alive)
 
+  who_is_woken : (before between log : List Entry) (m v : Machine K) (t : ℕ)
+      → joined (logs_of reports) ≡ before ++ (Poll t ∷ (between ++ Poll t ∷ log))
+      → replay_within app limits (Some from) before ≡ Some m
+      → replay_within app limits (Some m) (Poll t ∷ between) ≡ Some v
+      → t < m.state.next.tasks
+      → (moves : List Move)
+      × (leads : Leads app limits m (Logged (Poll t) ∷ moves) v)
+      × (entries moves ≡ between)
+      × (some_wakes app limits t m v (Logged (Poll t) ∷ moves) leads ≡ true)
+  who_is_woken before between log m v t parts first second drawn =
+      let whole : replay_within app limits (Some from) (before ++ (Poll t ∷ (between ++ Poll t ∷ log))) ≡ Some last =
+      ap (λ (es : List Entry). replay_within app limits (Some from) es) (sym parts) ∙ within in
+      let split = within_split app limits before (Poll t ∷ (between ++ Poll t ∷ log)) from last whole in
+      let same : split.0 ≡ m = one_machine split.0 m (sym split.1 ∙ first) in
+      let later : replay_within app limits (Some m) ((Poll t ∷ between) ++ Poll t ∷ log) ≡ Some last =
+      ap (λ (z : Machine K). replay_within app limits (Some z) (Poll t ∷ (between ++ Poll t ∷ log))) (sym same) ∙ split.2 in
+      let halves = within_split app limits (Poll t ∷ between) (Poll t ∷ log) m last later in
+      let here : halves.0 ≡ v = one_machine halves.0 v (sym halves.1 ∙ second) in
+      let again : replay_within app limits (Some v) (Poll t ∷ log) ≡ Some last =
+      ap (λ (z : Machine K). replay_within app limits (Some z) (Poll t ∷ log)) (sym here) ∙ halves.2 in
+      let waits : IsSettled m = settled_after app limits before from m refl first in
+      let waits_there : IsSettled v = settled_after app limits (Poll t ∷ between) m v waits second in
+      let found = logs_are_moves app limits m v (Poll t ∷ between) waits second in
+      let poll = begins_with app limits m v found.0 (Poll t) between waits found.1 found.2 in
+      let found_next = logs_are_moves app limits v last (Poll t ∷ log) waits_there again in
+      let poll_again = begins_with app limits v last found_next.0 (Poll t) log waits_there found_next.1 found_next.2 in
+      (poll.0, poll.1, poll.2, polls_are_caused app lawful limits m v (poll_again.1).0 poll.0 t poll.1 drawn (poll_again.1).1)
+
   who_is_spawned : (before : List Entry) (e : Entry) (m n : Machine K) (t cell scope : ℕ) (held : CellRow K) (f : F) (loads : Bool)
       → replay_within app limits (Some from) before ≡ Some m
       → replay_within app limits (Some m) (e ∷ []) ≡ Some n
@@ -194,6 +224,7 @@ module _ {K : Types} {F : Type 0} (a : Formulas K F) (app : Application K) (stat
         kept =
             λ done later before between log m u v t cell scope held f loads parts logs first second third stands.
             who_is_kept done later before between log m u v t cell scope held f loads parts logs first second third stands;
+        caused = λ before between log m v t parts first second drawn. who_is_woken before between log m v t parts first second drawn;
         paused =
             λ done later before between m v t cell scope held f loads parts logs first second stands.
             who_is_paused done later before between m v t cell scope held f loads parts logs first second stands;

@@ -6,4 +6,5 @@ pub mod Unpolled
 pub mod Homes
 pub mod Tended
 pub mod Coming
+pub mod Settling
 pub mod Sessions

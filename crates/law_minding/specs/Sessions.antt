@@ -1,5 +1,5 @@
 -- What a session that finished says of its memos and resources.
-use Rattle.std.specs.Prelude.{ℕ, Bool, List, [], ◌∷◌, ◌++◌, Option, Some, None, ◌≡◌}
+use Rattle.std.specs.Prelude.{ℕ, ◌<◌, Bool, true, List, [], ◌∷◌, ◌++◌, Option, Some, None, ◌≡◌}
 use Rattle.rt_model.specs.Lists.{at, joined}
 use Rattle.rt_model.specs.Laws.{IsLawful}
 use Rattle.rt_model.specs.Tree.{Types}
@@ -10,12 +10,13 @@ use Rattle.rt_model.specs.Document.{Edit}
 use Rattle.rt_model.specs.Causes.{Limits, replay_within}
 use Rattle.rt_model.specs.Reports.{Report, logs_of}
 use Rattle.rt_model.specs.Headline.{Headline}
-use Rattle.law_moves.specs.Moves.{Logged, Moves}
+use Rattle.law_moves.specs.Moves.{Move, Logged, entries, Moves, Leads}
 use Rattle.author_formulas.specs.Formulas.{Formulas, FormulasLook}
 use Rattle.author_formulas.specs.Memos.{MemoTask, fresh, PollsMemos}
 use Rattle.law_minding.specs.Held.{state_after_poll}
 use Rattle.law_minding.specs.Unpolled.{StandsFresh, KeptFrom, PausedFrom}
 use Rattle.law_minding.specs.Coming.{FreshFrom}
+use Rattle.law_minding.specs.Waking.{some_wakes}
 
 module _ {K : Types} {F : Type 0} (a : Formulas K F) (app : Application K) (state : MemoTask K.Value F → K.TaskState) where
   -- of the reports of a session, with machines that replay comes to: m after some entries, v after some reports
@@ -47,7 +48,19 @@ module _ {K : Types} {F : Type 0} (a : Formulas K F) (app : Application K) (stat
         → replay_within app limits (Some u) (Poll t ∷ log) ≡ Some v
         → StandsFresh state m.state t cell scope held f loads
         → KeptFrom a app limits m u v between log t scope held.owner (fresh cell f loads)
-    -- and who wasn't polled since then isn't active at v
+    -- from the start of a poll of a task whose number was drawn to that of its next one something woke it: a wake, a resume, or a mark of a
+    -- source that one of its reactive contexts read
+    pub caused :
+        (before between log : List Entry) (m v : Machine K) (t : ℕ)
+        → joined (logs_of reports) ≡ before ++ (Poll t ∷ (between ++ Poll t ∷ log))
+        → replay_within app limits (Some (start app props inputs)) before ≡ Some m
+        → replay_within app limits (Some m) (Poll t ∷ between) ≡ Some v
+        → t < m.state.next.tasks
+        → (moves : List Move)
+        × (leads : Leads app limits m (Logged (Poll t) ∷ moves) v)
+        × (entries moves ≡ between)
+        × (some_wakes app limits t m v (Logged (Poll t) ∷ moves) leads ≡ true)
+    -- and who wasn't polled since it stood fresh isn't active at v
     pub paused :
         (done later : List Report) (before between : List Entry) (m v : Machine K)
         → (t cell scope : ℕ) (held : CellRow K) (f : F) (loads : Bool)

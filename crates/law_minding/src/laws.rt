@@ -10,7 +10,9 @@ ghost use Rattle.law_minding.specs.Homes.{HomesAreLive};
 ghost use Rattle.law_minding.specs.Unpolled.{FreshAreKept, FreshIsOwed, FreshStay};
 ghost use Rattle.law_minding.specs.Sessions.{SessionsKeepMemos};
 ghost use Rattle.law_minding.specs.Coming.{SpawnedStand};
+ghost use Rattle.law_minding.specs.Settling.{CallsAreParts, SettledKeep};
 ghost use Rattle.law_minding.specs.Tended.{TendedAreKept};
+ghost use Rattle.law_minding.specs.Waking.{PollsAreCaused, PollsAreCausedThrough};
 ghost use Rattle.law_minding.specs.Hiding.{RowsHideWrites};
 
 use law_behavior::wakes_are_polled;
@@ -153,3 +155,25 @@ pub fn tended_are_kept<C, P, V, H, T, E, L, F>()
 {
     wakes_are_polled::<C, P, V, H, T, E, L>();
 }
+
+/// A call of a kept runtime that took unit after unit is a look, moves that its log is made of, and
+/// the test by which it ended.
+pub fn calls_are_parts<C, P, V, H, T, E, L>()
+    ensures { (app : Application (types C P V H T E L)) → CallsAreParts app }
+{}
+
+/// So in the state that a call leaves which settles, a memo that nobody else touched since its first
+/// poll is its formula's value, and a resource shows what was loaded for its present key, where its
+/// task is active.
+pub fn settled_keep<C, P, V, H, T, E, L, F>()
+    ensures { (app : Application (types C P V H T E L)) (a : Formulas (types C P V H T E L) F)
+        (state : MemoTask V F → T)
+        → SettledKeep a app state }
+{
+    wakes_are_polled::<C, P, V, H, T, E, L>();
+}
+
+/// And so it is along a program's way with a runtime that it keeps, past calls that log no entry.
+pub fn polls_are_caused_through<C, P, V, H, T, E, L>()
+    ensures { (app : Application (types C P V H T E L)) → PollsAreCausedThrough app }
+{}

@@ -43,6 +43,7 @@ pub use Rattle.rt_author.specs.Coming
 pub use Rattle.rt_author.specs.Held
 pub use Rattle.rt_author.specs.Sessions as MemoSessions
 pub use Rattle.rt_author.specs.Unpolled
+pub use Rattle.rt_author.specs.Waking
 pub use Rattle.rt_author.specs.Keeps
 pub use Rattle.rt_author.specs.OnePage
 pub use Rattle.rt_author.specs.Updates
