@@ -138,24 +138,26 @@ module _ {K : Types} where
         record {
           low = λ w h. law.low w h;
           leaves = λ w h. h;
-          posts = λ w v f h. posts_keep w v f h;
+          marks = λ w s h. posts_keep w (post w (Mark s)) (post_posts w (Mark s)) h;
+          wakes = λ w t a h. posts_keep w (post w (Woken t)) (post_posts w (Woken t)) h;
+          tells = λ w i a h. told_keeps w i h;
           looks = λ w h. look_keeps w.posted (record w { posted = [] }) (law.others w (record w { posted = [] }) refl refl refl h);
           pauses = λ w t e h. law.others w (record w { queued = drop_number w.queued t }) refl refl refl h;
           unqueues = λ w t a h. law.others w (unqueued w t) refl refl refl h;
           unmarks = λ w s h. law.others w (unmarked w s) refl refl refl h;
           asides = λ w v e h. law.others w v (ap (λ (x : State K). x.scopes) e) (ap (λ (x : State K). x.tasks) e) (ap (λ (x : State K). x.next) e) h;
           nexts = λ w next low h. law.nexts w next low h;
-          writes = λ w n v old e a h. let u : State K = record w { cells = put w.cells n (record old { value = v }) } in told_keeps u (Cell n) (law.others w u refl refl refl h);
-          drops = λ w n a h. let u : State K = record w { cells = without w.cells n } in told_keeps u (Cell n) (law.others w u refl refl refl h);
+          writes = λ w n v old e a c h. let u : State K = record w { cells = put w.cells n (record old { value = v }) } in told_keeps u (Cell n) (law.others w u refl refl refl h);
+          drops = λ w n a c h. let u : State K = record w { cells = without w.cells n } in told_keeps u (Cell n) (law.others w u refl refl refl h);
           new_cells = λ w s n v a h. law.others w (record w { cells = w.cells ++ (n, record { owner = s; value = v }) ∷ [] }) refl refl refl h;
           new_contexts = λ w n x a h. law.others w (record w { contexts = w.contexts ++ (n, x) ∷ [] }) refl refl refl h;
           sources = λ w n x y e a h. law.others w (record w { contexts = put w.contexts n y }) refl refl refl h;
           rows = λ w s x y e same h. law.rows w s x y e (lasts_still x y same) h;
           hooks = λ w s x k e h. law.hooks w s x k e h;
           joins = λ w b t origin x e h. law.joins w b t origin x e h;
-          throws = λ w b x e live none h. told_keeps (record w { scopes = put w.scopes b (record x { error = Some e }) }) (Error b) (law.throws w b x e live none h);
-          clears = λ w b x live a h. told_keeps (record w { scopes = put w.scopes b (record x { error = None }) }) (Error b) (law.clears w b x live a h);
-          provides = λ w s k v x e h. provided_keeps app w s k v (at x.contexts k) h;
+          throws = λ w b x e live none c h. told_keeps (record w { scopes = put w.scopes b (record x { error = Some e }) }) (Error b) (law.throws w b x e live none h);
+          clears = λ w b x live a c h. told_keeps (record w { scopes = put w.scopes b (record x { error = None }) }) (Error b) (law.clears w b x live a h);
+          provides = λ w s k v x e c h. provided_keeps app w s k v (at x.contexts k) h;
           feeds = λ w t c x e a h. law.feeds w t c x e a h;
           patches =
               λ w s side tree x e h.
@@ -163,7 +165,7 @@ module _ {K : Types} where
           draws = λ w s side p k h. numbered_keeps w s side p k h;
           empties = λ w b x e h. law.rows w b x (record x { fallback_side = empty_side }) e (lasts_all x (record x { fallback_side = empty_side }) refl refl refl refl refl) h;
           makes = λ w s side p c x e h. made_keeps w s side p c x e h;
-          goes = λ w s free h. gone_keeps w s free h;
+          goes = λ w s free c h. gone_keeps w s free h;
           mounts = λ w h. law.mounts w h;
           ends =
               λ w t a h.
@@ -175,7 +177,7 @@ module _ {K : Types} where
               let v : State K = record w { tasks = w.tasks ++ (t, x) ∷ [] } in posts_keep v (post v (Woken t)) (post_posts v (Woken t)) (law.spawns w t x live low h);
           goes_on = λ w t x a e may h. law.tasks w t x (record x { state = a }) e refl h;
           suspends = λ w t x e h. law.tasks w t x (record x { kind = SuspendedTask }) e refl h;
-          activates = λ w t active x e h. activated_keeps w t active x e h;
+          activates = λ w t active x e c h. activated_keeps w t active x e h;
         }
 
     called_keeps : (b : Bool) (w : State K) → P w → P (called_where b w)

@@ -22,7 +22,7 @@ use Rattle.law_behavior.specs.Along.{NoneRemoves, HoldersLast, LoggedHoldersLast
 use Rattle.law_behavior.proofs.Readers.{posted_last, posted_where, post_posts}
 use Rattle.law_behavior.proofs.Frames.{Free, permits, Frame, Called}
 use Rattle.law_behavior.proofs.Enduring.{Again, Enduring, finely, kept_so}
-use Rattle.law_behavior.proofs.Commanded.{MayClear, Allowed, AllAllowed, commands_on}
+use Rattle.law_behavior.proofs.Commanded.{MayClear, Allowed, caused_anyway, AllAllowed, commands_on}
 use Rattle.law_behavior.proofs.Onwards.{moves_on, good_anyway, spares_all}
 use Rattle.law_behavior.proofs.Steadfast.{from_zero, lawful_draw, all_allowed, Of, Other, Bears, of_again, of_endures}
 
@@ -136,7 +136,14 @@ module _ {K : Types} where
   none_ends : (app : Application K) (b t : ℕ) (w : State K) (s : ℕ) (polled : Option ℕ) (cs : List (Command K)) → NoneEnds t cs
       → AllAllowed app (λ w. Of b (λ x. holds x t ≡ true) w) (λ w. Of b (λ x. holds x t ≡ true) w) 0 (permits Free (λ u. Other t u) Free (λ s. Other b s)) (holders_frame app b t) w s polled cs
   none_ends app b t w s polled [] h = tt
-  none_ends app b t w s polled (c ∷ cs) h = (ends_other app b t w s c h.0, none_ends app b t (command app w s polled c) s polled cs h.1)
+  none_ends app b t w s polled (c ∷ cs) h =
+      (
+      (
+      ends_other app b t w s c h.0,
+      caused_anyway app (λ w. Of b (λ x. holds x t ≡ true) w) (λ w. Of b (λ x. holds x t ≡ true) w) 0 (permits Free (λ u. Other t u) Free (λ s. Other b s)) (holders_frame app b t) (λ v d. tt) w s c,
+      ),
+      none_ends app b t (command app w s polled c) s polled cs h.1,
+      )
 
   -- the number of a task was drawn, and the task has ended or it holds a boundary
   abbrev HeldOrEnded : ℕ → ℕ → State K → Type 0
@@ -202,7 +209,7 @@ module _ {K : Types} where
       moves_on app (λ w. HeldOrEnded b t w) (λ w. HeldOrEnded b t w) (t + 1) (permits Free Free Free (λ s. Other b s)) (held_frame app b t) (λ u. tt) (held_called app b t) (λ w s polled cs. Unit {0}) (λ w s polled cs f g. held_freely app b t w s polled cs f g) (lawful_draw app (t + 1) lawful)
       limits m v moves leads
       (good_anyway app (λ w. HeldOrEnded b t w) (λ w. HeldOrEnded b t w) (t + 1) (permits Free Free Free (λ s. Other b s)) (held_frame app b t) (λ u. tt) (held_called app b t) (λ w s polled cs. Unit {0}) (λ w s polled cs f g. held_freely app b t w s polled cs f g) (lawful_draw app (t + 1) lawful) (λ w s polled cs. tt) limits m v moves leads)
-      (spares_all app (λ w. HeldOrEnded b t w) (λ w. HeldOrEnded b t w) (t + 1) (permits Free Free Free (λ s. Other b s)) (held_frame app b t) (λ u. tt) (held_called app b t) (λ w s polled cs. Unit {0}) (λ w s polled cs f g. held_freely app b t w s polled cs f g) (lawful_draw app (t + 1) lawful) b (λ s q. q) (λ n. tt) (λ n. tt) (λ n. tt) (λ w h. h) limits m v moves leads stays)
+      (spares_all app (λ w. HeldOrEnded b t w) (λ w. HeldOrEnded b t w) (t + 1) (permits Free Free Free (λ s. Other b s)) (held_frame app b t) (λ u. tt) (held_called app b t) (λ w s polled cs. Unit {0}) (λ w s polled cs f g. held_freely app b t w s polled cs f g) (lawful_draw app (t + 1) lawful) b (λ s q. q) (λ n. tt) (λ n. tt) (λ n. tt) (λ w c. tt) (λ w h. h) limits m v moves leads stays)
       h
 
   still_held : (w : State K) (b t : ℕ) → is_some (at w.tasks t) ≡ true → (at w.tasks t ≡ None) ⊎ Of b (λ x. holds x t ≡ true) w → holds_at w b t ≡ true

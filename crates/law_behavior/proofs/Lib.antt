@@ -7,7 +7,7 @@ mod Providers
 pub mod Readers
 mod Cleaning
 mod Unshown
-mod Others
+pub mod Others
 pub mod Stays
 pub mod Looking
 mod Running
@@ -18,6 +18,7 @@ pub mod Frames
 pub mod Enduring
 pub mod Commanded
 pub mod Calling
+mod Standing
 pub mod Lived
 pub mod Polled
 pub mod Onwards

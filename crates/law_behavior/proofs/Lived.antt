@@ -1,20 +1,21 @@
 -- What runs, the steps of boundaries and removals leave of such a fact, where the commands of their calls are good.
-use Rattle.std.proofs.Common.{ℕ, ◌+◌, Bool, true, false, List, [], ◌∷◌, ◌++◌, ◌≡◌, ◌≤◌, refl, sym, ap, subst}
+use Rattle.std.proofs.Common.{ℕ, ◌+◌, Bool, true, false, List, [], ◌∷◌, ◌++◌, ◌≡◌, ◌≤◌, refl, sym, ap, ◌∙◌, subst}
 use Rattle.std.specs.Prelude.{Option, Some, None, if◌then◌else◌}
 use Rattle.std.specs.List.{AllByRecursion}
 use Rattle.rt_model.specs.Lists.{at, put, without, drop_number}
 use Rattle.rt_model.specs.Tree.{Types, Tree, placeholder_tree, VComponent, Own, Root, Fragment, ErrorBoundary, SuspenseBoundary, Element, rendered, failed, suspended, Place, Kind, spots}
-use Rattle.rt_model.specs.World.{Source, Renders, Elements, Scopes, at_end, before_render_kind, after_render_kind, CallFault, Hook, HookValue, HookEffect, Command, World, Meaning, Nothing, Application}
+use Rattle.rt_model.specs.World.{Renders, Elements, Scopes, at_end, before_render_kind, after_render_kind, CallFault, Hook, HookValue, HookEffect, Command, Throw, World, Meaning, Nothing, Application}
 use Rattle.rt_model.specs.State.{SideName, MainSide, ChildrenSide, FallbackSide, Mark, SuspendedTask, IdsExhausted, BadNode, RowStep, PatchChildren, MadeChildren, RunFallback, ShowFallback, ShowChildren, DropFallback, Resolve, Scope, TaskRow, State, Outcome, Done, Cut, onward, empty_side, side_of, is_live, changed_scope, change, location, is_held, holds, hooks_of, renders_of, world_of}
-use Rattle.rt_model.specs.Commands.{post, end, tell, commands}
+use Rattle.rt_model.specs.Commands.{post, end, commands}
 use Rattle.rt_model.specs.Run.{fault_of, with_next, called_once, called_where, is_own, answer_fits, kept_call, is_kind, spots_of, patched, raised, joins, suspends_on, unmarked, has_output, row_of, runs_fallback, row_items, body_of, acted, hook_called, hooks_called, after_hooks, call_body, start_agenda, settled_answer, new_output, after_answer, run_as, run}
 use Rattle.rt_model.specs.Boundary.{tree_or_placeholder, children_of, counts_render, counted_render, fallback_answered, called_back, row_step, boundary_step}
 use Rattle.rt_model.specs.Removal.{tasks_in, end_all, clean_ups, gone, stopped, cleaned_in, removed}
 use Rattle.rt_model.specs.Replay.{numbered, draw_number, with_new_scope, made_in, made, with_props, keeps, handed, polled}
 use Rattle.rt_model.proofs.Tour.{AllFresh}
-use Rattle.law_behavior.specs.Deeds.{Deed, deeds_on, effect_deeds, hook_deeds, hooks_deeds, after_deeds, body_deeds, answer_deeds, run_as_deeds, run_deeds, callback_deeds, row_deeds, clean_deeds, removed_deeds}
-use Rattle.law_behavior.proofs.Frames.{Permits, Still, Called, Frame}
-use Rattle.law_behavior.proofs.Commanded.{either, post_on, tell_on, change_on, throw_on, end_on, AllAllowed, commands_on}
+use Rattle.law_behavior.specs.Deeds.{Deed, deeds_on, effect_deeds, hook_deeds, hooks_deeds, after_deeds, body_deeds, failed_deeds, answer_deeds, run_as_deeds, run_deeds, callback_deeds, row_deeds, clean_deeds, removed_deeds}
+use Rattle.law_behavior.proofs.Frames.{GoesAway, Permits, Still, Called, Frame}
+use Rattle.law_behavior.proofs.Commanded.{either, change_on, end_on, AllAllowed, commands_on}
+use Rattle.law_behavior.proofs.Standing.{SameRows, stopped_rows}
 use Rattle.law_behavior.proofs.Calling.{all_first, all_last, AllDraw, fresh_both, body_draws}
 
 module _ {K : Types} (app : Application K) (P Q : State K → Type 0) (bound : ℕ) (may : Permits K) (law : Frame app P Q bound may) (ends : (t : ℕ) → may.endable t) (bodies : Called app P bound)
@@ -69,9 +70,6 @@ module _ {K : Types} (app : Application K) (P Q : State K → Type 0) (bound : �
 
   pub changes : (w : State K) (s : ℕ) (f : Scope K → Scope K) → ((x : Scope K) → Still x (f x)) → P w → P (change w s f)
   changes w s f same h = change_on app P Q bound may law w s f same h
-
-  told : (w : State K) (i : Source) → P w → P (tell w i)
-  told w i h = tell_on app P Q bound may law w i h
 
   pub called : (w : State K) (s : ℕ) (polled : Option ℕ) (cs : List (Command K)) → AllFresh app bound cs → Good w s polled cs → P w → P (commands app w s polled cs)
   called w s polled cs f g h = commands_on app P Q bound may law w s polled cs (allows w s polled cs f g) h
@@ -222,7 +220,7 @@ module _ {K : Types} (app : Application K) (P Q : State K → Type 0) (bound : �
       let v : State K = change w b (λ y. record y { holders = y.holders ++ (t, origin) ∷ [] }) in
       let is : v ≡ u = ap (λ (z : Option (Scope K)). elim z as (λ i. State K) [ None ↦ w | Some y ↦ record w { scopes = put w.scopes b (record y { holders = y.holders ++ (t, origin) ∷ [] }) } ]) e in
       either app P Q bound may law w (post v (Mark b)) (holds x t) h
-      (post_on app P Q bound may law v (Mark b) (subst (λ (z : State K). P z) (sym is) (law.joins w b t origin x e h)))
+      (law.marks v b (subst (λ (z : State K). P z) (sym is) (law.joins w b t origin x e h)))
 
   joins_on : (w : State K) (origin t : ℕ) (o : Option (ℕ × SideName)) → P w → P (joins w origin t o)
   joins_on w origin t None h = h
@@ -236,10 +234,10 @@ module _ {K : Types} (app : Application K) (P Q : State K → Type 0) (bound : �
       let row : TaskRow K = record x { kind = SuspendedTask } in
       joins_on (record w { tasks = put w.tasks t row }) origin t (location w s) (law.suspends w t x e h)
 
-  settled_on : (w : State K) (s : ℕ) (answer : Element K) → P w → Ends (settled_answer app w s answer)
-  settled_on w s (rendered tree) h = raised_on w s h
-  settled_on w s (failed e) h = throw_on app P Q bound may law w s e h
-  settled_on w s (suspended origin t) h = suspends_on_task w s origin t (at w.tasks t) refl h
+  settled_on : (w : State K) (s : ℕ) (answer : Element K) → AllGood (failed_deeds app w s answer) → P w → Ends (settled_answer app w s answer)
+  settled_on w s (rendered tree) good h = raised_on w s h
+  settled_on w s (failed e) good h = called w s None (Throw e ∷ []) (tt, tt) good.0 h
+  settled_on w s (suspended origin t) good h = suspends_on_task w s origin t (at w.tasks t) refl h
 
   output_on : (w : State K) (s : ℕ) (answer : Element K) → P w → Leaves (new_output app w s answer)
   output_on w s (rendered tree) h = agenda_on w s MainSide tree h
@@ -248,8 +246,14 @@ module _ {K : Types} (app : Application K) (P Q : State K → Type 0) (bound : �
 
   answer_on : (w : State K) (s : ℕ) (answer : Element K) → AllGood (answer_deeds app w s answer) → P w → Leaves (after_answer app w s answer)
   answer_on w s answer good h =
+      let first : List (Deed K) = failed_deeds app w s answer in
+      let later : List (Deed K) = deeds_on (settled_answer app w s answer) (λ v. after_deeds app v s) in
       onward_still (onward (settled_answer app w s answer) (λ v. after_hooks app v s)) (λ v. new_output app v s answer)
-      (onward_on (settled_answer app w s answer) (λ v. after_hooks app v s) (λ v. after_deeds app v s) (settled_on w s answer h) good (λ v g p. after_on v s g p))
+      (
+      onward_on (settled_answer app w s answer) (λ v. after_hooks app v s) (λ v. after_deeds app v s) (settled_on w s answer (good_first first later good) h)
+      (good_last first later good)
+      (λ v g p. after_on v s g p)
+      )
       (λ v p. output_on v s answer p)
 
   boundary_at : (w : State K) (b : ℕ) (steps : List RowStep) (c : Bool) → AllGood (if c then [] else after_deeds app w b) → P w
@@ -395,8 +399,9 @@ module _ {K : Types} (app : Application K) (P Q : State K → Type 0) (bound : �
   end_all_on [] w h = h
   end_all_on (t ∷ ts) w h = end_all_on ts (end w t) (end_on app P Q bound may law w t (ends t) h)
 
-  gone_on : (w : State K) (s : ℕ) → may.removable s → P w → P (gone w s)
-  gone_on w s free h = law.goes w s free h
+  -- a scope may go wherever cells and contexts stand as they do here
+  abbrev pub MayGo : State K → ℕ → Type 0
+  MayGo w s = (v : State K) → v.cells ≡ w.cells → v.contexts ≡ w.contexts → may.causable v (GoesAway s)
 
   stopped_on : (w : State K) (s : ℕ) → P w → P (stopped w s)
   stopped_on w s h =
@@ -412,17 +417,20 @@ module _ {K : Types} (app : Application K) (P Q : State K → Type 0) (bound : �
   cleaned_at s es w waiting m None go low good h = go good (law.nexts w m.next low h)
   cleaned_at s es w waiting m (Some f) go low good h = law.nexts w m.next low h
 
-  cleaned_on : (s : ℕ) (es : List K.Effect) (w : State K) (waiting : List (Command K)) → may.removable s → AllFresh app bound waiting → AllGood (clean_deeds app s es w waiting) → P w
+  cleaned_on : (s : ℕ) (es : List K.Effect) (w : State K) (waiting : List (Command K)) → may.removable s → MayGo w s → AllFresh app bound waiting → AllGood (clean_deeds app s es w waiting) → P w
       → Ends (cleaned_in app true s es w waiting)
-  cleaned_on s [] w waiting free f good h = called (gone w s) s None waiting f good.0 (gone_on w s free h)
-  cleaned_on s (e ∷ es) w waiting free f good h =
+  cleaned_on s [] w waiting free goes f good h = called (gone w s) s None waiting f good.0 (law.goes w s free (goes w refl refl) h)
+  cleaned_on s (e ∷ es) w waiting free goes f good h =
       let world : World K = world_of w s None true in
       let m : Meaning K Nothing = app.effect e world in
       let drawn = draws.effects e world (law.low w h) in
       cleaned_at s es (called_once w) waiting m m.fault
-      (λ g p. cleaned_on s es (with_next (called_once w) m.next) (waiting ++ m.commands) free (fresh_both app bound waiting m.commands f drawn.0) g p)
+      (λ g p. cleaned_on s es (with_next (called_once w) m.next) (waiting ++ m.commands) free (λ v cells contexts. goes v cells contexts) (fresh_both app bound waiting m.commands f drawn.0) g p)
       drawn.1 good (once_on w h)
 
   -- a removal
-  pub removed_on : (w : State K) (s : ℕ) → may.removable s → AllGood (removed_deeds app w s) → P w → Ends (removed app w s)
-  removed_on w s free good h = let v : State K = stopped w s in cleaned_on s (clean_ups (hooks_of v s) []) v [] free tt good (stopped_on w s h)
+  pub removed_on : (w : State K) (s : ℕ) → may.removable s → MayGo w s → AllGood (removed_deeds app w s) → P w → Ends (removed app w s)
+  removed_on w s free goes good h =
+      let v : State K = stopped w s in
+      let same : SameRows w v = stopped_rows w s in
+      cleaned_on s (clean_ups (hooks_of v s) []) v [] free (λ u cells contexts. goes u (cells ∙ same.0) (contexts ∙ same.1)) tt good (stopped_on w s h)

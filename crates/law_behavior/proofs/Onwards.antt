@@ -1,8 +1,9 @@
 -- What moves leave of such a fact.
 use Rattle.std.proofs.Common.{ℕ, ◌+◌, Bool, true, false, List, [], ◌∷◌, ◌≡◌, not, refl, sym, ap, ◌∙◌, subst, nat_eq}
-use Rattle.std.specs.Prelude.{Option, Some, None, if◌then◌else◌}
+use Rattle.std.specs.Prelude.{Option, Some, None, if◌then◌else◌, is_some}
+use Rattle.rt_model.specs.Lists.{at}
 use Rattle.rt_model.specs.Tree.{Types, Place, VComponent}
-use Rattle.rt_model.specs.World.{CallFault, Event, Command, World, Meaning, Application}
+use Rattle.rt_model.specs.World.{Cell, CallFault, Event, Command, World, Meaning, Application}
 use Rattle.rt_model.specs.State.{SideName, Mark, Woken, Scope, Fault, State, Item, Draw, Row, Feed, Make, Drop, Outcome, Done, Cut, is_live, world_of}
 use Rattle.rt_model.specs.Commands.{post, commands}
 use Rattle.rt_model.specs.Next.{Work, RerunScope, PollTask, RunEffects, at_rest, next}
@@ -16,10 +17,10 @@ use Rattle.law_moves.specs.Moves.{Move, Silent, Closed, Logged, entries, is_sile
 use Rattle.law_moves.proofs.Insides.{live_due, made_due, fed_due, fed_change}
 use Rattle.law_behavior.specs.Deeds.{Deed, heard_deeds, first_deeds, item_deeds, work_deeds, entry_deeds, move_deeds}
 use Rattle.law_behavior.specs.Along.{removed_in, NoneRemoves}
-use Rattle.law_behavior.proofs.Frames.{Permits, Frame, Called}
-use Rattle.law_behavior.proofs.Commanded.{post_on, write_on, AllAllowed}
+use Rattle.law_behavior.proofs.Frames.{Cause, WakesTask, Tells, GoesAway, Permits, Frame, Called}
+use Rattle.law_behavior.proofs.Commanded.{write_on, AllAllowed}
 use Rattle.law_behavior.proofs.Calling.{AllDraw}
-use Rattle.law_behavior.proofs.Lived.{AllGood, Ends, Leaves, leaves, called, once_on, run_on, step_on, number_on, made_on, MayFeed, fed_on, removed_on}
+use Rattle.law_behavior.proofs.Lived.{AllGood, Ends, Leaves, leaves, called, once_on, run_on, step_on, number_on, made_on, MayFeed, fed_on, MayGo, removed_on}
 use Rattle.law_behavior.proofs.Polled.{looks_on, rest_on, polled_on, effects_on}
 
 module _ {K : Types} (app : Application K) (P Q : State K → Type 0) (bound : ℕ) (may : Permits K) (law : Frame app P Q bound may) (ends : (t : ℕ) → may.endable t) (bodies : Called app P bound)
@@ -45,16 +46,26 @@ module _ {K : Types} (app : Application K) (P Q : State K → Type 0) (bound : �
 
   post_all_on : (es : List (ℕ × Scope K)) (w : State K) → P w → P (post_all es w)
   post_all_on [] w h = h
-  post_all_on (e ∷ es) w h = post_all_on es (post w (Mark e.0)) (post_on app P Q bound may law w (Mark e.0) h)
+  post_all_on (e ∷ es) w h = post_all_on es (post w (Mark e.0)) (law.marks w e.0 h)
 
-  message_on : (w : State K) (what : Post) → P w → P (post_message w what)
-  message_on w (MarkScope s) h = post_on app P Q bound may law w (Mark s) h
-  message_on w (WakeTask t) h = post_on app P Q bound may law w (Woken t) h
-  message_on w AllDirty h = post_all_on w.scopes w h
+  -- what messages wake may be woken
+  abbrev pub MayPost : State K → Post → Type 0
+  MayPost w (MarkScope s) = Unit {0}
+  MayPost w (WakeTask t) = may.causable w (WakesTask t)
+  MayPost w AllDirty = Unit {0}
 
-  messages_on : (w : State K) (ms : List Message) → P w → P (post_messages w ms)
-  messages_on w [] h = h
-  messages_on w (m ∷ ms) h = messages_on (post_message w m.what) ms (message_on w m.what h)
+  abbrev pub MayPostAll : State K → List Message → Type 0
+  MayPostAll w [] = Unit {0}
+  MayPostAll w (m ∷ ms) = MayPost w m.what × MayPostAll (post_message w m.what) ms
+
+  message_on : (w : State K) (what : Post) → MayPost w what → P w → P (post_message w what)
+  message_on w (MarkScope s) c h = law.marks w s h
+  message_on w (WakeTask t) c h = law.wakes w t c h
+  message_on w AllDirty c h = post_all_on w.scopes w h
+
+  messages_on : (w : State K) (ms : List Message) → MayPostAll w ms → P w → P (post_messages w ms)
+  messages_on w [] c h = h
+  messages_on w (m ∷ ms) c h = messages_on (post_message w m.what) ms c.1 (message_on w m.what c.0 h)
 
   quiet_on : (m : Machine K) (ls : List (Listener K)) → P m.state → P (looked_where_quiet m ls).state
   quiet_on m [] h = looks_on app P Q bound may law ends bodies Good allows draws m.state h
@@ -69,19 +80,28 @@ module _ {K : Types} (app : Application K) (P Q : State K → Type 0) (bound : �
   MayTake (MarkOf s ∷ more) = Unit {0}
   MayTake (Drain messages ∷ more) = Unit {0}
 
-  taken_on : (m : Machine K) (input : Input K) (more : List (Input K)) → MayTake (input ∷ more) → P m.state → P (taken_in m input).state
-  taken_on m (EventAt name payload element bubbles) more a h = h
-  taken_on m (WakeOf t) more a h = post_on app P Q bound may law m.state (Woken t) h
-  taken_on m (WriteOf n v) more a h = write_on app P Q bound may law m.state n v a h
-  taken_on m (MarkOf s) more a h = post_on app P Q bound may law m.state (Mark s) h
-  taken_on m (Drain messages) more a h = messages_on m.state messages h
+  -- whom it wakes may be woken in a state
+  abbrev pub MayWake : State K → List (Input K) → Type 0
+  MayWake w [] = Unit {0}
+  MayWake w (WriteOf n v ∷ more) = is_some (at w.cells n) ≡ true → may.causable w (Tells (Cell n))
+  MayWake w (EventAt name payload element bubbles ∷ more) = Unit {0}
+  MayWake w (WakeOf t ∷ more) = may.causable w (WakesTask t)
+  MayWake w (MarkOf s ∷ more) = Unit {0}
+  MayWake w (Drain messages ∷ more) = MayPostAll w messages
 
-  take_on : (m : Machine K) (inputs : List (Input K)) → MayTake inputs → P m.state → P (take_next m inputs).state
-  take_on m [] a h = h
-  take_on m (input ∷ more) a h =
+  taken_on : (m : Machine K) (input : Input K) (more : List (Input K)) → MayTake (input ∷ more) → MayWake m.state (input ∷ more) → P m.state → P (taken_in m input).state
+  taken_on m (EventAt name payload element bubbles) more a c h = h
+  taken_on m (WakeOf t) more a c h = law.wakes m.state t c h
+  taken_on m (WriteOf n v) more a c h = write_on app P Q bound may law m.state n v a c h
+  taken_on m (MarkOf s) more a c h = law.marks m.state s h
+  taken_on m (Drain messages) more a c h = messages_on m.state messages c h
+
+  take_on : (m : Machine K) (inputs : List (Input K)) → MayTake inputs → MayWake m.state inputs → P m.state → P (take_next m inputs).state
+  take_on m [] a c h = h
+  take_on m (input ∷ more) a c h =
       let u : Machine K = record m { inputs = more; taken = m.taken + 1; units = 0; default_enabled = true; listeners = [] } in
       let v : Machine K = taken_in u input in
-      quiet_on v (waiting v) (taken_on u input more a h)
+      quiet_on v (waiting v) (taken_on u input more a c h)
 
   -- listeners
 
@@ -154,16 +174,59 @@ module _ {K : Types} (app : Application K) (P Q : State K → Type 0) (bound : �
   Sparing inputs (Kept s) = may.feedable s
   Sparing inputs (Removed s) = may.removable s
 
+  -- and what it wakes by itself may be woken: by the input that it takes, where nothing is at work, and by the scope that it removes
+  abbrev pub Waking : Machine K → Entry → Type 0
+  Waking m Build = Unit {0}
+  Waking m (Taken k) = MayWake (at_rest m.state) m.inputs
+  Waking m (Heard s) = Unit {0}
+  Waking m (Rerun s) = Unit {0}
+  Waking m (Poll t) = Unit {0}
+  Waking m (Effects s) = Unit {0}
+  Waking m (Made s) = Unit {0}
+  Waking m (Fed s) = Unit {0}
+  Waking m (Kept s) = Unit {0}
+  Waking m (Removed s) = MayGo app P Q bound may law ends bodies Good allows draws m.state s
+
+  -- where all that may wake tasks is allowed
+  posts_anyway : ((w : State K) (c : Cause) → may.causable w c) → (w : State K) (ms : List Message) → MayPostAll w ms
+  posts_anyway all w [] = tt
+  posts_anyway all w (m ∷ ms) = (by m.what, posts_anyway all (post_message w m.what) ms)
+    where
+      by : (what : Post) → MayPost w what
+      by (MarkScope s) = tt
+      by (WakeTask t) = all w (WakesTask t)
+      by AllDirty = tt
+
+  takes_anyway : ((w : State K) (c : Cause) → may.causable w c) → (w : State K) (inputs : List (Input K)) → MayWake w inputs
+  takes_anyway all w [] = tt
+  takes_anyway all w (WriteOf n v ∷ more) = λ there. all w (Tells (Cell n))
+  takes_anyway all w (EventAt name payload element bubbles ∷ more) = tt
+  takes_anyway all w (WakeOf t ∷ more) = all w (WakesTask t)
+  takes_anyway all w (MarkOf s ∷ more) = tt
+  takes_anyway all w (Drain messages ∷ more) = posts_anyway all w messages
+
+  pub waking_anyway : ((w : State K) (c : Cause) → may.causable w c) → (m : Machine K) (e : Entry) → Waking m e
+  waking_anyway all m Build = tt
+  waking_anyway all m (Taken k) = takes_anyway all (at_rest m.state) m.inputs
+  waking_anyway all m (Heard s) = tt
+  waking_anyway all m (Rerun s) = tt
+  waking_anyway all m (Poll t) = tt
+  waking_anyway all m (Effects s) = tt
+  waking_anyway all m (Made s) = tt
+  waking_anyway all m (Fed s) = tt
+  waking_anyway all m (Kept s) = tt
+  waking_anyway all m (Removed s) = λ v cells contexts. all v (GoesAway s)
+
   -- what is left of the fact holds after an entry whose calls are good and that spares what has to stay
   abbrev After : Machine K → Entry → Machine K → Type 0
-  After m e u = GoodAll (entry_deeds app m e) → Sparing m.inputs e → P m.state → Q u.state
+  After m e u = GoodAll (entry_deeds app m e) → Sparing m.inputs e → Waking m e → P m.state → Q u.state
 
   owed_by : (m : Machine K) (work : Option Work) (e : Entry) → if_live m.state (due_work app m work m.inputs) ≡ Some e → After m e (change_by app m [] e)
   owed_by m (Some (RerunScope r)) e due_is =
       let same : e ≡ Rerun r = (live_due app m.state (Rerun r) e due_is).0 in
       subst (λ (x : Entry). After m x (change_by app m [] x)) (sym same)
       (
-      λ good spared h.
+      λ good spared woken h.
       to_machine (one_more_unit (rested app m)) None [] (run app (at_rest m.state) r)
       (run_on app P Q bound may law ends bodies Good allows draws (at_rest m.state) r good (rest_on app P Q bound may law ends bodies Good allows draws m.state h))
       )
@@ -171,7 +234,7 @@ module _ {K : Types} (app : Application K) (P Q : State K → Type 0) (bound : �
       let same : e ≡ Poll r = (live_due app m.state (Poll r) e due_is).0 in
       subst (λ (x : Entry). After m x (change_by app m [] x)) (sym same)
       (
-      λ good spared h.
+      λ good spared woken h.
       to_machine (one_more_unit (rested app m)) None [] (polled app (at_rest m.state) r)
       (all_left (polled app (at_rest m.state) r) (polled_on app P Q bound may law ends bodies Good allows draws (at_rest m.state) r spared good (rest_on app P Q bound may law ends bodies Good allows draws m.state h)))
       )
@@ -179,7 +242,7 @@ module _ {K : Types} (app : Application K) (P Q : State K → Type 0) (bound : �
       let same : e ≡ Effects r = (live_due app m.state (Effects r) e due_is).0 in
       subst (λ (x : Entry). After m x (change_by app m [] x)) (sym same)
       (
-      λ good spared h.
+      λ good spared woken h.
       to_machine (one_more_unit (rested app m)) None [] (effects_run app (at_rest m.state) r)
       (all_left (effects_run app (at_rest m.state) r) (effects_on app P Q bound may law ends bodies Good allows draws (at_rest m.state) r good (rest_on app P Q bound may law ends bodies Good allows draws m.state h)))
       )
@@ -194,13 +257,13 @@ module _ {K : Types} (app : Application K) (P Q : State K → Type 0) (bound : �
           let same : e ≡ Taken (m.taken + 1) = (live_due app m.state (Taken (m.taken + 1)) e found).0 in
           let r : Machine K = rested app m in
           subst (λ (x : Entry). After m x (change_by app m [] x)) (sym same)
-          (λ good spared h. law.leaves (take_next r r.inputs).state (take_on r r.inputs spared (rest_on app P Q bound may law ends bodies Good allows draws m.state h)))
+          (λ good spared woken h. law.leaves (take_next r r.inputs).state (take_on r r.inputs spared woken (rest_on app P Q bound may law ends bodies Good allows draws m.state h)))
 
   heard_by_entry : (m : Machine K) (ls : List (Listener K)) (e : Entry) → waiting m ≡ ls → if_live m.state (due_heard app m ls) ≡ Some e → After m e (change_by app m [] e)
   heard_by_entry m [] e quiet due_is = owed_by m (next m.state) e due_is
   heard_by_entry m (l ∷ ls) e heard due_is =
       let same : e ≡ Heard l.origin = (live_due app m.state (Heard l.origin) e due_is).0 in
-      subst (λ (x : Entry). After m x (change_by app m [] x)) (sym same) (λ good spared h. law.leaves (heard_first app m (waiting m)).state (first_on m (waiting m) good h))
+      subst (λ (x : Entry). After m x (change_by app m [] x)) (sym same) (λ good spared woken h. law.leaves (heard_first app m (waiting m)).state (first_on m (waiting m) good h))
 
   feed_goods : (m : Machine K) (t : ℕ) (b : Bool) → GoodAll (entry_deeds app m (if b then Kept t else Fed t)) → GoodAll (work_deeds app m.state m.work)
   feed_goods m t true good = good
@@ -219,7 +282,7 @@ module _ {K : Types} (app : Application K) (P Q : State K → Type 0) (bound : �
       subst (λ (x : Entry). After m x (change_by app m (Feed s side p c ∷ rest) x)) (sym same)
       (subst (λ (x : Machine K). After m (if keeps app m.state t c then Kept t else Fed t) x) (sym (fed_change app m s side p c rest t (keeps app m.state t c)))
       (
-      λ good spared h.
+      λ good spared woken h.
       let goods : GoodAll (work_deeds app m.state m.work) = feed_goods m t (keeps app m.state t c) good in
       let feeds : MayServe m.state (Feed s side p c) =
       subst (λ (o : Option ℕ). MayFeed app P Q bound may law ends bodies Good allows draws o) (sym child) (feed_spared m.inputs t (keeps app m.state t c) spared) in
@@ -230,9 +293,9 @@ module _ {K : Types} (app : Application K) (P Q : State K → Type 0) (bound : �
   dropped_by : (m : Machine K) (r top parent : ℕ) (side : SideName) (rest : List (Item K)) (b : Bool)
       → After m (Removed r) (if b then ended_by m (Some (Drop top parent side)) rest (removed app m.state r) else ended_by m (Some (Drop top parent side)) (Drop top parent side ∷ rest) (removed app m.state r))
   dropped_by m r top parent side rest true =
-      λ good spared h. to_machine m (Some (Drop top parent side)) rest (removed app m.state r) (all_left (removed app m.state r) (removed_on app P Q bound may law ends bodies Good allows draws m.state r spared good h))
+      λ good spared woken h. to_machine m (Some (Drop top parent side)) rest (removed app m.state r) (all_left (removed app m.state r) (removed_on app P Q bound may law ends bodies Good allows draws m.state r spared woken good h))
   dropped_by m r top parent side rest false =
-      λ good spared h. to_machine m (Some (Drop top parent side)) (Drop top parent side ∷ rest) (removed app m.state r) (all_left (removed app m.state r) (removed_on app P Q bound may law ends bodies Good allows draws m.state r spared good h))
+      λ good spared woken h. to_machine m (Some (Drop top parent side)) (Drop top parent side ∷ rest) (removed app m.state r) (all_left (removed app m.state r) (removed_on app P Q bound may law ends bodies Good allows draws m.state r spared woken good h))
 
   item_by : (m : Machine K) (work : List (Item K)) (e : Entry) → m.work ≡ work → if_live m.state (due_item app m work) ≡ Some e → After m e (change_by app m work e)
   item_by m [] e first due_is = heard_by_entry m (waiting m) e refl due_is
@@ -242,7 +305,7 @@ module _ {K : Types} (app : Application K) (P Q : State K → Type 0) (bound : �
       let found = made_due app m.state (is_live m.state s) m.state.next_scope e due_is in
       subst (λ (x : Entry). After m x (change_by app m (Make s side p c ∷ rest) x)) (sym found.1)
       (
-      λ good spared h.
+      λ good spared woken h.
       to_machine m (Some (Make s side p c)) rest (outcome_of app m.state (Make s side p c))
       (item_on m.state (Make s side p c) tt (subst (λ (items : List (Item K)). GoodAll (work_deeds app m.state items)) first good) h)
       )
@@ -256,7 +319,7 @@ module _ {K : Types} (app : Application K) (P Q : State K → Type 0) (bound : �
   build_by : (m : Machine K) (work : List (Item K)) → After m Build (change_by app m work Build)
   build_by m work =
       subst (λ (x : Machine K). After m Build x) (sym (is work))
-      (λ good spared h. to_machine (record m { built = true; unit = true }) None [] (run app m.state 0) (run_on app P Q bound may law ends bodies Good allows draws m.state 0 good h))
+      (λ good spared woken h. to_machine (record m { built = true; unit = true }) None [] (run app m.state 0) (run_on app P Q bound may law ends bodies Good allows draws m.state 0 good h))
     where
       is : (items : List (Item K)) → change_by app m items Build ≡ ended_by (record m { built = true; unit = true }) None [] (run app m.state 0)
       is [] = refl
@@ -289,7 +352,7 @@ module _ {K : Types} (app : Application K) (P Q : State K → Type 0) (bound : �
   AllSparing limits m v [] leads = Unit {0}
   AllSparing limits m v (Silent ∷ moves) leads = (Q (leads.0).state → P (leads.0).state) × AllSparing limits leads.0 v moves leads.2
   AllSparing limits m v (Closed ∷ moves) leads = AllSparing limits leads.0 v moves leads.2
-  AllSparing limits m v (Logged e ∷ moves) leads = Sparing m.inputs e × (Q (leads.0).state → P (leads.0).state) × AllSparing limits leads.0 v moves leads.2
+  AllSparing limits m v (Logged e ∷ moves) leads = (Sparing m.inputs e × Waking m e) × (Q (leads.0).state → P (leads.0).state) × AllSparing limits leads.0 v moves leads.2
 
   -- the calls of the moves are good
   abbrev pub GoodOn : (limits : Limits) (m v : Machine K) (moves : List Move) → Leads app limits m moves v → Type 0
@@ -311,7 +374,7 @@ module _ {K : Types} (app : Application K) (P Q : State K → Type 0) (bound : �
   moves_on limits m v (Logged e ∷ moves) leads good spared h =
       let move = leads.1 in
       let alive : m.dead ≡ None = dead_due m e m.dead refl move.due_is in
-      let now : Q (change_by app m m.work e).state = logged_by m e alive move.due_is good.0 spared.0 h in
+      let now : Q (change_by app m m.work e).state = logged_by m e alive move.due_is good.0 (spared.0).0 (spared.0).1 h in
       moves_on limits leads.0 v moves leads.2 good.1 spared.2 (spared.1 (subst (λ (x : Machine K). Q x.state) (sym move.gives) now))
 
   -- where nothing is asked of calls all are good
@@ -324,12 +387,12 @@ module _ {K : Types} (app : Application K) (P Q : State K → Type 0) (bound : �
       all (d ∷ ds) = (f d.state d.scope d.polled d.wants, all ds)
 
   -- what isn't the scope that has to stay may go
-  pub spares_all : (b : ℕ) → ((s : ℕ) → nat_eq s b ≡ false → may.removable s) → ((n : ℕ) → may.writable n) → ((n : ℕ) → may.pollable n) → ((n : ℕ) → may.feedable n) → ((w : State K) → Q w → P w)
+  pub spares_all : (b : ℕ) → ((s : ℕ) → nat_eq s b ≡ false → may.removable s) → ((n : ℕ) → may.writable n) → ((n : ℕ) → may.pollable n) → ((n : ℕ) → may.feedable n) → ((w : State K) (c : Cause) → may.causable w c) → ((w : State K) → Q w → P w)
       → (limits : Limits) (m v : Machine K) (moves : List Move) (leads : Leads app limits m moves v) → NoneRemoves b (entries moves) → AllSparing limits m v moves leads
-  spares_all b f writes polls feeds regains limits m v [] leads h = tt
-  spares_all b f writes polls feeds regains limits m v (Silent ∷ moves) leads h = (regains (leads.0).state, spares_all b f writes polls feeds regains limits leads.0 v moves leads.2 h)
-  spares_all b f writes polls feeds regains limits m v (Closed ∷ moves) leads h = spares_all b f writes polls feeds regains limits leads.0 v moves leads.2 h
-  spares_all b f writes polls feeds regains limits m v (Logged e ∷ moves) leads h = (spared e h.0, regains (leads.0).state, spares_all b f writes polls feeds regains limits leads.0 v moves leads.2 h.1)
+  spares_all b f writes polls feeds wakes regains limits m v [] leads h = tt
+  spares_all b f writes polls feeds wakes regains limits m v (Silent ∷ moves) leads h = (regains (leads.0).state, spares_all b f writes polls feeds wakes regains limits leads.0 v moves leads.2 h)
+  spares_all b f writes polls feeds wakes regains limits m v (Closed ∷ moves) leads h = spares_all b f writes polls feeds wakes regains limits leads.0 v moves leads.2 h
+  spares_all b f writes polls feeds wakes regains limits m v (Logged e ∷ moves) leads h = ((spared e h.0, waking_anyway wakes m e), regains (leads.0).state, spares_all b f writes polls feeds wakes regains limits leads.0 v moves leads.2 h.1)
     where
       taken : (inputs : List (Input K)) → MayTake inputs
       taken [] = tt

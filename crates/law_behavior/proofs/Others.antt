@@ -5,21 +5,21 @@ use Rattle.rt_model.specs.Lists.{at, put}
 use Rattle.rt_model.specs.Tree.{Types}
 use Rattle.rt_model.specs.World.{Source, Cell, Target, ScopeTarget, TaskTarget}
 use Rattle.rt_model.specs.State.{Posted, Mark, Woken, Scope, CellRow, ContextRow, TaskRow, State, is_live}
-use Rattle.rt_model.specs.Commands.{post_target, names_source, readers, tell_contexts, written_at}
+use Rattle.rt_model.specs.Commands.{post_target, names_source, readers, tell_contexts, tell, written_at}
 use Rattle.rt_model.proofs.Maps.{by_test, pick_true, pick_false}
 use Rattle.law_behavior.specs.Marking.{IsPosted, Targets}
 use Rattle.law_behavior.specs.Hidden.{StandsIn}
 use Rattle.law_behavior.proofs.Readers.{target_posts}
 use Rattle.law_behavior.specs.Only.{IsReadersMark, IsContextsPost, WritesPostOnlyReaders}
 
-posted_split : (ps qs : List Posted) (p : Posted) → IsPosted (ps ++ qs) p → IsPosted ps p ⊎ IsPosted qs p
+pub posted_split : (ps qs : List Posted) (p : Posted) → IsPosted (ps ++ qs) p → IsPosted ps p ⊎ IsPosted qs p
 posted_split [] qs p h = inr h
 posted_split (q ∷ ps) qs p (inl h) = inl (inl h)
 posted_split (q ∷ ps) qs p (inr h) = elim (posted_split ps qs p h) [ inl a ↦ inl (inr a) | inr a ↦ inr a ]
 
 module _ {K : Types} where
   -- a mark among the readers is of a scope that read the source
-  abbrev ReaderAmong : List (ℕ × Scope K) → Source → Posted → Type 0
+  abbrev pub ReaderAmong : List (ℕ × Scope K) → Source → Posted → Type 0
   ReaderAmong es i p = (s : ℕ) × (x : Scope K) × StandsIn es (s, x) × (names_source x.reads i ≡ true) × (p ≡ Mark s)
 
   later_reader : (e : ℕ × Scope K) (es : List (ℕ × Scope K)) (i : Source) (p : Posted) → ReaderAmong es i p → ReaderAmong (e ∷ es) i p
@@ -67,7 +67,7 @@ module _ {K : Types} where
   targets_back w v (ScopeTarget s) p scopes tasks h = (ap (λ (es : List (ℕ × Scope K)). is_some (at es s)) (sym scopes) ∙ h.0, h.1)
   targets_back w v (TaskTarget t) p scopes tasks h = (ap (λ (es : List (ℕ × TaskRow K)). is_some (at es t)) (sym tasks) ∙ h.0, h.1)
 
-  abbrev ContextAmong : State K → List (ℕ × ContextRow K) → Source → Posted → Type 0
+  abbrev pub ContextAmong : State K → List (ℕ × ContextRow K) → Source → Posted → Type 0
   ContextAmong w es i p = (n : ℕ) × (x : ContextRow K) × StandsIn es (n, x) × (names_source x.sources i ≡ true) × Targets w x.target p
 
   contexts_only : (w : State K) (i : Source) (es : List (ℕ × ContextRow K)) (u : State K) (p : Posted) → u.scopes ≡ w.scopes → u.tasks ≡ w.tasks
@@ -94,6 +94,15 @@ module _ {K : Types} where
             | inl a ↦ inl a
             | inr t ↦ inr (e.0, e.1, inl refl, q, targets_back w u (e.1).target p scopes tasks t)
           ]
+
+  -- what is posted where a source is told was posted before, or it is of a reader
+  pub told_only : (w : State K) (i : Source) (p : Posted) → IsPosted (tell w i).posted p → IsPosted w.posted p ⊎ (ReaderAmong w.scopes i p ⊎ ContextAmong w w.contexts i p)
+  told_only w i p h =
+      let u : State K = record w { posted = w.posted ++ readers i w.scopes } in
+      elim (contexts_only w i w.contexts u p refl refl h) [
+        | inl a ↦ elim (posted_split w.posted (readers i w.scopes) p a) [ inl b ↦ inl b | inr b ↦ inr (inl (readers_read i w.scopes p b)) ]
+        | inr c ↦ inr (inr c)
+      ]
 
 pub writes_post_only_readers : (K : Types) → WritesPostOnlyReaders K
 writes_post_only_readers K w n v p h = on (at w.cells n) h

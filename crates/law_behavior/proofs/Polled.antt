@@ -63,7 +63,7 @@ module _ {K : Types} (app : Application K) (P Q : State K → Type 0) (bound : �
       looks_on (left_by_poll app v t x m m.answer) (poll_left v t x m m.answer e f free good.0 (law.nexts w m.next low h))
   poll_by w t x m (Some fault) e free f low good h = law.nexts w m.next low h
 
-  poll_at : (w : State K) (t : ℕ) (o : Option (TaskRow K)) → at w.tasks t ≡ o → may.pollable t → AllGood app P Q bound may law ends bodies Good allows draws (poll_deeds app w t o) → P w → Ends app P Q bound may law ends bodies Good allows draws (polled_at app w t o)
+  pub poll_at : (w : State K) (t : ℕ) (o : Option (TaskRow K)) → at w.tasks t ≡ o → may.pollable t → AllGood app P Q bound may law ends bodies Good allows draws (poll_deeds app w t o) → P w → Ends app P Q bound may law ends bodies Good allows draws (polled_at app w t o)
   poll_at w t None e free good h = h
   poll_at w t (Some x) e free good h =
       let world : World K = world_of w x.scope (Some t) false in

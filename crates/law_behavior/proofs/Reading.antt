@@ -4,14 +4,14 @@ use Rattle.std.specs.Prelude.{Option, Some, None, if◌then◌else◌}
 use Rattle.rt_model.specs.Lists.{at, put}
 use Rattle.rt_model.specs.Tree.{Types, Tree, placeholder_tree, VComponent, Own, Root, Fragment, ErrorBoundary, SuspenseBoundary, is_suspense_boundary, Element, rendered, failed, suspended, spots}
 use Rattle.rt_model.specs.World.{Source, Renders, at_end, before_render_kind, after_render_kind, CallFault, Hook, HookValue, HookEffect, Command, World, Meaning, Nothing, Application}
-use Rattle.rt_model.specs.State.{SideName, MainSide, ChildrenSide, FallbackSide, Mark, SuspendedTask, IdsExhausted, BadNode, Side, Scope, TaskRow, State, Item, Outcome, Done, Cut, onward, side_of, with_side, changed_scope, change, location, holds, hooks_of, renders_of, world_of}
+use Rattle.rt_model.specs.State.{SideName, MainSide, ChildrenSide, FallbackSide, Mark, SuspendedTask, IdsExhausted, BadNode, Side, Scope, TaskRow, State, Item, Outcome, Done, Cut, onward, side_of, with_side, changed_scope, change, error_context, location, holds, hooks_of, renders_of, world_of}
 use Rattle.rt_model.specs.Commands.{post, commands}
 use Rattle.rt_model.specs.Run.{fault_of, with_next, called_once, called_where, is_own, answer_fits, kept_call, is_kind, spots_of, raised, joins, suspends_on, unmarked, has_output, body_of, acted, hook_called, hooks_called, after_hooks, call_body, patched, start_agenda, settled_answer, new_output, after_answer, run_as, run}
 use Rattle.rt_model.proofs.Maps.{eq_same, at_put_here}
 use Rattle.law_behavior.specs.Holding.{RunsKeepReads}
 use Rattle.law_behavior.proofs.Frames.{Free, permits, Frame}
 use Rattle.law_behavior.proofs.Enduring.{finely}
-use Rattle.law_behavior.proofs.Commanded.{post_on, throw_on, commands_on}
+use Rattle.law_behavior.proofs.Commanded.{throws_anyway, throw_on, commands_on}
 use Rattle.law_behavior.proofs.Steadfast.{fresh_anyway, all_allowed, Of, Other, of_others, of_change, Bears, of_endures}
 
 module _ {K : Types} (app : Application K) (s : ℕ) (Q : List Source → Type 0) where
@@ -87,7 +87,7 @@ module _ {K : Types} (app : Application K) (s : ℕ) (Q : List Source → Type 0
       either true = h
       either false =
           let u : State K = change w b (λ y. record y { holders = y.holders ++ (t, origin) ∷ [] }) in
-          post_on app (λ v. Reads v) (λ v. Reads v) 0 (permits Free Free Free (λ t. Other s t)) reads_endure u (Mark b) (of_change s (λ y. Q y.reads) w b (λ y. record y { holders = y.holders ++ (t, origin) ∷ [] }) (λ y live q. q) h)
+          reads_endure.marks u b (of_change s (λ y. Q y.reads) w b (λ y. record y { holders = y.holders ++ (t, origin) ∷ [] }) (λ y live q. q) h)
 
   joins_keep : (w : State K) (origin t : ℕ) (o : Option (ℕ × SideName)) → Reads w → Reads (joins w origin t o)
   joins_keep w origin t None h = h
@@ -103,7 +103,8 @@ module _ {K : Types} (app : Application K) (s : ℕ) (Q : List Source → Type 0
 
   settled_keeps : (w : State K) (r : ℕ) (answer : Element K) → Reads w → ReadsO (settled_answer app w r answer)
   settled_keeps w r (rendered tree) h = raised_keeps w r h
-  settled_keeps w r (failed e) h = throw_on app (λ v. Reads v) (λ v. Reads v) 0 (permits Free Free Free (λ t. Other s t)) reads_endure w r e h
+  settled_keeps w r (failed e) h = throw_on app (λ v. Reads v) (λ v. Reads v) 0 (permits Free Free Free (λ t. Other s t)) reads_endure w r e
+      (throws_anyway app (λ v. Reads v) (λ v. Reads v) 0 (permits Free Free Free (λ t. Other s t)) reads_endure (λ v c. tt) w (error_context w r)) h
   settled_keeps w r (suspended origin t) h = suspends_keep w r origin t (at w.tasks t) h
 
   side_reads : (x : Scope K) (side : SideName) (a : Side K) → (with_side x side a).reads ≡ x.reads

@@ -20,7 +20,7 @@ use Rattle.law_behavior.specs.Keeping.{IsOther, ClearsOther, NoneClears, FirstEr
 use Rattle.law_behavior.specs.Along.{NoneRemoves, NoneClearsOn, FirstErrorLasts, HooksLast, LoggedFirstErrorLasts, LoggedHooksLast}
 use Rattle.law_behavior.proofs.Frames.{Free, permits, Frame, Called}
 use Rattle.law_behavior.proofs.Enduring.{LastsBut, LastsIn, lasts_all, Again, Enduring, finely, kept_so}
-use Rattle.law_behavior.proofs.Commanded.{MayClear, Allowed, AllAllowed, commands_on}
+use Rattle.law_behavior.proofs.Commanded.{MayClear, Allowed, caused_anyway, AllAllowed, commands_on}
 use Rattle.law_behavior.proofs.Calling.{AllDraw}
 use Rattle.law_behavior.proofs.Onwards.{GoodOn, moves_on, good_anyway, spares_all}
 
@@ -84,7 +84,11 @@ module _ {K : Types} (app : Application K) (P Q : State K → Type 0) (bound : �
   -- where nothing but fresh numbers is asked of commands
   pub all_allowed : (w : State K) (s : ℕ) (polled : Option ℕ) (cs : List (Command K)) → AllFresh app bound cs → AllAllowed app P Q bound (permits Free Free feedable removable) law w s polled cs
   all_allowed w s polled [] f = tt
-  all_allowed w s polled (c ∷ cs) f = (allowed_freely w s c cs f, all_allowed (command app w s polled c) s polled cs f.1)
+  all_allowed w s polled (c ∷ cs) f =
+      (
+      (allowed_freely w s c cs f, caused_anyway app P Q bound (permits Free Free feedable removable) law (λ v d. tt) w s c),
+      all_allowed (command app w s polled c) s polled cs f.1,
+      )
 
 module _ {K : Types} where
   -- what is so of the record of one scope
@@ -255,7 +259,11 @@ module _ {K : Types} (b : ℕ) (first : CapturedError) where
     spared_commands : (w : State K) (s : ℕ) (polled : Option ℕ) (cs : List (Command K)) → NoneClears app b w s polled cs
         → AllAllowed app (λ w. ErrorKept w) (λ w. ErrorKept w) 0 (permits (λ c. Other b c) Free Free (λ s. Other b s)) (errors_last app) w s polled cs
     spared_commands w s polled [] h = tt
-    spared_commands w s polled (c ∷ cs) h = (spared_command w s c h.0, spared_commands (command app w s polled c) s polled cs h.1)
+    spared_commands w s polled (c ∷ cs) h =
+        (
+        (spared_command w s c h.0, caused_anyway app (λ w. ErrorKept w) (λ w. ErrorKept w) 0 (permits (λ c. Other b c) Free Free (λ s. Other b s)) (errors_last app) (λ v d. tt) w s c),
+        spared_commands (command app w s polled c) s polled cs h.1,
+        )
 
     error_stays : (w : State K) (s : ℕ) (polled : Option ℕ) (cs : List (Command K)) → NoneClears app b w s polled cs → ErrorKept w → ErrorKept (commands app w s polled cs)
     error_stays w s polled cs none h =
@@ -270,7 +278,7 @@ module _ {K : Types} (b : ℕ) (first : CapturedError) where
     error_lasts limits m v moves leads stays none h =
         moves_on app (λ w. ErrorKept w) (λ w. ErrorKept w) 0 (permits (λ c. Other b c) Free Free (λ s. Other b s)) (errors_last app) (λ t. tt) (errors_called app) (λ w s polled cs. NoneClears app b w s polled cs) (λ w s polled cs f g. spared_commands w s polled cs g) (draw_anyway app)
         limits m v moves leads (spared_on limits m v moves leads none)
-        (spares_all app (λ w. ErrorKept w) (λ w. ErrorKept w) 0 (permits (λ c. Other b c) Free Free (λ s. Other b s)) (errors_last app) (λ t. tt) (errors_called app) (λ w s polled cs. NoneClears app b w s polled cs) (λ w s polled cs f g. spared_commands w s polled cs g) (draw_anyway app) b (λ s q. q) (λ n. tt) (λ n. tt) (λ n. tt) (λ w h. h) limits m v moves leads stays)
+        (spares_all app (λ w. ErrorKept w) (λ w. ErrorKept w) 0 (permits (λ c. Other b c) Free Free (λ s. Other b s)) (errors_last app) (λ t. tt) (errors_called app) (λ w s polled cs. NoneClears app b w s polled cs) (λ w s polled cs f g. spared_commands w s polled cs g) (draw_anyway app) b (λ s q. q) (λ n. tt) (λ n. tt) (λ n. tt) (λ w c. tt) (λ w h. h) limits m v moves leads stays)
         h
 
 pub first_error_stays : {K : Types} (app : Application K) → FirstErrorStays app
@@ -344,7 +352,7 @@ module _ {K : Types} (owner index : ℕ) (hook : Hook K) where
         moves_on app (λ w. HookKept w) (λ w. HookKept w) 0 (permits Free Free Free (λ s. Other owner s)) (hooks_frame app) (λ t. tt) (hooks_called app) (λ w s polled cs. Unit {0}) (λ w s polled cs f g. freely w s polled cs f g) (draw_anyway app)
         limits m v moves leads
         (good_anyway app (λ w. HookKept w) (λ w. HookKept w) 0 (permits Free Free Free (λ s. Other owner s)) (hooks_frame app) (λ t. tt) (hooks_called app) (λ w s polled cs. Unit {0}) (λ w s polled cs f g. freely w s polled cs f g) (draw_anyway app) (λ w s polled cs. tt) limits m v moves leads)
-        (spares_all app (λ w. HookKept w) (λ w. HookKept w) 0 (permits Free Free Free (λ s. Other owner s)) (hooks_frame app) (λ t. tt) (hooks_called app) (λ w s polled cs. Unit {0}) (λ w s polled cs f g. freely w s polled cs f g) (draw_anyway app) owner (λ s q. q) (λ n. tt) (λ n. tt) (λ n. tt) (λ w h. h) limits m v moves leads stays)
+        (spares_all app (λ w. HookKept w) (λ w. HookKept w) 0 (permits Free Free Free (λ s. Other owner s)) (hooks_frame app) (λ t. tt) (hooks_called app) (λ w s polled cs. Unit {0}) (λ w s polled cs f g. freely w s polled cs f g) (draw_anyway app) owner (λ s q. q) (λ n. tt) (λ n. tt) (λ n. tt) (λ w c. tt) (λ w h. h) limits m v moves leads stays)
         h
 
 pub hooks_stay : {K : Types} (app : Application K) → HooksStay app

@@ -1,8 +1,9 @@
--- The calls of an application whose commands a move does, each with the state that its commands find.
+-- The calls of an application whose commands a move does, each with the state that its commands find; an error that a body answers
+-- with is thrown as a command does.
 use Rattle.std.specs.Prelude.{ℕ, Bool, true, false, List, [], ◌∷◌, ◌++◌, Option, Some, None, if◌then◌else◌}
 use Rattle.rt_model.specs.Lists.{at, put}
-use Rattle.rt_model.specs.Tree.{Types, VComponent, Own, Root, Fragment, ErrorBoundary, SuspenseBoundary, Element}
-use Rattle.rt_model.specs.World.{at_end, before_render_kind, after_render_kind, Event, Hook, HookValue, HookEffect, Command, World, Meaning, TaskStep, pending, ready, Application}
+use Rattle.rt_model.specs.Tree.{Types, VComponent, Own, Root, Fragment, ErrorBoundary, SuspenseBoundary, Element, rendered, failed, suspended}
+use Rattle.rt_model.specs.World.{at_end, before_render_kind, after_render_kind, Event, Hook, HookValue, HookEffect, Command, Throw, World, Meaning, TaskStep, pending, ready, Application}
 use Rattle.rt_model.specs.State.{RowStep, PatchChildren, MadeChildren, RunFallback, ShowFallback, ShowChildren, DropFallback, Resolve, Scope, TaskRow, State, Item, Draw, Row, Feed, Make, Drop, Outcome, Done, Cut, is_live, change, is_held, hooks_of, effects_of, world_of}
 use Rattle.rt_model.specs.Commands.{unqueued, commands}
 use Rattle.rt_model.specs.Next.{at_rest}
@@ -79,9 +80,15 @@ module _ {K : Types} (app : Application K) where
   body_deeds w s c then_on =
       let world = world_of w s None true in answered_deeds (called_where (is_own c world) w) s world then_on (body_of app c world)
 
+  -- a body that failed throws its error as a command does
+  abbrev pub failed_deeds : State K → ℕ → Element K → List (Deed K)
+  failed_deeds w s (rendered tree) = []
+  failed_deeds w s (failed e) = record { state = w; scope = s; polled = None; wants = Throw e ∷ [] } ∷ []
+  failed_deeds w s (suspended origin t) = []
+
   -- what follows a body's answer
   abbrev pub answer_deeds : State K → ℕ → Element K → List (Deed K)
-  answer_deeds w s answer = deeds_on (settled_answer app w s answer) (λ v. after_deeds v s)
+  answer_deeds w s answer = failed_deeds w s answer ++ deeds_on (settled_answer app w s answer) (λ v. after_deeds v s)
 
   -- a run, by the kind of the component
   abbrev pub run_as_deeds : State K → ℕ → Scope K → VComponent K → List (Deed K)

@@ -5,7 +5,7 @@ use Rattle.std.specs.Prelude.{Option, Some, None, if◌then◌else◌}
 use Rattle.rt_model.specs.Lists.{at, put, without, kept_by}
 use Rattle.rt_model.specs.Tree.{Types, Element, Place, Kind}
 use Rattle.rt_model.specs.World.{Cell, Error, Context, Command, Write, DropCell, NewCell, NewContext, Reset, ReadInto, Spawn, RemoveFuture, ClearErrors, World, Meaning, Application}
-use Rattle.rt_model.specs.State.{SideName, Woken, Scope, CellRow, State, side_of, with_side, changed_scope, change, error_context, world_of}
+use Rattle.rt_model.specs.State.{SideName, Mark, Woken, Scope, CellRow, State, side_of, with_side, changed_scope, change, error_context, world_of}
 use Rattle.rt_model.specs.Commands.{post, tell, activated, provided_at, command, commands}
 use Rattle.rt_model.specs.Next.{look}
 use Rattle.rt_model.specs.Run.{with_next, called_where, is_own, kept_call, body_of}
@@ -18,8 +18,8 @@ use Rattle.law_moves.proofs.Logs.{logs_are_moves}
 use Rattle.law_behavior.specs.Along.{removed_in, NoneRemoves}
 use Rattle.law_behavior.proofs.Readers.{post_posts}
 use Rattle.law_behavior.proofs.Frames.{Free, Permits, Frame, Called}
-use Rattle.law_behavior.proofs.Commanded.{MayClear, Allowed, AllAllowed, commands_on}
-use Rattle.law_behavior.proofs.Onwards.{MayTake, Sparing, AllSparing, GoodOn, moves_on}
+use Rattle.law_behavior.proofs.Commanded.{MayClear, Allowed, caused_anyway, AllAllowed, commands_on}
+use Rattle.law_behavior.proofs.Onwards.{MayTake, Sparing, waking_anyway, AllSparing, GoodOn, moves_on}
 use Rattle.law_behavior.proofs.Steadfast.{Other, from_zero, draw_anyway}
 use Rattle.law_lasting.proofs.Told.{posts_same, tell_same, look_same, calls_same, activated_same, gone_same}
 use Rattle.law_lasting.specs.CellsLast.{LeavesCell, AllLeave, FirstLeaves, TakenLeaves, NoneWritesOn, CellsStay, CellsLast, LoggedCellsLast}
@@ -112,6 +112,7 @@ module _ {K : Types} (n : ℕ) (row : CellRow K) where
         spawnable = λ w t s a. Unit {0};
         feedable = Free;
         removable = λ s. Other row.owner s;
+        causable = λ w c. Unit {0};
       }
 
   module _ (app : Application K) where
@@ -120,7 +121,9 @@ module _ {K : Types} (n : ℕ) (row : CellRow K) where
         record {
           low = λ w h. from_zero w.next.tasks;
           leaves = λ w h. h;
-          posts = λ w v f h. by_cells w v (posts_same w v f).cells h;
+          marks = λ w s h. by_cells w (post w (Mark s)) (posts_same w (post w (Mark s)) (post_posts w (Mark s))).cells h;
+          wakes = λ w t a h. by_cells w (post w (Woken t)) (posts_same w (post w (Woken t)) (post_posts w (Woken t))).cells h;
+          tells = λ w i a h. by_cells w (tell w i) (tell_same w i).cells h;
           looks = λ w h. by_cells w (look w) (look_same w).cells h;
           pauses = λ w t e h. h;
           unqueues = λ w t a h. h;
@@ -128,11 +131,11 @@ module _ {K : Types} (n : ℕ) (row : CellRow K) where
           asides = λ w v e h. by_cells w v (ap (λ (x : State K). x.cells) e) h;
           nexts = λ w next low h. h;
           writes =
-              λ w c v old e a h.
+              λ w c v old e a told h.
               let u : State K = record w { cells = put w.cells c (record old { value = v }) } in
               by_cells u (tell u (Cell c)) (tell_same u (Cell c)).cells (at_put_other w.cells c (record old { value = v }) n a ∙ h);
           drops =
-              λ w c a h.
+              λ w c a told h.
               let u : State K = record w { cells = without w.cells c } in by_cells u (tell u (Cell c)) (tell_same u (Cell c)).cells (at_without_other w.cells c n a ∙ h);
           new_cells = λ w s c v a h. at_longer w.cells n c (record { owner = s; value = v }) row h;
           new_contexts = λ w c x a h. h;
@@ -141,18 +144,18 @@ module _ {K : Types} (n : ℕ) (row : CellRow K) where
           hooks = λ w s x k e h. h;
           joins = λ w b t origin x e h. h;
           throws =
-              λ w b x e live none h.
+              λ w b x e live none told h.
               let u : State K = record w { scopes = put w.scopes b (record x { error = Some e }) } in by_cells u (tell u (Error b)) (tell_same u (Error b)).cells h;
           clears =
-              λ w b x live a h.
+              λ w b x live a told h.
               let u : State K = record w { scopes = put w.scopes b (record x { error = None }) } in by_cells u (tell u (Error b)) (tell_same u (Error b)).cells h;
-          provides = λ w s k v x e h. by_cells w (provided_at app w s k v (at x.contexts k)) (provided_same app w s k v (at x.contexts k)) h;
+          provides = λ w s k v x e told h. by_cells w (provided_at app w s k v (at x.contexts k)) (provided_same app w s k v (at x.contexts k)) h;
           feeds = λ w t c x e a h. h;
           patches = λ w s side tree x e h. h;
           draws = λ w s side p k h. by_cells w (numbered w s side p k) (numbered_same w s side p k) h;
           empties = λ w b x e h. h;
           makes = λ w s side p c x e h. h;
-          goes = λ w s free h. by_cells (without_scope w s) (gone w s) (gone_same w s).cells (at_kept s (other_way_round s row.owner free) w.cells h);
+          goes = λ w s free told h. by_cells (without_scope w s) (gone w s) (gone_same w s).cells (at_kept s (other_way_round s row.owner free) w.cells h);
           mounts = λ w h. h;
           ends = λ w t a h. h;
           spawns =
@@ -160,7 +163,7 @@ module _ {K : Types} (n : ℕ) (row : CellRow K) where
               let v : State K = record w { tasks = w.tasks ++ (t, x) ∷ [] } in by_cells v (post v (Woken t)) (posts_same v (post v (Woken t)) (post_posts v (Woken t))).cells h;
           goes_on = λ w t x a e may h. h;
           suspends = λ w t x e h. h;
-          activates = λ w t active x e h. by_cells w (activated w t active (Some x)) (activated_same w t active x).cells h;
+          activates = λ w t active x e told h. by_cells w (activated w t active (Some x)) (activated_same w t active x).cells h;
         }
 
     cell_called : Called app (λ w. CellIs w) 0
@@ -192,7 +195,11 @@ module _ {K : Types} (n : ℕ) (row : CellRow K) where
 
     all_left : (w : State K) (s : ℕ) (polled : Option ℕ) (cs : List (Command K)) → AllLeave n cs → AllAllowed app (λ w. CellIs w) (λ w. CellIs w) 0 leaving cell_frame w s polled cs
     all_left w s polled [] h = tt
-    all_left w s polled (c ∷ cs) h = (left_alone w s c h.0, all_left (command app w s polled c) s polled cs h.1)
+    all_left w s polled (c ∷ cs) h =
+        (
+        (left_alone w s c h.0, caused_anyway app (λ w. CellIs w) (λ w. CellIs w) 0 leaving cell_frame (λ v d. tt) w s c),
+        all_left (command app w s polled c) s polled cs h.1,
+        )
 
     cell_stays : (w : State K) (s : ℕ) (polled : Option ℕ) (cs : List (Command K)) → AllLeave n cs → CellIs w → CellIs (commands app w s polled cs)
     cell_stays w s polled cs none h = commands_on app (λ w. CellIs w) (λ w. CellIs w) 0 leaving cell_frame w s polled cs (all_left w s polled cs none) h
@@ -231,7 +238,12 @@ module _ {K : Types} (n : ℕ) (row : CellRow K) where
     moves_leave limits m v [] leads stays h = tt
     moves_leave limits m v (Silent ∷ moves) leads stays h = (λ q. q, moves_leave limits leads.0 v moves leads.2 stays h.2)
     moves_leave limits m v (Closed ∷ moves) leads stays h = moves_leave limits leads.0 v moves leads.2 stays h.2
-    moves_leave limits m v (Logged e ∷ moves) leads stays h = (entry_leaves m.inputs e stays.0 h.1, λ q. q, moves_leave limits leads.0 v moves leads.2 stays.1 h.2)
+    moves_leave limits m v (Logged e ∷ moves) leads stays h =
+        (
+        (entry_leaves m.inputs e stays.0 h.1, waking_anyway app (λ w. CellIs w) (λ w. CellIs w) 0 leaving cell_frame (λ t. tt) cell_called (λ w s polled cs. AllLeave n cs) (λ w s polled cs f g. all_left w s polled cs g) (draw_anyway app) (λ w c. tt) m e),
+        λ q. q,
+        moves_leave limits leads.0 v moves leads.2 stays.1 h.2,
+        )
 
 pub cells_stay : {K : Types} (app : Application K) → CellsStay app
 cells_stay app w s polled cs n row none h = cell_stays n row app w s polled cs none h

@@ -5,7 +5,7 @@ use Rattle.std.specs.Prelude.{Option, Some, None, if◌then◌else◌}
 use Rattle.rt_model.specs.Lists.{at, put, without, kept_by}
 use Rattle.rt_model.specs.Tree.{Types, Tree, Element, VComponent, Place, Kind, Spot, same_place, same_kind, spots}
 use Rattle.rt_model.specs.World.{Cell, Error, Context, Command, World, Meaning, Application}
-use Rattle.rt_model.specs.State.{SideName, MainSide, ChildrenSide, FallbackSide, Woken, Side, Scope, State, empty_side, side_of, with_side, new_scope, change, world_of}
+use Rattle.rt_model.specs.State.{SideName, MainSide, ChildrenSide, FallbackSide, Mark, Woken, Side, Scope, State, empty_side, side_of, with_side, new_scope, change, world_of}
 use Rattle.rt_model.specs.Commands.{released, post, tell, activated, provided_at}
 use Rattle.rt_model.specs.Next.{look}
 use Rattle.rt_model.specs.Run.{with_next, called_where, is_own, kept_call, kept_numbers, spots_of, has_node, body_of}
@@ -23,7 +23,7 @@ use Rattle.law_behavior.specs.Along.{removed_in, NoneRemoves}
 use Rattle.law_behavior.proofs.Readers.{post_posts}
 use Rattle.law_behavior.proofs.Frames.{Free, Permits, permits, with_tree, Frame, Called}
 use Rattle.law_behavior.proofs.Commanded.{AllAllowed}
-use Rattle.law_behavior.proofs.Onwards.{MayTake, Sparing, AllSparing, moves_on, good_anyway}
+use Rattle.law_behavior.proofs.Onwards.{MayTake, Sparing, waking_anyway, AllSparing, moves_on, good_anyway}
 use Rattle.law_behavior.proofs.Steadfast.{Of, Other, from_zero, draw_anyway, all_allowed, of_others, of_put, of_change, of_released, at_more, mounted_row}
 use Rattle.law_lasting.proofs.Told.{posts_same, tell_same, look_same, calls_same, activated_same, gone_same}
 use Rattle.law_lasting.specs.NumbersLast.{number_on, node_on, NodeStays, NumbersLast, LoggedNumbersLast}
@@ -188,7 +188,9 @@ module _ {K : Types} (s : ℕ) (side : SideName) (p : Place) (k : Kind) (n : ℕ
         record {
           low = λ w h. from_zero w.next.tasks;
           leaves = λ w h. record { row = h.row; there = h.there; holds = λ has. h.holds };
-          posts = λ w v f h. of_others s Has w v (posts_same w v f).scopes h;
+          marks = λ w r h. of_others s Has w (post w (Mark r)) (posts_same w (post w (Mark r)) (post_posts w (Mark r))).scopes h;
+          wakes = λ w t a h. of_others s Has w (post w (Woken t)) (posts_same w (post w (Woken t)) (post_posts w (Woken t))).scopes h;
+          tells = λ w i a h. of_others s Has w (tell w i) (tell_same w i).scopes h;
           looks = λ w h. of_others s Has w (look w) (look_same w).scopes h;
           pauses = λ w t e h. of_others s Has w _ refl h;
           unqueues = λ w t a h. of_others s Has w _ refl h;
@@ -196,10 +198,10 @@ module _ {K : Types} (s : ℕ) (side : SideName) (p : Place) (k : Kind) (n : ℕ
           asides = λ w v e h. of_others s Has w v (ap (λ (x : State K). x.scopes) e) h;
           nexts = λ w next low h. of_others s Has w (with_next w next) refl h;
           writes =
-              λ w c v old e a h.
+              λ w c v old e a told h.
               let u : State K = record w { cells = put w.cells c (record old { value = v }) } in of_others s Has w (tell u (Cell c)) (tell_same u (Cell c)).scopes h;
           drops =
-              λ w c a h. let u : State K = record w { cells = without w.cells c } in of_others s Has w (tell u (Cell c)) (tell_same u (Cell c)).scopes h;
+              λ w c a told h. let u : State K = record w { cells = without w.cells c } in of_others s Has w (tell u (Cell c)) (tell_same u (Cell c)).scopes h;
           new_cells = λ w r c v a h. of_others s Has w _ refl h;
           new_contexts = λ w c x a h. of_others s Has w _ refl h;
           sources = λ w c x y e a h. of_others s Has w _ refl h;
@@ -212,16 +214,16 @@ module _ {K : Types} (s : ℕ) (side : SideName) (p : Place) (k : Kind) (n : ℕ
           joins =
               λ w b t origin x e h. let y : Scope K = record x { holders = x.holders ++ (t, origin) ∷ [] } in of_put s Has w b x y e (λ q a. stays x y refl refl refl a) h;
           throws =
-              λ w b x f e none h.
+              λ w b x f e none told h.
               let y : Scope K = record x { error = Some f } in
               let u : State K = record w { scopes = put w.scopes b y } in
               of_others s Has u (tell u (Error b)) (tell_same u (Error b)).scopes (of_put s Has w b x y e (λ q a. stays x y refl refl refl a) h);
           clears =
-              λ w b x e may h.
+              λ w b x e may told h.
               let y : Scope K = record x { error = None } in
               let u : State K = record w { scopes = put w.scopes b y } in
               of_others s Has u (tell u (Error b)) (tell_same u (Error b)).scopes (of_put s Has w b x y e (λ q a. stays x y refl refl refl a) h);
-          provides = λ w r c v x e h. provided_stays app w r c v (at x.contexts c) h;
+          provides = λ w r c v x e told h. provided_stays app w r c v (at x.contexts c) h;
           feeds = λ w t c x e a h. let y : Scope K = record x { component = c } in of_put s Has w t x y e (λ q b. stays x y refl refl refl b) h;
           patches = λ w r d tree x e h. put_other w r x (with_side x d (with_tree app tree (side_of x d))) e (λ a. tree_there app x d tree a) h;
           draws = λ w r d q l h. numbered_stays w r d q l h;
@@ -232,7 +234,7 @@ module _ {K : Types} (s : ℕ) (side : SideName) (p : Place) (k : Kind) (n : ℕ
               h;
           makes = λ w r d q c x e h. made_stays w r d q c x e h;
           goes =
-              λ w r other h.
+              λ w r other told h.
               of_others s Has (record w { scopes = without w.scopes r }) (gone w r) (gone_same w r).scopes
               (record { row = h.row; there = at_without_other w.scopes r s other ∙ h.there; holds = h.holds });
           mounts =
@@ -250,7 +252,7 @@ module _ {K : Types} (s : ℕ) (side : SideName) (p : Place) (k : Kind) (n : ℕ
               of_others s Has w (post v (Woken t)) (posts_same v (post v (Woken t)) (post_posts v (Woken t))).scopes h;
           goes_on = λ w t x a e may h. of_others s Has w _ refl h;
           suspends = λ w t x e h. of_others s Has w _ refl h;
-          activates = λ w t active x e h. of_others s Has w (activated w t active (Some x)) (activated_same w t active x).scopes h;
+          activates = λ w t active x e told h. of_others s Has w (activated w t active (Some x)) (activated_same w t active x).scopes h;
         }
 
     number_called : Called app NumberIs 0
@@ -303,7 +305,12 @@ module _ {K : Types} (s : ℕ) (side : SideName) (p : Place) (k : Kind) (n : ℕ
     moves_leave limits m v [] leads still there = tt
     moves_leave limits m v (Silent ∷ moves) leads still there = (regained (leads.0).state there.0, moves_leave limits leads.0 v moves leads.2 still there.1)
     moves_leave limits m v (Closed ∷ moves) leads still there = moves_leave limits leads.0 v moves leads.2 still there.1
-    moves_leave limits m v (Logged e ∷ moves) leads still there = (entry_leaves m.inputs e still.0, regained (leads.0).state there.0, moves_leave limits leads.0 v moves leads.2 still.1 there.1)
+    moves_leave limits m v (Logged e ∷ moves) leads still there =
+        (
+        (entry_leaves m.inputs e still.0, waking_anyway app NumberIs NumberIsThere 0 (others_go s) number_frame (λ t. tt) number_called (λ w r polled cs. Unit {0}) (λ w r polled cs f g. freely w r polled cs f g) (draw_anyway app) (λ w c. tt) m e),
+        regained (leads.0).state there.0,
+        moves_leave limits leads.0 v moves leads.2 still.1 there.1,
+        )
 
     number_lasts : (limits : Limits) (m v : Machine K) (moves : List Move) (leads : Leads app limits m moves v) → NoneRemoves s (entries moves) → NodeStays app limits s side p k m v moves leads
         → NumberIs m.state

@@ -6,7 +6,7 @@ use Rattle.rt_model.specs.Lists.{at, put, without, join}
 use Rattle.rt_model.specs.Laws.{IsNumbered, Tests, IsLawful}
 use Rattle.rt_model.specs.Tree.{Types, Place, VComponent, Element}
 use Rattle.rt_model.specs.World.{Source, Cell, Error, Context, TaskTarget, Firsts, Command, Write, DropCell, NewCell, NewContext, Reset, ReadInto, Spawn, RemoveFuture, ClearErrors, CallFault, World, Meaning, TaskStep, Application}
-use Rattle.rt_model.specs.State.{SideName, ChildrenSide, Woken, SuspendedTask, Side, Scope, CellRow, ContextRow, TaskRow, LastCall, State, Outcome, Done, Cut, empty_side, side_of, with_side, new_scope, changed_scope, change, error_context, is_live, world_of}
+use Rattle.rt_model.specs.State.{SideName, ChildrenSide, Mark, Woken, SuspendedTask, Side, Scope, CellRow, ContextRow, TaskRow, LastCall, State, Outcome, Done, Cut, empty_side, side_of, with_side, new_scope, changed_scope, change, error_context, is_live, world_of}
 use Rattle.rt_model.specs.Commands.{post, tell, unqueued, provided_at, command, commands}
 use Rattle.rt_model.specs.Next.{look, is_active}
 use Rattle.rt_model.specs.Run.{fault_of, with_next, called_once, called_where, is_own, kept_call, body_of, unmarked}
@@ -22,11 +22,12 @@ use Rattle.rt_model.proofs.RunFrames.{fresh, numbered_rises}
 use Rattle.rt_model.proofs.Tour.{AllFresh}
 use Rattle.law_moves.specs.Moves.{Move, Silent, Closed, Logged, Moves}
 use Rattle.law_behavior.specs.Deeds.{Deed, poll_finds, poll_deeds, move_deeds}
+use Rattle.law_behavior.proofs.Readers.{post_posts, tell_posts}
 use Rattle.law_behavior.proofs.Stays.{unmarked_stays, unqueued_stays}
 use Rattle.law_behavior.proofs.Looking.{look_stays}
 use Rattle.law_behavior.proofs.Frames.{Free, Permits, with_tree, Frame, Called}
-use Rattle.law_behavior.proofs.Commanded.{MayClear, Allowed, AllAllowed, commands_on}
-use Rattle.law_behavior.proofs.Onwards.{MayTake, Sparing, AllSparing, moves_on}
+use Rattle.law_behavior.proofs.Commanded.{MayClear, Allowed, caused_anyway, AllAllowed, commands_on}
+use Rattle.law_behavior.proofs.Onwards.{MayTake, Sparing, waking_anyway, AllSparing, moves_on}
 use Rattle.law_behavior.proofs.Polled.{drops_on, rest_on, poll_left}
 use Rattle.law_behavior.proofs.Steadfast.{lawful_draw}
 use Rattle.law_lasting.specs.CellsLast.{FirstLeaves}
@@ -60,6 +61,7 @@ module _
         spawnable = spawnable;
         feedable = Free;
         removable = λ s. (nat_eq s scope ≡ false) × (nat_eq s held.owner ≡ false);
+        causable = λ w c. Unit {0};
       }
 
   module _ (app : Application K) (tests : Tests K.Value app.same_value) where
@@ -125,7 +127,9 @@ module _
         record {
           low = λ w h. low_of w h;
           leaves = λ w h. h;
-          posts = λ w v f h. keep_on w v (posts_pass last t n cell scope held place polled reads target home w v f) h;
+          marks = λ w s h. keep_on w (post w (Mark s)) (posts_pass last t n cell scope held place polled reads target home w (post w (Mark s)) (post_posts w (Mark s))) h;
+          wakes = λ w u a h. keep_on w (post w (Woken u)) (posts_pass last t n cell scope held place polled reads target home w (post w (Woken u)) (post_posts w (Woken u))) h;
+          tells = λ w i a h. keep_on w (tell w i) (posts_pass last t n cell scope held place polled reads target home w (tell w i) (tell_posts w i)) h;
           looks =
               λ w h.
               keep_on w (look w)
@@ -135,8 +139,8 @@ module _
           unmarks = λ w s h. keep_on w (unmarked w s) (owed_passes last t n cell scope held place polled reads target home w (unmarked w s) refl (λ owes. (unmarked_stays w s).polls t refl owes)) h;
           asides = λ w v e h. aside w v e h;
           nexts = λ w next low h. next_on w next low h;
-          writes = λ w c v old e a h. keep_on w _ (write_passes last t n cell scope held place polled reads target home w c (record old { value = v }) a) h;
-          drops = λ w c a h. keep_on w _ (drop_passes last t n cell scope held place polled reads target home w c a) h;
+          writes = λ w c v old e a told h. keep_on w _ (write_passes last t n cell scope held place polled reads target home w c (record old { value = v }) a) h;
+          drops = λ w c a told h. keep_on w _ (drop_passes last t n cell scope held place polled reads target home w c a) h;
           new_cells = λ w s c v a h. keep_on w _ (new_cell_passes last t n cell scope held place polled reads target home w c (record { owner = s; value = v }) a) h;
           new_contexts = λ w c x a h. keep_on w _ (contexts_pass last t n cell scope held place polled reads target home w (w.contexts ++ (c, x) ∷ []) (λ once e. at_longer w.contexts n c x reads e)) h;
           sources = λ w c x y e a h. keep_on w _ (contexts_pass last t n cell scope held place polled reads target home w (put w.contexts c y) (λ once there. at_put_other w.contexts c y n (a once) ∙ there)) h;
@@ -146,9 +150,9 @@ module _
               (put_passes last t n cell scope held place polled reads target home w s x y e (ap (λ (z : Scope K). z.error) same) (ap (λ (z : Scope K). z.contexts) same)) h;
           hooks = λ w s x k e h. keep_on w _ (put_passes last t n cell scope held place polled reads target home w s x (record x { hooks = x.hooks ++ k ∷ [] }) e refl refl) h;
           joins = λ w b u origin x e h. keep_on w _ (put_passes last t n cell scope held place polled reads target home w b x (record x { holders = x.holders ++ (u, origin) ∷ [] }) e refl refl) h;
-          throws = λ w b x e live none h. keep_on w _ (error_passes last t n cell scope held place polled reads target home w b x (record x { error = Some e }) live refl) h;
-          clears = λ w b x live a h. keep_on w _ (error_passes last t n cell scope held place polled reads target home w b x (record x { error = None }) live refl) h;
-          provides = λ w s k v x e h. provided_on w s k v x e (at x.contexts k) refl h;
+          throws = λ w b x e live none told h. keep_on w _ (error_passes last t n cell scope held place polled reads target home w b x (record x { error = Some e }) live refl) h;
+          clears = λ w b x live a told h. keep_on w _ (error_passes last t n cell scope held place polled reads target home w b x (record x { error = None }) live refl) h;
+          provides = λ w s k v x e told h. provided_on w s k v x e (at x.contexts k) refl h;
           feeds = λ w u c x e a h. keep_on w _ (put_passes last t n cell scope held place polled reads target home w u x (record x { component = c }) e refl refl) h;
           patches = λ w s side tree x e h. side_on w s side (λ y. with_tree app tree (side_of y side)) x e h;
           draws =
@@ -163,13 +167,13 @@ module _
               (next_on w next (low_of w h) h);
           empties = λ w b x e h. keep_on w _ (put_passes last t n cell scope held place polled reads target home w b x (record x { fallback_side = empty_side }) e refl refl) h;
           makes = λ w s side p c x e h. make_on w s side p c x e h;
-          goes = λ w s free h. keep_on w (gone w s) (gone_passes last t n cell scope held place polled reads target home w s free.0 free.1) h;
+          goes = λ w s free told h. keep_on w (gone w s) (gone_passes last t n cell scope held place polled reads target home w s free.0 free.1) h;
           mounts = λ w h. keep_on w (mounted_state w) (mounts_pass last t n cell scope held place polled reads target home w) h;
           ends = λ w u a h. keep_on w _ (ended_passes last t n cell scope held place polled reads target home w u) h;
           spawns = λ w u x live low free h. spawn_on w u x live low free h;
           goes_on = λ w u x a e may h. keep_on w _ (task_passes last t n cell scope held place polled reads target home w u x (record x { state = a }) e refl (λ q. clash q may) (λ g. g)) h;
           suspends = λ w u x e h. keep_on w _ (task_passes last t n cell scope held place polled reads target home w u x (record x { kind = SuspendedTask }) e refl (λ q. refl) (λ g. g)) h;
-          activates = λ w u active x e h. keep_on w _ (activated_passes last t n cell scope held place polled reads target home w u active x e) h;
+          activates = λ w u active x e told h. keep_on w _ (activated_passes last t n cell scope held place polled reads target home w u active x e) h;
         }
       where
         looked : (w : State K) → look w ≡ record w { posted = (look w).posted; seen = (look w).seen; queued = (look w).queued; skipped = (look w).skipped }
@@ -254,7 +258,11 @@ module _
     all_allowed : (w : State K) (s : ℕ) (asked : Option ℕ) (cs : List (Command K)) → AllFresh app bound cs → GoodCall w s asked cs
         → AllAllowed app (λ w. Is w) (λ w. Is w) bound minding frame w s asked cs
     all_allowed w s asked [] f h = tt
-    all_allowed w s asked (c ∷ cs) f h = (allowed w s c cs f h.0.0 h.1.0, all_allowed (command app w s asked c) s asked cs f.1 (h.0.1, h.1.1))
+    all_allowed w s asked (c ∷ cs) f h =
+        (
+        (allowed w s c cs f h.0.0 h.1.0, caused_anyway app (λ w. Is w) (λ w. Is w) bound minding frame (λ v d. tt) w s c),
+        all_allowed (command app w s asked c) s asked cs f.1 (h.0.1, h.1.1),
+        )
 
     module _ (lawful : IsLawful K app) where
       may_take : (inputs : List (Input K)) → FirstLeaves cell inputs
@@ -283,7 +291,15 @@ module _
           → AllSparing app (λ w. Is w) (λ w. Is w) bound minding frame (λ u. tt) called (λ w s polled cs. GoodCall w s polled cs) (λ w s polled cs f g. all_allowed w s polled cs f g) (lawful_draw app bound lawful) limits m u (move ∷ []) (u, step, refl)
       move_spares limits m u Silent step h = (λ g. g, tt)
       move_spares limits m u Closed step h = tt
-      move_spares limits m u (Logged e) step h = (entry_spares m.inputs e h, λ g. g, tt)
+      move_spares limits m u (Logged e) step h =
+          (
+          (
+          entry_spares m.inputs e h,
+          waking_anyway app (λ w. Is w) (λ w. Is w) bound minding frame (λ u. tt) called (λ w s polled cs. GoodCall w s polled cs) (λ w s polled cs f g. all_allowed w s polled cs f g) (lawful_draw app bound lawful) (λ w c. tt) m e,
+          ),
+          λ g. g,
+          tt,
+          )
 
       -- a move keeps the fact, where its calls and its entry leave the task alone and spawn whom they may
       pub move_keeps : (limits : Limits) (m u : Machine K) (move : Move) → Moves app limits m move u

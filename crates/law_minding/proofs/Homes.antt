@@ -20,7 +20,7 @@ use Rattle.law_behavior.proofs.Readers.{tell_posts}
 use Rattle.law_behavior.proofs.Frames.{Free, Permits, permits, Frame, Called}
 use Rattle.law_behavior.proofs.Enduring.{Again, Enduring, finely, kept_so}
 use Rattle.law_behavior.proofs.Commanded.{AllAllowed, commands_on}
-use Rattle.law_behavior.proofs.Onwards.{MayTake, AllSparing, moves_on, good_anyway}
+use Rattle.law_behavior.proofs.Onwards.{MayTake, Sparing, waking_anyway, AllSparing, moves_on, good_anyway}
 use Rattle.law_behavior.proofs.Steadfast.{from_zero, fresh_anyway, draw_anyway, all_allowed}
 use Rattle.law_lasting.proofs.Told.{gone_same}
 use Rattle.law_minding.specs.Homes.{HomesAreLive}
@@ -177,6 +177,23 @@ module _ {K : Types} (t : ℕ) where
         )
         spares h
 
+    -- an entry that isn't
+    by_entry : (limits : Limits) (m u : Machine K) (e : Entry) → Moves app limits m (Logged e) u
+        → Sparing app (λ w. Homed w) (λ w. Homed w) 0 none_goes frame (λ u. tt) called (λ w s polled cs. Unit {0}) (λ w s polled cs f g. freely w s polled cs f g) (draw_anyway app) m.inputs e
+        → Homed m.state
+        → Homed u.state
+    by_entry limits m u e step spares h =
+        by_frame limits m u (Logged e) step
+        (
+        (
+        spares,
+        waking_anyway app (λ w. Homed w) (λ w. Homed w) 0 none_goes frame (λ u. tt) called (λ w s polled cs. Unit {0}) (λ w s polled cs f g. freely w s polled cs f g) (draw_anyway app) (λ w c. tt) m e,
+        ),
+        λ g. g,
+        tt,
+        )
+        h
+
     -- when its tasks have ended, none is of the scope
     stopped_away : (w : State K) (s : ℕ) → Homed w → Away s (stopped w s)
     stopped_away w s h x e = (by_test (nat_eq x.scope s) (λ p. none_some (stopped_none t w s x there p) e) (λ p. p), stopped_live w s x.scope (h x there))
@@ -248,15 +265,15 @@ module _ {K : Types} (t : ℕ) where
 
       entry_keeps : (limits : Limits) (m u : Machine K) (e : Entry) → Moves app limits m (Logged e) u → Homed m.state → Homed u.state
       entry_keeps limits m u (Removed s) step h = removal_keeps limits m u s step h
-      entry_keeps limits m u Build step h = by_frame limits m u (Logged Build) step (tt, λ g. g, tt) h
-      entry_keeps limits m u (Taken k) step h = by_frame limits m u (Logged (Taken k)) step (may_take m.inputs, λ g. g, tt) h
-      entry_keeps limits m u (Heard s) step h = by_frame limits m u (Logged (Heard s)) step (tt, λ g. g, tt) h
-      entry_keeps limits m u (Rerun s) step h = by_frame limits m u (Logged (Rerun s)) step (tt, λ g. g, tt) h
-      entry_keeps limits m u (Poll n) step h = by_frame limits m u (Logged (Poll n)) step (tt, λ g. g, tt) h
-      entry_keeps limits m u (Effects s) step h = by_frame limits m u (Logged (Effects s)) step (tt, λ g. g, tt) h
-      entry_keeps limits m u (Made s) step h = by_frame limits m u (Logged (Made s)) step (tt, λ g. g, tt) h
-      entry_keeps limits m u (Fed s) step h = by_frame limits m u (Logged (Fed s)) step (tt, λ g. g, tt) h
-      entry_keeps limits m u (Kept s) step h = by_frame limits m u (Logged (Kept s)) step (tt, λ g. g, tt) h
+      entry_keeps limits m u Build step h = by_entry limits m u Build step tt h
+      entry_keeps limits m u (Taken k) step h = by_entry limits m u (Taken k) step (may_take m.inputs) h
+      entry_keeps limits m u (Heard s) step h = by_entry limits m u (Heard s) step tt h
+      entry_keeps limits m u (Rerun s) step h = by_entry limits m u (Rerun s) step tt h
+      entry_keeps limits m u (Poll n) step h = by_entry limits m u (Poll n) step tt h
+      entry_keeps limits m u (Effects s) step h = by_entry limits m u (Effects s) step tt h
+      entry_keeps limits m u (Made s) step h = by_entry limits m u (Made s) step tt h
+      entry_keeps limits m u (Fed s) step h = by_entry limits m u (Fed s) step tt h
+      entry_keeps limits m u (Kept s) step h = by_entry limits m u (Kept s) step tt h
 
       move_keeps : (limits : Limits) (m u : Machine K) (move : Move) → Moves app limits m move u → Homed m.state → Homed u.state
       move_keeps limits m u Silent step h = by_frame limits m u Silent step (λ g. g, tt) h

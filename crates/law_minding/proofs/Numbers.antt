@@ -4,7 +4,7 @@ use Rattle.std.specs.Prelude.{Option, Some, None, if◌then◌else◌, flat_map}
 use Rattle.std.specs.List.{AllByRecursion}
 use Rattle.rt_model.specs.Lists.{at}
 use Rattle.rt_model.specs.Laws.{CountUp, IsNumbered, IsLawful, new_cell, new_context}
-use Rattle.rt_model.specs.Tree.{Types, Place, Kind, VComponent, Own, Root, Fragment, ErrorBoundary, SuspenseBoundary, Element}
+use Rattle.rt_model.specs.Tree.{Types, Place, Kind, VComponent, Own, Root, Fragment, ErrorBoundary, SuspenseBoundary, Element, rendered, failed, suspended}
 use Rattle.rt_model.specs.World.{Elements, at_end, before_render_kind, after_render_kind, CallFault, Firsts, Event, Hook, HookValue, HookEffect, Command, NewCell, NewContext, World, Meaning, Nothing, Application}
 use Rattle.rt_model.specs.State.{SideName, IdsExhausted, RowStep, PatchChildren, MadeChildren, RunFallback, ShowFallback, ShowChildren, DropFallback, Resolve, Scope, TaskRow, State, Item, Draw, Row, Feed, Make, Drop, Outcome, Done, Cut, is_live, change, is_held, hooks_of, effects_of, world_of}
 use Rattle.rt_model.specs.Commands.{unqueued, commands}
@@ -20,7 +20,7 @@ use Rattle.rt_model.proofs.RunFrames.{numbered_rises, later_refl, LaterO, change
 use Rattle.rt_model.proofs.StepFrames.{Follows, follows_later, stopped_later}
 use Rattle.rt_model.proofs.MachineFrames.{ended_later, numbered_later, mounted_later, rest_later, with_props_later, change_follows}
 use Rattle.law_moves.specs.Moves.{Move, Silent, Closed, Logged, is_silent, Moves}
-use Rattle.law_behavior.specs.Deeds.{Deed, deeds_on, deed_of, effect_deeds, hook_deeds, hooks_deeds, after_deeds, answered_deeds, body_deeds, answer_deeds, run_as_deeds, run_deeds, callback_deeds, row_deeds, clean_deeds, removed_deeds, batch_deeds, poll_deeds, heard_deeds, first_deeds, item_deeds, work_deeds, entry_deeds, move_deeds}
+use Rattle.law_behavior.specs.Deeds.{Deed, deeds_on, deed_of, effect_deeds, hook_deeds, hooks_deeds, after_deeds, answered_deeds, body_deeds, failed_deeds, answer_deeds, run_as_deeds, run_deeds, callback_deeds, row_deeds, clean_deeds, removed_deeds, batch_deeds, poll_deeds, heard_deeds, first_deeds, item_deeds, work_deeds, entry_deeds, move_deeds}
 
 -- next numbers from two bounds on
 abbrev pub Above : ℕ → ℕ → Firsts → Type 0
@@ -151,9 +151,15 @@ module _ {K : Types} (cells contexts : ℕ) where
         own true = answered_new (called_once w) s world then_on (body_of app c world) (body_numbered app lawful c world) a go
         own false = answered_new w s world then_on (body_of app c world) (body_numbered app lawful c world) a go
 
+    failed_new : (w : State K) (s : ℕ) (answer : Element K) → AllOf (failed_deeds app w s answer)
+    failed_new w s (rendered tree) = tt
+    failed_new w s (failed e) = ((tt, tt), tt)
+    failed_new w s (suspended origin t) = tt
+
     answer_new : (w : State K) (s : ℕ) (answer : Element K) → Above cells contexts w.next → AllOf (answer_deeds app w s answer)
     answer_new w s answer a =
-        then_new w (settled_answer app w s answer) (λ v. after_deeds app v s) (settled_later app lawful w s answer) a (λ v b. after_new v s b)
+        all_both (failed_deeds app w s answer) (deeds_on (settled_answer app w s answer) (λ v. after_deeds app v s)) (failed_new w s answer)
+        (then_new w (settled_answer app w s answer) (λ v. after_deeds app v s) (settled_later app lawful w s answer) a (λ v b. after_new v s b))
 
     run_as_new : (w : State K) (s : ℕ) (x : Scope K) (c : VComponent K) → Above cells contexts w.next → AllOf (run_as_deeds app w s x c)
     run_as_new w s x (SuspenseBoundary children fallback) a = by (runs_fallback (row_of x.shows (is_held x)))

@@ -7,7 +7,7 @@ use Rattle.rt_model.specs.Lists.{at, put, without, kept_by}
 use Rattle.rt_model.specs.Laws.{IsLawful}
 use Rattle.rt_model.specs.Tree.{Types, Element, Place, Kind}
 use Rattle.rt_model.specs.World.{Cell, Error, Context, Firsts, Command, NewCell, Write, DropCell, NewContext, Reset, ReadInto, Spawn, RemoveFuture, ClearErrors, World, Meaning, Application}
-use Rattle.rt_model.specs.State.{SideName, Woken, Scope, ContextRow, State, side_of, with_side, changed_scope, change, error_context, world_of}
+use Rattle.rt_model.specs.State.{SideName, Mark, Woken, Scope, ContextRow, State, side_of, with_side, changed_scope, change, error_context, world_of}
 use Rattle.rt_model.specs.Commands.{post, tell, activated, provided_at, command}
 use Rattle.rt_model.specs.Next.{look}
 use Rattle.rt_model.specs.Run.{with_next, called_where, is_own, kept_call, body_of}
@@ -20,8 +20,8 @@ use Rattle.law_moves.specs.Moves.{Move, Silent, Closed, Logged, Moves, Leads}
 use Rattle.law_behavior.specs.Deeds.{Deed, move_deeds}
 use Rattle.law_behavior.proofs.Readers.{post_posts}
 use Rattle.law_behavior.proofs.Frames.{Free, Permits, Frame, Called}
-use Rattle.law_behavior.proofs.Commanded.{MayClear, Allowed, AllAllowed}
-use Rattle.law_behavior.proofs.Onwards.{MayTake, Sparing, AllSparing, moves_on}
+use Rattle.law_behavior.proofs.Commanded.{MayClear, Allowed, caused_anyway, AllAllowed}
+use Rattle.law_behavior.proofs.Onwards.{MayTake, Sparing, waking_anyway, AllSparing, moves_on}
 use Rattle.law_behavior.proofs.Steadfast.{from_zero, draw_anyway}
 use Rattle.law_lasting.proofs.Told.{posts_same, tell_same, look_same, calls_same, activated_same, gone_same}
 use Rattle.law_minding.specs.Numbering.{NumberedIn, NextIsFree}
@@ -43,6 +43,7 @@ opening n =
       spawnable = λ w t s a. Unit {0};
       feedable = Free;
       removable = Free;
+      causable = λ w c. Unit {0};
     }
 
 -- what is below a number isn't it
@@ -121,7 +122,9 @@ module _ {K : Types} (n : ℕ) where
         record {
           low = λ w h. from_zero w.next.tasks;
           leaves = λ w h. h;
-          posts = λ w v f h. by_contexts w v (posts_same w v f).contexts h;
+          marks = λ w s h. by_contexts w (post w (Mark s)) (posts_same w (post w (Mark s)) (post_posts w (Mark s))).contexts h;
+          wakes = λ w t a h. by_contexts w (post w (Woken t)) (posts_same w (post w (Woken t)) (post_posts w (Woken t))).contexts h;
+          tells = λ w i a h. by_contexts w (tell w i) (tell_same w i).contexts h;
           looks = λ w h. by_contexts w (look w) (look_same w).contexts h;
           pauses = λ w t e h. h;
           unqueues = λ w t a h. h;
@@ -129,10 +132,10 @@ module _ {K : Types} (n : ℕ) where
           asides = λ w v e h. by_contexts w v (ap (λ (x : State K). x.contexts) e) h;
           nexts = λ w next low h. h;
           writes =
-              λ w c v old e a h.
+              λ w c v old e a told h.
               let u : State K = record w { cells = put w.cells c (record old { value = v }) } in by_contexts u (tell u (Cell c)) (tell_same u (Cell c)).contexts h;
           drops =
-              λ w c a h.
+              λ w c a told h.
               let u : State K = record w { cells = without w.cells c } in by_contexts u (tell u (Cell c)) (tell_same u (Cell c)).contexts h;
           new_cells = λ w s c v a h. h;
           new_contexts = λ w c x a h. at_append_none w.contexts c x n a ∙ h;
@@ -141,18 +144,18 @@ module _ {K : Types} (n : ℕ) where
           hooks = λ w s x k e h. h;
           joins = λ w b t origin x e h. h;
           throws =
-              λ w b x e live none h.
+              λ w b x e live none told h.
               let u : State K = record w { scopes = put w.scopes b (record x { error = Some e }) } in by_contexts u (tell u (Error b)) (tell_same u (Error b)).contexts h;
           clears =
-              λ w b x live a h.
+              λ w b x live a told h.
               let u : State K = record w { scopes = put w.scopes b (record x { error = None }) } in by_contexts u (tell u (Error b)) (tell_same u (Error b)).contexts h;
-          provides = λ w s k v x e h. by_contexts w (provided_at app w s k v (at x.contexts k)) (provided_same app w s k v (at x.contexts k)) h;
+          provides = λ w s k v x e told h. by_contexts w (provided_at app w s k v (at x.contexts k)) (provided_same app w s k v (at x.contexts k)) h;
           feeds = λ w t c x e a h. h;
           patches = λ w s side tree x e h. h;
           draws = λ w s side p k h. by_contexts w (numbered w s side p k) (numbered_same w s side p k) h;
           empties = λ w b x e h. h;
           makes = λ w s side p c x e h. h;
-          goes = λ w s free h. by_contexts (without_scope w s) (gone w s) (gone_same w s).contexts (kept_none n s w.contexts h);
+          goes = λ w s free told h. by_contexts (without_scope w s) (gone w s) (gone_same w s).contexts (kept_none n s w.contexts h);
           mounts = λ w h. h;
           ends = λ w t a h. h;
           spawns =
@@ -160,7 +163,7 @@ module _ {K : Types} (n : ℕ) where
               let v : State K = record w { tasks = w.tasks ++ (t, x) ∷ [] } in by_contexts v (post v (Woken t)) (posts_same v (post v (Woken t)) (post_posts v (Woken t))).contexts h;
           goes_on = λ w t x a e may h. h;
           suspends = λ w t x e h. h;
-          activates = λ w t active x e h. by_contexts w (activated w t active (Some x)) (activated_same w t active x).contexts h;
+          activates = λ w t active x e told h. by_contexts w (activated w t active (Some x)) (activated_same w t active x).contexts h;
         }
 
     called : Called app (λ w. Is w) 0
@@ -192,7 +195,11 @@ module _ {K : Types} (n : ℕ) where
 
     all_allowed : (w : State K) (s : ℕ) (polled : Option ℕ) (cs : List (Command K)) → AllFresh app 0 cs → AllOpen cs → AllAllowed app (λ w. Is w) (λ w. Is w) 0 (opening n) frame w s polled cs
     all_allowed w s polled [] f h = tt
-    all_allowed w s polled (c ∷ cs) f h = (allowed w s c h.0, all_allowed (command app w s polled c) s polled cs f.1 h.1)
+    all_allowed w s polled (c ∷ cs) f h =
+        (
+        (allowed w s c h.0, caused_anyway app (λ w. Is w) (λ w. Is w) 0 (opening n) frame (λ v d. tt) w s c),
+        all_allowed (command app w s polled c) s polled cs f.1 h.1,
+        )
 
     may_take : (inputs : List (Input K))
         → MayTake app (λ w. Is w) (λ w. Is w) 0 (opening n) frame (λ t. tt) called (λ w s polled cs. AllOpen cs) (λ w s polled cs f g. all_allowed w s polled cs f g) (draw_anyway app) inputs
@@ -220,7 +227,15 @@ module _ {K : Types} (n : ℕ) where
         → AllSparing app (λ w. Is w) (λ w. Is w) 0 (opening n) frame (λ t. tt) called (λ w s polled cs. AllOpen cs) (λ w s polled cs f g. all_allowed w s polled cs f g) (draw_anyway app) limits m u (move ∷ []) (u, step, refl)
     move_spares limits m u Silent step = (λ g. g, tt)
     move_spares limits m u Closed step = tt
-    move_spares limits m u (Logged e) step = (entry_spares m.inputs e, λ g. g, tt)
+    move_spares limits m u (Logged e) step =
+        (
+        (
+        entry_spares m.inputs e,
+        waking_anyway app (λ w. Is w) (λ w. Is w) 0 (opening n) frame (λ t. tt) called (λ w s polled cs. AllOpen cs) (λ w s polled cs f g. all_allowed w s polled cs f g) (draw_anyway app) (λ w c. tt) m e,
+        ),
+        λ g. g,
+        tt,
+        )
 
     move_opens : (limits : Limits) (m u : Machine K) (move : Move) → Moves app limits m move u → AllByRecursion (λ (d : Deed K). AllOpen d.wants) (move_deeds app m move) → Is m.state → Is u.state
     move_opens limits m u move step deeds h =

@@ -4,7 +4,7 @@ use Rattle.std.specs.Prelude.{Option, Some, None, if◌then◌else◌}
 use Rattle.rt_model.specs.Lists.{at, put, without, kept_by}
 use Rattle.rt_model.specs.Tree.{Types, VComponent, Element, Place, Kind}
 use Rattle.rt_model.specs.World.{Cell, Error, Context, Command, World, Meaning, Application}
-use Rattle.rt_model.specs.State.{SideName, MainSide, ChildrenSide, FallbackSide, Woken, Side, Scope, State, empty_side, side_of, with_side, new_scope, change, world_of}
+use Rattle.rt_model.specs.State.{SideName, MainSide, ChildrenSide, FallbackSide, Mark, Woken, Side, Scope, State, empty_side, side_of, with_side, new_scope, change, world_of}
 use Rattle.rt_model.specs.Commands.{released, post, tell, activated, provided_at}
 use Rattle.rt_model.specs.Next.{look}
 use Rattle.rt_model.specs.Removal.{gone}
@@ -99,7 +99,9 @@ module _ {K : Types} (s : ℕ) (parent : Option ℕ) (height : ℕ) where
         record {
           low = λ w h. from_zero w.next.tasks;
           leaves = λ w h. h;
-          posts = λ w v f h. of_others s (λ x. Has x) w v (posts_same w v f).scopes h;
+          marks = λ w r h. of_others s (λ x. Has x) w (post w (Mark r)) (posts_same w (post w (Mark r)) (post_posts w (Mark r))).scopes h;
+          wakes = λ w t a h. of_others s (λ x. Has x) w (post w (Woken t)) (posts_same w (post w (Woken t)) (post_posts w (Woken t))).scopes h;
+          tells = λ w i a h. of_others s (λ x. Has x) w (tell w i) (tell_same w i).scopes h;
           looks = λ w h. of_others s (λ x. Has x) w (look w) (look_same w).scopes h;
           pauses = λ w t e h. of_others s (λ x. Has x) w _ refl h;
           unqueues = λ w t a h. of_others s (λ x. Has x) w _ refl h;
@@ -107,11 +109,11 @@ module _ {K : Types} (s : ℕ) (parent : Option ℕ) (height : ℕ) where
           asides = λ w v e h. of_others s (λ x. Has x) w v (ap (λ (x : State K). x.scopes) e) h;
           nexts = λ w next low h. of_others s (λ x. Has x) w (with_next w next) refl h;
           writes =
-              λ w c v old e a h.
+              λ w c v old e a told h.
               let u : State K = record w { cells = put w.cells c (record old { value = v }) } in
               of_others s (λ x. Has x) w (tell u (Cell c)) (tell_same u (Cell c)).scopes h;
           drops =
-              λ w c a h.
+              λ w c a told h.
               let u : State K = record w { cells = without w.cells c } in of_others s (λ x. Has x) w (tell u (Cell c)) (tell_same u (Cell c)).scopes h;
           new_cells = λ w r c v a h. of_others s (λ x. Has x) w _ refl h;
           new_contexts = λ w c x a h. of_others s (λ y. Has y) w _ refl h;
@@ -122,16 +124,16 @@ module _ {K : Types} (s : ℕ) (parent : Option ℕ) (height : ℕ) where
               λ w b t origin x e h.
               let y : Scope K = record x { holders = x.holders ++ (t, origin) ∷ [] } in of_put s (λ z. Has z) w b x y e (λ q a. stays x y refl refl a) h;
           throws =
-              λ w b x f e none h.
+              λ w b x f e none told h.
               let y : Scope K = record x { error = Some f } in
               let u : State K = record w { scopes = put w.scopes b y } in
               of_others s (λ z. Has z) u (tell u (Error b)) (tell_same u (Error b)).scopes (of_put s (λ z. Has z) w b x y e (λ q a. stays x y refl refl a) h);
           clears =
-              λ w b x e may h.
+              λ w b x e may told h.
               let y : Scope K = record x { error = None } in
               let u : State K = record w { scopes = put w.scopes b y } in
               of_others s (λ z. Has z) u (tell u (Error b)) (tell_same u (Error b)).scopes (of_put s (λ z. Has z) w b x y e (λ q a. stays x y refl refl a) h);
-          provides = λ w r c v x e h. provided_stays app w r c v (at x.contexts c) h;
+          provides = λ w r c v x e told h. provided_stays app w r c v (at x.contexts c) h;
           feeds = λ w t c x e a h. let y : Scope K = record x { component = c } in of_put s (λ z. Has z) w t x y e (λ q b. stays x y refl refl b) h;
           patches =
               λ w r d tree x e h.
@@ -141,7 +143,7 @@ module _ {K : Types} (s : ℕ) (parent : Option ℕ) (height : ℕ) where
               λ w b x e h. let y : Scope K = record x { fallback_side = empty_side } in of_put s (λ z. Has z) w b x y e (λ q a. stays x y refl refl a) h;
           makes = λ w r d q c x e h. made_stays w r d q c x e h;
           goes =
-              λ w r other h.
+              λ w r other told h.
               of_others s (λ z. Has z) (record w { scopes = without w.scopes r }) (gone w r) (gone_same w r).scopes
               (record { row = h.row; there = at_without_other w.scopes r s other ∙ h.there; holds = h.holds });
           mounts =
@@ -159,7 +161,7 @@ module _ {K : Types} (s : ℕ) (parent : Option ℕ) (height : ℕ) where
               of_others s (λ z. Has z) w (post v (Woken t)) (posts_same v (post v (Woken t)) (post_posts v (Woken t))).scopes h;
           goes_on = λ w t x a e may h. of_others s (λ z. Has z) w _ refl h;
           suspends = λ w t x e h. of_others s (λ z. Has z) w _ refl h;
-          activates = λ w t active x e h. of_others s (λ z. Has z) w (activated w t active (Some x)) (activated_same w t active x).scopes h;
+          activates = λ w t active x e told h. of_others s (λ z. Has z) w (activated w t active (Some x)) (activated_same w t active x).scopes h;
         }
 
     called : Called app (λ w. Is w) 0
@@ -187,6 +189,6 @@ module _ {K : Types} (s : ℕ) (parent : Option ℕ) (height : ℕ) where
         )
         (
         spares_all app (λ x. Is x) (λ x. Is x) 0 (others_go s) frame (λ t. tt) called (λ w r polled cs. Unit {0}) (λ w r polled cs f g. freely w r polled cs f g) (draw_anyway app) s
-        (λ r q. q) (λ n. tt) (λ n. tt) (λ n. tt) (λ w g. g) limits m u (move ∷ []) (u, step, refl) still
+        (λ r q. q) (λ n. tt) (λ n. tt) (λ n. tt) (λ w c. tt) (λ w g. g) limits m u (move ∷ []) (u, step, refl) still
         )
         h

@@ -1,11 +1,11 @@
 -- What the calls of a run make has numbers below the next one behind it.
-use Rattle.std.proofs.Common.{ℕ, ◌+◌, ◌≤◌, Bool, true, false, List, [], ◌∷◌, ◌++◌, ◌≡◌, ap, arith}
+use Rattle.std.proofs.Common.{ℕ, ◌+◌, ◌≤◌, Bool, true, false, List, [], ◌∷◌, ◌++◌, ◌≡◌, refl, ap, arith}
 use Rattle.std.specs.Prelude.{Option, Some, None, if◌then◌else◌}
 use Rattle.std.specs.List.{AllByRecursion}
 use Rattle.rt_model.specs.Lists.{at}
 use Rattle.rt_model.specs.Laws.{IsNumbered, IsLawful}
 use Rattle.rt_model.specs.Tree.{Types, placeholder_tree, VComponent, Own, Root, Fragment, ErrorBoundary, SuspenseBoundary, Element, rendered, failed, suspended}
-use Rattle.rt_model.specs.World.{before_render_kind, after_render_kind, CallFault, Firsts, Hook, HookValue, HookEffect, Command, World, Meaning, Nothing, Application}
+use Rattle.rt_model.specs.World.{before_render_kind, after_render_kind, CallFault, Firsts, Hook, HookValue, HookEffect, Command, Throw, World, Meaning, Nothing, Application}
 use Rattle.rt_model.specs.State.{MainSide, BadNode, RowStep, Scope, State, Outcome, Done, Cut, onward, is_held, hooks_of, world_of}
 use Rattle.rt_model.specs.Commands.{commands}
 use Rattle.rt_model.specs.Run.{fault_of, with_next, called_once, called_where, is_own, answer_fits, kept_call, is_kind, unmarked, has_output, row_of, row_items, runs_fallback, body_of, acted, hook_called, hooks_called, after_hooks, answered_with, call_body, start_agenda, settled_answer, new_output, after_answer, run_as, run}
@@ -13,7 +13,7 @@ use Rattle.rt_model.proofs.Tour.{all_fresh}
 use Rattle.rt_model.proofs.TourCalls.{state_of}
 use Rattle.rt_model.proofs.Frames.{commands_same}
 use Rattle.rt_model.proofs.RunFrames.{Later, later_refl, LaterO, onward_later, later_either, body_numbered, kept_same, call_later, hooks_later, after_hooks_later, agenda_later, settled_later}
-use Rattle.law_behavior.specs.Deeds.{Deed, deeds_on, effect_deeds, hook_deeds, hooks_deeds, after_deeds, answered_deeds, body_deeds, answer_deeds, run_as_deeds, run_deeds}
+use Rattle.law_behavior.specs.Deeds.{Deed, deeds_on, effect_deeds, hook_deeds, hooks_deeds, after_deeds, answered_deeds, body_deeds, failed_deeds, answer_deeds, run_as_deeds, run_deeds}
 use Rattle.law_minding.proofs.Counting.{Counting}
 
 module _ {K : Types} (tally : Counting K) (bound : ℕ) where
@@ -173,10 +173,21 @@ module _ {K : Types} (tally : Counting K) (bound : ℕ) where
         (onward_later w (settled_answer app w s answer) (λ v. after_hooks app v s) (settled_later app lawful w s answer) (λ v. after_hooks_later app lawful v s))
         (λ v. output_later v s answer)
 
+    failed_under : (w : State K) (s : ℕ) (answer : Element K) → Ends w → AllUnder (failed_deeds app w s answer)
+    failed_under w s (rendered tree) l = tt
+    failed_under w s (failed e) l =
+        let none : IsNumbered w.next (Throw e ∷ []) w.next = record { cells = refl; contexts = refl; tasks = refl; elements = refl; errors = omega arith } in
+        (numbered_low w.next (Throw e ∷ []) w.next none l, tt)
+    failed_under w s (suspended origin t) l = tt
+
     answer_under : (w : State K) (s : ℕ) (answer : Element K) → EndsO (after_answer app w s answer) → AllUnder (answer_deeds app w s answer)
     answer_under w s answer l =
+        under_both (failed_deeds app w s answer) (deeds_on (settled_answer app w s answer) (λ v. after_deeds app v s))
+        (failed_under w s answer (ends_before w (state_of (after_answer app w s answer)) (answer_later w s answer) l))
+        (
         then_under (settled_answer app w s answer) (λ v. after_hooks app v s) (λ v. after_deeds app v s) (λ v k. after_under v s k)
         (first_ends (onward (settled_answer app w s answer) (λ v. after_hooks app v s)) (λ v. new_output app v s answer) (λ v. output_later v s answer) l)
+        )
 
     own_under : (w : State K) (s : ℕ) (c : VComponent K) → EndsO (call_body app w s c (λ v answer. after_answer app v s answer))
         → AllUnder (body_deeds app w s c (λ v answer. answer_deeds app v s answer))

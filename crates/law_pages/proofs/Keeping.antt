@@ -5,7 +5,7 @@ use Rattle.std.specs.List.{AllByRecursion}
 use Rattle.rt_model.specs.Lists.{at, nth}
 use Rattle.rt_model.specs.Program as program
 use Rattle.rt_model.specs.Program.{Program, done, current_scope, read, new_cell, hook_is_new, use_hook, Call, begun, exec, noted, noted_at, faults, past_hook, drew_cell, hooked, kind_of, hook_value, value_in}
-use Rattle.rt_model.specs.Tree.{Types, CapturedError, VComponent, Own, Root, Fragment, ErrorBoundary, SuspenseBoundary, Element, rendered}
+use Rattle.rt_model.specs.Tree.{Types, CapturedError, VComponent, Own, Root, Fragment, ErrorBoundary, SuspenseBoundary, Element, rendered, failed, suspended}
 use Rattle.rt_model.specs.World.{Source, Cell, at_end, before_render_kind, after_render_kind, CallFault, CounterAtEnd, OtherHook, Cells, Hook, HookValue, HookEffect, Command, NewCell, KeepHook, World, Meaning, Application}
 use Rattle.rt_model.specs.State.{RowStep, PatchChildren, MadeChildren, RunFallback, ShowFallback, ShowChildren, DropFallback, Resolve, Scope, TaskRow, State, Item, Draw, Row, Feed, Make, Drop, Outcome, Done, Cut, is_live, change, is_held, hooks_of, effects_of, world_of}
 use Rattle.rt_model.specs.Commands.{unqueued, commands}
@@ -17,7 +17,7 @@ use Rattle.rt_model.specs.Replay.{Entry, Build, Taken, Heard, Rerun, Poll, Effec
 use Rattle.rt_model.specs.Causes.{Limits}
 use Rattle.law_moves.specs.Moves.{Move, Silent, Closed, Logged, Leads}
 use Rattle.law_lasting.specs.CellsLast.{LeavesCell, AllLeave, NoneWritesOn}
-use Rattle.law_behavior.specs.Deeds.{Deed, deeds_on, deed_of, poll_finds, effect_deeds, hook_deeds, hooks_deeds, after_deeds, body_deeds, answer_deeds, run_as_deeds, run_deeds, callback_deeds, row_deeds, clean_deeds, batch_deeds, poll_deeds, item_deeds, work_deeds, entry_deeds, move_deeds}
+use Rattle.law_behavior.specs.Deeds.{Deed, deeds_on, deed_of, poll_finds, effect_deeds, hook_deeds, hooks_deeds, after_deeds, body_deeds, failed_deeds, answer_deeds, run_as_deeds, run_deeds, callback_deeds, row_deeds, clean_deeds, batch_deeds, poll_deeds, item_deeds, work_deeds, entry_deeds, move_deeds}
 use Rattle.law_lasting.proofs.Celled.{cells_last}
 use Rattle.author_programs.specs.Cells.{Keeping, own_cell, made_cell, first_or_kept, all_read}
 use Rattle.author_programs.specs.Pages.{Page, Pages, own_cells, one_more, and_more, shown, page_body, meaning_of_pages}
@@ -206,8 +206,15 @@ module _ {K : Types} (n : ℕ) where
         let m : Meaning K (Element K) = body_of app c world in
         answered_spared (called_where (is_own c world) w) s world ds m m.fault h (body_spares c world)
 
+    failed_spared : (w : State K) (s : ℕ) (e : Element K) → Spared (failed_deeds app w s e)
+    failed_spared w s (rendered tree) = tt
+    failed_spared w s (failed f) = ((tt, tt), tt)
+    failed_spared w s (suspended origin t) = tt
+
     answer_spared : (w : State K) (s : ℕ) (e : Element K) → Spared (answer_deeds app w s e)
-    answer_spared w s e = then_spared (settled_answer app w s e) (λ v. after_deeds app v s) (λ v. after_spared v s)
+    answer_spared w s e =
+        both (failed_deeds app w s e) (deeds_on (settled_answer app w s e) (λ v. after_deeds app v s)) (failed_spared w s e)
+        (then_spared (settled_answer app w s e) (λ v. after_deeds app v s) (λ v. after_spared v s))
 
     run_as_spared : (w : State K) (s : ℕ) (x : Scope K) (c : VComponent K) → Spared (run_as_deeds app w s x c)
     run_as_spared w s x (SuspenseBoundary children fallback) = where_spared (runs_fallback (row_of x.shows (is_held x))) [] (after_deeds app w s) tt (after_spared w s)

@@ -19,11 +19,11 @@ module _ {V : Type 0} where
   Alike m x = (n : ℕ) → at m n ≡ at x n
 
   -- what stands under a number after a write: by what stood under its number, and under this one
-  abbrev after_put : V → Option V → Option V → Bool → Option V
+  abbrev pub after_put : V → Option V → Option V → Bool → Option V
   after_put v None there same = there
   after_put v (Some old) there same = if same then Some v else there
 
-  put_at : (m : List (ℕ × V)) (n : ℕ) (v : V) (o : Option V) (c : ℕ) → at (put_where m n v o) c ≡ after_put v o (at m c) (nat_eq n c)
+  pub put_at : (m : List (ℕ × V)) (n : ℕ) (v : V) (o : Option V) (c : ℕ) → at (put_where m n v o) c ≡ after_put v o (at m c) (nat_eq n c)
   put_at m n v None c = refl
   put_at m n v (Some old) c =
       by_test (nat_eq n c)

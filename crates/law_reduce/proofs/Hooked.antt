@@ -200,33 +200,35 @@ module _ {K : Types} (k : Keeping K.Value) (s : ℕ) (own : List ℕ) (old : Opt
         record {
           low = λ w h. from_zero w.next.tasks;
           leaves = λ w h. h;
-          posts = λ w v f h. (one.posts w v f h.0, by_calls w v (posts_calls w v f) (λ r. reads.posts w v f r) h.1);
+          marks = λ w t h. (one.marks w t h.0, by_calls w (post w (Mark t)) (posts_calls w (post w (Mark t)) (post_posts w (Mark t))) (λ r. reads.marks w t r) h.1);
+          wakes = λ w t a h. (one.wakes w t a h.0, by_calls w (post w (Woken t)) (posts_calls w (post w (Woken t)) (post_posts w (Woken t))) (λ r. reads.wakes w t a r) h.1);
+          tells = λ w i a h. (one.tells w i a h.0, by_calls w (tell w i) (tell_calls w i) (λ r. reads.tells w i a r) h.1);
           looks = λ w h. (one.looks w h.0, by_calls w (look w) (looks_calls w.posted (record w { posted = [] })) (λ r. reads.looks w r) h.1);
           pauses = λ w t e h. (one.pauses w t e h.0, λ last is. so_far (λ r. reads.pauses w t e r) (h.1 last is));
           unqueues = λ w t a h. (one.unqueues w t a h.0, λ last is. so_far (λ r. reads.unqueues w t a r) (h.1 last is));
           unmarks = λ w t h. (one.unmarks w t h.0, λ last is. so_far (λ r. reads.unmarks w t r) (h.1 last is));
           asides = λ w v e h. (one.asides w v e h.0, by_calls w v (ap (λ (x : State K). x.last_calls) e) (λ r. reads.asides w v e r) h.1);
           nexts = λ w next low h. (one.nexts w next low h.0, λ last is. so_far (λ r. reads.nexts w next low r) (h.1 last is));
-          writes = λ w n v row e a h.
-              (one.writes w n v row e a h.0, by_calls w (tell (record w { cells = put w.cells n (record row { value = v }) }) (Cell n)) (tell_calls (record w { cells = put w.cells n (record row { value = v }) }) (Cell n)) (λ r. reads.writes w n v row e a r) h.1);
-          drops = λ w n a h. (one.drops w n a h.0, by_calls w (tell (record w { cells = without w.cells n }) (Cell n)) (tell_calls (record w { cells = without w.cells n }) (Cell n)) (λ r. reads.drops w n a r) h.1);
+          writes = λ w n v row e a told h.
+              (one.writes w n v row e a told h.0, by_calls w (tell (record w { cells = put w.cells n (record row { value = v }) }) (Cell n)) (tell_calls (record w { cells = put w.cells n (record row { value = v }) }) (Cell n)) (λ r. reads.writes w n v row e a told r) h.1);
+          drops = λ w n a told h. (one.drops w n a told h.0, by_calls w (tell (record w { cells = without w.cells n }) (Cell n)) (tell_calls (record w { cells = without w.cells n }) (Cell n)) (λ r. reads.drops w n a told r) h.1);
           new_cells = λ w t n v a h. (one.new_cells w t n v a h.0, λ last is. so_far (λ r. reads.new_cells w t n v a r) (h.1 last is));
           new_contexts = λ w n x a h. (one.new_contexts w n x a h.0, λ last is. so_far (λ r. reads.new_contexts w n x a r) (h.1 last is));
           sources = λ w n x y e a h. (one.sources w n x y e a h.0, λ last is. so_far (λ r. reads.sources w n x y e a r) (h.1 last is));
           rows = λ w t x y e same h. (one.rows w t x y e same h.0, λ last is. so_far (λ r. reads.rows w t x y e same r) (h.1 last is));
           hooks = λ w t x hook e h. (one.hooks w t x hook e h.0, λ last is. so_far (λ r. reads.hooks w t x hook e r) (h.1 last is));
           joins = λ w b t origin x e h. (one.joins w b t origin x e h.0, λ last is. so_far (λ r. reads.joins w b t origin x e r) (h.1 last is));
-          throws = λ w b x e live none h.
-              (one.throws w b x e live none h.0, by_calls w (tell (record w { scopes = put w.scopes b (record x { error = Some e }) }) (Error b)) (tell_calls (record w { scopes = put w.scopes b (record x { error = Some e }) }) (Error b)) (λ r. reads.throws w b x e live none r) h.1);
-          clears = λ w b x live a h.
-              (one.clears w b x live a h.0, by_calls w (tell (record w { scopes = put w.scopes b (record x { error = None }) }) (Error b)) (tell_calls (record w { scopes = put w.scopes b (record x { error = None }) }) (Error b)) (λ r. reads.clears w b x live a r) h.1);
-          provides = λ w t kind v x e h. (one.provides w t kind v x e h.0, by_calls w (provided_at app w t kind v (at x.contexts kind)) (provided_calls app w t kind v (at x.contexts kind)) (λ r. reads.provides w t kind v x e r) h.1);
+          throws = λ w b x e live none told h.
+              (one.throws w b x e live none told h.0, by_calls w (tell (record w { scopes = put w.scopes b (record x { error = Some e }) }) (Error b)) (tell_calls (record w { scopes = put w.scopes b (record x { error = Some e }) }) (Error b)) (λ r. reads.throws w b x e live none told r) h.1);
+          clears = λ w b x live a told h.
+              (one.clears w b x live a told h.0, by_calls w (tell (record w { scopes = put w.scopes b (record x { error = None }) }) (Error b)) (tell_calls (record w { scopes = put w.scopes b (record x { error = None }) }) (Error b)) (λ r. reads.clears w b x live a told r) h.1);
+          provides = λ w t kind v x e told h. (one.provides w t kind v x e told h.0, by_calls w (provided_at app w t kind v (at x.contexts kind)) (provided_calls app w t kind v (at x.contexts kind)) (λ r. reads.provides w t kind v x e told r) h.1);
           feeds = λ w t c x e a h. (one.feeds w t c x e a h.0, λ last is. so_far (λ r. reads.feeds w t c x e a r) (h.1 last is));
           patches = λ w t side tree x e h. (one.patches w t side tree x e h.0, λ last is. so_far (λ r. reads.patches w t side tree x e r) (h.1 last is));
           draws = λ w t side p kind h. (one.draws w t side p kind h.0, by_calls w (numbered w t side p kind) (numbered_calls w t side p kind) (λ r. reads.draws w t side p kind r) h.1);
           empties = λ w b x e h. (one.empties w b x e h.0, λ last is. so_far (λ r. reads.empties w b x e r) (h.1 last is));
           makes = λ w t side p c x e h. (one.makes w t side p c x e h.0, λ last is. so_far (λ r. reads.makes w t side p c x e r) (h.1 last is));
-          goes = λ w t free h. (one.goes w t free h.0, by_without w (gone w t) t (gone_calls w t) (λ q r. reads.goes w t free r) h.1);
+          goes = λ w t free told h. (one.goes w t free told h.0, by_without w (gone w t) t (gone_calls w t) (λ q r. reads.goes w t free told r) h.1);
           mounts = λ w h. (one.mounts w h.0, λ last is. so_far (λ r. reads.mounts w r) (h.1 last is));
           ends = λ w t a h. (one.ends w t a h.0, λ last is. so_far (λ r. reads.ends w t a r) (h.1 last is));
           spawns = λ w t x live low free h.
@@ -234,7 +236,7 @@ module _ {K : Types} (k : Keeping K.Value) (s : ℕ) (own : List ℕ) (old : Opt
               (one.spawns w t x live low tt h.0, by_calls w (post v (Woken t)) (posts_calls v (post v (Woken t)) (post_posts v (Woken t))) (λ r. reads.spawns w t x live low tt r) h.1);
           goes_on = λ w t x a e may h. (one.goes_on w t x a e may h.0, λ last is. so_far (λ r. reads.goes_on w t x a e may r) (h.1 last is));
           suspends = λ w t x e h. (one.suspends w t x e h.0, λ last is. so_far (λ r. reads.suspends w t x e r) (h.1 last is));
-          activates = λ w t active x e h. (one.activates w t active x e h.0, by_calls w (activated w t active (Some x)) (activated_calls w t active x) (λ r. reads.activates w t active x e r) h.1);
+          activates = λ w t active x e told h. (one.activates w t active x e told h.0, by_calls w (activated w t active (Some x)) (activated_calls w t active x) (λ r. reads.activates w t active x e told r) h.1);
         }
 
     -- a call of a body: another scope's leaves the scope's own, and the scope's own is given what its hooks are
@@ -302,7 +304,7 @@ module _ {K : Types} (k : Keeping K.Value) (s : ℕ) (own : List ℕ) (old : Opt
         )
         (
         spares_all app (λ w. Both w) (λ w. Both w) 0 (permits Free Free Free (λ t. Other s t)) both_frame (λ t. tt) both_called (λ w r polled cs. Unit {0}) (λ w r polled cs f g. freely w r polled cs f g) (draw_anyway app)
-        s (λ t q. q) (λ n. tt) (λ n. tt) (λ n. tt) (λ w g. g) limits m v moves leads stays
+        s (λ t q. q) (λ n. tt) (λ n. tt) (λ n. tt) (λ w c. tt) (λ w g. g) limits m v moves leads stays
         )
         h
 

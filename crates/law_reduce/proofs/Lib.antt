@@ -13,5 +13,7 @@ pub mod Alike
 pub mod Folded
 pub mod Shown
 pub mod Values
+pub mod Among
+pub mod Elm
 pub mod Bodies
 pub mod Heard

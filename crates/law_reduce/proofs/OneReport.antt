@@ -31,7 +31,8 @@ use Rattle.law_reduce.specs.Reduces.{hearers, reduced, Reduces}
 use Rattle.law_lasting.specs.ComponentsLast.{NoneFeeds}
 use Rattle.law_reduce.specs.Reads.{NoneRuns, ReadsStay}
 use Rattle.law_reduce.proofs.GoesOn.{later_stays, later_unrun, later_unfed, PagesGoOn, page_after}
-use Rattle.law_reduce.proofs.Owners.{owners_of, Owned, still_owned}
+use Rattle.law_reduce.specs.Elm.{Owned, OwnersStay}
+use Rattle.law_reduce.proofs.Owners.{owners_of, still_owned}
 use Rattle.law_reduce.proofs.Minds.{Minds}
 use Rattle.rt_model.specs.Commands.{names_source}
 use Rattle.law_reduce.proofs.Calm.{none_opens, none_later, Calm, calm_moves}
@@ -112,6 +113,7 @@ module _ {K : Types} (k : Keeping K.Value) (a : Pages K) where
   -- what comes of the log of a report
   pub record Came (m : Machine K) (input : Input K) (more : List (Input K)) (log : List Entry) (v : Machine K) : Type 0 where
     pub reduces : Reduces a m.state input log v.state
+    pub owners_stay : OwnersStay m.state log v.state
     pub reads_stay : MarksAreRun app → ReadsStay m.state log v.state
     pub pages_go_on : MarksAreRun app → PagesGoOn k a m.state log v.state
     pub ready_again : Ready v
@@ -150,6 +152,11 @@ module _ {K : Types} (k : Keeping K.Value) (a : Pages K) where
             let absurdity : true ≡ false = sym live ∙ gone in
             cc
       ] in
+      let lasts : (n : ℕ) (row : CellRow K) → at m.state.cells n ≡ Some row → NoneRemoves row.owner log → (o : Owned b.state n row.owner) × (at v.state.cells n ≡ Some o.row) =
+      λ n row there stays.
+      let o : Owned b.state n row.owner = still_owned m.state b.state n row owners there in
+      let goes_on : NoneRemoves (o.row).owner (entries moved.0) = subst (λ (s : ℕ). NoneRemoves s (entries moved.0)) (sym o.owner_is) (stays_on row.owner stays) in
+      (o, pages_keep_cells K k a limits b v moved.0 n o.row moved.1 goes_on (calm_moves app more limits n b v moved.0 moved.1 none_moves calm).0 o.there) in
       record {
         reads_stay =
             λ marks s x n row there live unrun named cell stays.
@@ -167,17 +174,15 @@ module _ {K : Types} (k : Keeping K.Value) (a : Pages K) where
             λ live unrun n r named cell mine.
             cell_stays marks s x n r there live unrun named cell (subst (λ (o : ℕ). NoneRemoves o (entries moved.0)) (sym mine) stays_here)
             );
+        owners_stay =
+            λ n row there stays.
+            let one = lasts n row there stays in
+            record { row = (one.0).row; there = one.1; owner_is = (one.0).owner_is };
         reduces =
             λ n row there stays.
-            let o : Owned b.state n row.owner = still_owned m.state b.state n row owners there in
-            let stays_on : NoneRemoves (o.row).owner (entries moved.0) =
-            subst (λ (s : ℕ). NoneRemoves s (entries moved.0)) (sym o.owner_is)
-            (subst (λ (es : List Entry). NoneRemoves row.owner es) (sym moved.2)
-            (later_stays row.owner before rest (subst (λ (es : List Entry). NoneRemoves row.owner es) parts stays))) in
-            let kept : at v.state.cells n ≡ Some o.row =
-            pages_keep_cells K k a limits b v moved.0 n o.row moved.1 stays_on (calm_moves app more limits n b v moved.0 moved.1 none_moves calm).0 o.there in
+            let one = lasts n row there stays in
             at_values v.state.cells n
-            ∙ ap (λ (r : Option (CellRow K)). elim r as (λ z. Option K.Value) [ None ↦ None | Some d ↦ Some d.value ]) (kept ∙ sym o.there)
+            ∙ ap (λ (r : Option (CellRow K)). elim r as (λ z. Option K.Value) [ None ↦ None | Some d ↦ Some d.value ]) (one.1 ∙ sym (one.0).there)
             ∙ sym (at_values b.state.cells n)
             ∙ ap (λ (x : Model K). at x n) model;
         ready_again = again;
@@ -202,6 +207,7 @@ module _ {K : Types} (k : Keeping K.Value) (a : Pages K) where
       let made : Came m (EventAt name payload element bubbles) more (first ∷ log) x =
       record {
         reduces = λ n row there stays. sym (ap (λ (ls : List (Listener K)). at (updates a bubbles m.state.next.cells ls e (model_of m.state)) n) silent);
+        owners_stay = λ n row there stays. record { row = row; there = there; owner_is = refl };
         reads_stay = λ marks s x n row there live unrun named cell stays. cell;
         pages_go_on =
             λ marks s x c p own same there page keeps stays unfed.

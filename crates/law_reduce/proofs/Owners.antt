@@ -15,6 +15,7 @@ use Rattle.author_programs.specs.Cells.{Keeping}
 use Rattle.author_programs.specs.Pages.{Pages, meaning_of_pages}
 use Rattle.law_lasting.proofs.Told.{tell_same, look_same}
 use Rattle.law_pages.proofs.Listening.{commands_with, one_later, reply_reads, reply_means}
+use Rattle.law_reduce.specs.Elm.{Owned}
 
 module _ {K : Types} where
   -- the owner of each cell, by its number
@@ -36,12 +37,6 @@ module _ {K : Types} where
   at_owners : (es : List (ℕ × CellRow K)) (n : ℕ) → at (owners_in es) n ≡ owner_in (at es n)
   at_owners [] n = refl
   at_owners (e ∷ es) n = owner_head (nat_eq e.0 n) e.1 (at es n) (at (owners_in es) n) (at_owners es n)
-
-  -- a cell of that owner stands there
-  pub record Owned (w : State K) (n owner : ℕ) : Type 0 where
-    pub row : CellRow K
-    pub there : at w.cells n ≡ Some row
-    pub owner_is : row.owner ≡ owner
 
   -- where the owners are as they were each cell is still there
   pub still_owned : (w v : State K) (n : ℕ) (row : CellRow K) → owners_of v ≡ owners_of w → at w.cells n ≡ Some row → Owned v n row.owner

@@ -18,11 +18,23 @@ use Rattle.law_behavior.specs.Owed.{MarksAreRun}
 use Rattle.author_programs.specs.Cells.{Keeping}
 use Rattle.author_programs.specs.Pages.{Pages, meaning_of_pages}
 use Rattle.law_reduce.specs.Reduces.{AllReduce, EachReduces, ReportsReduce}
+use Rattle.law_reduce.specs.Elm.{OwnersStay}
 use Rattle.law_reduce.specs.Reads.{AllReadsStay, EachReadsStay, UnrunReadsStay}
 use Rattle.law_reduce.proofs.Calm.{Calm, ended_calm, calm_moves}
 use Rattle.rt_model.specs.State.{State}
 use Rattle.law_reduce.proofs.GoesOn.{PagesGoOn}
 use Rattle.law_reduce.proofs.OneReport.{Ready, settled_ready, Came, report_comes}
+
+-- what owns cells stays from report to report
+module _ {K : Types} where
+  abbrev pub AllOwn : State K → List Report → List (Told K) → Type 0
+  AllOwn w [] [] = Unit {0}
+  AllOwn w (report ∷ reports) (told ∷ rest) = OwnersStay w report.log (told.machine).state × AllOwn (told.machine).state reports rest
+  AllOwn w _ _ = ⊥
+
+  abbrev pub EachOwns : List Report → List (Told K) → Type 0
+  EachOwns (build ∷ reports) (told ∷ rest) = AllOwn (told.machine).state reports rest
+  EachOwns _ _ = ⊥
 
 -- so it goes on from report to report
 module _ {K : Types} (k : Keeping K.Value) (a : Pages K) where
@@ -64,6 +76,25 @@ module _ {K : Types} (k : Keeping K.Value) (a : Pages K) where
       let came : Came k a m input more r.log v = report_comes k a m v input more i r.log h inputs each.0 (log-replays app r.log (telling m) f.0 f.2) ends.0 in
       subst (λ (x : List (Told K)). AllReduce a m.state (input ∷ more) (r ∷ rs) x) f.4
       (came.reduces, inputs_reduce (i + 1) more rs v f.1 came.ready_again came.inputs each.1 f.3 ends.1)
+
+  inputs_own : (i : ℕ) (inputs : List (Input K)) (reports : List Report) (m : Machine K) (told : List (Told K))
+      → Ready m
+      → m.inputs ≡ inputs
+      → InputsFrom i inputs (logs_of reports)
+      → tell_reports app m (logs_of reports) ≡ Some told
+      → AllSettled told
+      → AllOwn m.state reports told
+  inputs_own i [] [] m told h inputs each accepted settled =
+      subst (λ (rs : List (Told K)). AllOwn m.state [] rs) (none_told told accepted) tt
+  inputs_own i [] (r ∷ rs) m told h inputs each accepted settled = absurd each
+  inputs_own i (input ∷ more) [] m told h inputs each accepted settled = absurd each
+  inputs_own i (input ∷ more) (r ∷ rs) m told h inputs each accepted settled =
+      let f = first-of app m r.log (logs_of rs) told accepted in
+      let v : Machine K = (f.0).machine in
+      let ends : AllSettled (told_by f.0 ∷ f.1) = subst (λ (x : List (Told K)). AllSettled x) (sym f.4) settled in
+      let came : Came k a m input more r.log v = report_comes k a m v input more i r.log h inputs each.0 (log-replays app r.log (telling m) f.0 f.2) ends.0 in
+      subst (λ (x : List (Told K)). AllOwn m.state (r ∷ rs) x) f.4
+      (came.owners_stay, inputs_own (i + 1) more rs v f.1 came.ready_again came.inputs each.1 f.3 ends.1)
 
   inputs_stay : MarksAreRun app → (i : ℕ) (inputs : List (Input K)) (reports : List Report) (m : Machine K) (told : List (Told K))
       → Ready m
@@ -157,6 +188,21 @@ module _ {K : Types} (k : Keeping K.Value) (a : Pages K) where
       let built = build_ready props inputs r.log v each.0 (log-replays app r.log (telling m) f.0 f.2) ends.0 in
       subst (λ (x : List (Told K)). EachReduces a inputs (r ∷ rs) x) f.4
       (inputs_reduce 1 inputs rs v f.1 built.0 built.1 each.1 f.3 ends.1)
+
+  pub each_owns : (props : K.Props) (inputs : List (Input K)) (reports : List Report) (told : List (Told K))
+      → OneEach inputs (logs_of reports)
+      → tell_reports app (start app props inputs) (logs_of reports) ≡ Some told
+      → AllSettled told
+      → EachOwns reports told
+  each_owns props inputs [] told each accepted settled = absurd each
+  each_owns props inputs (r ∷ rs) told each accepted settled =
+      let m : Machine K = start app props inputs in
+      let f = first-of app m r.log (logs_of rs) told accepted in
+      let v : Machine K = (f.0).machine in
+      let ends : AllSettled (told_by f.0 ∷ f.1) = subst (λ (x : List (Told K)). AllSettled x) (sym f.4) settled in
+      let built = build_ready props inputs r.log v each.0 (log-replays app r.log (telling m) f.0 f.2) ends.0 in
+      subst (λ (x : List (Told K)). EachOwns (r ∷ rs) x) f.4
+      (inputs_own 1 inputs rs v f.1 built.0 built.1 each.1 f.3 ends.1)
 
   each_stays : MarksAreRun app → (props : K.Props) (inputs : List (Input K)) (reports : List Report) (told : List (Told K))
       → OneEach inputs (logs_of reports)

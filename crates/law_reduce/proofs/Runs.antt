@@ -22,7 +22,7 @@ use Rattle.law_behavior.specs.Along.{removed_in, NoneRemoves}
 use Rattle.law_behavior.specs.Owed.{runs_in}
 use Rattle.law_behavior.proofs.Frames.{Free, permits}
 use Rattle.law_behavior.proofs.Commanded.{AllAllowed}
-use Rattle.law_behavior.proofs.Onwards.{MayTake, Sparing, AllSparing, moves_on, good_anyway}
+use Rattle.law_behavior.proofs.Onwards.{MayTake, Sparing, waking_anyway, AllSparing, moves_on, good_anyway}
 use Rattle.law_behavior.proofs.Steadfast.{Other, of_others, draw_anyway, all_allowed}
 use Rattle.law_lasting.specs.ComponentsLast.{fed_in, NoneFeeds}
 use Rattle.law_lasting.proofs.Told.{look_same}
@@ -199,7 +199,12 @@ module _ {K : Types} (k : Keeping K.Value) (a : Pages K) (s : ℕ) (own : List �
       → AllSparing app (λ w. Here w) (λ w. Here w) 0 (permits Free Free (λ t. Other s t) (λ t. Other s t)) (page_frame k a s own c p) (λ t. tt) (page_called k a s own c p) (λ w r polled cs. Unit {0}) (λ w r polled cs f g. freely w r polled cs f g) (draw_anyway app) limits m u (move ∷ []) leads
   sparing limits m u Silent leads stays unfed = (λ q. q, tt)
   sparing limits m u Closed leads stays unfed = tt
-  sparing limits m u (Logged e) leads stays unfed = (entry_leaves m.inputs e stays.0 unfed.0, λ q. q, tt)
+  sparing limits m u (Logged e) leads stays unfed =
+      (
+      (entry_leaves m.inputs e stays.0 unfed.0, waking_anyway app (λ w. Here w) (λ w. Here w) 0 (permits Free Free (λ t. Other s t) (λ t. Other s t)) (page_frame k a s own c p) (λ t. tt) (page_called k a s own c p) (λ w r polled cs. Unit {0}) (λ w r polled cs f g. freely w r polled cs f g) (draw_anyway app) (λ w c. tt) m e),
+      λ q. q,
+      tt,
+      )
 
   move_leaves : (limits : Limits) (m u : Machine K) (move : Move) → Moves app limits m move u → NoneRemoves s (entries (move ∷ [])) → NoneFeeds s (entries (move ∷ [])) → Here m.state → Here u.state
   move_leaves limits m u move leads stays unfed h =

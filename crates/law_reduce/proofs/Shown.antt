@@ -26,7 +26,7 @@ use Rattle.law_reduce.proofs.Folded.{pages_reduce}
 
 module _ {K : Types} (k : Keeping K.Value) (a : Pages K) where
   -- the session ran, whose headline holds
-  abbrev ran_of : (props : K.Props) (inputs : List (Input K)) (limits : Limits) (taken : Option (List Edit)) (reports : List Report)
+  abbrev pub ran_of : (props : K.Props) (inputs : List (Input K)) (limits : Limits) (taken : Option (List Edit)) (reports : List Report)
       → Headline (meaning_of_pages k a) props inputs limits taken reports → Ran (meaning_of_pages k a) props inputs limits taken reports
   ran_of props inputs limits taken reports h = record { told = h.told; recorded = (h.holds).recorded; done = h.done }
 

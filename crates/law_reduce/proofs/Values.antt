@@ -19,7 +19,9 @@ use Rattle.author_programs.proofs.First.{first-pages-show}
 use Rattle.author_programs.proofs.Present.{found, current-pages-show}
 use Rattle.law_pages.specs.Updates.{model_of, read_in}
 use Rattle.law_pages.proofs.Listening.{at_values}
-use Rattle.law_reduce.specs.Values.{own_of, HasFirst, ShowsNow, AllShowNow, EachShowsNow, PagesShowValues}
+use Rattle.law_reduce.specs.Elm.{NeverRemoved, NeverFed}
+use Rattle.law_reduce.specs.Folds.{last_state}
+use Rattle.law_reduce.specs.Values.{own_of, HasFirst, HasRun, ShowsNow, AllShowNow, EachShowsNow, PagesShowValues}
 use Rattle.law_reduce.proofs.GoesOn.{PageAfter}
 use Rattle.law_reduce.proofs.Reports.{AllGoOn, EachGoesOn, each_goes_on}
 use Rattle.law_reduce.proofs.Shown.{reads_now}
@@ -157,6 +159,50 @@ module _ {K : Types} (k : Keeping K.Value) (a : Pages K) (back : GivesBack k) (s
       let now : Stands v = goes_on w v h (go.0 s h.row c p own same h.there h.page h.keeps stays unfed) in
       (shows_now v current.0 now, all_show_now v rs ts now go.1 current.1)
 
+  -- after the last of them
+  shows_last : (w : State K) (reports : List Report) (told : List (Told K)) → Stands w → AllGoOn k a w reports told
+      → AllCurrent app w
+      → AllByRecursion (λ (r : Told K). AllCurrent app (r.machine).state) told
+      → NeverRemoved s reports
+      → NeverFed s reports
+      → ShowsNow k a s c p own (last_state w told)
+  shows_last w [] [] h go here current stays unfed = shows_now w here h
+  shows_last w [] (t ∷ ts) h go here current stays unfed = absurd go
+  shows_last w (r ∷ rs) [] h go here current stays unfed = absurd go
+  shows_last w (r ∷ rs) (t ∷ ts) h go here current stays unfed =
+      let v : State K = (t.machine).state in
+      shows_last v rs ts (goes_on w v h (go.0 s h.row c p own same h.there h.page h.keeps stays.0 unfed.0)) go.1 current.0 current.1 stays.1 unfed.1
+
+-- of a scope that has run once
+module _ {K : Types} (k : Keeping K.Value) (a : Pages K) (back : GivesBack k) (s : ℕ) (c : K.Component) (p : K.Props) (w : State K) (run : HasRun k a s c p w) where
+  begins : Stands k a back s c p run.first run.bare run.fits w
+  begins =
+      record {
+        row = run.row;
+        there = run.there;
+        page = run.page;
+        keeps = run.keeps;
+        phase =
+            λ last e.
+            let same_call : Some last ≡ Some run.first = sym e ∙ run.call in
+            let is : last ≡ run.first = cc in
+            inr (is, run.reads);
+      }
+
+  pub shows_each : (reports : List Report) (told : List (Told K)) → AllGoOn k a w reports told
+      → AllByRecursion (λ (r : Told K). AllCurrent (meaning_of_pages k a) (r.machine).state) told
+      → AllShowNow k a s c p (own_of k a s c p run.first) reports told
+  shows_each reports told go current = all_show_now k a back s c p run.first run.bare run.fits w reports told begins go current
+
+  pub shows_end : (reports : List Report) (told : List (Told K)) → AllGoOn k a w reports told
+      → AllCurrent (meaning_of_pages k a) w
+      → AllByRecursion (λ (r : Told K). AllCurrent (meaning_of_pages k a) (r.machine).state) told
+      → NeverRemoved s reports
+      → NeverFed s reports
+      → ShowsNow k a s c p (own_of k a s c p run.first) (last_state w told)
+  shows_end reports told go here current stays unfed =
+      shows_last k a back s c p run.first run.bare run.fits w reports told begins go here current stays unfed
+
 pub pages_show_values : (K : Types) → ((k : Keeping K.Value) (a : Pages K) → MarksAreRun (meaning_of_pages k a)) → PagesShowValues K
 pages_show_values K marks k a back props inputs limits taken reports h =
     by reports h.told
@@ -167,13 +213,4 @@ pages_show_values K marks k a back props inputs limits taken reports h =
     by [] ts go current = absurd go
     by (r ∷ rs) [] go current = absurd go
     by (r ∷ rs) (t ∷ ts) go current = λ s c p run.
-        let w : State K = (t.machine).state in
-        let begins : Stands k a back s c p run.first run.bare run.fits w =
-        record {
-          row = run.row;
-          there = run.there;
-          page = run.page;
-          keeps = run.keeps;
-          phase = λ last e. let same_call : Some last ≡ Some run.first = sym e ∙ run.call in let is : last ≡ run.first = cc in inr (is, run.reads);
-        } in
-        all_show_now k a back s c p run.first run.bare run.fits w rs ts begins go current.1
+        shows_each k a back s c p (t.machine).state run rs ts go current.1

@@ -5,4 +5,5 @@ pub mod Kept
 pub mod Reads
 pub mod Runs
 pub mod Values
+pub mod Elm
 pub mod Bodies

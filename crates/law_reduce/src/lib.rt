@@ -9,9 +9,10 @@ mod keeping;
 mod reducing;
 mod showing;
 
-pub use folding::pages_reduce;
+pub use folding::{own_cells_fold, pages_reduce};
 pub use keeping::{cells_are_kept, runs_are_given, unrun_reads_stay};
 pub use reducing::{one_hears, reports_reduce};
 pub use showing::{
-    bodies_show, folds_show, pages_show_values, reports_show_bodies, reports_show_reduced,
+    bodies_show, folds_show, own_pages_show, pages_show_values, reports_show_bodies,
+    reports_show_reduced,
 };

@@ -1,6 +1,7 @@
 //! What shows after a report, of what the inputs made of the values.
 
 ghost use Rattle.law_reduce.specs.Bodies.{BodiesShow, ReportsShowBodies};
+ghost use Rattle.law_reduce.specs.Elm.{OwnPagesShow};
 ghost use Rattle.law_reduce.specs.Shows.{FoldsShow, ReportsShowReduced};
 ghost use Rattle.law_reduce.specs.Values.{PagesShowValues};
 ghost use Rattle.rt_model.specs.OneLog.{types};
@@ -34,6 +35,16 @@ pub fn reports_show_bodies<C, P, V, H, T, E, L>()
 /// the present values, as long as nothing removes it or hands it a component.
 pub fn pages_show_values<C, P, V, H, T, E, L>()
     ensures { PagesShowValues (types C P V H T E L) }
+{
+    // What a write marks is run, or it is gone.
+    marks_are_run::<C, P, V, H, T, E, L>();
+}
+
+/// Elm's equation: a scope of a page that has run once when the build is reported, where its page
+/// and whoever hears an input read no cells but its own, shows after the last report the page's
+/// function of the fold of all inputs, if nothing removes it or hands it a component.
+pub fn own_pages_show<C, P, V, H, T, E, L>()
+    ensures { OwnPagesShow (types C P V H T E L) }
 {
     // What a write marks is run, or it is gone.
     marks_are_run::<C, P, V, H, T, E, L>();

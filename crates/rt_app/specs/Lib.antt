@@ -54,6 +54,7 @@ pub use Rattle.rt_author.specs.ReadsStay
 pub use Rattle.rt_author.specs.CellsKept
 pub use Rattle.rt_author.specs.RunsGiven
 pub use Rattle.rt_author.specs.ShowsValues
+pub use Rattle.rt_author.specs.Elm
 pub use Rattle.rt_author.specs.BodiesShow
 pub use Rattle.rt_author.specs.Along
 pub use Rattle.rt_author.specs.Moves

@@ -54,6 +54,7 @@ pub use Rattle.law_reduce.specs.Reads as ReadsStay
 pub use Rattle.law_reduce.specs.Kept as CellsKept
 pub use Rattle.law_reduce.specs.Runs as RunsGiven
 pub use Rattle.law_reduce.specs.Values as ShowsValues
+pub use Rattle.law_reduce.specs.Elm
 pub use Rattle.law_reduce.specs.Bodies as BodiesShow
 pub use Rattle.law_behavior.specs.Along
 pub use Rattle.law_moves.specs.Moves

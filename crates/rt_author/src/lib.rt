@@ -104,26 +104,34 @@ pub use rt_values::Shared;
 pub use rt_values::Task;
 pub use rt_values::Text;
 pub use run_records::CxFault;
-pub use tree_nodes::Attribute;
-pub use tree_nodes::AttributeValue;
-pub use tree_nodes::CapturedError;
-pub use tree_nodes::DynamicNode;
-pub use tree_nodes::Element;
-pub use tree_nodes::ErrorBoundaryProps;
-pub use tree_nodes::ErrorHandler;
-pub use tree_nodes::Event;
-pub use tree_nodes::Fallback;
-pub use tree_nodes::FragmentProps;
-pub use tree_nodes::LastRenderedNode;
-pub use tree_nodes::ListenerCallback;
-pub use tree_nodes::Parts;
-pub use tree_nodes::RenderError;
-pub use tree_nodes::RootProps;
-pub use tree_nodes::SuspendedFuture;
-pub use tree_nodes::SuspenseBoundaryProps;
-pub use tree_nodes::Template;
-pub use tree_nodes::TemplateAttribute;
-pub use tree_nodes::TemplateNode;
-pub use tree_nodes::TemplateParts;
-pub use tree_nodes::VComponent;
-pub use tree_nodes::VNode;
+
+// Trees.
+pub use author_pieces::{
+    Attrs, BadMarkup, Breach, Filling, Kept, Piece, Shape, ShapeAttribute, Slots, Unfit, and,
+    beside, checked, child, element, empty_attrs, empty_piece, error_boundary, fill, fixed,
+    fragment, hole, listens, open_attr, open_slot, says, several, shown, suspense_boundary, text,
+    view, when,
+};
+pub use tree_nodes::{
+    Attribute, AttributeValue, CapturedError, DynamicNode, Element, ErrorBoundaryProps,
+    ErrorHandler, Event, Fallback, FragmentProps, LastRenderedNode, ListenerCallback, Parts,
+    RenderError, RootProps, SuspendedFuture, SuspenseBoundaryProps, Template, TemplateAttribute,
+    TemplateNode, TemplateParts, VComponent, VNode,
+};
+
+// Laws of sessions, of pages and bodies, of contexts, and of memos.
+pub use law_kinds::{commands_keep_others, programs_keep_others};
+pub use law_lasting::{
+    cells_last, cells_stay, components_last, logged_cells_last, logged_components_last,
+    logged_numbers_last, numbers_last, one_finish, rows_are_sessions,
+};
+pub use law_minding::{polls_are_done, sessions_keep_memos};
+pub use law_pages::{
+    events_update, heard_entries_update, kept_pages_ask_nothing, listeners_update, one_page_shows,
+    one_read_shows, pages_keep_cells,
+};
+pub use law_reduce::{
+    bodies_show, cells_are_kept, folds_show, one_hears, own_cells_fold, own_pages_show,
+    pages_reduce, pages_show_values, reports_reduce, reports_show_bodies, reports_show_reduced,
+    runs_are_given, unrun_reads_stay,
+};
