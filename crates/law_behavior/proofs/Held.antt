@@ -136,14 +136,13 @@ module _ {K : Types} where
   none_ends : (app : Application K) (b t : ℕ) (w : State K) (s : ℕ) (polled : Option ℕ) (cs : List (Command K)) → NoneEnds t cs
       → AllAllowed app (λ w. Of b (λ x. holds x t ≡ true) w) (λ w. Of b (λ x. holds x t ≡ true) w) 0 (permits Free (λ u. Other t u) Free (λ s. Other b s)) (holders_frame app b t) w s polled cs
   none_ends app b t w s polled [] h = tt
-  none_ends app b t w s polled (c ∷ cs) h =
-      (
-      (
+  none_ends app b t w s polled (c ∷ cs) h = (
+    (
       ends_other app b t w s c h.0,
       caused_anyway app (λ w. Of b (λ x. holds x t ≡ true) w) (λ w. Of b (λ x. holds x t ≡ true) w) 0 (permits Free (λ u. Other t u) Free (λ s. Other b s)) (holders_frame app b t) (λ v d. tt) w s c,
-      ),
-      none_ends app b t (command app w s polled c) s polled cs h.1,
-      )
+    ),
+    none_ends app b t (command app w s polled c) s polled cs h.1,
+  )
 
   -- the number of a task was drawn, and the task has ended or it holds a boundary
   abbrev HeldOrEnded : ℕ → ℕ → State K → Type 0

@@ -84,11 +84,10 @@ module _ {K : Types} (app : Application K) (P Q : State K → Type 0) (bound : �
   -- where nothing but fresh numbers is asked of commands
   pub all_allowed : (w : State K) (s : ℕ) (polled : Option ℕ) (cs : List (Command K)) → AllFresh app bound cs → AllAllowed app P Q bound (permits Free Free feedable removable) law w s polled cs
   all_allowed w s polled [] f = tt
-  all_allowed w s polled (c ∷ cs) f =
-      (
-      (allowed_freely w s c cs f, caused_anyway app P Q bound (permits Free Free feedable removable) law (λ v d. tt) w s c),
-      all_allowed (command app w s polled c) s polled cs f.1,
-      )
+  all_allowed w s polled (c ∷ cs) f = (
+    (allowed_freely w s c cs f, caused_anyway app P Q bound (permits Free Free feedable removable) law (λ v d. tt) w s c),
+    all_allowed (command app w s polled c) s polled cs f.1,
+  )
 
 module _ {K : Types} where
   -- what is so of the record of one scope
@@ -259,11 +258,10 @@ module _ {K : Types} (b : ℕ) (first : CapturedError) where
     spared_commands : (w : State K) (s : ℕ) (polled : Option ℕ) (cs : List (Command K)) → NoneClears app b w s polled cs
         → AllAllowed app (λ w. ErrorKept w) (λ w. ErrorKept w) 0 (permits (λ c. Other b c) Free Free (λ s. Other b s)) (errors_last app) w s polled cs
     spared_commands w s polled [] h = tt
-    spared_commands w s polled (c ∷ cs) h =
-        (
-        (spared_command w s c h.0, caused_anyway app (λ w. ErrorKept w) (λ w. ErrorKept w) 0 (permits (λ c. Other b c) Free Free (λ s. Other b s)) (errors_last app) (λ v d. tt) w s c),
-        spared_commands (command app w s polled c) s polled cs h.1,
-        )
+    spared_commands w s polled (c ∷ cs) h = (
+      (spared_command w s c h.0, caused_anyway app (λ w. ErrorKept w) (λ w. ErrorKept w) 0 (permits (λ c. Other b c) Free Free (λ s. Other b s)) (errors_last app) (λ v d. tt) w s c),
+      spared_commands (command app w s polled c) s polled cs h.1,
+    )
 
     error_stays : (w : State K) (s : ℕ) (polled : Option ℕ) (cs : List (Command K)) → NoneClears app b w s polled cs → ErrorKept w → ErrorKept (commands app w s polled cs)
     error_stays w s polled cs none h =

@@ -195,11 +195,10 @@ module _ {K : Types} (n : ℕ) (row : CellRow K) where
 
     all_left : (w : State K) (s : ℕ) (polled : Option ℕ) (cs : List (Command K)) → AllLeave n cs → AllAllowed app (λ w. CellIs w) (λ w. CellIs w) 0 leaving cell_frame w s polled cs
     all_left w s polled [] h = tt
-    all_left w s polled (c ∷ cs) h =
-        (
-        (left_alone w s c h.0, caused_anyway app (λ w. CellIs w) (λ w. CellIs w) 0 leaving cell_frame (λ v d. tt) w s c),
-        all_left (command app w s polled c) s polled cs h.1,
-        )
+    all_left w s polled (c ∷ cs) h = (
+      (left_alone w s c h.0, caused_anyway app (λ w. CellIs w) (λ w. CellIs w) 0 leaving cell_frame (λ v d. tt) w s c),
+      all_left (command app w s polled c) s polled cs h.1,
+    )
 
     cell_stays : (w : State K) (s : ℕ) (polled : Option ℕ) (cs : List (Command K)) → AllLeave n cs → CellIs w → CellIs (commands app w s polled cs)
     cell_stays w s polled cs none h = commands_on app (λ w. CellIs w) (λ w. CellIs w) 0 leaving cell_frame w s polled cs (all_left w s polled cs none) h
@@ -238,12 +237,11 @@ module _ {K : Types} (n : ℕ) (row : CellRow K) where
     moves_leave limits m v [] leads stays h = tt
     moves_leave limits m v (Silent ∷ moves) leads stays h = (λ q. q, moves_leave limits leads.0 v moves leads.2 stays h.2)
     moves_leave limits m v (Closed ∷ moves) leads stays h = moves_leave limits leads.0 v moves leads.2 stays h.2
-    moves_leave limits m v (Logged e ∷ moves) leads stays h =
-        (
-        (entry_leaves m.inputs e stays.0 h.1, waking_anyway app (λ w. CellIs w) (λ w. CellIs w) 0 leaving cell_frame (λ t. tt) cell_called (λ w s polled cs. AllLeave n cs) (λ w s polled cs f g. all_left w s polled cs g) (draw_anyway app) (λ w c. tt) m e),
-        λ q. q,
-        moves_leave limits leads.0 v moves leads.2 stays.1 h.2,
-        )
+    moves_leave limits m v (Logged e ∷ moves) leads stays h = (
+      (entry_leaves m.inputs e stays.0 h.1, waking_anyway app (λ w. CellIs w) (λ w. CellIs w) 0 leaving cell_frame (λ t. tt) cell_called (λ w s polled cs. AllLeave n cs) (λ w s polled cs f g. all_left w s polled cs g) (draw_anyway app) (λ w c. tt) m e),
+      λ q. q,
+      moves_leave limits leads.0 v moves leads.2 stays.1 h.2,
+    )
 
 pub cells_stay : {K : Types} (app : Application K) → CellsStay app
 cells_stay app w s polled cs n row none h = cell_stays n row app w s polled cs none h

@@ -83,12 +83,11 @@ module _ {K : Types} (s : ℕ) (c : VComponent K) where
     moves_leave limits m v [] leads stays unfed = tt
     moves_leave limits m v (Silent ∷ moves) leads stays unfed = (λ q. q, moves_leave limits leads.0 v moves leads.2 stays unfed)
     moves_leave limits m v (Closed ∷ moves) leads stays unfed = moves_leave limits leads.0 v moves leads.2 stays unfed
-    moves_leave limits m v (Logged e ∷ moves) leads stays unfed =
-        (
-        (entry_leaves m.inputs e stays.0 unfed.0, waking_anyway app (λ w. ComponentIs w) (λ w. ComponentIs w) 0 leaving component_frame (λ t. tt) component_called (λ w r polled cs. Unit {0}) (λ w r polled cs f g. freely w r polled cs f g) (draw_anyway app) (λ w c. tt) m e),
-        λ q. q,
-        moves_leave limits leads.0 v moves leads.2 stays.1 unfed.1,
-        )
+    moves_leave limits m v (Logged e ∷ moves) leads stays unfed = (
+      (entry_leaves m.inputs e stays.0 unfed.0, waking_anyway app (λ w. ComponentIs w) (λ w. ComponentIs w) 0 leaving component_frame (λ t. tt) component_called (λ w r polled cs. Unit {0}) (λ w r polled cs f g. freely w r polled cs f g) (draw_anyway app) (λ w c. tt) m e),
+      λ q. q,
+      moves_leave limits leads.0 v moves leads.2 stays.1 unfed.1,
+    )
 
     component_lasts : (limits : Limits) (m v : Machine K) (moves : List Move) (leads : Leads app limits m moves v) → NoneRemoves s (entries moves) → NoneFeeds s (entries moves)
         → ComponentIs m.state

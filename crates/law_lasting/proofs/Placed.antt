@@ -305,12 +305,11 @@ module _ {K : Types} (s : ℕ) (side : SideName) (p : Place) (k : Kind) (n : ℕ
     moves_leave limits m v [] leads still there = tt
     moves_leave limits m v (Silent ∷ moves) leads still there = (regained (leads.0).state there.0, moves_leave limits leads.0 v moves leads.2 still there.1)
     moves_leave limits m v (Closed ∷ moves) leads still there = moves_leave limits leads.0 v moves leads.2 still there.1
-    moves_leave limits m v (Logged e ∷ moves) leads still there =
-        (
-        (entry_leaves m.inputs e still.0, waking_anyway app NumberIs NumberIsThere 0 (others_go s) number_frame (λ t. tt) number_called (λ w r polled cs. Unit {0}) (λ w r polled cs f g. freely w r polled cs f g) (draw_anyway app) (λ w c. tt) m e),
-        regained (leads.0).state there.0,
-        moves_leave limits leads.0 v moves leads.2 still.1 there.1,
-        )
+    moves_leave limits m v (Logged e ∷ moves) leads still there = (
+      (entry_leaves m.inputs e still.0, waking_anyway app NumberIs NumberIsThere 0 (others_go s) number_frame (λ t. tt) number_called (λ w r polled cs. Unit {0}) (λ w r polled cs f g. freely w r polled cs f g) (draw_anyway app) (λ w c. tt) m e),
+      regained (leads.0).state there.0,
+      moves_leave limits leads.0 v moves leads.2 still.1 there.1,
+    )
 
     number_lasts : (limits : Limits) (m v : Machine K) (moves : List Move) (leads : Leads app limits m moves v) → NoneRemoves s (entries moves) → NodeStays app limits s side p k m v moves leads
         → NumberIs m.state

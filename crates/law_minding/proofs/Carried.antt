@@ -258,11 +258,10 @@ module _
     all_allowed : (w : State K) (s : ℕ) (asked : Option ℕ) (cs : List (Command K)) → AllFresh app bound cs → GoodCall w s asked cs
         → AllAllowed app (λ w. Is w) (λ w. Is w) bound minding frame w s asked cs
     all_allowed w s asked [] f h = tt
-    all_allowed w s asked (c ∷ cs) f h =
-        (
-        (allowed w s c cs f h.0.0 h.1.0, caused_anyway app (λ w. Is w) (λ w. Is w) bound minding frame (λ v d. tt) w s c),
-        all_allowed (command app w s asked c) s asked cs f.1 (h.0.1, h.1.1),
-        )
+    all_allowed w s asked (c ∷ cs) f h = (
+      (allowed w s c cs f h.0.0 h.1.0, caused_anyway app (λ w. Is w) (λ w. Is w) bound minding frame (λ v d. tt) w s c),
+      all_allowed (command app w s asked c) s asked cs f.1 (h.0.1, h.1.1),
+    )
 
     module _ (lawful : IsLawful K app) where
       may_take : (inputs : List (Input K)) → FirstLeaves cell inputs
@@ -291,15 +290,14 @@ module _
           → AllSparing app (λ w. Is w) (λ w. Is w) bound minding frame (λ u. tt) called (λ w s polled cs. GoodCall w s polled cs) (λ w s polled cs f g. all_allowed w s polled cs f g) (lawful_draw app bound lawful) limits m u (move ∷ []) (u, step, refl)
       move_spares limits m u Silent step h = (λ g. g, tt)
       move_spares limits m u Closed step h = tt
-      move_spares limits m u (Logged e) step h =
-          (
-          (
+      move_spares limits m u (Logged e) step h = (
+        (
           entry_spares m.inputs e h,
           waking_anyway app (λ w. Is w) (λ w. Is w) bound minding frame (λ u. tt) called (λ w s polled cs. GoodCall w s polled cs) (λ w s polled cs f g. all_allowed w s polled cs f g) (lawful_draw app bound lawful) (λ w c. tt) m e,
-          ),
-          λ g. g,
-          tt,
-          )
+        ),
+        λ g. g,
+        tt,
+      )
 
       -- a move keeps the fact, where its calls and its entry leave the task alone and spawn whom they may
       pub move_keeps : (limits : Limits) (m u : Machine K) (move : Move) → Moves app limits m move u

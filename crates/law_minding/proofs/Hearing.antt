@@ -1,5 +1,5 @@
 -- Who hears of a source.
-use Rattle.std.proofs.Common.{ℕ, Bool, true, false, List, [], ◌∷◌, ◌++◌, ◌≡◌, ◌&&◌, ◌||◌, refl, ap, ◌∙◌, nat_eq}
+use Rattle.std.proofs.Common.{ℕ, Bool, true, false, List, [], ◌∷◌, ◌++◌, ◌≡◌, ◌&&◌, ◌||◌, inl, inr, refl, ap, ◌∙◌, nat_eq}
 use Rattle.std.specs.List.{AllByRecursion}
 use Rattle.rt_model.specs.Lists.{has}
 use Rattle.rt_model.specs.Tree.{Types}

@@ -183,14 +183,13 @@ module _ {K : Types} (t : ℕ) where
         → Homed m.state
         → Homed u.state
     by_entry limits m u e step spares h =
-        by_frame limits m u (Logged e) step
-        (
-        (
-        spares,
-        waking_anyway app (λ w. Homed w) (λ w. Homed w) 0 none_goes frame (λ u. tt) called (λ w s polled cs. Unit {0}) (λ w s polled cs f g. freely w s polled cs f g) (draw_anyway app) (λ w c. tt) m e,
-        ),
-        λ g. g,
-        tt,
+        by_frame limits m u (Logged e) step (
+          (
+            spares,
+            waking_anyway app (λ w. Homed w) (λ w. Homed w) 0 none_goes frame (λ u. tt) called (λ w s polled cs. Unit {0}) (λ w s polled cs f g. freely w s polled cs f g) (draw_anyway app) (λ w c. tt) m e,
+          ),
+          λ g. g,
+          tt,
         )
         h
 

@@ -37,6 +37,5 @@ pub mod Coming
 pub mod Hearing
 pub mod Unwoken
 pub mod Caused
-pub mod Through
 pub mod Settling
 pub mod Sessions

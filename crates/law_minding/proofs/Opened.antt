@@ -195,11 +195,10 @@ module _ {K : Types} (n : ℕ) where
 
     all_allowed : (w : State K) (s : ℕ) (polled : Option ℕ) (cs : List (Command K)) → AllFresh app 0 cs → AllOpen cs → AllAllowed app (λ w. Is w) (λ w. Is w) 0 (opening n) frame w s polled cs
     all_allowed w s polled [] f h = tt
-    all_allowed w s polled (c ∷ cs) f h =
-        (
-        (allowed w s c h.0, caused_anyway app (λ w. Is w) (λ w. Is w) 0 (opening n) frame (λ v d. tt) w s c),
-        all_allowed (command app w s polled c) s polled cs f.1 h.1,
-        )
+    all_allowed w s polled (c ∷ cs) f h = (
+      (allowed w s c h.0, caused_anyway app (λ w. Is w) (λ w. Is w) 0 (opening n) frame (λ v d. tt) w s c),
+      all_allowed (command app w s polled c) s polled cs f.1 h.1,
+    )
 
     may_take : (inputs : List (Input K))
         → MayTake app (λ w. Is w) (λ w. Is w) 0 (opening n) frame (λ t. tt) called (λ w s polled cs. AllOpen cs) (λ w s polled cs f g. all_allowed w s polled cs f g) (draw_anyway app) inputs
@@ -227,15 +226,14 @@ module _ {K : Types} (n : ℕ) where
         → AllSparing app (λ w. Is w) (λ w. Is w) 0 (opening n) frame (λ t. tt) called (λ w s polled cs. AllOpen cs) (λ w s polled cs f g. all_allowed w s polled cs f g) (draw_anyway app) limits m u (move ∷ []) (u, step, refl)
     move_spares limits m u Silent step = (λ g. g, tt)
     move_spares limits m u Closed step = tt
-    move_spares limits m u (Logged e) step =
-        (
-        (
+    move_spares limits m u (Logged e) step = (
+      (
         entry_spares m.inputs e,
         waking_anyway app (λ w. Is w) (λ w. Is w) 0 (opening n) frame (λ t. tt) called (λ w s polled cs. AllOpen cs) (λ w s polled cs f g. all_allowed w s polled cs f g) (draw_anyway app) (λ w c. tt) m e,
-        ),
-        λ g. g,
-        tt,
-        )
+      ),
+      λ g. g,
+      tt,
+    )
 
     move_opens : (limits : Limits) (m u : Machine K) (move : Move) → Moves app limits m move u → AllByRecursion (λ (d : Deed K). AllOpen d.wants) (move_deeds app m move) → Is m.state → Is u.state
     move_opens limits m u move step deeds h =

@@ -50,7 +50,7 @@ module _ {K : Types} (app : Application K) (lawful : IsLawful K app) (limits : L
       let here : replay_within app limits (Some m) log ≡ Some v = r.so.accepted ∙ ap (λ (x : Machine K). Some x) r.machine in
       let found = logs_are_moves app limits m v log refl here in
       let c : Came app lawful limits props whole w log edits v = came app lawful limits props whole w log edits v led (ran_told app limits until w log edits v r) in
-      (found.0, (m, begun, v, found.1, resting (left_by until v.state), test_comes until w log edits v c, refl), found.2)
+      (found.0, (m, begun, (v, found.1, (resting (left_by until v.state), test_comes until w log edits v c, refl))), found.2)
 
 pub calls_are_parts : {K : Types} (app : Application K) → CallsAreParts app
 calls_are_parts app lawful limits props whole until w log edits v led r = call_parts app lawful limits props whole until w log edits v led r

@@ -1,5 +1,5 @@
 -- What each change leaves of a task that isn't woken, where nothing wakes it.
-use Rattle.std.proofs.Common.{ℕ, ◌+◌, ◌≤◌, Bool, true, false, List, [], ◌∷◌, ◌++◌, ◌≡◌, ◌&&◌, inl, inr, not, refl, sym, ap, ◌∙◌, subst, nat_eq, arith}
+use Rattle.std.proofs.Common.{ℕ, ◌+◌, ◌≤◌, Bool, true, false, List, [], ◌∷◌, ◌++◌, ◌≡◌, ◌⊎◌, ◌&&◌, inl, inr, not, refl, sym, ap, ◌∙◌, subst, nat_eq, arith}
 use Rattle.std.specs.Prelude.{Option, Some, None, if◌then◌else◌, is_some}
 use Rattle.std.specs.List.{AllByRecursion}
 use Rattle.rt_model.specs.Lists.{at, put, without, kept_by, has, drop_number, join}
@@ -25,41 +25,45 @@ use Rattle.law_minding.proofs.Hearing.{and_both, target_is, hears_in, hears_none
 -- what is kept of a list of posts was posted
 kept_posted : (f : Posted → Bool) (ps : List Posted) (p : Posted) → IsPosted (kept_by f ps) p → IsPosted ps p
 kept_posted f [] p h = h
-kept_posted f (q ∷ ps) p h = by (f q) h
+kept_posted f (q ∷ ps) p h = by (f q) h (λ g. kept_posted f ps p g)
   where
-    by : (b : Bool) → IsPosted (if b then q ∷ kept_by f ps else kept_by f ps) p → IsPosted (q ∷ ps) p
-    by true (inl e) = inl e
-    by true (inr g) = inr (kept_posted f ps p g)
-    by false g = inr (kept_posted f ps p g)
+    by : (b : Bool) → IsPosted (if b then q ∷ kept_by f ps else kept_by f ps) p → (IsPosted (kept_by f ps) p → IsPosted ps p) → IsPosted (q ∷ ps) p
+    by true (inl e) go = inl e
+    by true (inr g) go = inr (go g)
+    by false g go = inr (go g)
+
+-- a mark is no wake, and the wake of another task neither
+not_mark : {P : Type 0} (t s : ℕ) → Mark s ≡ Woken t → P
+not_mark t s e = cc
+
+not_other : {P : Type 0} (t u : ℕ) → nat_eq u t ≡ false → Woken u ≡ Woken t → P
+not_other t u other e =
+    let one : u ≡ t = cc in
+    clash (ap (λ (n : ℕ). nat_eq n t) one ∙ eq_same t) other
+
+dropped_none : (t : ℕ) (ps : List Posted) → IsPosted (drop_posted ps (Woken t)) (Woken t) → ⊥
+dropped_none t [] h = h
+dropped_none t (Mark s ∷ ps) h = by h (λ g. dropped_none t ps g)
+  where
+    by : (Mark s ≡ Woken t) ⊎ IsPosted (drop_posted ps (Woken t)) (Woken t) → (IsPosted (drop_posted ps (Woken t)) (Woken t) → ⊥) → ⊥
+    by (inl e) go = not_mark t s e
+    by (inr g) go = go g
+dropped_none t (Woken u ∷ ps) h = by (nat_eq u t) refl h (λ g. dropped_none t ps g)
+  where
+    by : (b : Bool) → nat_eq u t ≡ b → IsPosted (if not b then Woken u ∷ drop_posted ps (Woken t) else drop_posted ps (Woken t)) (Woken t)
+        → (IsPosted (drop_posted ps (Woken t)) (Woken t) → ⊥)
+        → ⊥
+    by true q g go = go g
+    by false q (inl e) go = not_other t u q e
+    by false q (inr g) go = go g
 
 module _ {K : Types} (t : ℕ) where
-  -- a mark is no wake, and the wake of another task neither
-  not_mark : {P : Type 0} (s : ℕ) → Mark s ≡ Woken t → P
-  not_mark s e = cc
-
-  not_other : {P : Type 0} (u : ℕ) → nat_eq u t ≡ false → Woken u ≡ Woken t → P
-  not_other u other e =
-      let one : u ≡ t = cc in
-      clash (ap (λ (n : ℕ). nat_eq n t) one ∙ eq_same t) other
-
-  dropped_none : (ps : List Posted) → IsPosted (drop_posted ps (Woken t)) (Woken t) → ⊥
-  dropped_none [] h = h
-  dropped_none (Mark s ∷ ps) h = elim h [ inl e ↦ not_mark s e | inr g ↦ dropped_none ps g ]
-  dropped_none (Woken u ∷ ps) h = by (nat_eq u t) refl h (λ g. dropped_none ps g)
-    where
-      by : (b : Bool) → nat_eq u t ≡ b → IsPosted (if not b then Woken u ∷ drop_posted ps (Woken t) else drop_posted ps (Woken t)) (Woken t)
-          → (IsPosted (drop_posted ps (Woken t)) (Woken t) → ⊥)
-          → ⊥
-      by true q g go = go g
-      by false q (inl e) go = not_other u q e
-      by false q (inr g) go = go g
-
   holding_none : (es : List (ℕ × Scope K)) (u : ℕ) → IsPosted (holding es u) (Woken t) → ⊥
   holding_none [] u h = h
   holding_none (e ∷ es) u h = by (holds e.1 u) h (λ g. holding_none es u g)
     where
       by : (b : Bool) → IsPosted (if b then Mark e.0 ∷ holding es u else holding es u) (Woken t) → (IsPosted (holding es u) (Woken t) → ⊥) → ⊥
-      by true (inl same) go = not_mark e.0 same
+      by true (inl same) go = not_mark t e.0 same
       by true (inr g) go = go g
       by false g go = go g
 
@@ -90,14 +94,14 @@ module _ {K : Types} (t : ℕ) where
   mark_calm w s h = by (is_live w s)
     where
       by : (b : Bool) → Calm (if b then record w { posted = w.posted ++ Mark s ∷ [] } else w)
-      by true = one_more w (Mark s) (λ e. not_mark s e) h
+      by true = one_more w (Mark s) (λ e. not_mark t s e) h
       by false = h
 
   pub wake_calm : (w : State K) (u : ℕ) → nat_eq u t ≡ false → Calm w → Calm (post w (Woken u))
   wake_calm w u other h = by (is_some (at w.tasks u))
     where
       by : (b : Bool) → Calm (if b then record w { posted = w.posted ++ Woken u ∷ [] } else w)
-      by true = one_more w (Woken u) (λ e. not_other u other e) h
+      by true = one_more w (Woken u) (λ e. not_other t u other e) h
       by false = h
 
   -- a source is told that the task didn't read
@@ -111,7 +115,7 @@ module _ {K : Types} (t : ℕ) where
             elim (told_only w i (Woken t) p) [
               | inl a ↦ h.unposted a
               | inr a ↦ elim a [
-                | inl (s, x, stands, reads, is) ↦ not_mark s (sym is)
+                | inl (s, x, stands, reads, is) ↦ not_mark t s (sym is)
                 | inr (n, x, stands, reads, targets) ↦ clash (hears_in t w.contexts i n x stands reads (target_is t w x.target targets)) none
               ]
             ];
@@ -153,7 +157,7 @@ module _ {K : Types} (t : ℕ) where
 
   -- at the start of its poll
   pub starts_calm : (w : State K) → t + 1 ≤ w.next.tasks → Calm (unqueued w t)
-  starts_calm w low = record { low = low; unposted = λ p. dropped_none w.posted p; unqueued_yet = λ q. clash q (number_gone w.queued t) }
+  starts_calm w low = record { low = low; unposted = λ p. dropped_none t w.posted p; unqueued_yet = λ q. clash q (number_gone w.queued t) }
 
   changed_calm : (w : State K) (s : ℕ) (f : Scope K → Scope K) (o : Option (Scope K)) → Calm w → Calm (changed_scope w s f o)
   changed_calm w s f None h = h

@@ -6,5 +6,6 @@ pub mod Unpolled
 pub mod Homes
 pub mod Tended
 pub mod Coming
+pub mod Waking
 pub mod Settling
 pub mod Sessions

@@ -199,12 +199,11 @@ module _ {K : Types} (k : Keeping K.Value) (a : Pages K) (s : ℕ) (own : List �
       → AllSparing app (λ w. Here w) (λ w. Here w) 0 (permits Free Free (λ t. Other s t) (λ t. Other s t)) (page_frame k a s own c p) (λ t. tt) (page_called k a s own c p) (λ w r polled cs. Unit {0}) (λ w r polled cs f g. freely w r polled cs f g) (draw_anyway app) limits m u (move ∷ []) leads
   sparing limits m u Silent leads stays unfed = (λ q. q, tt)
   sparing limits m u Closed leads stays unfed = tt
-  sparing limits m u (Logged e) leads stays unfed =
-      (
-      (entry_leaves m.inputs e stays.0 unfed.0, waking_anyway app (λ w. Here w) (λ w. Here w) 0 (permits Free Free (λ t. Other s t) (λ t. Other s t)) (page_frame k a s own c p) (λ t. tt) (page_called k a s own c p) (λ w r polled cs. Unit {0}) (λ w r polled cs f g. freely w r polled cs f g) (draw_anyway app) (λ w c. tt) m e),
-      λ q. q,
-      tt,
-      )
+  sparing limits m u (Logged e) leads stays unfed = (
+    (entry_leaves m.inputs e stays.0 unfed.0, waking_anyway app (λ w. Here w) (λ w. Here w) 0 (permits Free Free (λ t. Other s t) (λ t. Other s t)) (page_frame k a s own c p) (λ t. tt) (page_called k a s own c p) (λ w r polled cs. Unit {0}) (λ w r polled cs f g. freely w r polled cs f g) (draw_anyway app) (λ w c. tt) m e),
+    λ q. q,
+    tt,
+  )
 
   move_leaves : (limits : Limits) (m u : Machine K) (move : Move) → Moves app limits m move u → NoneRemoves s (entries (move ∷ [])) → NoneFeeds s (entries (move ∷ [])) → Here m.state → Here u.state
   move_leaves limits m u move leads stays unfed h =

@@ -102,6 +102,8 @@ pub use Rattle.rt_edits.specs.declared.edit.Edit
 pub use Rattle.rt_vdom.specs.Calls as DomCalls
 pub use Rattle.rt_vdom.specs.Carried as StepsCarried
 pub use Rattle.rt_vdom.specs.Doms
+pub use Rattle.law_kept.specs.Calls as ValuesMade
+pub use Rattle.law_kept.specs.Settles as ValuesLeft
 pub use Rattle.rt_vdom.specs.Handles
 pub use Rattle.rt_vdom.specs.Runs
 pub use Rattle.rt_vdom.specs.declared.dom.VirtualDom

@@ -1,6 +1,10 @@
 //! A runtime that a program keeps and calls, what its calls answer, and a session over what threads
 //! post.
 
+// Laws of what calls make of the values of pages.
+pub use law_kept::{calls_keep_cells, calls_reduce, handled_update, settled_show, written_update};
+
+// The runtime.
 pub use rt_boundary::NotBuilt;
 pub use rt_session::{Posted, PostedFault, session_posted};
 pub use rt_vdom::{

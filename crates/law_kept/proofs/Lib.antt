@@ -1,0 +1,5 @@
+mod Rests
+mod Idle
+mod Handling
+mod Units
+mod After
