@@ -11,6 +11,7 @@ mod nothing;
 mod paged;
 mod pages;
 mod rows;
+mod short_lists;
 
 pub use answers::{remembered, unless_refused};
 pub use bodied::Bodied;
@@ -20,3 +21,4 @@ pub use nothing::Nothing;
 pub use paged::Paged;
 pub use pages::Pages;
 pub use rows::{read_all, write_all};
+pub use short_lists::{one, two};
