@@ -1,12 +1,12 @@
 -- How an application carries what a library is made of, and what the library's calls come to in it.
 use Rattle.std.specs.Prelude.{ℕ, Option, Some, option_and_then, ◌≡◌}
 use Rattle.author_bodies.specs.declared.nothing.Nothing.{Nothing as Absent}
-use Rattle.author_markup.specs.Markup.{child}
+use Rattle.author_pieces.specs.Markup.{child}
+use Rattle.author_pieces.specs.declared.pieces.Piece.{Piece}
 use Rattle.rt_model.specs.OneLog.{types}
 use Rattle.rt_model.specs.Program.{Program, done, read, write}
 use Rattle.rt_model.specs.Tree.{Types}
 use Rattle.rt_model.specs.World.{Nothing, nothing}
-use Rattle.tree_nodes.specs.declared.vnode.DynamicNode.{DynamicNode}
 
 -- the parts of a library among those of an application
 pub record Carrying (Library Application : Types) : Type 0 where
@@ -35,8 +35,8 @@ in_pages k =
     }
 
 module _ {P C Q V H T E L : Type 0} {Library : Types} where
-  -- a component of the library, in a node slot
-  abbrev pub carried : Carrying Library (types C Q V H T E L) → Library.Component → Library.Props → DynamicNode P C Q V H T E L
+  -- a component of the library, as a piece of a tree
+  abbrev pub carried : Carrying Library (types C Q V H T E L) → Library.Component → Library.Props → Piece P C Q V H T E L
   carried k component props = child (k.component component) (k.props props)
 
 module _ {Library Application : Types} where

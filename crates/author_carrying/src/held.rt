@@ -8,16 +8,21 @@ ghost use Rattle.author_carrying.specs.Carrying as carrying;
 use crate::carries::Carries;
 use author_bodies::remembered;
 use author_calls::Cx;
-use author_markup::child;
+use author_pieces::{Piece, child};
 use rt_values::OutOfMemory;
 use std::alloc::Global;
-use tree_nodes::{DynamicNode, Parts};
+use tree_nodes::Parts;
 
-/// A component of a library, in a node slot.
-pub fn carried<L: Parts, P: Carries<L>>(component: L::Component, props: L::Props) -> DynamicNode<P>
-    ensures node { result ≡ carrying.carried P.carrying component props }
+/// A component of a library, with its props, as a piece of a tree.
+pub fn carried<L: Parts, P: Carries<L>>(
+    alloc: Global,
+    component: L::Component,
+    props: L::Props,
+) -> Result<Piece<P>, OutOfMemory>
+    ensures piece { IfOk result (λ piece.
+        piece ≡ carrying.carried P.carrying component props) }
 {
-    child(P::component_of(component), P::props_of(props))
+    child(alloc, P::component_of(component), P::props_of(props))
 }
 
 /// What a cell holds of a library; none where it is gone, or holds something else.

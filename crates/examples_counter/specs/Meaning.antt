@@ -3,7 +3,8 @@ use Rattle.std.proofs.Common.{zero, suc, refl}
 use Rattle.std.specs.Prelude.{ℕ, ◌+◌, ◌≡◌, codes, decimal, min, nat_eq, List, [], ◌∷◌, Option, Some, None}
 use Rattle.std.specs.List.{slice_get}
 use Rattle.rt_author.specs.Words.{AllDecide, Event, Keeping, Nothing, Page, Paged, Pages, Reply, Types, VNode}
-use Rattle.rt_author.specs.Words.{child, clickable_over, coded_tests, labelled, last_number, placeholder_tree, plain_tests, tree_of, types}
+use Rattle.rt_author.specs.Words.{child, coded_tests, element, empty_attrs, listens, last_number, placeholder_tree, plain_tests}
+use Rattle.rt_author.specs.Words.{row, shown, text, tree_of, types, view}
 use Rattle.examples_counter.specs.declared.counter.Component.{Component}
 use Rattle.examples_counter.specs.declared.counter.Component.TheVariants.{Top, Shown}
 use Rattle.examples_counter.specs.declared.counter.Counter.{Counter}
@@ -21,11 +22,12 @@ CounterTree = VNode (Paged Counter Component ℕ ℕ ℕ Nothing Nothing Nothing
 
 -- a button of a scope that raises a cell, and the count below it
 abbrev pub button : ℕ → ℕ → ℕ → CounterTree
-button scope cell count = clickable_over (codes "button") (codes "raise") scope cell (child Shown count)
+button scope cell count =
+    view (row (element (codes "button") (listens (codes "onclick") scope cell) (text (codes "raise")) ∷ child Shown count ∷ []))
 
 -- a count in bold
 abbrev pub bold : ℕ → CounterTree
-bold count = labelled (codes "b") (decimal count)
+bold count = view (element (codes "b") empty_attrs (shown (decimal count)))
 
 -- the button, where its cell has a value
 abbrev pub top : ℕ → Option ℕ → Option (Option ℕ) → CounterTree

@@ -5,7 +5,7 @@ ghost use Rattle.examples_counter.specs.Meaning as meaning;
 
 use rt_author::{
     Event, KeepsCells, List, Nothing, OutOfMemory, Paged, Pages, Part, Parts, ScopeId, Text, VNode,
-    child, clickable_over, labelled, one,
+    child, element, empty_attrs, listens, row, shown, text, view,
 };
 use std::alloc::Global;
 
@@ -85,7 +85,7 @@ impl Pages for Counter {
         _props: &u64,
     ) -> Result<List<u64>, OutOfMemory> {
         match component {
-            Component::Top => one(alloc, 0),
+            Component::Top => List::from_slice(alloc, &[0]),
             Component::Shown => Ok(List::new(alloc)),
         }
     }
@@ -121,7 +121,7 @@ impl Pages for Counter {
         handler: &u64,
         _event: &Event<Nothing>,
     ) -> Result<List<u64>, OutOfMemory> {
-        one(alloc, *handler)
+        List::from_slice(alloc, &[*handler])
     }
 
     fn writes(
@@ -164,7 +164,7 @@ fn raised(
         writes ≡ meaning.raised cell (option_copied value.entry)) }
 {
     match value {
-        Some(Some(count)) => one(alloc, (cell, count.saturating_add(1))),
+        Some(Some(count)) => List::from_slice(alloc, &[(cell, count.saturating_add(1))]),
         _ => Ok(List::new(alloc)),
     }
 }
@@ -178,13 +178,18 @@ fn button(
 ) -> Result<VNode<Counted>, OutOfMemory>
     ensures tree { IfOk result (λ tree. tree ≡ meaning.button scope.0 cell count) }
 {
-    let below = child(Component::Shown, count);
-    clickable_over(alloc, "button", "raise", scope, cell, below)
+    let raises = listens(alloc, "onclick", scope, cell);
+    let button = element(alloc, "button", raises, text(alloc, "raise"));
+    view(alloc, row![button, child(alloc, Component::Shown, count)])
 }
 
 /// The count in bold.
 fn bold(alloc: Global, count: u64) -> Result<VNode<Counted>, OutOfMemory>
     ensures tree { IfOk result (λ tree. tree ≡ meaning.bold count) }
 {
-    labelled(alloc, "b", Text::from_string(format!(in alloc; "{count}")?))
+    let words = Text::from_string(format!(in alloc; "{count}")?);
+    view(
+        alloc,
+        element(alloc, "b", empty_attrs(alloc), shown(alloc, words)),
+    )
 }

@@ -2,9 +2,9 @@
 use Rattle.std.proofs.Common.{zero, suc, refl}
 use Rattle.std.specs.Prelude.{ℕ, false, List, [], ◌∷◌, codes, nat_eq, ◌≡◌, Option, Some, None, if◌then◌else◌}
 use Rattle.rt_author.specs.Words.{Bodied, Element, Event, Keeping, Nothing, Program, Programs, ProgramsDecide, Types, VNode}
-use Rattle.rt_author.specs.Words.{block, child, clickable, coded_tests, consume_context, current_scope, done, go_on, labelled}
-use Rattle.rt_author.specs.Words.{nothing, own_cell, placeholder_tree, plain_tests, provide, read, ready, rendered, slot, tree_of}
-use Rattle.rt_author.specs.Words.{types, write}
+use Rattle.rt_author.specs.Words.{child, coded_tests, consume_context, current_scope, done, element, empty_attrs, go_on, listens}
+use Rattle.rt_author.specs.Words.{nothing, own_cell, placeholder_tree, plain_tests, provide, read, ready, rendered, row, shown}
+use Rattle.rt_author.specs.Words.{tree_of, types, view, write}
 use Rattle.examples_router.specs.declared.router.Component.{Component}
 use Rattle.examples_router.specs.declared.router.Component.TheVariants.{Top, Link, Page}
 use Rattle.examples_router.specs.declared.router.Router.{Router}
@@ -26,21 +26,15 @@ name_of route other = if nat_eq route 0 then codes "Home" else if nat_eq route 1
 
 -- three links, and the page below them
 abbrev pub all : RouterTree
-all =
-    block
-    (slot 0 ∷ slot 1 ∷ slot 2 ∷ slot 3 ∷ [])
-    ((0 ∷ []) ∷ (1 ∷ []) ∷ (2 ∷ []) ∷ (3 ∷ []) ∷ [])
-    []
-    (child Link 0 ∷ child Link 1 ∷ child Link 2 ∷ child Page 0 ∷ [])
-    []
+all = view (row (child Link 0 ∷ child Link 1 ∷ child Link 2 ∷ child Page 0 ∷ []))
 
 -- a link of a scope to a route
 abbrev pub link : ℕ → ℕ → RouterTree
-link scope to = clickable (codes "a") (name_of to (codes "Nowhere")) scope to
+link scope to = view (element (codes "a") (listens (codes "onclick") scope to) (shown (name_of to (codes "Nowhere"))))
 
 -- the page of a route
 abbrev pub heading : ℕ → RouterTree
-heading route = labelled (codes "h1") (name_of route (codes "Not found"))
+heading route = view (element (codes "h1") empty_attrs (shown (name_of route (codes "Not found"))))
 
 -- a body's answer
 abbrev pub tree : RouterTree → Program RouterTypes (Element RouterTypes)

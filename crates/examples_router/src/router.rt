@@ -6,9 +6,9 @@ ghost use Rattle.examples_router.specs.Meaning.{body, programs, decides};
 ghost use Rattle.examples_router.specs.declared.router.Component.TheVariants as components;
 
 use rt_author::{
-    Bodied, Bodies, BodyCx, Cx, Element, Event, KeepsCells, List, Nothing, OutOfMemory, Part,
-    Parts, ScopeId, TaskStep, Text, VNode, block, child, clickable, labelled, own_cell, path,
-    remembered, slot, two,
+    Bodied, Bodies, BodyCx, Cx, Element, Event, KeepsCells, Nothing, OutOfMemory, Part, Parts,
+    ScopeId, TaskStep, Text, VNode, child, element, empty_attrs, listens, own_cell, remembered,
+    row, shown, view,
 };
 use std::alloc::Global;
 
@@ -56,14 +56,13 @@ fn name_of(route: u64, other: &'static str) -> &'static str
 fn all(alloc: Global) -> Result<VNode<Routed>, OutOfMemory>
     ensures tree { IfOk result (λ tree. tree ≡ meaning.all) }
 {
-    let mut roots = two(alloc, slot(0), slot(1))?;
-    roots.append(two(alloc, slot(2), slot(3))?)?;
-    let mut paths = two(alloc, path(alloc, &[0])?, path(alloc, &[1])?)?;
-    paths.append(two(alloc, path(alloc, &[2])?, path(alloc, &[3])?)?)?;
-    let mut slots = two(alloc, child(Component::Link, 0), child(Component::Link, 1))?;
-    slots.append(two(alloc, child(Component::Link, 2), child(Component::Page, 0))?)?;
-    let none = List::new(alloc);
-    block(alloc, roots, paths, none, slots, List::new(alloc))
+    let all = row![
+        child(alloc, Component::Link, 0),
+        child(alloc, Component::Link, 1),
+        child(alloc, Component::Link, 2),
+        child(alloc, Component::Page, 0),
+    ];
+    view(alloc, all)
 }
 
 /// A link to a route.
@@ -71,7 +70,8 @@ fn link(alloc: Global, scope: ScopeId, to: u64) -> Result<VNode<Routed>, OutOfMe
     ensures tree { IfOk result (λ tree. tree ≡ meaning.link scope.0 to) }
 {
     let words = Text::from_str(alloc, name_of(to, "Nowhere"))?;
-    clickable(alloc, "a", words, scope, to)
+    let goes = listens(alloc, "onclick", scope, to);
+    view(alloc, element(alloc, "a", goes, shown(alloc, words)))
 }
 
 /// The page of a route.
@@ -79,7 +79,10 @@ fn heading(alloc: Global, route: u64) -> Result<VNode<Routed>, OutOfMemory>
     ensures tree { IfOk result (λ tree. tree ≡ meaning.heading route) }
 {
     let words = Text::from_str(alloc, name_of(route, "Not found"))?;
-    labelled(alloc, "h1", words)
+    view(
+        alloc,
+        element(alloc, "h1", empty_attrs(alloc), shown(alloc, words)),
+    )
 }
 
 /// The body at the top.

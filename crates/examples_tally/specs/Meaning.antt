@@ -2,7 +2,7 @@
 use Rattle.std.proofs.Common.{refl}
 use Rattle.std.specs.Prelude.{ℕ, ◌+◌, true, List, codes, min, nat_eq, nat_lt, Option, Some, None, if◌then◌else◌}
 use Rattle.rt_author.specs.Words.{Bodied, Element, Event, Keeping, Nothing, Pair, Program, Programs, ProgramsDecide, TaskStep, Types, VNode}
-use Rattle.rt_author.specs.Words.{clickable, current_scope, done, go_on, last_number, nothing, pending}
+use Rattle.rt_author.specs.Words.{current_scope, done, element, go_on, listens, last_number, nothing, pending, shown, view}
 use Rattle.rt_author.specs.Words.{placeholder_tree, plain_tests, ready, rendered, tree_of, types}
 use Rattle.rt_author.specs.Signals.{get, set, set_unless, follow, own_pair, spawn_once}
 use Rattle.examples_tally.specs.declared.tally.Deriving.{Deriving}
@@ -32,7 +32,7 @@ word many = if nat_eq many 0 then codes "few" else codes "many"
 -- the button of a scope, where the derived signal has a value
 abbrev pub face : ℕ → Option ℕ → ℕ → TallyTree
 face scope None count = placeholder_tree
-face scope (Some said) count = clickable (codes "button") (word said) scope count
+face scope (Some said) count = view (element (codes "button") (listens (codes "onclick") scope count) (shown (word said)))
 
 abbrev pub said_in : ℕ → Option ℕ → Body
 said_in count said = current_scope (λ scope. tree (face scope said count))

@@ -6,7 +6,8 @@ ghost use Rattle.examples_tally.specs.Meaning as meaning;
 
 use rt_author::{
     Bodied, Bodies, BodyCx, Cx, Element, Event, KeepsCells, Nothing, OutOfMemory, Pair, Parts,
-    ReactiveContext, ScopeId, Signal, TaskStep, Text, VNode, clickable, own_pair, spawn_once,
+    ReactiveContext, ScopeId, Signal, TaskStep, Text, VNode, element, listens, own_pair, shown,
+    spawn_once, view,
 };
 use std::alloc::Global;
 
@@ -59,7 +60,8 @@ fn face(
     match said {
         Some(said) => {
             let words = Text::from_str(alloc, word(said))?;
-            Ok(clickable(alloc, "button", words, scope, count)?)
+            let raises = listens(alloc, "onclick", scope, count);
+            Ok(view(alloc, element(alloc, "button", raises, shown(alloc, words)))?)
         }
         None => Ok(VNode::placeholder(alloc)?),
     }

@@ -3,7 +3,7 @@ use Rattle.std.proofs.Common.{refl}
 use Rattle.std.specs.Prelude.{ℕ, ◌+◌, true, codes, decimal, min, nat_eq, List, [], ◌∷◌, Option, Some, None}
 use Rattle.std.specs.List.{slice_get}
 use Rattle.rt_author.specs.Words.{AllDecide, Event, Keeping, Nothing, Page, Paged, Pages, Reply, Types, VNode}
-use Rattle.rt_author.specs.Words.{clickable, last_number, placeholder_tree, plain_tests, tree_of, types}
+use Rattle.rt_author.specs.Words.{element, listens, last_number, placeholder_tree, plain_tests, shown, tree_of, types, view}
 use Rattle.examples_template.specs.declared.application.Application.{Application}
 
 abbrev pub OwnTypes : Types
@@ -23,12 +23,12 @@ OwnTree = VNode (Paged Application Nothing Nothing ℕ ℕ Nothing Nothing Nothi
 
 -- a button of a scope that shows a number and raises its cell
 abbrev pub button : ℕ → ℕ → ℕ → OwnTree
-button scope cell number = clickable (codes "button") (decimal number) scope cell
+button scope cell number = view (element (codes "button") (listens (codes "onclick") scope cell) (shown (decimal number)))
 
 -- the button, where its cell has a value
-abbrev pub shown : ℕ → Option ℕ → Option (Option ℕ) → OwnTree
-shown scope (Some cell) (Some (Some number)) = button scope cell number
-shown scope _ _ = placeholder_tree
+abbrev pub present : ℕ → Option ℕ → Option (Option ℕ) → OwnTree
+present scope (Some cell) (Some (Some number)) = button scope cell number
+present scope _ _ = placeholder_tree
 
 -- the component
 abbrev pub page : Page OwnTypes
@@ -36,7 +36,7 @@ page =
     record {
       cells = 0 ∷ [];
       reads = λ own. own;
-      shows = λ scope own values. tree_of (shown scope (slice_get own 0) (slice_get values 0));
+      shows = λ scope own values. tree_of (present scope (slice_get own 0) (slice_get values 0));
     }
 
 -- one more, up to the greatest number

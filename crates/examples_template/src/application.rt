@@ -5,7 +5,7 @@ ghost use Rattle.examples_template.specs.Meaning as meaning;
 
 use rt_author::{
     Event, KeepsCells, List, Nothing, OutOfMemory, Paged, Pages, Parts, ScopeId, Text, VNode,
-    clickable, one,
+    element, listens, shown, view,
 };
 use std::alloc::Global;
 
@@ -68,7 +68,7 @@ impl Pages for Application {
         _component: &Nothing,
         _props: &Nothing,
     ) -> Result<List<u64>, OutOfMemory> {
-        one(alloc, 0)
+        List::from_slice(alloc, &[0])
     }
 
     fn reads(
@@ -90,7 +90,7 @@ impl Pages for Application {
         own: &[u64],
         values: &[Option<u64>],
     ) -> Result<VNode<Paged<Application>>, OutOfMemory> {
-        shown(alloc, scope, own.get(0), values.get(0))
+        present(alloc, scope, own.get(0), values.get(0))
     }
 
     fn hears(
@@ -99,7 +99,7 @@ impl Pages for Application {
         handler: &u64,
         _event: &Event<Nothing>,
     ) -> Result<List<u64>, OutOfMemory> {
-        one(alloc, *handler)
+        List::from_slice(alloc, &[*handler])
     }
 
     fn writes(
@@ -123,18 +123,19 @@ fn button(
     ensures tree { IfOk result (λ tree. tree ≡ meaning.button scope.0 cell number) }
 {
     let words = Text::from_string(format!(in alloc; "{number}")?);
-    clickable(alloc, "button", words, scope, cell)
+    let raises = listens(alloc, "onclick", scope, cell);
+    view(alloc, element(alloc, "button", raises, shown(alloc, words)))
 }
 
 /// The button, where its cell has a value.
-fn shown(
+fn present(
     alloc: Global,
     scope: ScopeId,
     cell: Option<&u64>,
     value: Option<&Option<u64>>,
 ) -> Result<VNode<Paged<Application>>, OutOfMemory>
     ensures tree { IfOk result (λ tree.
-        tree ≡ meaning.shown scope.0 (option_copied cell.entry) (option_copied value.entry)) }
+        tree ≡ meaning.present scope.0 (option_copied cell.entry) (option_copied value.entry)) }
 {
     let Some(cell) = cell else {
         return VNode::placeholder(alloc);
@@ -155,7 +156,7 @@ fn raised(
         writes ≡ meaning.raised cell (option_copied value.entry)) }
 {
     match value {
-        Some(Some(number)) => one(alloc, (cell, number.saturating_add(1))),
+        Some(Some(number)) => List::from_slice(alloc, &[(cell, number.saturating_add(1))]),
         _ => Ok(List::new(alloc)),
     }
 }

@@ -10,7 +10,16 @@ pub use Rattle.rt_author.specs.Inside
 pub use Rattle.rt_author.specs.Signals
 pub use Rattle.rt_author.specs.Pair
 pub use Rattle.rt_author.specs.Signal
+pub use Rattle.rt_author.specs.Answered
+pub use Rattle.rt_author.specs.Breaches
+pub use Rattle.rt_author.specs.Filling
+pub use Rattle.rt_author.specs.Had
 pub use Rattle.rt_author.specs.Markup
+pub use Rattle.rt_author.specs.Numbering
+pub use Rattle.rt_author.specs.Attrs
+pub use Rattle.rt_author.specs.Piece
+pub use Rattle.rt_author.specs.Shape
+pub use Rattle.rt_author.specs.ShapeAttribute
 pub use Rattle.rt_author.specs.Answers
 pub use Rattle.rt_author.specs.Calls
 pub use Rattle.rt_author.specs.Hooks

@@ -7,8 +7,8 @@ pub mod dom;
 // Bodies, pages and signals.
 pub use rt_author::{
     App, Bodied, Bodies, BodyCx, BodyTurn, Cx, CxFault, KeepsCells, Nothing, Paged, Pages, Pair,
-    Signal, TaskStep, Turn, own_cell, own_pair, read_all, remembered, spawn_once, still_waking,
-    unless_refused, waking, write_all,
+    Signal, TaskStep, Turn, one, own_cell, own_pair, read_all, remembered, spawn_once,
+    still_waking, two, unless_refused, waking, write_all,
 };
 
 // Components of libraries.
@@ -19,8 +19,15 @@ pub use rt_author::{
     Attribute, AttributeValue, CapturedError, DynamicNode, Element, ErrorBoundaryProps,
     ErrorHandler, Event, Fallback, FragmentProps, LastRenderedNode, ListenerCallback, Parts,
     RenderError, RootProps, SuspendedFuture, SuspenseBoundaryProps, Template, TemplateAttribute,
-    TemplateNode, TemplateParts, VComponent, VNode, block, child, clickable, clickable_over,
-    element, labelled, listens, one, path, slot, text, two,
+    TemplateNode, TemplateParts, VComponent, VNode,
+};
+
+// Trees as they nest.
+pub use rt_author::{
+    Attrs, BadMarkup, Breach, Filling, Kept, Piece, Shape, ShapeAttribute, Slots, Unfit, and,
+    attrs, beside, checked, child, element, empty_attrs, empty_piece, error_boundary, fill, fixed,
+    fragment, hole, listens, open_attr, open_slot, row, says, several, shown, suspense_boundary,
+    text, view, when,
 };
 
 // Laws.

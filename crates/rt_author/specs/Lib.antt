@@ -10,7 +10,16 @@ pub use Rattle.author_given.specs.declared.props.Inside
 pub use Rattle.author_signals.specs.Signals
 pub use Rattle.author_signals.specs.declared.signal.Pair
 pub use Rattle.author_signals.specs.declared.signal.Signal
-pub use Rattle.author_markup.specs.Markup
+pub use Rattle.author_pieces.specs.Answered
+pub use Rattle.author_pieces.specs.Breaches
+pub use Rattle.author_pieces.specs.Filling
+pub use Rattle.author_pieces.specs.Had
+pub use Rattle.author_pieces.specs.Markup
+pub use Rattle.author_pieces.specs.Numbering
+pub use Rattle.author_pieces.specs.declared.attrs.Attrs
+pub use Rattle.author_pieces.specs.declared.pieces.Piece
+pub use Rattle.author_pieces.specs.declared.shapes.Shape
+pub use Rattle.author_pieces.specs.declared.shapes.ShapeAttribute
 pub use Rattle.author_calls.specs.Answers
 pub use Rattle.author_calls.specs.Calls
 pub use Rattle.author_calls.specs.Hooks

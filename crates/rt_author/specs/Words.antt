@@ -6,7 +6,8 @@ pub use Rattle.author_calls.specs.Answers.{event_of, step_of}
 pub use Rattle.author_calls.specs.Calls.{call_of}
 pub use Rattle.run_records.specs.Records.{world_of}
 pub use Rattle.rt_cells.specs.declared.contexts.ReactiveContext.{ReactiveContext}
-pub use Rattle.author_markup.specs.Markup.{block, child, clickable, clickable_over, element, labelled, listens, slot, text}
+pub use Rattle.author_pieces.specs.Markup.{and, attrs, beside, child, element, empty_attrs, empty_piece, error_boundary, fixed, fragment}
+pub use Rattle.author_pieces.specs.Markup.{hole, listens, row, says, several, shown, suspense_boundary, text, view, when}
 pub use Rattle.tree_mirror.specs.Mirror.{element_of, tree_of}
 pub use Rattle.rt_model.specs.OneLog.{types}
 pub use Rattle.rt_model.specs.Program.{Program, Programs, done, current_scope, parent_scope, current_task, rendering, generation}
