@@ -1,6 +1,10 @@
 //! Polls of memos and resources.
 ghost use Rattle.std.specs.Prelude.{◌≡◌, Some, IfOk, OnOk};
+ghost use Rattle.rt_model.specs.Program.{done};
+ghost use Rattle.rt_model.specs.World.{pending};
+ghost use Rattle.author_calls.specs.Answers.{step_of};
 ghost use Rattle.author_bodies.specs.Comes.{Comes, ComesIfRemembered, Knows};
+ghost use Rattle.author_programs.specs.Sequence.{go_on};
 ghost use Rattle.author_formulas.specs.Memos as memos;
 ghost use Rattle.author_deriving.specs.Task.{task_of, context_number};
 
@@ -8,7 +12,7 @@ use crate::formulas::HasMemo;
 use crate::settled::settle;
 use crate::task::MemoTask;
 use author_bodies::{KeepsCells, remembered, unless_refused};
-use author_calls::Cx;
+use author_calls::{Cx, TaskStep};
 use rt_cells::{ReactiveContext, Target};
 use rt_values::{OutOfMemory, Task};
 use std::alloc::Global;
@@ -31,6 +35,24 @@ pub fn poll_memo<P: KeepsCells, S: HasMemo<P>>(
         Some(polled) => Ok(poll_by(app, alloc, task, cx, polled)?),
         None => Ok(task),
     }
+}
+
+/// A step of a task that is one of a memo or of a resource: its poll, from where it stands then on.
+#[tactic(auto, using(author_bodies::proofs::Rules::reacting))]
+pub fn step_memo<P: KeepsCells, S: HasMemo<P>>(
+    app: &S,
+    alloc: Global,
+    task: MemoTask<P::Value, S::Formula>,
+    cx: &mut Cx<'_, P>,
+) -> Result<TaskStep<P::TaskState>, OutOfMemory>
+    ensures came { IfOk result (λ step. ComesIfRemembered cx.old cx.new
+        (go_on (memos.memo_polled (S.formulas app.now) (task_of task))
+        (λ next. done (pending (S.state next))))
+        (step_of {C = P.Component} {Q = P.Props} {V = P.Value} {H = P.Handler} {E = P.Effect} {L = P.Payload} step)) }
+    ensures world { cx.new.world ≡ cx.old.world }
+{
+    let next = poll_memo(app, alloc, task, cx)?;
+    Ok(TaskStep::Pending(S::memo_state(next)))
 }
 
 /// A poll, by the task that is polled.
