@@ -7,6 +7,12 @@ use Rattle.rt_model.specs.World.{Nothing, TaskTarget, nothing}
 use Rattle.author_programs.specs.Cells.{Keeping, own_cell}
 use Rattle.author_programs.specs.Sequence.{go_on}
 use Rattle.author_signals.specs.declared.signal.Pair.{Pair}
+use Rattle.author_signals.specs.declared.signal.Signal.{Signal}
+
+-- the cell of a signal
+abbrev pub cell_in : Option Signal → Option ℕ
+cell_in None = None
+cell_in (Some signal) = Some signal.0
 
 -- the number of a context
 abbrev pub number_in : Option ReactiveContext → Option ℕ
