@@ -11,6 +11,11 @@ pub use rt_author::{
     still_waking, two, unless_refused, waking, write_all,
 };
 
+// Memos and resources.
+pub use rt_author::{
+    HasMemo, Load, MemoApp, MemoBodies, MemoTask, poll_memo, step_memo, use_memo, use_resource,
+};
+
 // Components of libraries.
 pub use rt_author::{Carries, Given, Inside, carried, read_held, write_held};
 
@@ -37,9 +42,9 @@ pub use rt_author::{
     first_pages_show, folds_show, given_tests, heard_entries_update, heard_from_below,
     kept_pages_ask_nothing, kinds_apart, kinds_go_on, listeners_update, logged_cells_last,
     logged_components_last, logged_numbers_last, memoized_are_lawful, numbers_last, one_finish,
-    one_hears, one_page_shows, one_read_shows, other_kinds_stay, own_cells_fold, own_pages_show,
-    pages_are_lawful, pages_keep_cells, pages_reduce, pages_show_present_values, pages_show_values,
-    pair_tests, plain_tests, polls_are_done, programs_come_to_their_meaning, programs_go_on,
+    one_hears, one_page_shows, one_read_shows, other_kinds_stay, pages_are_lawful,
+    pages_keep_cells, pages_reduce, pages_show_present_values, pages_show_values, pair_tests,
+    plain_tests, polls_are_done, programs_come_to_their_meaning, programs_go_on,
     programs_keep_others, reports_reduce, reports_show_bodies, reports_show_pages,
     reports_show_reduced, rows_are_sessions, runs_are_given, sessions_keep_memos,
     unread_runs_nothing, unrun_reads_stay,

@@ -7,6 +7,12 @@ pub use Rattle.author_bodies.specs.declared.paged.Paged
 pub use Rattle.author_carrying.specs.Carrying
 pub use Rattle.author_given.specs.declared.props.Given
 pub use Rattle.author_given.specs.declared.props.Inside
+pub use Rattle.author_deriving.specs.Task as MemoTasks
+pub use Rattle.author_deriving.specs.declared.task.Load
+pub use Rattle.author_deriving.specs.declared.task.MemoTask
+pub use Rattle.author_formulas.specs.Formulas
+pub use Rattle.author_formulas.specs.Looking
+pub use Rattle.author_formulas.specs.Memos
 pub use Rattle.author_signals.specs.Signals
 pub use Rattle.author_signals.specs.declared.signal.Pair
 pub use Rattle.author_signals.specs.declared.signal.Signal
@@ -48,11 +54,9 @@ pub use Rattle.law_lasting.specs.CellsLast
 pub use Rattle.law_lasting.specs.ComponentsLast
 pub use Rattle.law_lasting.specs.NumbersLast
 pub use Rattle.law_lasting.specs.OneFinish
-pub use Rattle.law_minding.specs.Coming
 pub use Rattle.law_minding.specs.Held
 pub use Rattle.law_minding.specs.Sessions
 pub use Rattle.law_minding.specs.Unpolled
-pub use Rattle.law_minding.specs.Waking
 pub use Rattle.law_pages.specs.Keeps
 pub use Rattle.law_pages.specs.OnePage
 pub use Rattle.law_pages.specs.Updates

@@ -1,5 +1,5 @@
 //! All that an author needs who writes an application as a library: bodies, pages, their trees,
-//! signals, and the laws of them. Nothing here runs one.
+//! signals, memos and resources, and the laws of them. Nothing here runs one.
 #![tactic(auto)]
 
 mod macros;
@@ -10,6 +10,9 @@ pub use author_bodies::{
 };
 pub use author_calls::{App, BodyCx, BodyTurn, Cx, TaskStep, Turn};
 pub use author_carrying::{Carries, carried, read_held, write_held};
+pub use author_deriving::{
+    HasMemo, Load, MemoApp, MemoBodies, MemoTask, poll_memo, step_memo, use_memo, use_resource,
+};
 pub use author_given::{Given, Inside, given_tests};
 pub use author_programs::{
     coded_tests, commands_within, current_pages_show, either_tests, first_pages_show,
@@ -36,12 +39,13 @@ pub use tree_nodes::{
     TemplateNode, TemplateParts, VComponent, VNode,
 };
 
-// Laws of sessions, of pages and bodies, and of contexts.
+// Laws of sessions, of pages and bodies, of contexts, and of memos.
 pub use law_kinds::{commands_keep_others, programs_keep_others};
 pub use law_lasting::{
     cells_last, cells_stay, components_last, logged_cells_last, logged_components_last,
     logged_numbers_last, numbers_last, one_finish, rows_are_sessions,
 };
+pub use law_minding::{polls_are_done, sessions_keep_memos};
 pub use law_pages::{
     events_update, heard_entries_update, kept_pages_ask_nothing, listeners_update, one_page_shows,
     one_read_shows, pages_keep_cells,
