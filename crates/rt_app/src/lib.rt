@@ -65,6 +65,7 @@ pub use rt_inbox::{
     Bell, Gate, Inbox, NoGate, Notifier, Owner, Poster, Refused, Taken, finish, post_beside,
     posters_for,
 };
+pub use rt_memo::memo_session;
 pub use rt_session::session;
 pub use run_records::Firsts;
 pub use run_reports::{Counter, Entry, Fault, Input, Limits, Msg, Post, Report, SessionFault};
