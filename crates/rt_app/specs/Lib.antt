@@ -5,6 +5,7 @@ pub use Rattle.rt_author.specs.Bodied
 pub use Rattle.rt_author.specs.Nothing
 pub use Rattle.rt_author.specs.Paged
 pub use Rattle.rt_author.specs.Carrying
+pub use Rattle.rt_author.specs.Same
 pub use Rattle.rt_author.specs.Given
 pub use Rattle.rt_author.specs.Inside
 pub use Rattle.rt_author.specs.Signals
@@ -72,10 +73,14 @@ pub use Rattle.rt_author.specs.Sealed
 pub use Rattle.rt_author.specs.Shown
 pub use Rattle.rt_author.specs.Attribute
 pub use Rattle.rt_author.specs.AttributeValue
+pub use Rattle.rt_author.specs.CapturedError
 pub use Rattle.rt_author.specs.RenderError
+pub use Rattle.rt_author.specs.SuspendedFuture
 pub use Rattle.rt_author.specs.TemplateAttribute
 pub use Rattle.rt_author.specs.TemplateNode
 pub use Rattle.rt_author.specs.DynamicNode
+pub use Rattle.rt_author.specs.ErrorHandler
+pub use Rattle.rt_author.specs.Fallback
 pub use Rattle.rt_author.specs.VComponent
 pub use Rattle.rt_author.specs.VNode
 pub use Rattle.rt_author.specs.ReactiveContext
@@ -85,6 +90,7 @@ pub use Rattle.rt_author.specs.Causes
 pub use Rattle.rt_author.specs.Commands
 pub use Rattle.rt_author.specs.Current
 pub use Rattle.rt_author.specs.Edits
+pub use Rattle.rt_author.specs.Finished
 pub use Rattle.rt_author.specs.Headline
 pub use Rattle.rt_author.specs.Heard
 pub use Rattle.rt_author.specs.Laws
@@ -94,12 +100,15 @@ pub use Rattle.rt_author.specs.Next
 pub use Rattle.rt_author.specs.OneLog
 pub use Rattle.rt_author.specs.Program
 pub use Rattle.rt_author.specs.Queries
+pub use Rattle.rt_author.specs.Ran
 pub use Rattle.rt_author.specs.Removal
 pub use Rattle.rt_author.specs.Rendering
 pub use Rattle.rt_author.specs.Replay
+pub use Rattle.rt_author.specs.Reports
 pub use Rattle.rt_author.specs.Run
 pub use Rattle.rt_author.specs.Sentences
 pub use Rattle.rt_author.specs.State
+pub use Rattle.rt_author.specs.Told
 pub use Rattle.rt_author.specs.Tree
 pub use Rattle.rt_author.specs.View
 pub use Rattle.rt_author.specs.World

@@ -5,6 +5,7 @@ pub use Rattle.author_bodies.specs.declared.bodied.Bodied
 pub use Rattle.author_bodies.specs.declared.nothing.Nothing
 pub use Rattle.author_bodies.specs.declared.paged.Paged
 pub use Rattle.author_carrying.specs.Carrying
+pub use Rattle.author_given.specs.Same
 pub use Rattle.author_given.specs.declared.props.Given
 pub use Rattle.author_given.specs.declared.props.Inside
 pub use Rattle.author_deriving.specs.Task as MemoTasks
@@ -76,10 +77,14 @@ pub use Rattle.tree_mirror.specs.Sealed
 pub use Rattle.tree_nodes.specs.Shown
 pub use Rattle.tree_nodes.specs.declared.attribute.Attribute
 pub use Rattle.tree_nodes.specs.declared.attribute.AttributeValue
+pub use Rattle.tree_nodes.specs.declared.error.CapturedError
 pub use Rattle.tree_nodes.specs.declared.error.RenderError
+pub use Rattle.tree_nodes.specs.declared.error.SuspendedFuture
 pub use Rattle.tree_nodes.specs.declared.template.TemplateAttribute
 pub use Rattle.tree_nodes.specs.declared.template.TemplateNode
 pub use Rattle.tree_nodes.specs.declared.vnode.DynamicNode
+pub use Rattle.tree_nodes.specs.declared.vnode.ErrorHandler
+pub use Rattle.tree_nodes.specs.declared.vnode.Fallback
 pub use Rattle.tree_nodes.specs.declared.vnode.VComponent
 pub use Rattle.tree_nodes.specs.declared.vnode.VNode
 pub use Rattle.rt_cells.specs.declared.contexts.ReactiveContext
@@ -89,6 +94,7 @@ pub use Rattle.rt_model.specs.Causes
 pub use Rattle.rt_model.specs.Commands
 pub use Rattle.rt_model.specs.Current
 pub use Rattle.rt_model.specs.Document as Edits
+pub use Rattle.rt_model.specs.Finished
 pub use Rattle.rt_model.specs.Headline
 pub use Rattle.rt_model.specs.Heard
 pub use Rattle.rt_model.specs.Laws
@@ -98,12 +104,15 @@ pub use Rattle.rt_model.specs.Next
 pub use Rattle.rt_model.specs.OneLog
 pub use Rattle.rt_model.specs.Program
 pub use Rattle.rt_model.specs.Queries
+pub use Rattle.rt_model.specs.Ran
 pub use Rattle.rt_model.specs.Removal
 pub use Rattle.rt_model.specs.Rendering
 pub use Rattle.rt_model.specs.Replay
+pub use Rattle.rt_model.specs.Reports
 pub use Rattle.rt_model.specs.Run
 pub use Rattle.rt_model.specs.Sentences
 pub use Rattle.rt_model.specs.State
+pub use Rattle.rt_model.specs.Told
 pub use Rattle.rt_model.specs.Tree
 pub use Rattle.rt_model.specs.View
 pub use Rattle.rt_model.specs.World

@@ -15,8 +15,9 @@ pub use Rattle.rt_model.specs.Program.{read, new_cell, write, drop_cell, hook_is
 pub use Rattle.rt_model.specs.Program.{consume_context, has_context, provide, new_context, run_in, reset_and_run_in, leave}
 pub use Rattle.rt_model.specs.Program.{spawn, remove_future, wake, set_active, queue_effect, after_suspense_resolved, freeze}
 pub use Rattle.rt_model.specs.Program.{needs_update, captured, error, throw, clear_errors}
-pub use Rattle.rt_model.specs.Tree.{Types, Element, rendered}
+pub use Rattle.rt_model.specs.Tree.{Types, Element, rendered, failed, suspended}
 pub use Rattle.rt_model.specs.World.{Event, TaskStep, pending, ready, nothing, last_number, ScopeTarget, TaskTarget}
+pub use Rattle.rt_model.specs.World.{clean_up_kind, before_render_kind, after_render_kind}
 pub use Rattle.tree_nodes.specs.Shown.{placeholder_tree}
 pub use Rattle.tree_nodes.specs.declared.vnode.DynamicNode.{DynamicNode}
 pub use Rattle.tree_nodes.specs.declared.vnode.VNode.{VNode}
@@ -24,11 +25,6 @@ pub use Rattle.author_bodies.specs.Bodies.{ProgramsDecide}
 pub use Rattle.author_bodies.specs.declared.bodied.Bodied.{Bodied}
 pub use Rattle.author_bodies.specs.declared.paged.Paged.{Paged}
 pub use Rattle.author_carrying.specs.Carrying.{Carrying}
-pub use Rattle.author_deriving.specs.Task.{as_task, load_of, task_of}
-pub use Rattle.author_deriving.specs.declared.task.MemoTask.{MemoTask}
-pub use Rattle.author_formulas.specs.Formulas.{Formulas, FormulasLook, Load, loaded, wait}
-pub use Rattle.author_formulas.specs.Looking.{Looks}
-pub use Rattle.author_formulas.specs.Memos.{memo_polled, own_memo}
 pub use Rattle.author_given.proofs.Decides.{given_tests}
 pub use Rattle.author_given.specs.Same.{same_given}
 pub use Rattle.author_programs.proofs.Lawful.{coded_tests, either_tests, pair_tests, plain_tests}
