@@ -179,7 +179,8 @@ fn drain(alloc: Global, value: &Value) -> Result<Option<InputSource>, OutOfMemor
     }
 }
 
-fn input(alloc: Global, value: &Value) -> Result<Option<InputSource>, OutOfMemory>
+/// The input that a value is, or `None` where it isn't in the form of one.
+pub fn input(alloc: Global, value: &Value) -> Result<Option<InputSource>, OutOfMemory>
     ensures input { IfOk result (λ read. read ≡ input_in (view value.now)) }
 {
     if is_object_of(value, &["event", "element", "payload", "bubbles"]) {

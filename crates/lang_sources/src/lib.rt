@@ -13,6 +13,7 @@ mod statements;
 mod whole;
 
 pub use forms::{Binder, Calling, Form, Place, Plain, Word, form_in, stands};
+pub use inputs::input;
 pub use reading::{SOURCE_LIMIT, read_source};
 pub use signatures::names_in;
 pub use statements::read_block;

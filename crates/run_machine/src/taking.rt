@@ -56,7 +56,7 @@ impl<A: App> Machine<A> {
     }
 
     /// The report of an input, by its number from 1.
-    fn next_report<M: WriteMutations>(
+    pub fn next_report<M: WriteMutations>(
         &mut self,
         app: &A,
         calls: &mut Calls,
