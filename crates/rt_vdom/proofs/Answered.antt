@@ -11,7 +11,7 @@ use Rattle.rt_model.specs.World.{Application, Firsts}
 use Rattle.rt_model.specs.Rendering.{suspended_remains}
 use Rattle.rt_model.specs.Replay as replay
 use Rattle.rt_model.specs.State as model
-use Rattle.law_behavior.specs.Doms.{Until, Events, Renders}
+use Rattle.law_behavior.specs.Doms.{CallRan, Until, Events, Renders}
 use Rattle.tree_nodes.specs.declared.event.Event.{Event}
 use Rattle.run_reports.specs.Seen.{entry_of, limits_of}
 use Rattle.run_reports.specs.declared.fault.Fault.{Fault}
@@ -96,6 +96,10 @@ module _ {P C Q V H T E L : Type 0} (meaning : P → Application (types C Q V H 
       record {
         log = map entry_of report.log;
         last = went.last;
+        ran =
+            subst
+            (λ (es : List Edit). CallRan (meaning new.app) (limits_of new.limits) Events (taken_in w drained) (map entry_of report.log)
+            (map edit_of es) went.last) went.silent went.ran;
         holds =
             subst
             (λ (es : List Edit). HoldsBy meaning new.app new.limits props whole (taken_in w drained) Events (map entry_of report.log)

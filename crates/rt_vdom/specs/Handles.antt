@@ -13,7 +13,7 @@ use Rattle.rt_model.specs.View.{view}
 use Rattle.rt_model.specs.World.{Application}
 use Rattle.rt_model.specs.Replay as replay
 use Rattle.rt_model.specs.State as model
-use Rattle.law_behavior.specs.Doms.{Events, left_by}
+use Rattle.law_behavior.specs.Doms.{CallRan, Events, left_by}
 use Rattle.run_outside.specs.Short.{PartOf}
 use Rattle.tree_nodes.specs.declared.event.Event.{Event}
 use Rattle.run_reports.specs.Seen.{fault_of, limits_of, message_of}
@@ -66,6 +66,8 @@ module _ {P C Q V H T E L : Type 0} (meaning : P → Application (types C Q V H 
       (answer : Poll (Unit {0})) (d : VirtualDom P C Q V H T E L) : Type 0 where
     pub log : List replay.Entry
     pub last : replay.Machine (types C Q V H T E L)
+    -- within the limits: no unit was begun past those of a call, nor one where no event was left
+    pub ran : CallRan (meaning d.app) (limits_of d.limits) Events (taken_in w drained) log [] last
     pub holds : HoldsBy meaning d.app d.limits props whole (taken_in w drained) Events log [] last
     pub shows : view (left_by Events last.state) ≡ view w
     pub answers_as : answer ≡ answers (sees_none (left_by Events last.state).seen && drained.emptied)

@@ -61,11 +61,12 @@ module _ {P C Q V H T E L : Type 0} (meaning : P → Application (types C Q V H 
     pub enabled : report.default_enabled ≡ true
     pub stands : Stands meaning props true last.state d
 
-  -- it came to a fault: the sink took the edits up to where the definitions refuse, or it broke off
+  -- it came to a fault, which isn't that of spent units: the sink took the edits up to where the definitions refuse, or it broke off
   abbrev pub BuildStopped : P → Limits → Q → Firsts → List (ℕ × V) → Option (List Edit) → Option (List Edit) → Fault → Type 0
   BuildStopped app limits props firsts provided before after what =
       let from = replay.start_with (meaning app) props firsts provided [] in
-      ((fault : model.Fault) → fault_of what ≡ Some fault → CutFrom (meaning app) (limits_of limits) from before after fault)
+      ((fault : model.Fault) → fault_of what ≡ Some fault
+      → CutFrom (meaning app) (limits_of limits) from before after fault × ((units : ℕ) → fault ≡ model.OutOfTurns units → ⊥))
       × (fault_of what ≡ None → BrokeAlone (meaning app) (limits_of limits) from before after (PartOf what))
 
   -- a dom that isn't built yet is built, whatever its root provides and wherever its numbers begin; elements have none below 1
@@ -173,6 +174,7 @@ module _ {P C Q V H T E L : Type 0} (meaning : P → Application (types C Q V H 
   PrebuiltStopped app limits props what =
       (fault : model.Fault) → fault_of what ≡ Some fault
       → CutFrom (meaning app) (limits_of limits) (replay.start_with (meaning app) props replay.ones [] []) None None fault
+      × ((units : ℕ) → fault ≡ model.OutOfTurns units → ⊥)
 
   -- after a call that settles, where no suspended render has passed over anything, each output is current, and a boundary shows its
   -- fallback exactly while a live task holds it

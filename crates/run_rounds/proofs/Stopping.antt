@@ -21,6 +21,8 @@ use Rattle.law_moves.proofs.Reports.{reports_go_on}
 use Rattle.law_moves.proofs.Tellings.{told_machine}
 use Rattle.run_state.specs.Mirror.{at_first, state_of}
 use Rattle.run_state.specs.Names.{fault_of}
+use Rattle.run_state.specs.declared.names.Fault.{Fault}
+use Rattle.run_state.specs.declared.names.Fault.TheVariants as faults
 use Rattle.run_state.specs.declared.names.Stop.{Stop}
 use Rattle.run_state.specs.declared.names.Stop.TheVariants as stops
 use Rattle.law_behavior.specs.Doms.{NoneOpens}
@@ -46,6 +48,13 @@ none_fault h = cc
 
 some_none : {X : Type 0} {a : model.Fault} → Some a ≡ None → X
 some_none h = cc
+
+-- no call of the application ends for want of units
+turns_of : (what : Fault) (units : ℕ) → fault_of what ≡ model.OutOfTurns units → ⊥
+turns_of (faults.IdsExhausted counter) units h = cc
+turns_of (faults.HookChanged scope index kept asked) units h = cc
+turns_of (faults.NoSuchTask scope task) units h = cc
+turns_of (faults.BadNode scope) units h = cc
 
 module _ {K : Types} (app : Application K) (limits : causes.Limits) (props : K.Props) (firsts : Firsts) (provided : List (ℕ × K.Value)) where
   abbrev cut_build : model.State K → model.Fault → replay.Machine K
@@ -95,9 +104,11 @@ module _ {P C Q V H T E L : Type 0} (app : Application (types C Q V H T E L)) (l
       let v = state_of cut.kept (new.scopes).state in
       let done : run app (start_with app props firsts provided []).state 0 ≡ Cut v (fault_of what) =
       ap (λ (x : model.State (types C Q V H T E L)). run app x 0) (sym is) ∙ cut.cut in (
-        λ fault why.
-            subst (λ (f : model.Fault). CutFrom app limits (start_with app props firsts provided []) now now f) (some_fault (fault_of what) fault why)
-            (given_cut app limits props firsts provided now v (fault_of what) done),
+        λ fault why. (
+          subst (λ (f : model.Fault). CutFrom app limits (start_with app props firsts provided []) now now f) (some_fault (fault_of what) fault why)
+              (given_cut app limits props firsts provided now v (fault_of what) done),
+          λ units out. turns_of what units (some_fault (fault_of what) fault why ∙ out),
+        ),
         λ none. some_none none,
       )
 
@@ -109,19 +120,21 @@ module _ {P C Q V H T E L : Type 0} (app : Application (types C Q V H T E L)) (l
   given_later along before after ended old new begun cut broke = (
     λ fault why.
         let far = cut fault why in
-        let came = far.came in
-        record {
-          wrote = came.wrote;
-          told = came.told;
-          log = replay.Build ∷ noted new;
-          alone =
-              subst (λ (l : List replay.Entry). NoneOpens l) (sym ((far.inside).logged ∙ ap (λ (l : List replay.Entry). l ++ (far.inside).more) begun))
-              (far.inside).shut;
-          last = (came.refused).last;
-          so = (came.refused).so;
-          cause = (came.refused).cause;
-          edits_are = (came.refused).edits_are;
-        },
+        let came = far.came in (
+          record {
+            wrote = came.wrote;
+            told = came.told;
+            log = replay.Build ∷ noted new;
+            alone =
+                subst (λ (l : List replay.Entry). NoneOpens l) (sym ((far.inside).logged ∙ ap (λ (l : List replay.Entry). l ++ (far.inside).more) begun))
+                (far.inside).shut;
+            last = (came.refused).last;
+            so = (came.refused).so;
+            cause = (came.refused).cause;
+            edits_are = (came.refused).edits_are;
+          },
+          λ units out. far.never units out,
+        ),
     λ none.
         alone_of app limits (given app limits props firsts provided along) (replay.Build ∷ noted old) before after ended (broke none)
         (subst (λ (l : List replay.Entry). NoneOpens l) (sym begun) tt),

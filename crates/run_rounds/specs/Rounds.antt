@@ -201,9 +201,10 @@ module _ {P C Q V H T E L : Type 0} (app : Application (types C Q V H T E L)) (l
 
 module _ {K : Types} (app : Application K) (limits : causes.Limits) (props : K.Props) (firsts : Firsts)
     (provided : List (ℕ × K.Value)) where
-  -- the build came to a fault of the definitions, or broke off
+  -- the build came to a fault of the definitions, which isn't that of spent units since a build takes none, or broke off
   abbrev pub BuildCut : Option (List Edit) → Option (List Edit) → Ended → Type 0
   BuildCut before after ended =
       ((fault : model.Fault) → fault_in ended ≡ Some fault
-      → CutFrom app limits (replay.start_with app props firsts provided []) before after fault)
+      → CutFrom app limits (replay.start_with app props firsts provided []) before after fault
+      × ((units : ℕ) → fault ≡ model.OutOfTurns units → ⊥))
       × (fault_in ended ≡ None → BrokeAlone app limits (replay.start_with app props firsts provided []) before after (PartBy ended))
