@@ -5,3 +5,5 @@ mod TurnsUp
 pub mod Greatest
 mod Passes
 mod Sorted
+mod CellValues
+mod Gathered

@@ -1,11 +1,16 @@
 //! What is kept under a number.
-ghost use Rattle.std.specs.Prelude.{◌≡◌, is_some, option_map};
+ghost use Rattle.std.specs.Prelude.{◌≡◌, IfOk, is_some, map, option_map};
+ghost use Rattle.std.specs.Option.{option_copied};
 ghost use Rattle.run_records.specs.Records.{target_of};
 ghost use Rattle.rt_model.specs.Lists.{at};
-ghost use Rattle.run_state.specs.Mirror.{state_of};
+ghost use Rattle.rt_model.specs.Removal.{numbers_of};
+ghost use Rattle.run_state.specs.Mirror.{scopes_of, state_of};
 
 use rt_cells::Target;
+use rt_values::{List, OutOfMemory, ScopeId};
+use run_records::Scope;
 use run_state::State;
+use std::alloc::Global;
 use tree_nodes::Parts;
 
 /// Whether a cell is there.
@@ -27,4 +32,35 @@ pub fn context_target<P: Parts>(state: &State<P>, context: u64) -> Option<Target
         Some(row) => Some(row.target),
         None => None,
     }
+}
+
+/// The value of a cell.
+pub fn value_of<P: Parts>(state: &State<P>, cell: u64) -> Option<&P::Value>
+    ensures value { (g : _) → option_copied result
+        ≡ option_map (λ row. row.value) (at (state_of g state.now).cells cell) }
+{
+    state.cells.get(cell)
+}
+
+/// The live scopes, in the order in which they stand.
+pub fn live_scopes<P: Parts>(alloc: Global, state: &State<P>) -> Result<List<ScopeId>, OutOfMemory>
+    ensures scopes { IfOk result (λ scopes. (g : _) →
+        map (λ scope. scope.0) scopes ≡ numbers_of (state_of g state.now).scopes) }
+{
+    scopes_in(alloc, state.rows.table.as_slice())
+}
+
+/// The numbers of rows.
+fn scopes_in<P: Parts>(
+    alloc: Global,
+    rows: &[(u64, Scope<P>)],
+) -> Result<List<ScopeId>, OutOfMemory>
+    ensures { IfOk result (λ scopes.
+        map (λ scope. scope.0) scopes ≡ numbers_of (scopes_of rows.now)) }
+{
+    let mut scopes = List::new(alloc);
+    for row in rows {
+        scopes.push(ScopeId(row.0))?;
+    }
+    Ok(scopes)
 }

@@ -19,7 +19,7 @@ mod until;
 mod waiting;
 
 pub use descent::is_descendant;
-pub use kept::{context_target, has_cell};
+pub use kept::{context_target, has_cell, live_scopes, value_of};
 pub use last::last_scope;
 pub use numbers::{after, named};
 pub use passing::{polling_rest, rendering_rest};

@@ -1,5 +1,6 @@
 //! Why a call of a dom is refused.
 
+use rt_values::OutOfMemory;
 use run_reports::Fault;
 use thiserror::Error;
 
@@ -18,4 +19,27 @@ pub enum DomFault {
     /// Number 11: an earlier call came to a fault.
     #[error("an earlier call came to a fault")]
     Failed,
+}
+
+impl From<Fault> for DomFault {
+    ghost use Rattle.std.specs.Prelude.{◌≡◌};
+    ghost use Rattle.run_answers.specs.declared.refusal.DomFault.TheVariants.{Run};
+
+    ghost from_gives = { λ fault refusal. refusal ≡ Run fault };
+
+    fn from(fault: Fault) -> DomFault {
+        DomFault::Run(fault)
+    }
+}
+
+impl From<OutOfMemory> for DomFault {
+    ghost use Rattle.std.specs.Prelude.{◌≡◌};
+    ghost use Rattle.run_answers.specs.declared.refusal.DomFault.TheVariants.{Run};
+    ghost use Rattle.run_reports.specs.declared.fault.Fault.TheVariants.{OutOfMemory};
+
+    ghost from_gives = { λ _ refusal. refusal ≡ Run OutOfMemory };
+
+    fn from(_refused: OutOfMemory) -> DomFault {
+        DomFault::Run(Fault::OutOfMemory)
+    }
 }
