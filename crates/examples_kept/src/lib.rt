@@ -7,9 +7,7 @@ mod memo;
 use examples_counter::Counter;
 pub use memo::woken;
 use rt_app::dom::{DomFault, VirtualDom};
-use rt_app::{
-    Edit, ElementId, Event, Fault, Limits, List, Mutations, Nothing, OutOfMemory, Paged, ScopeId,
-};
+use rt_app::{Edit, ElementId, Event, Limits, List, Mutations, Nothing, Paged, ScopeId};
 use show_print::edit_line;
 use std::alloc::Global;
 
@@ -26,20 +24,9 @@ const COUNTER: ScopeId = ScopeId(3);
 /// Appends the lines of what a call wrote.
 fn put_edits(alloc: Global, lines: &mut List<u8>, edits: &[Edit]) -> Result<(), DomFault> {
     for edit in edits {
-        match edit_line(alloc, edit) {
-            Ok(line) => put_line(lines, line)?,
-            Err(OutOfMemory) => return Err(DomFault::Run(Fault::OutOfMemory)),
-        }
+        lines.append(edit_line(alloc, edit)?)?;
     }
     Ok(())
-}
-
-/// Appends a line.
-fn put_line(lines: &mut List<u8>, line: List<u8>) -> Result<(), DomFault> {
-    match lines.append(line) {
-        Ok(()) => Ok(()),
-        Err(OutOfMemory) => Err(DomFault::Run(Fault::OutOfMemory)),
-    }
 }
 
 /// The runtime: its application is the counter.
@@ -47,10 +34,7 @@ type Kept = VirtualDom<Paged<Counter>>;
 
 /// A counter that isn't built yet.
 fn made(alloc: Global) -> Result<Kept, DomFault> {
-    match VirtualDom::new(alloc, Paged { pages: Counter }, LIMITS) {
-        Ok(dom) => Ok(dom),
-        Err(fault) => Err(DomFault::Run(fault)),
-    }
+    Ok(VirtualDom::new(alloc, Paged { pages: Counter }, LIMITS)?)
 }
 
 /// It is built once, and what shows is written to a list.
@@ -66,9 +50,10 @@ fn clicks(alloc: Global, lines: &mut List<u8>, dom: &mut Kept) -> Result<(), Dom
     put_edits(alloc, lines, raised.edits())
 }
 
-/// Another value from outside, and all that is owed, over a sink of the program's own.
+/// A greater value from outside, and all that is owed, over a sink of the program's own.
 fn writes(alloc: Global, lines: &mut List<u8>, dom: &mut Kept) -> Result<(), DomFault> {
-    dom.write(1, 40)?;
+    let count = dom.read(1).copied().unwrap_or(0);
+    dom.write(1, count.saturating_add(39))?;
     let mut sink = Mutations::default_list(alloc);
     dom.settle(&mut sink)?;
     put_edits(alloc, lines, sink.edits())
@@ -87,8 +72,6 @@ fn uses(alloc: Global, lines: &mut List<u8>, dom: &mut Kept) -> Result<u64, DomF
 pub fn kept(alloc: Global, lines: &mut List<u8>) -> Result<u64, DomFault> {
     let mut dom = made(alloc)?;
     let height = uses(alloc, lines, &mut dom);
-    match dom.close() {
-        Ok(_counter) => height,
-        Err(fault) => Err(DomFault::Run(fault)),
-    }
+    dom.close()?;
+    height
 }

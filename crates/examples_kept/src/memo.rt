@@ -18,10 +18,7 @@ type Kept = VirtualDom<Bodied<Memo>>;
 
 /// A memo that isn't built yet.
 fn made(alloc: Global) -> Result<Kept, DomFault> {
-    match VirtualDom::new(alloc, Bodied { bodies: Memo }, LIMITS) {
-        Ok(dom) => Ok(dom),
-        Err(fault) => Err(DomFault::Run(fault)),
-    }
+    Ok(VirtualDom::new(alloc, Bodied { bodies: Memo }, LIMITS)?)
 }
 
 /// It is built, and its task is polled, so that its memo is computed.
@@ -53,8 +50,6 @@ fn units_of(dom: &mut Kept) -> Result<[u64; 3], DomFault> {
 pub fn woken(alloc: Global) -> Result<[u64; 3], DomFault> {
     let mut dom = made(alloc)?;
     let units = units_of(&mut dom);
-    match dom.close() {
-        Ok(_memo) => units,
-        Err(fault) => Err(DomFault::Run(fault)),
-    }
+    dom.close()?;
+    units
 }

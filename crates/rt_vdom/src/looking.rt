@@ -1,8 +1,9 @@
 //! What a program asks of a dom, without memory.
-ghost use Rattle.std.specs.Prelude.{◌≡◌, IfOk, IfSome, is_some, option_map, option_and_then};
+ghost use Rattle.std.specs.Prelude.{◌≡◌, IfOk, IfSome, is_some, map, option_map, option_and_then};
 ghost use Rattle.std.specs.Option.{option_copied};
 ghost use Rattle.rt_model.specs.Lists.{at};
 ghost use Rattle.rt_model.specs.Queries as queries;
+ghost use Rattle.rt_model.specs.Removal.{numbers_of};
 ghost use Rattle.rt_model.specs.State as model;
 ghost use Rattle.rt_model.specs.View as views;
 ghost use Rattle.tree_edits.specs.Documents.{forest_of};
@@ -17,7 +18,7 @@ use rt_boundary::SuspenseContext;
 use rt_edits::DocNode;
 use rt_scopes::{ScopeState, Scopes, get_scope};
 use rt_values::{ElementId, List, OutOfMemory, ScopeId, Task};
-use run_answers::{is_descendant, named, provided_above, provided_here};
+use run_answers::{is_descendant, live_scopes, named, provided_above, provided_here, value_of};
 use run_shown::{Look, nodes_of};
 use tree_nodes::Place;
 
@@ -148,6 +149,33 @@ impl<A: App> VirtualDom<A> {
             ≡ queries.provided_here (StateIn g self.now) id.0 kind }
     {
         provided_here(&self.machine.scopes.state, id.0, kind)
+    }
+
+    /// The value of a cell. None where it isn't there; no reader is noted, and no dom is refused.
+    /// dioxus-core has no such call: cells are a library's there.
+    pub fn read(&self, cell: u64) -> Option<&A::Value>
+        ensures value { (g : _) → option_copied result
+            ≡ option_map (λ row. row.value) (at (StateIn g self.now).cells cell) }
+    {
+        value_of(&self.machine.scopes.state, cell)
+    }
+
+    /// The live scopes, in the order in which the definitions list them. Refused for want of memory
+    /// alone. dioxus-core has no such call.
+    pub fn live_scopes(&self) -> Result<List<ScopeId>, OutOfMemory>
+        ensures scopes { IfOk result (λ scopes. (g : _) →
+            map (λ scope. scope.0) scopes ≡ numbers_of (StateIn g self.now).scopes) }
+    {
+        live_scopes(self.machine.scopes.alloc, &self.machine.scopes.state)
+    }
+
+    /// The document that shows. Refused for want of memory alone. dioxus-core has no such call: a
+    /// renderer has the document there.
+    pub fn shown(&self) -> Result<List<DocNode>, OutOfMemory>
+        ensures shown { IfOk result (λ nodes. (g : _) →
+            forest_of nodes ≡ views.view (StateIn g self.now)) }
+    {
+        self.nodes_at(0)
     }
 
     /// The nodes of a scope as the document has them, or would have them where the scope is hidden.
