@@ -71,6 +71,15 @@ def query(dom, out):
             out.append(f"task {t} {x.scope} {'-' if x.parent is None else x.parent}" + (" paused" if dom.paused(t) else " active"))
     out.append("skipped" + "".join(f" {s}" for s in dom.skipped()) + (" remaining" if dom.suspended_tasks_remaining() else " none"))
 
+def holds(dom, cells, out):
+    """The values of these cells, the live scopes, and the document."""
+    for w in cells:
+        held = dom.cells.get(int(w))
+        out.append(f"cell {w} " + ("-" if held is None else put_value(held[1])))
+    out.append("live" + "".join(f" {s}" for s in sorted(dom.scopes)))
+    blk = dom.shown_block(dom.scopes[0]) if 0 in dom.scopes else None
+    out.append(edit_line(("append", 0, tuple(dom.nodes(blk)) if blk is not None else ())))
+
 def places(dom):
     """Where each number stands, in hidden blocks too: the scope, whether in a fallback, the steps, the path."""
     found = {}
@@ -159,6 +168,7 @@ def do(dom, src, ws, out):
         out.append("event" + (" on" if e.propagates else " stopped") + (" prevented " if e.prevented else " enabled ") + put_value(e.payload))
     elif k in ("provide", "with"): dom.provide_root_context(n, value(ws[2])); out.append("ok")
     elif k == "query": query(dom, out)
+    elif k == "holds": holds(dom, ws[1:], out)
     elif k == "place":
         found = places(dom)
         out.extend(place_line(int(w), found) for w in ws[1:])
@@ -249,6 +259,7 @@ def make(seed, size=12, mode="lawful"):
         if line == "query":
             if dom.failed or not dom.built: return
             calls.append("place " + " ".join(map(str, range(1, 50))))
+            calls.append("holds " + " ".join(map(str, range(1, 12))))
         calls.append(line)
         if line.split(" ")[0] == "close": return
         try: do(dom, src, line.split(" "), out)

@@ -38,6 +38,9 @@ C['r15_4']=(json.dumps(old,ensure_ascii=False,separators=(',',':')),"limits 1000
 C['places_a']=(src('11'),"limits 10000 128 props","place 3\nrebuild\nplace 3 9\n")
 C['places_b']=(src('7'),"limits 10000 128 props","rebuild\nsettle\nwrite 1 i0\nsettle\nwrite 1 i2\nsettle\nplace 12 2\n")
 C['places_c']=(src('14'),"limits 10000 128 props","inplace\nplace 1 2 3 4 5 6\nsettle\nplace 1 2 3 4 5 6\nwake 1\nsettle\nplace 1 2 3 4 5 6\n")
+# what cells hold, which scopes live and what shows: a list that gets shorter, a boundary that turns
+C['holds_a']=(src('7'),"limits 10000 128 props","rebuild\nsettle\nholds 1 2\nwrite 1 i0\nholds 1\nsettle\nholds 1\nwrite 1 i2\nsettle\nholds 1\n")
+C['holds_b']=(src('14'),"limits 10000 128 props","inplace\nholds 1\nsettle\nwake 1\nsettle\nholds 1 2 3\n")
 # sessions with a row's inputs, over sinks that fail at each edit of the table
 def whole(n):
     s=rows[n]['source']

@@ -310,4 +310,16 @@ impl Driven for Kept {
     fn place_of(&self, element: ElementId) -> Option<&Place> {
         self.dom.place_of(element)
     }
+
+    fn read(&self, cell: u64) -> Option<&Value> {
+        self.dom.read(cell)
+    }
+
+    fn live_scopes(&self) -> Result<List<ScopeId>, OutOfMemory> {
+        self.dom.live_scopes()
+    }
+
+    fn shown(&self) -> Result<List<DocNode>, OutOfMemory> {
+        self.dom.shown()
+    }
 }

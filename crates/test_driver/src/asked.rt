@@ -189,6 +189,47 @@ pub(crate) fn put_places<D: Driven>(
     Ok(())
 }
 
+/// What the cells of these numbers hold, the live scopes, and the document.
+pub(crate) fn put_held<D: Driven>(
+    alloc: Global,
+    out: &mut String,
+    dom: &D,
+    words: &[&str],
+) -> Result<(), AllocError> {
+    put_cells(alloc, out, dom, words)?;
+    match dom.live_scopes() {
+        Ok(scopes) => put_live(alloc, out, scopes.as_slice())?,
+        Err(OutOfMemory) => out.push_str("memory\n")?,
+    }
+    match dom.shown() {
+        Ok(nodes) => put_nodes(alloc, out, 0, Ok(Some(nodes))),
+        Err(OutOfMemory) => out.push_str("memory\n"),
+    }
+}
+
+fn put_cells<D: Driven>(
+    alloc: Global,
+    out: &mut String,
+    dom: &D,
+    words: &[&str],
+) -> Result<(), AllocError> {
+    for index in 1..words.len() {
+        let asked = number(words, index);
+        out.push_str(format!(in alloc; "cell {asked}")?.as_str())?;
+        put_context(alloc, out, dom.read(asked))?;
+        out.push_str("\n")?;
+    }
+    Ok(())
+}
+
+fn put_live(alloc: Global, out: &mut String, scopes: &[ScopeId]) -> Result<(), AllocError> {
+    out.push_str("live")?;
+    for scope in scopes {
+        out.push_str(format!(in alloc; " {}", scope.0)?.as_str())?;
+    }
+    out.push_str("\n")
+}
+
 fn put_place(alloc: Global, out: &mut String, place: Option<&Place>) -> Result<(), AllocError> {
     let Some(place) = place else {
         return out.push_str(" nowhere\n");

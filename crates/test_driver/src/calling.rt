@@ -1,6 +1,6 @@
 //! Calls given as words. Each group answers whether it has the call.
 
-use crate::asked::{put_places, put_query};
+use crate::asked::{put_held, put_places, put_query};
 use crate::driven::Driven;
 use crate::telling::{
     put_done, put_flag, put_poll, put_reported, put_resolved, put_task, put_value, put_vec,
@@ -129,6 +129,7 @@ fn polls<D: Driven>(
         "event" => hears(alloc, out, dom, words)?,
         "query" => put_query(alloc, out, dom)?,
         "place" => put_places(alloc, out, dom, words)?,
+        "holds" => put_held(alloc, out, dom, words)?,
         _ => return Ok(false),
     }
     Ok(true)

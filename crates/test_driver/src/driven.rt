@@ -233,4 +233,13 @@ pub trait Driven {
 
     /// Where the node of a number stands.
     fn place_of(&self, element: ElementId) -> Option<&Place>;
+
+    /// The value of a cell.
+    fn read(&self, cell: u64) -> Option<&Value>;
+
+    /// The live scopes.
+    fn live_scopes(&self) -> Result<List<ScopeId>, OutOfMemory>;
+
+    /// The document that shows.
+    fn shown(&self) -> Result<List<DocNode>, OutOfMemory>;
 }
