@@ -6,10 +6,11 @@ use Rattle.rt_model.specs.Lists.{nth}
 use Rattle.rt_model.specs.Tree.{CapturedError, listener, Attribute, Tree, Slot, text_slot, component_slot, fragment_slot, Trees, no_trees, more_trees, Own, Fragment, ErrorBoundary, SuspenseBoundary, Element, rendered}
 use Rattle.rt_model.specs.Program.{Program, done, current_scope, new_cell, spawn, queue_effect, after_suspense_resolved, provide, captured, use_effect, begun}
 use Rattle.author_programs.specs.Sequence.{go_on}
-use Rattle.rt_language.specs.Syntax.{ViewAttribute, StaticAttribute, SlotAttribute, ListenerAttribute, View, NoViews, TextView, ElementView, SlotView, ViewSlot, TextOf, UseOf, ListOf, PickOf, FragmentOf, ErrorBoundaryOf, SuspenseBoundaryOf, Hole, ComponentSource, Source, SpawnKind, Let, UseCell, UseHook, SpawnTask, CallAt, EffectOf, OnResolved, FreezeBoundary, When, ProvideAs, WriteTo, Forget, ActOn, TaskAct, WakeUp, Cancel, Pause, Resume, MarkScopeOf, ThrowText, ClearError, FailWith, SuspendOn, Stop, Prevent, Stay, Statement, Statements, NoStatements, MoreStatements}
+use Rattle.rt_language.specs.Syntax.{ViewAttribute, StaticAttribute, SlotAttribute, ListenerAttribute, View, NoViews, TextView, ElementView, SlotView, ViewSlot, TextOf, UseOf, ListOf, PickOf, FragmentOf, ErrorBoundaryOf, SuspenseBoundaryOf, Hole, ComponentSource, Source, SpawnKind, Let, UseCell, UseHook, UseDerived, SpawnTask, CallAt, EffectOf, OnResolved, FreezeBoundary, When, ProvideAs, WriteTo, Forget, ActOn, TaskAct, WakeUp, Cancel, Pause, Resume, MarkScopeOf, ThrowText, ClearError, FailWith, SuspendOn, Stop, Prevent, Stay, Statement, Statements, NoStatements, MoreStatements}
 use Rattle.rt_language.specs.Values.{Value, NoValue, NumberValue, TextValue, CellValue, TaskValue, is_true, text_of, item_count, hook_kind}
-use Rattle.rt_language.specs.Expressions.{SourceTypes, Caller, ABody, AListener, AnotherCall, Evaluation, held_by, evaluate, evaluate_all}
-use Rattle.rt_language.specs.Statements.{Frame, Outcome, WentOn, EndedWith, WasRefused, Running, goes_on, frame_of, binding, bound_hook, hook_with, hook_of_cell, cell_hook, hook_of_task, bound_task, is_forever, is_isomorphic, standing, spawned, task_hook, spawning, time_kind, doing, if_stands, kept_names, written, forgotten, acted_on, acted, marked, thrown, failed_with, suspends_on, then_run, perform, run_statements}
+use Rattle.rt_language.specs.Expressions.{Stepping, SourceTypes, Caller, ABody, AListener, AnotherCall, Evaluation, held_by, evaluate, evaluate_all}
+use Rattle.rt_language.specs.Formulas.{derived_cell}
+use Rattle.rt_language.specs.Statements.{Frame, Outcome, WentOn, EndedWith, WasRefused, Running, goes_on, frame_of, binding, bound_hook, hook_with, hook_of_cell, cell_hook, bound_cell, hook_of_task, bound_task, is_forever, is_isomorphic, standing, spawned, task_hook, spawning, time_kind, doing, if_stands, kept_names, written, forgotten, acted_on, acted, marked, thrown, failed_with, suspends_on, then_run, perform, run_statements}
 use Rattle.rt_language.specs.Views.{own_slots, attribute_slots_of, node_slots_of, template_attributes, template_nodes, Filling, filled_on, attribute_value, attribute_of, with_attribute, given_by, use_or_none, slots_from, tree_with, tree_of, items_from, is_empty, picked, fill, fill_slot}
 use Rattle.rt_language.specs.Meaning.{answered, body_of, meaning_of}
 use Rattle.lang_lines.specs.Named.{NamedFixed, NamedNodes, AllGiven, AllSlotsGiven, NamedTree, NamedSlots, NamedSlot, NamedTrees, NamedElement, AnswersNamed, NamedAttribute, NamedView, NamedViewSlot, NamedSource}
@@ -185,6 +186,10 @@ cell_hook_named : (f : Frame) (first : Evaluation) (b : Bool) → Answers NamedE
 cell_hook_named f first true = after_any NamedEnd first (λ v. new_cell v (λ n. hook_of_cell f n)) (λ v n. hook_of_cell_named f n)
 cell_hook_named f first false = hook_with_named f 3 NoValue
 
+bound_cell_named : (f : Frame) (o : Option ℕ) → Answers NamedEnd (bound_cell f o)
+bound_cell_named f None = tt
+bound_cell_named f (Some c) = tt
+
 hook_of_task_named : (f : Frame) (o : Option ℕ) → Answers NamedEnd (hook_of_task f o)
 hook_of_task_named f None = tt
 hook_of_task_named f (Some t) = hook_with_named f 4 (TaskValue t)
@@ -195,7 +200,7 @@ bound_task_named f (Some t) = tt
 
 spawned_named : (task : ℕ) (kind : SpawnKind) (arguments : Program SourceTypes (List Value)) (bound : Option ℕ → Running) → ((o : Option ℕ) → Answers NamedEnd (bound o)) → Answers NamedEnd (spawned task kind arguments bound)
 spawned_named task kind arguments bound each =
-    after_any NamedEnd arguments (λ vs. spawn (standing task vs) (is_forever kind) (is_isomorphic kind) (λ t. bound t)) (λ vs t. each t)
+    after_any NamedEnd arguments (λ vs. spawn (Stepping (standing task vs)) (is_forever kind) (is_isomorphic kind) (λ t. bound t)) (λ vs t. each t)
 
 task_hook_named : (f : Frame) (task : ℕ) (kind : SpawnKind) (arguments : Program SourceTypes (List Value)) (b : Bool) → Answers NamedEnd (task_hook f task kind arguments b)
 task_hook_named f task kind arguments true = spawned_named task kind arguments (λ t. hook_of_task f t) (λ t. hook_of_task_named f t)
@@ -281,6 +286,7 @@ mutual
   perform_named by f (Let e) = after_any NamedEnd (evaluate by f.held e) (λ v. goes_on (binding f v)) (λ v. tt)
   perform_named by f (UseCell first) = λ new. cell_hook_named f (evaluate by f.held first) new
   perform_named by f (UseHook first) = after_any NamedEnd (evaluate by f.held first) (λ v. hook_with f (hook_kind v) v) (λ v. hook_with_named f (hook_kind v) v)
+  perform_named by f (UseDerived derived) = after_any NamedEnd (derived_cell f.held derived) (λ c. bound_cell f c) (λ c. bound_cell_named f c)
   perform_named by f (SpawnTask task es kind) = spawning_named by f task kind (evaluate_all by f.held es)
   perform_named by f (CallAt time action es) =
       after_any NamedEnd (evaluate_all by f.held es) (λ vs. use_effect (time_kind time) (doing action vs) (λ stands. if_stands f stands)) (λ vs stands. if_stands_named f stands)

@@ -1,3 +1,4 @@
 pub mod Lawful
+pub mod Formulas
 pub mod RowsSay
 pub mod Wide

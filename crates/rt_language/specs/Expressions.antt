@@ -4,7 +4,8 @@ use Rattle.rt_model.specs.Lists.{nth, or_else}
 use Rattle.rt_model.specs.Tree.{Types, CapturedError}
 use Rattle.rt_model.specs.Program.{Program, done, current_scope, current_task, generation, read, error, consume_context}
 use Rattle.rt_model.specs.OneLog.{types}
-use Rattle.rt_language.specs.Syntax.{Variable, Expression, Say, Get, Read, Cat, Add, Multiply, Equal, Less, Not, IsAbsent, If, Parse, LookUp, OwnScope, Generation, NearestError, Payload, Me, Expressions, NoExpressions, MoreExpressions}
+use Rattle.author_formulas.specs.Memos.{MemoTask}
+use Rattle.rt_language.specs.Syntax.{Variable, Derived, Expression, Say, Get, Read, Cat, Add, Multiply, Equal, Less, Not, IsAbsent, If, Parse, LookUp, OwnScope, Generation, NearestError, Payload, Me, Expressions, NoExpressions, MoreExpressions}
 use Rattle.rt_language.specs.Values.{Value, NoValue, NumberValue, TextValue, CellValue, TaskValue, value_of, is_true, flag, counted, same_value, texts_of, added, multiplied, compared, is_absent, parsed}
 use Rattle.author_programs.specs.Sequence.{go_on}
 
@@ -13,16 +14,26 @@ pub record Doing : Type 0 where
   pub action : ℕ
   pub arguments : List Value
 
--- where a task stands between two polls
+-- where a task that runs its steps stands between two polls
 pub record Standing : Type 0 where
   pub task : ℕ
   pub arguments : List Value
   -- the step that the next poll runs
   pub step : ℕ
 
+-- what a memo or a resource is of, with what the variables held at its first use
+pub record Deriving : Type 0 where
+  pub held : List Value
+  pub derived : Derived
+
+-- where a task stands between two polls: one that runs its steps, or one that keeps the cell of a memo or of a resource
+pub data TaskState : Type 0 where
+  Stepping : (standing : Standing) → TaskState
+  Minding : (task : MemoTask Value Deriving) → TaskState
+
 -- the types of an application that a source describes: a component is its place, an event carries a value
 abbrev pub SourceTypes : Types
-SourceTypes = types ℕ (List Value) Value Doing Standing Doing Value
+SourceTypes = types ℕ (List Value) Value Doing TaskState Doing Value
 
 -- who evaluates: a body, a listener with what its event carries, or another call
 pub data Caller : Type 0 where

@@ -2,6 +2,7 @@ pub mod Syntax
 pub mod Values
 pub use Rattle.author_programs.specs.Sequence
 pub mod Expressions
+pub mod Formulas
 pub mod Statements
 pub mod Views
 pub mod Wide
@@ -15,6 +16,7 @@ pub mod FirstRows
 pub mod ChildRows
 pub mod EventRows
 pub mod TaskRows
+pub mod MemoRows
 pub mod ErrorRows
 pub mod SuspenseRows
 pub mod ContextRows

@@ -8,9 +8,11 @@ use Rattle.rt_model.specs.Replay.{Post, MarkScope, WakeTask, AllDirty, Message, 
 use Rattle.rt_language.specs.Syntax.{Literal, Statements, NoStatements, View, ComponentSource, PostSource, PostMark, PostWake, PostAll, InputSource, EventInput, WakeInput, WriteInput, MarkInput, DrainInput, Source}
 use Rattle.rt_language.specs.Values.{Value, NoValue, same_number, same_value, same_values, value_of, values_of}
 use Rattle.author_programs.specs.Sequence.{go_on}
-use Rattle.rt_language.specs.Expressions.{Doing, Standing, SourceTypes, Caller, ABody, AListener, AnotherCall}
+use Rattle.rt_language.specs.Expressions.{Doing, Standing, TaskState, Stepping, Minding, SourceTypes, Caller, ABody, AListener, AnotherCall}
 use Rattle.rt_language.specs.Statements.{frame_of, Outcome, WentOn, EndedWith, WasRefused, Running, run_statements}
 use Rattle.rt_language.specs.Views.{fill, tree_of}
+use Rattle.author_formulas.specs.Memos.{memo_polled}
+use Rattle.rt_language.specs.Formulas.{formulas}
 
 -- equal actions with equal arguments
 abbrev pub same_doing : Doing → Doing → Bool
@@ -33,7 +35,7 @@ next_step step stays = if stays then step else step + 1
 
 -- a task goes on at a step, where there is one
 abbrev pub pending_at : Standing → ℕ → ℕ → TaskStep SourceTypes
-pending_at at steps step = if nat_lt step steps then pending (record at { step = step }) else ready
+pending_at at steps step = if nat_lt step steps then pending (Stepping (record at { step = step })) else ready
 
 -- what a poll answers after its step's statements
 abbrev pub stepped : Standing → ℕ → Outcome → TaskStep SourceTypes
@@ -46,6 +48,11 @@ abbrev pub poll_step : Standing → ℕ → Option Statements → Program Source
 poll_step at steps None = done ready
 poll_step at steps (Some statements) =
     go_on (run_statements AnotherCall (frame_of at.arguments) statements) (λ o. done (stepped at steps o))
+
+-- the poll of a task, where the next step of one that runs its steps is polled by a function
+abbrev pub poll_of : (Standing → Program SourceTypes (TaskStep SourceTypes)) → TaskState → Program SourceTypes (TaskStep SourceTypes)
+poll_of steps (Stepping at) = steps at
+poll_of steps (Minding task) = go_on (memo_polled formulas task) (λ next. done (pending (Minding next)))
 
 -- the statements of an action
 abbrev pub action_run : Caller → List Statements → Doing → Running
@@ -69,7 +76,7 @@ programs_of s =
       same_handler = same_doing;
       memoize = λ c p q. same_values p q;
       body = λ c p. body_of (nth s.components c) p;
-      poll = λ at. let steps = or_else [] (nth s.tasks at.task) in poll_step at (length steps) (nth steps at.step);
+      poll = λ state. poll_of (λ at. let steps = or_else [] (nth s.tasks at.task) in poll_step at (length steps) (nth steps at.step)) state;
       effect = λ d. go_on (action_run AnotherCall s.actions d) (λ o. done nothing);
       handle = λ d event. go_on (action_run (AListener event.payload) s.actions d) (λ o. done (left_event event o));
     }

@@ -2,7 +2,7 @@
 use Rattle.std.specs.Prelude.{ℕ, zero, suc, ◌+◌, pos, List, [], ◌∷◌, ◌++◌, map, None, codes}
 use Rattle.rt_model.specs.Lists.{Text}
 use Rattle.rt_model.specs.Replay.{Entry, Build, Made}
-use Rattle.rt_language.specs.Syntax.{NumberLiteral, TextLiteral, Expression, Say, Expressions, NoExpressions, MoreExpressions, Client, Statement, SpawnTask, Statements, NoStatements, MoreStatements, ComponentUse, ViewAttribute, ListenerAttribute, View, NoViews, TextView, ElementView, SlotView, ViewSlot, UseOf, TextOf, ComponentSource, InputSource, EventInput, WriteInput, Source}
+use Rattle.rt_language.specs.Syntax.{NumberLiteral, TextLiteral, Expression, Say, Expressions, NoExpressions, MoreExpressions, ValueOf, LoadOf, Client, Statement, UseDerived, SpawnTask, Statements, NoStatements, MoreStatements, ComponentUse, ViewAttribute, ListenerAttribute, View, NoViews, TextView, ElementView, SlotView, ViewSlot, UseOf, TextOf, ComponentSource, InputSource, EventInput, WriteInput, Source}
 
 -- a whole number, said
 abbrev pub number : ℕ → Expression
@@ -78,6 +78,13 @@ use_alone component props = use_before component props NoViews
 -- a task that the body spawns
 abbrev pub spawns : ℕ → List Expression → Statement
 spawns task arguments = SpawnTask task (these arguments) Client
+
+-- a memo, and a resource whose loading waits for so many steps
+abbrev pub memo : Expression → Statement
+memo value = UseDerived (ValueOf value)
+
+abbrev pub resource : Expression → ℕ → Expression → Statement
+resource key waits value = UseDerived (LoadOf key waits value)
 
 -- a number is written to a cell
 abbrev pub write_number : ℕ → ℕ → InputSource

@@ -3,10 +3,11 @@ use Rattle.std.specs.Prelude.{ℕ, Bool, true, false, pos, negsuc, List, [], ◌
 use Rattle.rt_model.specs.Tree.{CapturedError, Element, failed, suspended}
 use Rattle.rt_model.specs.World.{clean_up_kind, before_render_kind, after_render_kind}
 use Rattle.rt_model.specs.Program.{Program, done, current_scope, new_cell, write, drop_cell, spawn, remove_future, wake, set_active, queue_effect, after_suspense_resolved, freeze, provide, needs_update, captured, throw, clear_errors, hook_is_new, use_hook, use_effect}
-use Rattle.rt_language.specs.Syntax.{HookTime, AtRemoval, BeforeRender, AfterRender, SpawnKind, Client, Isomorphic, Forever, TaskAct, WakeUp, Cancel, Pause, Resume, Statement, Let, UseCell, UseHook, SpawnTask, CallAt, EffectOf, OnResolved, FreezeBoundary, When, ProvideAs, WriteTo, Forget, ActOn, MarkScopeOf, ThrowText, ClearError, FailWith, SuspendOn, Stop, Prevent, Stay, Statements, NoStatements, MoreStatements}
+use Rattle.rt_language.specs.Syntax.{HookTime, AtRemoval, BeforeRender, AfterRender, SpawnKind, Client, Isomorphic, Forever, TaskAct, WakeUp, Cancel, Pause, Resume, Statement, Let, UseCell, UseHook, UseDerived, SpawnTask, CallAt, EffectOf, OnResolved, FreezeBoundary, When, ProvideAs, WriteTo, Forget, ActOn, MarkScopeOf, ThrowText, ClearError, FailWith, SuspendOn, Stop, Prevent, Stay, Statements, NoStatements, MoreStatements}
 use Rattle.rt_language.specs.Values.{Value, NoValue, NumberValue, TextValue, CellValue, TaskValue, hook_kind, is_true, text_of}
 use Rattle.author_programs.specs.Sequence.{go_on}
-use Rattle.rt_language.specs.Expressions.{Doing, Standing, SourceTypes, Caller, ABody, AListener, AnotherCall, held_by, Evaluation, evaluate, evaluate_all}
+use Rattle.rt_language.specs.Expressions.{Doing, Standing, Stepping, SourceTypes, Caller, ABody, AListener, AnotherCall, held_by, Evaluation, evaluate, evaluate_all}
+use Rattle.rt_language.specs.Formulas.{derived_cell}
 
 -- a call at work: what its variables hold, and what its statements have asked for
 pub record Frame : Type 0 where
@@ -62,6 +63,11 @@ abbrev pub cell_hook : Frame → Evaluation → Bool → Running
 cell_hook f first true = go_on first (λ v. new_cell v (λ n. hook_of_cell f n))
 cell_hook f first false = hook_with f 3 NoValue
 
+-- the cell of a memo or of a resource is bound
+abbrev pub bound_cell : Frame → Option ℕ → Running
+bound_cell f None = done WasRefused
+bound_cell f (Some c) = goes_on (binding f (CellValue c))
+
 -- the hook of a task that was just spawned
 abbrev pub hook_of_task : Frame → Option ℕ → Running
 hook_of_task f None = done WasRefused
@@ -91,7 +97,7 @@ standing task arguments = record { task = task; arguments = arguments; step = 0 
 -- a task is spawned with arguments
 abbrev pub spawned : ℕ → SpawnKind → Program SourceTypes (List Value) → (Option ℕ → Running) → Running
 spawned task kind arguments bound =
-    go_on arguments (λ vs. spawn (standing task vs) (is_forever kind) (is_isomorphic kind) (λ t. bound t))
+    go_on arguments (λ vs. spawn (Stepping (standing task vs)) (is_forever kind) (is_isomorphic kind) (λ t. bound t))
 
 -- a task that is spawned on first use and kept
 abbrev pub task_hook : Frame → ℕ → SpawnKind → Program SourceTypes (List Value) → Bool → Running
@@ -195,6 +201,7 @@ unfoldable mutual
   perform by f (Let e) = go_on (evaluate by f.held e) (λ v. goes_on (binding f v))
   perform by f (UseCell first) = hook_is_new (λ new. cell_hook f (evaluate by f.held first) new)
   perform by f (UseHook first) = go_on (evaluate by f.held first) (λ v. hook_with f (hook_kind v) v)
+  perform by f (UseDerived derived) = go_on (derived_cell f.held derived) (λ c. bound_cell f c)
   perform by f (SpawnTask task es kind) = spawning by f task kind (evaluate_all by f.held es)
   perform by f (CallAt time action es) =
       go_on (evaluate_all by f.held es) (λ vs. use_effect (time_kind time) (doing action vs) (λ stands. if_stands f stands))

@@ -38,6 +38,12 @@ mutual
     NoExpressions : Expressions
     MoreExpressions : (first : Expression) → (rest : Expressions) → Expressions
 
+-- what the cell of a memo or of a resource is kept to: the value of an expression, or what is loaded for the value of one, the key:
+-- it waits for so many steps, and then it is the value of an expression that has the key as its last variable
+pub data Derived : Type 0 where
+  ValueOf : (value : Expression) → Derived
+  LoadOf : (key : Expression) → (waits : ℕ) → (value : Expression) → Derived
+
 -- when a body's hook calls its action
 pub data HookTime : Type 0 where
   AtRemoval : HookTime
@@ -63,6 +69,7 @@ mutual
     Let : (value : Expression) → Statement
     UseCell : (first : Expression) → Statement
     UseHook : (first : Expression) → Statement
+    UseDerived : (derived : Derived) → Statement
     SpawnTask : (task : ℕ) → (arguments : Expressions) → (kind : SpawnKind) → Statement
     CallAt : (time : HookTime) → (action : ℕ) → (arguments : Expressions) → Statement
     EffectOf : (action : ℕ) → (arguments : Expressions) → Statement

@@ -1,12 +1,23 @@
 //! Laws of every source.
 
-ghost use Rattle.rt_language.specs.Laws.{SourcesAreLawful};
+ghost use Rattle.rt_language.specs.Laws.{SourcesAreLawful, ExpressionsLook, SourcesPollMemos};
 ghost use Rattle.rt_language.specs.PrintedSays.{RowsSay, FaultRowsSay};
 ghost use Rattle.rt_language.specs.Wide.{NarrowHaveTheirPaths, WideNeverFit};
 
 /// The application of every source obeys the laws.
 pub fn sources_are_lawful()
     ensures { SourcesAreLawful }
+{}
+
+/// What is computed of memos and resources names no error, payload, render count, scope or task, so
+/// that it only looks; and the test of values decides.
+pub fn expressions_look()
+    ensures { ExpressionsLook }
+{}
+
+/// Every source polls its memos and resources as they are defined for every application.
+pub fn sources_poll_memos()
+    ensures { SourcesPollMemos }
 {}
 
 /// The headline holds of a row that computes, of every source.

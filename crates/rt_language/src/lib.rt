@@ -15,6 +15,7 @@ mod first_rows;
 mod generated_rows;
 mod kind_rows;
 mod laws;
+mod memo_rows;
 mod state_rows;
 mod suspense_rows;
 mod table_rows;
@@ -56,8 +57,10 @@ pub use kind_rows::{
     single_cases,
 };
 pub use laws::{
-    fault_rows_say, narrow_have_their_paths, rows_say, sources_are_lawful, wide_never_fit,
+    expressions_look, fault_rows_say, narrow_have_their_paths, rows_say, sources_are_lawful,
+    sources_poll_memos, wide_never_fit,
 };
+pub use memo_rows::{memo_follows_what_it_looked_at, resource_loads_for_its_key};
 pub use state_rows::{
     all_goes_with_a_scope, cell_is_dropped, fallback_goes_first, order_of_equal_heights,
     task_pauses, task_without_steps, units_begin_anew,
