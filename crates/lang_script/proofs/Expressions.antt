@@ -1,5 +1,5 @@
 -- What each form of expression means, and a list of arguments, one after another.
-use Rattle.std.proofs.Common.{ℕ, Bool, true, false, List, [], ◌∷◌, ◌++◌, ◌≡◌, refl, sym, ap, ◌∙◌, rules, not, ◌+◌, ◌<◌, ◌≤◌, length, get_or, drop, add-one, drop-cons, arith}
+use Rattle.std.proofs.Common.{ℕ, Bool, true, false, List, [], ◌∷◌, ◌++◌, ◌≡◌, refl, sym, ap, ◌∙◌, not, ◌+◌, ◌<◌, ◌≤◌, length, get_or, drop, add-one, drop-cons, arith}
 use Rattle.std.proofs.Math.ListN.{drop_of_length-le}
 use Rattle.std.proofs.lemmas.List.{append_assoc}
 use Rattle.std.specs.Prelude.{None, if◌then◌else◌}
@@ -12,65 +12,11 @@ use Rattle.rt_language.specs.Values.{Value, NoValue, TextValue, value_of, is_tru
 use Rattle.rt_language.specs.Expressions.{SourceTypes, Caller, held_by, read_from, error_text, task_or_none, generation_for, payload_for, evaluate, evaluate_all}
 use Rattle.lang_syntax.specs.Mirror.{literal_of, expression_of, arguments_of}
 use Rattle.lang_syntax.specs.declared.expression.Literal.{Literal}
-use Rattle.lang_syntax.specs.declared.expression.Expression.{Expression, the_lemmas}
+use Rattle.lang_syntax.specs.declared.expression.Expression.{Expression}
 use Rattle.lang_syntax.specs.declared.expression.Expression.TheVariants as forms
+use Rattle.lang_syntax.proofs.Forms.{seen-Say, seen-Get, seen-Read, seen-Cat, seen-Add, seen-Multiply, seen-Equal, seen-Less, seen-Not, seen-IsAbsent, seen-If, seen-Parse, seen-LookUp, seen-OwnScope, seen-Generation, seen-NearestError, seen-Payload, seen-Me}
 use Rattle.author_programs.specs.Came.{Came, came, reached}
 use Rattle.author_programs.proofs.Steps.{on, at_done, at_scope, at_task, at_generation, at_read, at_error, at_consume_context}
-
--- which expression of the language each form is
-seen-Say : (l : Literal) → expression_of (forms.Say l) ≡ language.Say (literal_of l)
-seen-Say l = search (rules, the_lemmas)
-
-seen-Get : (n : ℕ) → expression_of (forms.Get n) ≡ language.Get n
-seen-Get n = search (rules, the_lemmas)
-
-seen-Read : (n : ℕ) → expression_of (forms.Read n) ≡ language.Read n
-seen-Read n = search (rules, the_lemmas)
-
-seen-Cat : (parts : List Expression) → expression_of (forms.Cat parts) ≡ language.Cat (arguments_of parts)
-seen-Cat parts = search (rules, the_lemmas)
-
-seen-Add : (a b : Expression) → expression_of (forms.Add a b) ≡ language.Add (expression_of a) (expression_of b)
-seen-Add a b = search (rules, the_lemmas)
-
-seen-Multiply : (a b : Expression) → expression_of (forms.Multiply a b) ≡ language.Multiply (expression_of a) (expression_of b)
-seen-Multiply a b = search (rules, the_lemmas)
-
-seen-Equal : (a b : Expression) → expression_of (forms.Equal a b) ≡ language.Equal (expression_of a) (expression_of b)
-seen-Equal a b = search (rules, the_lemmas)
-
-seen-Less : (a b : Expression) → expression_of (forms.Less a b) ≡ language.Less (expression_of a) (expression_of b)
-seen-Less a b = search (rules, the_lemmas)
-
-seen-Not : (a : Expression) → expression_of (forms.Not a) ≡ language.Not (expression_of a)
-seen-Not a = search (rules, the_lemmas)
-
-seen-IsAbsent : (a : Expression) → expression_of (forms.IsAbsent a) ≡ language.IsAbsent (expression_of a)
-seen-IsAbsent a = search (rules, the_lemmas)
-
-seen-If : (test chosen other : Expression) → expression_of (forms.If test chosen other) ≡ language.If (expression_of test) (expression_of chosen) (expression_of other)
-seen-If test chosen other = search (rules, the_lemmas)
-
-seen-Parse : (a : Expression) → expression_of (forms.Parse a) ≡ language.Parse (expression_of a)
-seen-Parse a = search (rules, the_lemmas)
-
-seen-LookUp : (kind : ℕ) → expression_of (forms.LookUp kind) ≡ language.LookUp kind
-seen-LookUp kind = search (rules, the_lemmas)
-
-seen-OwnScope : expression_of forms.OwnScope ≡ language.OwnScope
-seen-OwnScope = search (rules, the_lemmas)
-
-seen-Generation : expression_of forms.Generation ≡ language.Generation
-seen-Generation = search (rules, the_lemmas)
-
-seen-NearestError : expression_of forms.NearestError ≡ language.NearestError
-seen-NearestError = search (rules, the_lemmas)
-
-seen-Payload : expression_of forms.Payload ≡ language.Payload
-seen-Payload = search (rules, the_lemmas)
-
-seen-Me : expression_of forms.Me ≡ language.Me
-seen-Me = search (rules, the_lemmas)
 
 -- a choice by a test
 pub chosen_by : {A : Type 0} (b : Bool) (p q : A) → (elim b [ true ↦ p | false ↦ q ]) ≡ (if b then p else q)

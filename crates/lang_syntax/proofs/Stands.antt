@@ -1,6 +1,7 @@
 -- Which statements may stand outside of bodies, form by form.
 use Rattle.std.proofs.Common.{arith, rules, ℕ, zero, suc, Bool, true, false, List, [], ◌∷◌, ◌++◌, ◌≡◌, refl, ap, ◌∙◌, ◌<◌, length, get_or, map}
 use Rattle.std.specs.Prelude.{◌&&◌}
+use Rattle.lang_syntax.specs.declared.derived.Derived.{Derived}
 use Rattle.lang_syntax.specs.declared.expression.Expression.{Expression}
 use Rattle.lang_syntax.specs.declared.statement.HookTime.{HookTime}
 use Rattle.lang_syntax.specs.declared.statement.SpawnKind.{SpawnKind}
@@ -32,6 +33,10 @@ o-UseCell e = search (rules, the_lemmas)
 pub o-UseHook : (e : Expression) → stands_outside (forms.UseHook e) ≡ false
 unfolding stands_outside
 o-UseHook e = search (rules, the_lemmas)
+
+pub o-UseDerived : (formula : Derived) → stands_outside (forms.UseDerived formula) ≡ false
+unfolding stands_outside
+o-UseDerived formula = search (rules, the_lemmas)
 
 pub o-CallAt : (time : HookTime) (action : ℕ) (arguments : List Expression) → stands_outside (forms.CallAt time action arguments) ≡ false
 unfolding stands_outside

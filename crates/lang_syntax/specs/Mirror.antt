@@ -1,11 +1,7 @@
 -- Checked sources of code as those of the language's definitions.
 use Rattle.std.specs.Prelude.{List, [], ◌∷◌, map, option_map}
 use Rattle.rt_language.specs.Syntax as language
-use Rattle.lang_syntax.specs.declared.expression.Literal.{Literal}
-use Rattle.lang_syntax.specs.declared.expression.Literal.TheVariants as literals
-use Rattle.lang_syntax.specs.declared.expression.Expression.{Expression}
-use Rattle.lang_syntax.specs.declared.expression.Expression.TheOpen.{Expression-F}
-use Rattle.lang_syntax.specs.declared.expression.Expression.TheFolds.{fold-Expression}
+pub use Rattle.lang_syntax.specs.Expressions.{literal_of, expression_of, arguments_of, derived_of}
 use Rattle.lang_syntax.specs.declared.statement.HookTime.{HookTime}
 use Rattle.lang_syntax.specs.declared.statement.HookTime.TheVariants as times
 use Rattle.lang_syntax.specs.declared.statement.SpawnKind.{SpawnKind}
@@ -29,45 +25,6 @@ use Rattle.lang_syntax.specs.declared.source.PostSource.TheVariants as posts
 use Rattle.lang_syntax.specs.declared.source.InputSource.{InputSource}
 use Rattle.lang_syntax.specs.declared.source.InputSource.TheVariants as inputs
 use Rattle.lang_syntax.specs.declared.source.Source.{Source}
-
--- a literal
-abbrev pub literal_of : Literal → language.Literal
-literal_of (literals.Number n) = language.NumberLiteral n
-literal_of (literals.Text t) = language.TextLiteral t
-
--- expressions in a row
-abbrev pub in_a_row : List language.Expression → language.Expressions
-in_a_row [] = language.NoExpressions
-in_a_row (e ∷ es) = language.MoreExpressions e (in_a_row es)
-
--- one level of an expression
-abbrev pub expression_step : Expression-F language.Expression → language.Expression
-expression_step (Expression-F.Say l) = language.Say (literal_of l)
-expression_step (Expression-F.Get v) = language.Get v
-expression_step (Expression-F.Read v) = language.Read v
-expression_step (Expression-F.Cat parts) = language.Cat (in_a_row parts)
-expression_step (Expression-F.Add a b) = language.Add a b
-expression_step (Expression-F.Multiply a b) = language.Multiply a b
-expression_step (Expression-F.Equal a b) = language.Equal a b
-expression_step (Expression-F.Less a b) = language.Less a b
-expression_step (Expression-F.Not e) = language.Not e
-expression_step (Expression-F.IsAbsent e) = language.IsAbsent e
-expression_step (Expression-F.If test chosen other) = language.If test chosen other
-expression_step (Expression-F.Parse e) = language.Parse e
-expression_step (Expression-F.LookUp kind) = language.LookUp kind
-expression_step Expression-F.OwnScope = language.OwnScope
-expression_step Expression-F.Generation = language.Generation
-expression_step Expression-F.NearestError = language.NearestError
-expression_step Expression-F.Payload = language.Payload
-expression_step Expression-F.Me = language.Me
-
--- an expression
-abbrev pub expression_of : Expression → language.Expression
-expression_of = fold-Expression language.Expression expression_step
-
--- arguments and props
-abbrev pub arguments_of : List Expression → language.Expressions
-arguments_of es = in_a_row (map expression_of es)
 
 -- when a hook calls its action
 abbrev pub time_of : HookTime → language.HookTime
@@ -117,6 +74,7 @@ statement_step (Statement-F.When test statements) = language.When (expression_of
 statement_step (Statement-F.ThrowText text) = language.ThrowText (expression_of text)
 statement_step (Statement-F.UseCell e) = language.UseCell (expression_of e)
 statement_step (Statement-F.UseHook e) = language.UseHook (expression_of e)
+statement_step (Statement-F.UseDerived formula) = language.UseDerived (derived_of formula)
 statement_step (Statement-F.CallAt time action arguments) = language.CallAt (time_of time) action (arguments_of arguments)
 statement_step (Statement-F.FailWith text) = language.FailWith (expression_of text)
 statement_step (Statement-F.SuspendOn variable) = language.SuspendOn variable

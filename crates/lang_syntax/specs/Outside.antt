@@ -17,6 +17,7 @@ outside_step (Statement-F.When test statements) = each_may statements
 outside_step (Statement-F.ThrowText text) = true
 outside_step (Statement-F.UseCell first) = false
 outside_step (Statement-F.UseHook first) = false
+outside_step (Statement-F.UseDerived formula) = false
 outside_step (Statement-F.CallAt time action arguments) = false
 outside_step (Statement-F.FailWith text) = false
 outside_step (Statement-F.SuspendOn variable) = false

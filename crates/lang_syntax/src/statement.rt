@@ -1,5 +1,6 @@
 //! What a body, an action or a step does.
 
+use crate::derived::Formula;
 use crate::expression::Expression;
 use rt_values::List;
 
@@ -66,7 +67,7 @@ pub enum Simple {
 #[derive(Debug, Drop)]
 pub enum Statement {
     Does(Simple),
-    /// Binds the next variable, as do `UseCell` and `UseHook`.
+    /// Binds the next variable, as do `UseCell`, `UseHook` and `UseDerived`.
     SpawnTask {
         task: u64,
         arguments: List<Expression>,
@@ -80,6 +81,8 @@ pub enum Statement {
     /// What follows stands in bodies alone.
     UseCell(Expression),
     UseHook(Expression),
+    /// The cell of a memo or of a resource.
+    UseDerived(Formula),
     CallAt {
         time: HookTime,
         action: u64,
