@@ -21,7 +21,7 @@ use Rattle.lang_sources.specs.Forms.{is_body, calling_stands, plain_stands, stan
 use Rattle.lang_sources.specs.Plain.{call_of, calling_of, word_said, word_at, given, named, provided, written, act_of, acted, plain_of}
 use Rattle.lang_sources.specs.Readings.{binding_in, spawned_in, plain_in}
 use Rattle.lang_sources.specs.Statements.{one_more, block_of, when_of, formed, statement_of, block_in}
-use Rattle.lang_sources.specs.declared.forms.Binder.TheVariants.{Let, Cell, Hook}
+use Rattle.lang_sources.specs.declared.forms.Binder.TheVariants.{Let, Cell, Hook, Memo, Resource}
 use Rattle.lang_sources.specs.declared.forms.Calling.{Calling}
 use Rattle.lang_sources.specs.declared.forms.Calling.TheVariants.{AtRemoval, BeforeRender, AfterRender, AsEffect, OnceResolved}
 use Rattle.lang_sources.specs.declared.forms.Form.{Form}
@@ -153,6 +153,8 @@ module _ (names : Names) (variables : List (List ℕ)) where
       behind (λ (b : List ℕ × Statement). (Some b.0, b.1)) (binding_in names variables Let d) r is (λ b given. binding_outside d b given)
   formed_outside place out block blocks key (Binds Cell) h d r is = contrary (is_body place) h out
   formed_outside place out block blocks key (Binds Hook) h d r is = contrary (is_body place) h out
+  formed_outside place out block blocks key (Binds Memo) h d r is = contrary (is_body place) h out
+  formed_outside place out block blocks key (Binds Resource) h d r is = contrary (is_body place) h out
   formed_outside place out block blocks key Spawn h d r is =
       behind (λ (b : List ℕ × Statement). (Some b.0, b.1)) (spawned_in names variables d) r is (λ b given. spawned_outside d b given)
   formed_outside place out block blocks key When h d r is =

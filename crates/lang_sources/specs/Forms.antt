@@ -4,7 +4,7 @@ use Rattle.serde_json.specs.Data.{Data, null, boolean, number, string, array, ob
 use Rattle.lang_sources.specs.declared.forms.Place.{Place}
 use Rattle.lang_sources.specs.declared.forms.Place.TheVariants.{Body, Action, Step}
 use Rattle.lang_sources.specs.declared.forms.Binder.{Binder}
-use Rattle.lang_sources.specs.declared.forms.Binder.TheVariants.{Let, Cell, Hook}
+use Rattle.lang_sources.specs.declared.forms.Binder.TheVariants.{Let, Cell, Hook, Memo, Resource}
 use Rattle.lang_sources.specs.declared.forms.Calling.{Calling}
 use Rattle.lang_sources.specs.declared.forms.Calling.TheVariants.{AtRemoval, BeforeRender, AfterRender, AsEffect, OnceResolved}
 use Rattle.lang_sources.specs.declared.forms.Word.{Word}
@@ -14,12 +14,14 @@ use Rattle.lang_sources.specs.declared.forms.Plain.TheVariants.{Calls, Says, Mar
 use Rattle.lang_sources.specs.declared.forms.Form.{Form}
 use Rattle.lang_sources.specs.declared.forms.Form.TheVariants.{Binds, Spawn, When, Does}
 
--- the keys that bind a name to what an expression gives
+-- the keys that bind a name to what expressions give
 unfoldable pub binder_of : List ℕ → Option Binder
 binder_of key =
     if bytes_eq key (codes "let") then Some Let else
     if bytes_eq key (codes "cell") then Some Cell else
-    if bytes_eq key (codes "hook") then Some Hook else None
+    if bytes_eq key (codes "hook") then Some Hook else
+    if bytes_eq key (codes "memo") then Some Memo else
+    if bytes_eq key (codes "resource") then Some Resource else None
 
 -- the keys that call an action
 unfoldable pub calling_of : List ℕ → Option Calling
@@ -115,6 +117,8 @@ abbrev pub stands : Place → Form → Bool
 stands place (Binds Let) = true
 stands place (Binds Cell) = is_body place
 stands place (Binds Hook) = is_body place
+stands place (Binds Memo) = is_body place
+stands place (Binds Resource) = is_body place
 stands place Spawn = true
 stands place When = true
 stands place (Does plain) = plain_stands place plain

@@ -8,7 +8,7 @@ use Rattle.lang_sources.specs.declared.forms.Plain.{Plain}
 use Rattle.lang_sources.specs.Binding.{binding, spawned}
 use Rattle.lang_sources.specs.Plain.{plain_of}
 
--- what binds a name to what an expression gives, behind that name
+-- what binds a name to what expressions give, behind that name
 unfoldable pub binding_in : Names → List (List ℕ) → Binder → Data → Option (List ℕ × Statement)
 binding_in names variables binder d = binding names variables binder d
 

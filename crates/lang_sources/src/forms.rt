@@ -13,12 +13,14 @@ pub enum Place {
     Step,
 }
 
-/// What binds a name to what an expression gives.
+/// What binds a name to what expressions give.
 #[derive(Clone, Copy, Debug, PartialEq, Eq)]
 pub enum Binder {
     Let,
     Cell,
     Hook,
+    Memo,
+    Resource,
 }
 
 /// When an action is called.
@@ -75,6 +77,10 @@ fn binder_of(key: &str) -> Option<Binder>
         Some(Binder::Cell)
     } else if key == "hook" {
         Some(Binder::Hook)
+    } else if key == "memo" {
+        Some(Binder::Memo)
+    } else if key == "resource" {
+        Some(Binder::Resource)
     } else {
         None
     }
@@ -222,7 +228,9 @@ pub fn stands(place: Place, form: Form) -> bool
 {
     match form {
         Form::Binds(Binder::Let) | Form::Spawn | Form::When => true,
-        Form::Binds(Binder::Cell | Binder::Hook) => is_body(place),
+        Form::Binds(Binder::Cell | Binder::Hook | Binder::Memo | Binder::Resource) => {
+            is_body(place)
+        }
         Form::Does(plain) => plain_stands(place, plain),
     }
 }
