@@ -27,7 +27,7 @@ use Rattle.tree_mirror.specs.Sealed.{tree_of, slot_of, component_of}
 use Rattle.tree_mirror.proofs.SealedComponents.{component_App}
 use Rattle.tree_mirror.proofs.SealedNodes.{before_Dynamic}
 use Rattle.tree_mirror.proofs.SealedTrees.{tree_out, slot_Text, slot_Placeholder, slot_Component, slot_Fragment}
-use Rattle.rt_language.specs.Expressions.{Doing, Standing, SourceTypes, Caller, evaluate, evaluate_all}
+use Rattle.rt_language.specs.Expressions.{Doing, TaskState, SourceTypes, Caller, evaluate, evaluate_all}
 use Rattle.rt_language.specs.Sequence.{go_on}
 use Rattle.rt_language.specs.Statements.{doing}
 use Rattle.rt_language.specs.Values.{Value, NumberValue, is_true, text_of, item_count}
@@ -113,10 +113,10 @@ module _ {P C Q V H T E L : Type 0} where
 
 -- a tree of a script
 abbrev ScriptTree : Type 0
-ScriptTree = VNode Script ℕ (List Value) Value Doing Standing Doing Value
+ScriptTree = VNode Script ℕ (List Value) Value Doing TaskState Doing Value
 
 -- the placeholder at the mirror
-pub placeholder-is : tree_of {P = Script} {C = ℕ} {Q = List Value} {V = Value} {H = Doing} {T = Standing} {E = Doing} {L = Value} shown.placeholder_tree ≡ model.placeholder_tree
+pub placeholder-is : tree_of {P = Script} {C = ℕ} {Q = List Value} {V = Value} {H = Doing} {T = TaskState} {E = Doing} {L = Value} shown.placeholder_tree ≡ model.placeholder_tree
 placeholder-is =
     let t : ScriptTree = shown.placeholder_tree in
     tree_out t ∙
@@ -299,7 +299,7 @@ tree-none template f t none is = ap (λ (o : Option Template). tree_with o f) no
 
 -- the tree of a template whose slots are filled
 pub tree-some : (template : Option Template) (u v : Template) (g : code.Filling) → template ≡ Some u → v ≡ u
-    → tree_with template (filling_of g) ≡ tree_of {P = Script} {C = ℕ} {Q = List Value} {V = Value} {H = Doing} {T = Standing} {E = Doing} {L = Value} (record { template = v; dynamic_nodes = g.nodes; dynamic_attrs = g.attributes })
+    → tree_with template (filling_of g) ≡ tree_of {P = Script} {C = ℕ} {Q = List Value} {V = Value} {H = Doing} {T = TaskState} {E = Doing} {L = Value} (record { template = v; dynamic_nodes = g.nodes; dynamic_attrs = g.attributes })
 tree-some template u v g some is =
     let t : ScriptTree = record { template = v; dynamic_nodes = g.nodes; dynamic_attrs = g.attributes } in
     ap (λ (o : Option Template). tree_with o (filling_of g)) some ∙ ap (λ (x : Template). tree_with (Some x) (filling_of g)) (sym is) ∙ sym (tree_out t)

@@ -4,6 +4,8 @@ pub mod Expressions
 pub mod Statements
 pub mod Heard
 pub mod Meant
+pub mod Plainly
+pub mod Derivings
 pub mod Hooks
 pub mod Fills
 pub mod Taken

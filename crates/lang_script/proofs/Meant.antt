@@ -15,7 +15,7 @@ use Rattle.author_calls.specs.Turn as turns
 use Rattle.author_calls.specs.Turn.{Left, HadMemory}
 use Rattle.run_records.specs.declared.faults.CxFault.TheVariants.{OutOfMemory}
 use Rattle.author_calls.proofs.ProgramsGoOn.{stand-for}
-use Rattle.rt_language.specs.Expressions.{Doing, Standing, SourceTypes}
+use Rattle.rt_language.specs.Expressions.{Doing, Standing, TaskState, SourceTypes}
 use Rattle.rt_language.specs.Meaning.{left_event, poll_step}
 use Rattle.rt_language.specs.Sequence.{go_on}
 use Rattle.rt_language.specs.Statements as statements
@@ -43,7 +43,7 @@ use Rattle.lang_script.proofs.Places.{nth-get, nth-map}
 use Rattle.author_programs.proofs.Steps.{on, at_done}
 
 -- an answer at the mirror
-pub elements-are : (answer : Result (VNode Script ℕ (List Value) Value Doing Standing Doing Value) RenderError) → mirror.element_of answer ≡ plain.element_of answer
+pub elements-are : (answer : Result (VNode Script ℕ (List Value) Value Doing TaskState Doing Value) RenderError) → mirror.element_of answer ≡ plain.element_of answer
 unfolding mirror.tree_of
 elements-are (Ok tree) = refl
 elements-are (Err (errors.Error e)) = refl

@@ -12,10 +12,11 @@ use Rattle.run_records.specs.declared.faults.CxFault.TheVariants.{OutOfMemory}
 use Rattle.rt_language.specs.Sequence.{go_on}
 use Rattle.rt_language.specs.Syntax as language
 use Rattle.rt_language.specs.Values.{Value, NoValue, NumberValue, TextValue, CellValue, TaskValue, is_true, hook_kind, text_of}
-use Rattle.rt_language.specs.Expressions.{SourceTypes, Caller, held_by, evaluate, evaluate_all}
+use Rattle.rt_language.specs.Expressions.{Stepping, SourceTypes, Caller, held_by, evaluate, evaluate_all}
 use Rattle.rt_language.specs.Statements as statements
 use Rattle.rt_language.specs.Statements.{Running, goes_on, binding, WentOn, hook_with, cell_hook, task_hook, bound_task, is_forever, is_isomorphic, standing, time_kind, doing, if_stands, kept_names, written, forgotten, acted, acted_on, marked, thrown, failed_with, suspends_on, then_run, perform, run_statements}
-use Rattle.lang_syntax.specs.Mirror.{expression_of, arguments_of, time_of, spawned_of, simple_of, statement_of, statements_of}
+use Rattle.lang_syntax.specs.Mirror.{expression_of, derived_of, arguments_of, time_of, spawned_of, simple_of, statement_of, statements_of}
+use Rattle.lang_syntax.specs.declared.derived.Derived.{Derived}
 use Rattle.lang_syntax.specs.declared.expression.Expression.{Expression}
 use Rattle.lang_syntax.specs.declared.statement.HookTime.{HookTime}
 use Rattle.lang_syntax.specs.declared.statement.SpawnKind.{SpawnKind}
@@ -23,7 +24,7 @@ use Rattle.lang_syntax.specs.declared.statement.Simple.{Simple}
 use Rattle.lang_syntax.specs.declared.statement.Statement.{Statement, the_lemmas}
 use Rattle.lang_syntax.specs.declared.statement.Statement.TheVariants as forms
 use Rattle.lang_syntax.specs.Outside.{stands_outside, stand_outside}
-use Rattle.lang_syntax.proofs.Stands.{outside-at, o-When, o-UseCell, o-UseHook, o-CallAt, o-FailWith, o-SuspendOn}
+use Rattle.lang_syntax.proofs.Stands.{outside-at, o-When, o-UseCell, o-UseHook, o-UseDerived, o-CallAt, o-FailWith, o-SuspendOn}
 use Rattle.lang_script.specs.declared.caller.Caller as code
 use Rattle.lang_script.specs.declared.caller.Caller.TheVariants as callers
 use Rattle.lang_script.specs.declared.caller.Frame as frames
@@ -45,6 +46,9 @@ s-UseCell e = search (rules, the_lemmas)
 
 pub s-UseHook : (e : Expression) → statement_of (forms.UseHook e) ≡ language.UseHook (expression_of e)
 s-UseHook e = search (rules, the_lemmas)
+
+pub s-UseDerived : (formula : Derived) → statement_of (forms.UseDerived formula) ≡ language.UseDerived (derived_of formula)
+s-UseDerived formula = search (rules, the_lemmas)
 
 pub s-SpawnTask : (task : ℕ) (arguments : List Expression) (kind : SpawnKind) → statement_of (forms.SpawnTask task arguments kind) ≡ language.SpawnTask task (arguments_of arguments) (spawned_of kind)
 s-SpawnTask task arguments kind = search (rules, the_lemmas)
@@ -152,7 +156,7 @@ module _ (by : Caller) (f : statements.Frame) where
 -- a task that another call than a body spawns
 pub p-spawned : (by : code.Caller) → IsOutside by → (f : statements.Frame) (task : ℕ) (es : language.Expressions) (kind : language.SpawnKind)
     → perform (caller_of by) f (language.SpawnTask task es kind)
-    ≡ go_on (evaluate_all (caller_of by) f.held es) (λ vs. spawn (standing task vs) (is_forever kind) (is_isomorphic kind) (λ t. bound_task f t))
+    ≡ go_on (evaluate_all (caller_of by) f.held es) (λ vs. spawn (Stepping (standing task vs)) (is_forever kind) (is_isomorphic kind) (λ t. bound_task f t))
 unfolding perform
 p-spawned (callers.Body generation) h f task es kind = absurd h
 p-spawned (callers.Listener payload) h f task es kind = refl
@@ -309,7 +313,7 @@ one-outside s ss i is low h = outside-at ss i s low is h
 pub inner-outside : (s : Statement) (test : Expression) (inner : List Statement) → s ≡ forms.When test inner → stands_outside s ≡ true → stand_outside inner ≡ true
 inner-outside s test inner is h = sym (o-When test inner) ∙ sym (ap stands_outside is) ∙ h
 
-pub ruleset dispatching = (s-Does, s-SpawnTask, s-When, s-ThrowText, s-UseCell, s-UseHook, s-CallAt, s-FailWith, s-SuspendOn, o-When, o-UseCell, o-UseHook, o-CallAt, o-FailWith, o-SuspendOn, outside-sees, body-sees, follows-same)
+pub ruleset dispatching = (s-Does, s-SpawnTask, s-When, s-ThrowText, s-UseCell, s-UseHook, s-UseDerived, s-CallAt, s-FailWith, s-SuspendOn, o-When, o-UseCell, o-UseHook, o-UseDerived, o-CallAt, o-FailWith, o-SuspendOn, outside-sees, body-sees, follows-same)
 
 pub ruleset allowing = (one-outside, inner-outside, dispatching)
 

@@ -8,7 +8,7 @@ use Rattle.rt_language.specs.Values.{Value, same_value, same_values, values_of}
 use Rattle.rt_language.specs.Sequence.{go_on}
 use Rattle.rt_language.specs.Expressions.{SourceTypes, ABody, AListener, AnotherCall}
 use Rattle.rt_language.specs.Statements.{frame_of, Outcome, WentOn, EndedWith, WasRefused, run_statements}
-use Rattle.rt_language.specs.Meaning.{same_doing, poll_step, action_run, left_event}
+use Rattle.rt_language.specs.Meaning.{same_doing, poll_step, poll_of, action_run, left_event}
 use Rattle.lang_syntax.specs.Mirror.{literal_of, statements_of}
 use Rattle.lang_views.specs.declared.plan.ComponentPlan.{ComponentPlan}
 use Rattle.lang_script.specs.declared.script.Script.{Script}
@@ -48,8 +48,8 @@ programs_of_script s =
       same_handler = same_doing;
       memoize = λ c p q. same_values p q;
       body = λ c p. body_of (nth s.components c) p;
-      poll = λ at. let steps =
-          or_else [] (nth (map (map statements_of) s.tasks) at.task) in poll_step at (length steps) (nth steps at.step);
+      poll = λ state. poll_of (λ at. let steps =
+          or_else [] (nth (map (map statements_of) s.tasks) at.task) in poll_step at (length steps) (nth steps at.step)) state;
       effect = λ d. go_on (action_run AnotherCall (map statements_of s.actions) d) (λ o. done nothing);
       handle = λ d event. go_on (action_run (AListener event.payload) (map statements_of s.actions) d) (λ o. done (left_event event o));
     }

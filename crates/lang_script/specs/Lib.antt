@@ -1,4 +1,6 @@
 pub mod Held
+pub mod States
+pub mod Derivers
 pub mod Seen
 pub mod Fills
 pub mod Applications

@@ -6,7 +6,7 @@ use Rattle.run_records.specs.declared.faults.CxFault.TheVariants.{OutOfMemory}
 use Rattle.tree_mirror.specs.Sealed.{element_of}
 use Rattle.rt_model.specs.World as model
 use Rattle.rt_language.specs.Expressions as language
-use Rattle.rt_language.specs.Expressions.{Doing, Standing, SourceTypes}
+use Rattle.rt_language.specs.Expressions.{Doing, TaskState, SourceTypes}
 use Rattle.rt_language.specs.Statements as statements
 use Rattle.rt_language.specs.Statements.{WentOn, EndedWith, WasRefused}
 use Rattle.rt_language.specs.Values.{Value}
@@ -47,11 +47,11 @@ outcome_of outcomes.Refused f = WasRefused
 
 -- what a call of a script can look at
 abbrev pub ScriptWorld : Type 0
-ScriptWorld = CallWorld Script ℕ (List Value) Value Doing Standing Doing Value
+ScriptWorld = CallWorld Script ℕ (List Value) Value Doing TaskState Doing Value
 
 -- a call of a script
 abbrev pub ScriptCall : Type 0
-ScriptCall = Call Script ℕ (List Value) Value Doing Standing Doing Value
+ScriptCall = Call Script ℕ (List Value) Value Doing TaskState Doing Value
 
 -- where statements ended at a refused call, what follows holds unless memory was wanted
 abbrev pub Knows : Outcome → ScriptCall → Type 0 → Type 0

@@ -14,7 +14,9 @@ ghost use Rattle.author_bodies.specs.Comes.{Comes};
 ghost use Rattle.lang_script.specs.Seen.{caller_of, IsBody, SeesRenders, frame_of, outcome_of, Knows, Follows};
 
 use crate::caller::{Frame, Outcome, held_task};
+use crate::derived::use_derived;
 use crate::evaluation::{evaluate, evaluate_all};
+use crate::memos::CELL;
 use crate::running::{ask, spawn, throw};
 use crate::script::Script;
 use author_bodies::unless_refused;
@@ -25,9 +27,6 @@ use rt_values::OutOfMemory;
 use run_records::CxFault;
 use std::alloc::Global;
 use tree_nodes::RenderError;
-
-/// The kind of the hook that keeps a cell.
-const CELL: u32 = 3;
 
 /// The kind of the hook that keeps a task.
 const TASK: u32 = 4;
@@ -83,6 +82,7 @@ fn perform(
         }
         Statement::UseCell(first) => Ok(use_cell(alloc, cx, frame, first)?),
         Statement::UseHook(first) => Ok(use_hook(alloc, cx, frame, first)?),
+        Statement::UseDerived(formula) => Ok(use_derived(alloc, cx, frame, formula)?),
         Statement::SpawnTask {
             task,
             arguments,

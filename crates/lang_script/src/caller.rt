@@ -1,13 +1,13 @@
 //! Who runs statements, and what they have at hand.
-ghost use Rattle.std.specs.Prelude.{◌≡◌, ◌++◌, [], ◌∷◌, ◌≤◌, false, take, length, IfOk, OnOk, MatchOption};
+ghost use Rattle.std.specs.Prelude.{◌≡◌, ◌++◌, [], ◌∷◌, ◌≤◌, false, take, length, pos, IfOk, OnOk, MatchOption};
 ghost use Rattle.rt_language.specs.Expressions as meanings;
-ghost use Rattle.rt_language.specs.Values.{CellValue, TaskValue};
-ghost use Rattle.lang_script.specs.Held.{IsNoCell, IsNoTask};
+ghost use Rattle.rt_language.specs.Values.{NumberValue, CellValue, TaskValue};
+ghost use Rattle.lang_script.specs.Held.{IsNoCell, IsNoTask, IsNoScope};
 ghost use Rattle.lang_script.specs.Seen.{caller_of};
 
 use crate::script::Script;
 use lang_views::{Content, Value};
-use rt_values::{List, OutOfMemory, Part, Task, copy_slice};
+use rt_values::{List, OutOfMemory, Part, ScopeId, Task, copy_slice};
 use std::alloc::Global;
 use std::mem;
 use tree_nodes::Element;
@@ -132,5 +132,23 @@ pub(crate) fn held_task(held: &[Value], variable: u64) -> Option<Task>
             Content::Cell(_) => None,
         },
         None => None,
+    }
+}
+
+/// The scope with the number of a value, where that isn't below 0.
+pub(crate) fn scope_in(value: &Value) -> Option<ScopeId>
+    ensures { MatchOption result (IsNoScope value.now) (λ scope. value.now ≡ NumberValue (pos scope.0)) }
+{
+    match value.content() {
+        Content::Number(number) => {
+            if *number < 0 {
+                return None;
+            }
+            Some(ScopeId(*number as u64))
+        }
+        Content::None => None,
+        Content::Text(_) => None,
+        Content::Cell(_) => None,
+        Content::Task(_) => None,
     }
 }

@@ -1,5 +1,5 @@
 //! What statements do that any call may run.
-ghost use Rattle.std.specs.Prelude.{◌≡◌, ◌↔◌, Err, IsTrue, true, IfOk, IfErr, OnOk, MatchOption, pos};
+ghost use Rattle.std.specs.Prelude.{◌≡◌, ◌↔◌, Err, IsTrue, true, IfOk, IfErr, OnOk};
 ghost use Rattle.rt_model.specs.Program.{drew_task};
 ghost use Rattle.rt_model.specs.World.{at_end};
 ghost use Rattle.run_records.specs.Records.{world_of};
@@ -7,24 +7,24 @@ ghost use Rattle.author_calls.specs.Calls.{call_of};
 ghost use Rattle.author_calls.specs.Steps.{DrawsNone};
 ghost use Rattle.run_records.specs.declared.faults.Counter.TheVariants.{Tasks};
 ghost use Rattle.run_records.specs.declared.faults.CxFault.TheVariants.{IdsExhausted};
+ghost use Rattle.rt_language.specs.Expressions.{Stepping};
 ghost use Rattle.rt_language.specs.Statements as meanings;
 ghost use Rattle.rt_language.specs.Statements.{WentOn, is_forever, is_isomorphic, acted_on, goes_on};
 ghost use Rattle.rt_language.specs.Syntax as language;
-ghost use Rattle.rt_language.specs.Values.{NumberValue};
 ghost use Rattle.lang_syntax.specs.Mirror.{expression_of, arguments_of, simple_of, statement_of, statements_of, spawned_of, act_of};
 ghost use Rattle.lang_syntax.specs.Outside.{stands_outside, stand_outside};
-ghost use Rattle.lang_script.specs.Held.{IsNoScope};
 ghost use Rattle.author_bodies.specs.Comes.{Comes};
 ghost use Rattle.lang_script.specs.Seen.{caller_of, SeesRenders, IsOutside, frame_of, outcome_of, Knows, Follows};
 
-use crate::caller::{Frame, Outcome, held_cell, held_task};
+use crate::caller::{Frame, Outcome, held_cell, held_task, scope_in};
 use crate::evaluation::{evaluate, evaluate_all};
 use crate::script::Script;
+use crate::state::TaskState;
 use author_bodies::{remembered, unless_refused};
 use author_calls::Cx;
 use lang_syntax::{Expression, Simple, SpawnKind, Statement, TaskAct};
-use lang_views::{Content, Doing, Standing, Value, text_of};
-use rt_values::{List, OutOfMemory, ScopeId, Task};
+use lang_views::{Doing, Standing, Value, text_of};
+use rt_values::{List, OutOfMemory, Task};
 use run_records::CxFault;
 use std::alloc::Global;
 
@@ -88,6 +88,7 @@ fn perform<K>(
         Statement::ThrowText(text) => Ok(throw(alloc, cx, frame, text)?),
         Statement::UseCell(_)
         | Statement::UseHook(_)
+        | Statement::UseDerived(_)
         | Statement::CallAt { .. }
         | Statement::FailWith(_)
         | Statement::SuspendOn(_) => unreachable!(),
@@ -171,17 +172,18 @@ fn spawn_task<K>(
 /// Spawns a task.
 pub(crate) fn spawn<K>(
     cx: &mut Cx<'_, Script, K>,
-    state: Standing,
+    standing: Standing,
     kind: SpawnKind,
 ) -> Result<Task, CxFault>
     ensures value { IfOk result (λ task. task.0 ≡ cx.old.next.tasks) }
-    ensures call { OnOk result (call_of cx.new ≡ drew_task (call_of cx.old) state
+    ensures call { OnOk result (call_of cx.new ≡ drew_task (call_of cx.old) (Stepping standing)
         (is_forever (spawned_of kind)) (is_isomorphic (spawned_of kind))) }
     ensures at_end { (result ≡ Err (IdsExhausted Tasks))
         ↔ IsTrue (at_end cx.old.next.tasks) }
     ensures err { IfErr result (DrawsNone Tasks cx.old cx.new) }
     ensures world { cx.new.world ≡ cx.old.world }
 {
+    let state = TaskState::stepping(standing);
     match kind {
         SpawnKind::Client => cx.spawn(state),
         SpawnKind::Isomorphic => cx.spawn_isomorphic(state),
@@ -377,22 +379,4 @@ fn act_on<K>(cx: &mut Cx<'_, Script, K>, act: TaskAct, task: Task) -> Result<(),
         TaskAct::Resume => remembered(cx.set_active(task, true))?,
     }
     Ok(())
-}
-
-/// The scope with the number of a value, where that isn't below 0.
-fn scope_in(value: &Value) -> Option<ScopeId>
-    ensures { MatchOption result (IsNoScope value.now) (λ scope. value.now ≡ NumberValue (pos scope.0)) }
-{
-    match value.content() {
-        Content::Number(number) => {
-            if *number < 0 {
-                return None;
-            }
-            Some(ScopeId(*number as u64))
-        }
-        Content::None => None,
-        Content::Text(_) => None,
-        Content::Cell(_) => None,
-        Content::Task(_) => None,
-    }
 }

@@ -4,7 +4,7 @@ ghost use Rattle.rt_model.specs.Lists.{nth, or_else};
 ghost use Rattle.rt_model.specs.Program.{done};
 ghost use Rattle.rt_model.specs.World.{nothing};
 ghost use Rattle.tree_mirror.specs.Sealed as mirror;
-ghost use Rattle.rt_language.specs.Expressions.{AListener};
+ghost use Rattle.rt_language.specs.Expressions.{AListener, Stepping};
 ghost use Rattle.rt_language.specs.Meaning.{action_run, next_step, pending_at, poll_step};
 ghost use Rattle.rt_language.specs.Sequence.{go_on};
 ghost use Rattle.rt_language.specs.Syntax.{NoStatements};
@@ -23,8 +23,11 @@ use crate::bodies::run_body;
 use crate::caller::{Caller, Frame, Outcome};
 use crate::evaluation::said;
 use crate::filling::tree_of;
+use crate::memos::Deriver;
 use crate::running::run_statements;
+use crate::state::{TaskKind, TaskState};
 use author_calls::{App, BodyCx, BodyTurn, Cx, TaskStep, Turn};
+use author_deriving::step_memo;
 use lang_syntax::{Literal, OutsideStatements, Source, Statement};
 use lang_views::{ComponentPlan, Doing, Props, Standing, Value, component_plans};
 use rt_values::{List, OutOfMemory, Part};
@@ -59,7 +62,7 @@ impl Parts for Script {
 
     type Handler = Doing;
 
-    type TaskState = Standing;
+    type TaskState = TaskState;
 
     type Effect = Doing;
 
@@ -184,6 +187,23 @@ impl Script {
         }
     }
 
+    /// Polls a task, and answers where it stands then.
+    fn polled(
+        &self,
+        alloc: Global,
+        cx: &mut Cx<'_, Script>,
+        state: TaskState,
+    ) -> Result<TaskStep<TaskState>, OutOfMemory>
+        ensures came { IfOk result (λ step. ComesIfRemembered cx.old cx.new
+            ((programs_of_script self.now).poll state) (step_of step)) }
+        ensures world { cx.new.world ≡ cx.old.world }
+    {
+        match state.into_kind() {
+            TaskKind::Stepping(standing) => Ok(self.step(alloc, cx, standing)?),
+            TaskKind::Minding(task) => Ok(step_memo(&Deriver, alloc, task, cx)?),
+        }
+    }
+
     /// Runs the present step of a task, and answers where the task stands then.
     #[tactic(auto, using(crate::proofs::Meant::answering))]
     fn step(
@@ -191,9 +211,9 @@ impl Script {
         alloc: Global,
         cx: &mut Cx<'_, Script>,
         state: Standing,
-    ) -> Result<TaskStep<Standing>, OutOfMemory>
+    ) -> Result<TaskStep<TaskState>, OutOfMemory>
         ensures came { IfOk result (λ step. ComesIfRemembered cx.old cx.new
-            ((programs_of_script self.now).poll state) (step_of step)) }
+            ((programs_of_script self.now).poll (Stepping state)) (step_of step)) }
         ensures world { cx.new.world ≡ cx.old.world }
     {
         let steps = self.steps(state.task());
@@ -252,7 +272,7 @@ fn run_step(
     state: Standing,
     statements: &[Statement],
     steps: usize,
-) -> Result<TaskStep<Standing>, OutOfMemory>
+) -> Result<TaskStep<TaskState>, OutOfMemory>
     requires stand { stand_outside statements.now ≡ true }
     ensures came { IfOk result (λ step. ComesIfRemembered cx.old cx.new
         (poll_step state steps (Some (statements_of statements.now))) (step_of step)) }
@@ -267,7 +287,7 @@ fn run_step(
 }
 
 /// Where a task stands after a step, of so many: at the same one where it stays, else at the next.
-fn after(state: Standing, stays: bool, steps: usize) -> TaskStep<Standing>
+fn after(state: Standing, stays: bool, steps: usize) -> TaskStep<TaskState>
     ensures step { step_of result ≡ pending_at state steps (next_step state.step stays) }
 {
     let next = if stays {
@@ -276,7 +296,7 @@ fn after(state: Standing, stays: bool, steps: usize) -> TaskStep<Standing>
         state.step().saturating_add(1)
     };
     if next < steps as u64 {
-        TaskStep::Pending(state.at(next))
+        TaskStep::Pending(TaskState::stepping(state.at(next)))
     } else {
         TaskStep::Ready
     }
@@ -318,9 +338,9 @@ impl App for Script {
     fn poll(
         &self,
         alloc: Global,
-        state: Standing,
+        state: TaskState,
         cx: Cx<'_, Script>,
-    ) -> Result<Turn<Script, TaskStep<Standing>>, OutOfMemory>
+    ) -> Result<Turn<Script, TaskStep<TaskState>>, OutOfMemory>
         requires fresh { cx ≡ begun false cx.world }
         ensures shows { IfOk result (λ turn. turn.world ≡ cx.entry.world) }
         ensures means { IfOk result (λ turn. HadMemory turn.meaning →
@@ -328,7 +348,7 @@ impl App for Script {
             ≡ (meaning_of_script self.now).poll state (world_of cx.entry.world)) }
     {
         let mut cx = cx;
-        let step = self.step(alloc, &mut cx, state)?;
+        let step = self.polled(alloc, &mut cx, state)?;
         Ok(cx.finish(step))
     }
 

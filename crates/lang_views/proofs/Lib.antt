@@ -1,4 +1,5 @@
 pub mod Digits
+pub mod Computed
 pub mod Sameness
 pub mod Sequence
 pub mod Taken

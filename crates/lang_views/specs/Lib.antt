@@ -4,3 +4,4 @@ pub mod Digits
 pub mod Plans
 pub mod Built
 pub mod Meant
+pub mod Coding

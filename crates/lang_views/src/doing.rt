@@ -56,7 +56,7 @@ impl Part for Doing {
     }
 }
 
-/// Where a task stands between two polls.
+/// Where a task that runs its steps stands between two polls.
 #[derive(Debug, Drop)]
 pub struct Standing {
     task: u64,

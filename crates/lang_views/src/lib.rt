@@ -1,9 +1,10 @@
-//! What an application of the language computes with: values, their operators, and what is done or
-//! stands still with values handed along; and its views made ready to run: templates with their paths,
-//! and what fills their slots.
+//! What an application of the language computes with: values, their operators, and what is done,
+//! stands still or is derived with values handed along; and its views made ready to run: templates
+//! with their paths, and what fills their slots.
 #![tactic(auto)]
 
 mod doing;
+mod formulas;
 mod operators;
 mod parsing;
 mod plan;
@@ -14,6 +15,7 @@ mod texts;
 mod value;
 
 pub use doing::{Doing, Standing};
+pub use formulas::Deriving;
 pub use operators::{add, equal, is_absent, item_count, less, multiply, not};
 pub use parsing::parse;
 pub use plan::{ComponentPlan, Fill, Plan, SlotPlan};

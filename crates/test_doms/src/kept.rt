@@ -1,7 +1,7 @@
 //! A dom over the application of a source, as it is driven.
 
-use lang_script::Script;
-use lang_views::{Doing, Props, Standing, Value};
+use lang_script::{Script, TaskState};
+use lang_views::{Doing, Props, Value};
 use rt_cells::ReactiveContext;
 use rt_edits::{DocNode, Mutations, WriteMutations};
 use rt_inbox::Drained;
@@ -175,19 +175,19 @@ impl Driven for Kept {
         task.wake(&mut self.dom)
     }
 
-    fn spawn(&mut self, scope: ScopeId, state: Standing) -> Result<Option<Task>, DomFault> {
+    fn spawn(&mut self, scope: ScopeId, state: TaskState) -> Result<Option<Task>, DomFault> {
         self.dom.spawn(scope, state)
     }
 
     fn spawn_isomorphic(
         &mut self,
         scope: ScopeId,
-        state: Standing,
+        state: TaskState,
     ) -> Result<Option<Task>, DomFault> {
         self.dom.spawn_isomorphic(scope, state)
     }
 
-    fn task_new(&mut self, scope: ScopeId, state: Standing) -> Result<Option<Task>, DomFault> {
+    fn task_new(&mut self, scope: ScopeId, state: TaskState) -> Result<Option<Task>, DomFault> {
         task_new(&mut self.dom, scope, state)
     }
 

@@ -6,6 +6,7 @@ use crate::telling::{
     put_done, put_flag, put_poll, put_reported, put_resolved, put_task, put_value, put_vec,
 };
 use crate::words::{drained_of, number, small, value_of, values_from, word};
+use lang_script::TaskState;
 use lang_views::{Doing, Standing};
 use rt_edits::{FailingMutations, Mutations};
 use rt_values::{ElementId, List, OutOfMemory, ScopeId, Task, Text};
@@ -214,7 +215,8 @@ fn asks<D: Driven>(
     let scope = ScopeId(number(words, 1));
     match word(words, 0) {
         "spawn" => {
-            let state = Standing::new(number(words, 3), values_from(alloc, words, 4)?);
+            let standing = Standing::new(number(words, 3), values_from(alloc, words, 4)?);
+            let state = TaskState::stepping(standing);
             let done = match word(words, 2) {
                 "iso" => dom.spawn_isomorphic(scope, state),
                 "new" => dom.task_new(scope, state),

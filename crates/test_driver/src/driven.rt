@@ -1,7 +1,7 @@
 //! What is driven: the calls of a dom over the application of a source, with plain answers.
 
-use lang_script::Script;
-use lang_views::{Doing, Props, Standing, Value};
+use lang_script::{Script, TaskState};
+use lang_views::{Doing, Props, Value};
 use rt_edits::{DocNode, Mutations, WriteMutations};
 use rt_inbox::Drained;
 use rt_values::{ElementId, List, OutOfMemory, ScopeId, Task, Text};
@@ -147,17 +147,17 @@ pub trait Driven {
     fn wake(&mut self, task: Task) -> Result<(), Self::Refused>;
 
     /// A new task of a scope.
-    fn spawn(&mut self, scope: ScopeId, state: Standing) -> Result<Option<Task>, Self::Refused>;
+    fn spawn(&mut self, scope: ScopeId, state: TaskState) -> Result<Option<Task>, Self::Refused>;
 
     /// The same, and suspended renders poll it too.
     fn spawn_isomorphic(
         &mut self,
         scope: ScopeId,
-        state: Standing,
+        state: TaskState,
     ) -> Result<Option<Task>, Self::Refused>;
 
     /// A new one, as `spawn` makes it.
-    fn task_new(&mut self, scope: ScopeId, state: Standing) -> Result<Option<Task>, Self::Refused>;
+    fn task_new(&mut self, scope: ScopeId, state: TaskState) -> Result<Option<Task>, Self::Refused>;
 
     /// Registers what is called when a boundary next turns.
     fn after_suspense_resolved(
