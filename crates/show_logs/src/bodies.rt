@@ -1,9 +1,16 @@
 //! The forms of statements and expressions.
 
 use crate::forms::Entry::{May, Must};
-use crate::forms::{ANYWHERE, BODY, Form, Group, Leaf, OUTSIDE, Row, STEP, Want};
+use crate::forms::{
+    ANYWHERE, BODY, CALLING, Form, Group, LOADING, LOOKING, Leaf, OUTSIDE, Row, STATEMENTS, STEP,
+    Want,
+};
 
 const GIVEN: Want = Want::Expression;
+
+const LOOKS: Want = Want::Formula(LOOKING);
+
+const LOADS: Want = Want::Formula(LOADING);
 
 const BINDS: Want = Want::Binds;
 
@@ -13,12 +20,14 @@ const TEXT: Want = Want::Leaf(Leaf::Text);
 
 const ZERO: Want = Want::Leaf(Leaf::Zero);
 
+const NUMBER: Want = Want::Leaf(Leaf::Number);
+
 const ACTION_NAME: Want = Want::Leaf(Leaf::Called(Group::Actions));
 
 const TASK_NAME: Want = Want::Leaf(Leaf::Called(Group::Tasks));
 
 /// Statements, by their keys.
-pub(crate) static STATEMENT: [Form; 23] = [
+pub(crate) static STATEMENT: [Form; 25] = [
     Form(
         "let",
         "",
@@ -36,6 +45,19 @@ pub(crate) static STATEMENT: [Form; 23] = [
         "",
         BODY,
         &[Must("init", GIVEN), Must("hook", BINDS)],
+    ),
+    Form("memo", "", BODY, &[Must("be", LOOKS), Must("memo", BINDS)]),
+    Form(
+        "resource",
+        "",
+        BODY,
+        &[
+            Must("key", LOOKS),
+            Must("waits", NUMBER),
+            Must("as", BINDS),
+            Must("be", LOADS),
+            Must("resource", Want::BindsInstead),
+        ],
     ),
     Form(
         "spawn",
@@ -132,7 +154,7 @@ pub(crate) static STATEMENT: [Form; 23] = [
 /// Expressions that are objects, by their keys.
 pub(crate) static EXPRESSION: [Form; 17] = [
     Form("get", "", ANYWHERE, &[Must("get", BOUND)]),
-    Form("read", "", ANYWHERE, &[Must("read", BOUND)]),
+    Form("read", "", CALLING, &[Must("read", BOUND)]),
     Form(
         "cat",
         "",
@@ -172,10 +194,10 @@ pub(crate) static EXPRESSION: [Form; 17] = [
         &[Must("if", Want::Row(Row::Counted(3)))],
     ),
     Form("parse", "", ANYWHERE, &[Must("parse", GIVEN)]),
-    Form("context", "", ANYWHERE, &[Must("context", TEXT)]),
-    Form("scope", "", ANYWHERE, &[Must("scope", ZERO)]),
-    Form("generation", "", ANYWHERE, &[Must("generation", ZERO)]),
-    Form("error", "", ANYWHERE, &[Must("error", ZERO)]),
-    Form("payload", "", ANYWHERE, &[Must("payload", ZERO)]),
-    Form("me", "", ANYWHERE, &[Must("me", ZERO)]),
+    Form("context", "", CALLING, &[Must("context", TEXT)]),
+    Form("scope", "", STATEMENTS, &[Must("scope", ZERO)]),
+    Form("generation", "", STATEMENTS, &[Must("generation", ZERO)]),
+    Form("error", "", STATEMENTS, &[Must("error", ZERO)]),
+    Form("payload", "", STATEMENTS, &[Must("payload", ZERO)]),
+    Form("me", "", STATEMENTS, &[Must("me", ZERO)]),
 ];

@@ -86,9 +86,13 @@ pub(crate) enum Want {
     Leaf(Leaf),
     /// A text, which is a variable's name from here on.
     Binds,
+    /// The same in place of the variable before it, which ends here.
+    BindsInstead,
     /// The same of a param, which no other one before it is called.
     Param,
     Expression,
+    /// An expression that only looks, at what may be looked at in such a place.
+    Formula(u8),
     Node,
     One(Table),
     Row(Row),
@@ -129,8 +133,8 @@ impl Entry {
 }
 
 /// The key that names a form, empty where it is the only one; the word that has to stand there,
-/// empty where any may; where a statement stands, as the sum of some of `BODY`, `ACTION` and
-/// `STEP`; its entries.
+/// empty where any may; where a statement or an expression stands, as the sum of some of `BODY`,
+/// `ACTION`, `STEP`, `LOOKING` and `LOADING`; its entries.
 pub(crate) struct Form(
     pub &'static str,
     pub &'static str,
@@ -144,6 +148,18 @@ pub(crate) const ACTION: u8 = 2;
 
 pub(crate) const STEP: u8 = 4;
 
-pub(crate) const ANYWHERE: u8 = 7;
+/// In a memo, and in the key of a resource.
+pub(crate) const LOOKING: u8 = 8;
+
+/// In what a resource loads.
+pub(crate) const LOADING: u8 = 16;
+
+pub(crate) const ANYWHERE: u8 = 31;
 
 pub(crate) const OUTSIDE: u8 = 6;
+
+/// Where calls stand that look at cells and contexts.
+pub(crate) const CALLING: u8 = 15;
+
+/// Where calls stand that do more than to look.
+pub(crate) const STATEMENTS: u8 = 7;

@@ -1,6 +1,6 @@
 //! What is said of a fault: its place, what was wanted there and what was found.
 
-use crate::forms::{BODY, Form, STEP, Table};
+use crate::forms::{BODY, Form, LOADING, LOOKING, STEP, Table};
 use crate::leaves::{leaf_words, members_words, row_words, table_words};
 use crate::tables::forms_of;
 use crate::walk::{Step, Walk, Wanted};
@@ -107,6 +107,10 @@ fn standing(places: u8) -> &'static str {
         "a statement that stands in bodies"
     } else if places == STEP {
         "a statement that stands in steps"
+    } else if places == LOOKING {
+        "an expression that only looks at cells and contexts"
+    } else if places == LOADING {
+        "an expression that looks at no cell and no context"
     } else {
         "a statement that stands in actions"
     }

@@ -25,7 +25,7 @@ pub(crate) enum Wanted {
     Members(Members),
     /// One of the objects of a table.
     One(Table),
-    /// A statement that stands in such places.
+    /// A statement or an expression that stands in such places.
     Standing(u8),
     /// No other key than those of a form.
     NoKeyBut(&'static Form),
@@ -173,6 +173,11 @@ impl<'a> Walk<'a> {
         }
     }
 
+    fn bind_instead(&mut self, value: &'a Value) -> Look {
+        self.bound.pop();
+        self.bind(value)
+    }
+
     fn param(&mut self, value: &'a Value) -> Look {
         match value.as_str() {
             Some(name) if self.is_bound(name) => self.wrong(Wanted::Another, Some(value)),
@@ -244,10 +249,16 @@ impl<'a> Walk<'a> {
         match want {
             Want::Leaf(leaf) => self.leaf(leaf, value),
             Want::Binds => self.bind(value),
+            Want::BindsInstead => self.bind_instead(value),
             Want::Param => self.param(value),
-            Want::Expression if value.is_string() => Look::Fits,
-            Want::Expression if value.is_number() => self.leaf(Leaf::Whole, value),
-            Want::Expression => self.object(levels, Table::Expression, value),
+            Want::Expression => self.expression(levels, value),
+            Want::Formula(places) => {
+                let stands = self.places;
+                self.places = places;
+                let look = self.expression(levels, value);
+                self.places = stands;
+                look
+            }
             Want::Node if value.is_string() => Look::Fits,
             Want::Node => self.object(levels, Table::Node, value),
             Want::One(table) => self.object(levels, table, value),
@@ -268,6 +279,17 @@ impl<'a> Walk<'a> {
             }
             Want::Members(members) => self.members(levels, members, value),
         }
+    }
+
+    #[cycle(look)]
+    fn expression(&mut self, levels: u8, value: &'a Value) -> Look {
+        if value.is_string() {
+            return Look::Fits;
+        }
+        if value.is_number() {
+            return self.leaf(Leaf::Whole, value);
+        }
+        self.object(levels, Table::Expression, value)
     }
 
     #[cycle(look)]
