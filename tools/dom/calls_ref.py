@@ -224,20 +224,10 @@ def reference(text):
     return "".join(x + "\n" for x in out)
 
 # ---- random cases
-LATER = ("memo", "resource")
-def without_memos(x):
-    if isinstance(x, list): return [without_memos(v) for v in x]
-    if isinstance(x, dict):
-        if ("be" in x and "memo" in x) or "resource" in x:
-            return {"cell": x.get("memo", x.get("resource")), "init": 0}
-        return {k: without_memos(v) for k, v in x.items()}
-    return x
-
 def make(seed, size=12, mode="lawful"):
     import gen
     g = gen.make(seed, size, mode)
     s = json.loads(g)
-    s = without_memos(s)
     s.pop("inputs", None); s.pop("posts", None)
     source = json.dumps(s, ensure_ascii=False, separators=(",", ":"))
     r = random.Random(seed * 7919 + 1)
