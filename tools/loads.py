@@ -53,6 +53,10 @@ def write(name, value):
     return {"write": name, "be": value}
 
 
+def memo(name, value):
+    return {"memo": name, "be": value}
+
+
 def context(name, key):
     return {"let": name, "be": {"context": key}}
 
@@ -316,6 +320,26 @@ def nest(size):
     return application({"App": app, "Level": level}, counts(200))
 
 
+def memos(size):
+    """So many rows with a memo of one cell, at most one of which changes at each of 200 writes."""
+    items = many(size, "place", use("Row", get("place"), get("value")))
+    app = component(element("ul", items), do=[cell("value")])
+    shown = element("li", text(read("is-past")))
+    is_past = memo("is-past", less(get("place"), read("value")))
+    row = component(shown, params=["place", "value"], do=[is_past])
+    return application({"App": app, "Row": row}, counts(200))
+
+
+def derived(size):
+    """So many rows with a cell and a memo of it, and a write to every cell, in an order that jumps."""
+    app = component(element("ul", many(size, "place", use("Row", get("place")))))
+    known = [cell("value", get("place")), memo("twice", {"mul": [read("value"), 2]})]
+    row = component(element("li", text(read("twice"))), params=["place"], do=known)
+    # (a memo is a cell, too: that of a row comes behind the row's own)
+    writes = [write(2 * (7 * k % size) + 1, k) for k in range(size)]
+    return application({"App": app, "Row": row}, writes)
+
+
 LOADS = {
     "rows": rows,
     "list": growing_list,
@@ -336,6 +360,8 @@ LOADS = {
     "ten": ten,
     "marks": marks,
     "nest": nest,
+    "memos": memos,
+    "derived": derived,
 }
 # The sizes of those that have their own.
 SIZES = {

@@ -281,4 +281,25 @@ class Nested extends Heard {
 exports.nest = (size, root) =>
   shows(root, h(Provided, { kids: h(Nested, { left: size }) }));
 
+class Past extends Component {
+  shouldComponentUpdate({ place, value }) { return place < value !== place < this.props.value; }
+  render({ place, value }) { return h("li", null, Number(place < value)); }
+}
+class Pasts extends Cell {
+  first() { return 0; }
+  render({ size }, { value }) {
+    return h("ul", null, many(size, (place) => h(Past, { key: place, place, value })));
+  }
+}
+exports.memos = (size, root) => shows(root, h(Pasts, { size }));
+
+class Twice extends Cell {
+  first({ place }) { return place; }
+  render() { return h("li", null, 2 * this.state.value); }
+}
+exports.derived = (size, root) => {
+  const made = shows(root, h("ul", null, many(size, (place) => h(Twice, { key: place, place }))));
+  return { ...made, write: (cell, be) => made.write(cell / 2, be) };
+};
+
 exports.least = (_, root) => shows(root, "least");

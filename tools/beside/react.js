@@ -216,4 +216,22 @@ function Nested({ left }) {
 }
 exports.nest = (size, root) => shows(root, h(Provided, { kids: h(Nested, { left: size }) }));
 
+function Past({ place }) {
+  const value = React.useContext(Value);
+  return h("li", null, React.useMemo(() => Number(place < value), [place, value]));
+}
+exports.memos = (size, root) => {
+  const kids = h("ul", null, many(size, (place) => h(Past, { key: place, place })));
+  return shows(root, h(Provided, { kids }));
+};
+
+function Twice({ place }) {
+  const value = useCell(place);
+  return h("li", null, React.useMemo(() => 2 * value, [value]));
+}
+exports.derived = (size, root) => {
+  const made = shows(root, h("ul", null, many(size, (place) => h(Twice, { key: place, place }))));
+  return { ...made, write: (cell, be) => made.write(cell / 2, be) };
+};
+
 exports.least = (_, root) => shows(root, "least");

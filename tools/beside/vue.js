@@ -250,4 +250,24 @@ const Nested = {
 exports.nest = (size, root) =>
   shows(root, provided((h) => h(Nested, { props: { left: size } })));
 
+const Past = {
+  props: ["place"],
+  inject: ["above"],
+  computed: { isPast() { return Number(this.place < this.above.value); } },
+  render(h) { return h("li", `${this.isPast}`); },
+};
+exports.memos = (size, root) => shows(root, provided((h) =>
+  h("ul", many(size, (place) => h(Past, { key: place, props: { place } })))));
+
+const Twice = cell((it) => it.place, {
+  props: ["place"],
+  computed: { twice() { return 2 * this.value; } },
+  render(h) { return h("li", `${this.twice}`); },
+});
+exports.derived = (size, root) => {
+  const row = (h) => (place) => h(Twice, { key: place, props: { place } });
+  const made = shows(root, { render: (h) => h("ul", many(size, row(h))) });
+  return { ...made, write: (place, be) => made.write(place / 2, be) };
+};
+
 exports.least = (_, root) => shows(root, { render() { return this._v("least"); } });

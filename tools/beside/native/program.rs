@@ -6,7 +6,7 @@ include!("runtime.rs"); include!("json.rs");
 use std::io::{Read as _, Write as _};
 #[derive(Clone, PartialEq)] enum Val { None, Int(i64), Text(Rc<str>), Cell(usize), Task(usize) }
 enum E { Lit(Val), Get(usize), Read(usize), Cat(Vec<E>), Add(Box<[E; 2]>), Mul(Box<[E; 2]>), Eq(Box<[E; 2]>), Lt(Box<[E; 2]>), Not(Box<E>), Nil(Box<E>), If(Box<[E; 3]>), Parse(Box<E>), Context(u32), Me }
-enum S { Let(usize, E), Cell(usize, E), Spawn(usize, usize, Vec<E>), When(E, Vec<S>), Provide(u32, E), Write(usize, E), Suspend(usize), Wake(usize), Stay }
+enum S { Let(usize, E), Cell(usize, E), Memo(usize, Rc<E>), Spawn(usize, usize, Vec<E>), When(E, Vec<S>), Provide(u32, E), Write(usize, E), Suspend(usize), Wake(usize), Stay }
 enum W { Text(E), Use(usize, Vec<E>), List(E, usize, Tree), Pick(E, Tree, Tree), Wait(Tree, usize) }
 struct Tree { tpl: &'static [T], slots: Vec<W>, on: Vec<(usize, Vec<E>)> }
 struct Comp { places: usize, body: Vec<S>, view: Tree }
@@ -30,6 +30,7 @@ impl Names {
             "not" => E::Not(Box::new(self.e(x))), "none" => E::Nil(Box::new(self.e(x))), "if" => E::If(Box::new([self.e(&x.arr()[0]), self.e(&x.arr()[1]), self.e(&x.arr()[2])])), "parse" => E::Parse(Box::new(self.e(x))), "context" => E::Context(self.kind(x.s())), "me" => E::Me, k => panic!("expression {}", k) } } } }
     fn ss(&mut self, v: &V) -> Vec<S> { v.arr().iter().map(|o| { let (k, x) = &o.obj()[0]; match k.as_str() {
         "let" => { let e = self.e(o.key("be").unwrap()); S::Let(self.bind(x.s()), e) } "cell" => { let e = self.e(o.key("init").unwrap()); S::Cell(self.bind(x.s()), e) }
+        "memo" => { let e = self.e(o.key("be").unwrap()); S::Memo(self.bind(x.s()), Rc::new(e)) }
         "spawn" => { let (t, a) = (Self::at(&self.tasks, o.key("task").unwrap().s()), self.es(o.key("args"))); S::Spawn(self.bind(x.s()), t, a) }
         "when" => { let c = self.e(x); let n = self.vars.len(); let b = self.ss(o.key("do").unwrap()); self.vars.truncate(n); S::When(c, b) } "provide" => { let e = self.e(o.key("be").unwrap()); S::Provide(self.kind(x.s()), e) }
         "write" => { let e = self.e(o.key("be").unwrap()); S::Write(Self::at(&self.vars, x.s()), e) } "suspend" => S::Suspend(Self::at(&self.vars, x.s())), "act" if x.s() == "wake" => S::Wake(Self::at(&self.vars, o.key("task").unwrap().s())), "stay" => S::Stay, k => panic!("statement {}", k) } }).collect() }
@@ -62,6 +63,8 @@ fn truth(v: &Val) -> bool { matches!(v, Val::Int(i) if *i != 0) }
 fn cat(s: &mut String, v: &Val) { let _ = match v { Val::None => Ok(()), Val::Int(i) => write!(s, "{}", i), Val::Text(t) => { s.push_str(t); Ok(()) } Val::Cell(c) => write!(s, "{}", c + 1), Val::Task(t) => write!(s, "{}", t + 1) }; }
 trait World { fn read(&mut self, c: usize) -> Val; fn context(&self, k: u32) -> Option<Val>; fn me(&self) -> Val; }
 impl World for Cx<'_, Json> { fn read(&mut self, c: usize) -> Val { Cx::read(self, c) } fn context(&self, k: u32) -> Option<Val> { Cx::context(self, k) } fn me(&self) -> Val { Val::None } }
+#[derive(Clone)] enum Work { Step(usize, usize, Rc<[Val]>), Keep(usize, Rc<E>, Rc<[Val]>) }   // a task at a step; a memo with its cell
+struct Look<'a>(&'a Rt<Json>, Vec<usize>); impl World for Look<'_> { fn read(&mut self, c: usize) -> Val { self.1.push(c); self.0.value(c) } fn context(&self, _: u32) -> Option<Val> { panic!() } fn me(&self) -> Val { Val::None } }
 struct Out<'a>(&'a mut Rt<Json>, Val); impl World for Out<'_> { fn read(&mut self, c: usize) -> Val { self.0.value(c) } fn context(&self, _: u32) -> Option<Val> { panic!() } fn me(&self) -> Val { self.1.clone() } }
 fn eval(e: &E, v: &[Val], w: &mut dyn World) -> Val {
     let bit = |b| Val::Int(b as i64);
@@ -76,7 +79,8 @@ fn eval(e: &E, v: &[Val], w: &mut dyn World) -> Val {
 }
 fn body(ss: &[S], v: &mut [Val], cx: &mut Cx<'_, Json>) -> Result<(), usize> {
     for s in ss { match s {
-        S::Let(i, e) => v[*i] = eval(e, v, cx), S::Cell(i, e) => v[*i] = Val::Cell(cx.cell(|cx| eval(e, v, cx))), S::Spawn(i, t, a) => v[*i] = Val::Task(cx.spawn(|cx| (*t, 0, a.iter().map(|e| eval(e, v, cx)).collect()))),
+        S::Let(i, e) => v[*i] = eval(e, v, cx), S::Cell(i, e) => v[*i] = Val::Cell(cx.cell(|cx| eval(e, v, cx))), S::Memo(i, e) => v[*i] = Val::Cell(cx.memo(|c| Work::Keep(c, e.clone(), v.as_ref().into()))),
+        S::Spawn(i, t, a) => v[*i] = Val::Task(cx.spawn(|cx| Work::Step(*t, 0, a.iter().map(|e| eval(e, v, cx)).collect()))),
         S::When(c, b) => if truth(&eval(c, v, cx)) { body(b, v, cx)? }, S::Provide(k, e) => { let x = eval(e, v, cx); cx.provide(*k, x) } S::Write(i, e) => { let x = eval(e, v, cx); if let Val::Cell(c) = v[*i] { cx.rt.write(c, x) } }
         S::Suspend(i) => if let Val::Task(t) = v[*i] { return Err(t) }, S::Wake(i) => if let Val::Task(t) = v[*i] { cx.rt.wake(t) }, S::Stay => {} } }
     Ok(())
@@ -95,10 +99,13 @@ fn view(t: &Tree, v: &mut [Val], cx: &mut Cx<'_, Json>) -> Y {
 }
 fn room(places: usize, first: &[Val]) -> Vec<Val> { let mut v = Vec::with_capacity(places); v.extend_from_slice(first); v.resize(places, Val::None); v }
 impl App for Json {
-    type Val = Val; type Body = usize; type Handler = (usize, Rc<[Val]>); type Task = (usize, usize, Rc<[Val]>);
+    type Val = Val; type Body = usize; type Handler = (usize, Rc<[Val]>); type Task = Work;
     fn render(&self, b: usize, props: &[Val], cx: &mut Cx<'_, Self>) -> Result<Y, usize> { let c = &self.comps[b]; let mut v = room(c.places, props); body(&c.body, &mut v, cx)?; Ok(view(&c.view, &mut v, cx)) }
     fn handle(&self, h: &Self::Handler, rt: &mut Rt<Self>, _: usize) { let a = &self.acts[h.0]; act(&a.steps[0], &mut room(a.places, &h.1), &mut Out(rt, Val::None), &mut false) }
-    fn poll(&self, s: &mut Self::Task, rt: &mut Rt<Self>, _: usize, me: usize) -> bool { let a = &self.tasks[s.0]; let Some(st) = a.steps.get(s.1) else { return true }; let mut stay = false; act(st, &mut room(a.places, &s.2), &mut Out(rt, Val::Task(me)), &mut stay); if !stay { s.1 += 1 } s.1 >= a.steps.len() }
+    fn poll(&self, s: &mut Self::Task, rt: &mut Rt<Self>, _: usize, me: usize) -> bool { match s {
+        Work::Step(t, at, args) => { let a = &self.tasks[*t]; let Some(st) = a.steps.get(*at) else { return true }; let mut stay = false; act(st, &mut room(a.places, args), &mut Out(rt, Val::Task(me)), &mut stay); if !stay { *at += 1 } *at >= a.steps.len() }
+        Work::Keep(c, e, held) => { let mut look = Look(rt, vec![]); let v = eval(e, held, &mut look); let reads = look.1; rt.keep(me, *c, v, reads); false } } }
+    fn none() -> Val { Val::None }
 }
 fn main() {
     let a: Vec<String> = std::env::args().collect(); let make = if a.len() > 2 && a[1] == "--make" { a[2].parse::<i64>().ok() } else { None };

@@ -1,8 +1,9 @@
 // A component runtime in plain Rust without crates, as a competent engineer would write it, included by program.rs: what
 // tools/bench measures the program beside. Nothing of it is proved, and the program has no part of it. Scopes in a Vec,
 // cells with ordered sets of readers, a BTreeSet of work by (height, scope), bodies that are called again, templates with
-// slots that are patched pairwise, edits that carry built nodes, a report with a log for each input, suspense boundaries.
-// Left out: effects, clean-ups, errors, attributes' edits, bubbling, limits, want of memory, the document and all proofs.
+// slots that are patched pairwise, edits that carry built nodes, a report with a log for each input, suspense boundaries,
+// memos: tasks that are woken by the cells that they read last, and write their cell where its value is another one.
+// Left out: resources, memos of scopes that go or of what a scope provides, effects, clean-ups, errors, attributes' edits, bubbling, limits, want of memory, the document and all proofs.
 use std::collections::{BTreeSet, HashMap}; use std::fmt::Write as _; use std::rc::Rc;
 
 pub enum Node { El(u64, &'static str, bool, Vec<Node>), Text(u64, String), Hole(u64) }
@@ -28,6 +29,7 @@ pub trait App: Sized {
     fn render(&self, body: Self::Body, props: &[Self::Val], cx: &mut Cx<'_, Self>) -> Result<VNode<Self>, usize>;   // Err: suspended on that task
     fn handle(&self, h: &Self::Handler, rt: &mut Rt<Self>, scope: usize);
     fn poll(&self, state: &mut Self::Task, rt: &mut Rt<Self>, scope: usize, me: usize) -> bool;                     // true: ready
+    fn none() -> Self::Val;                                                                                        // what a memo is at first
 }
 pub struct VNode<A: App> { pub tpl: &'static [T], pub slots: Vec<Slot<A>>, pub on: Vec<A::Handler> }
 impl<A: App> Clone for VNode<A> { fn clone(&self) -> Self { VNode { tpl: self.tpl, slots: self.slots.clone(), on: self.on.clone() } } }
@@ -38,8 +40,8 @@ struct Block { tpl: &'static [T], ids: Vec<u64>, slots: Vec<Live> }             
 struct Bound<A: App> { kids: VNode<A>, fallback: A::Body, held: BTreeSet<usize>, hidden: bool, shown: Option<Block> }   // shown: the fallback's block while the children are hidden
 enum Kind<A: App> { Body(A::Body), Bound(Box<Bound<A>>) }
 struct Scope<A: App> { parent: usize, height: u32, kind: Kind<A>, props: Rc<[A::Val]>, block: Option<Block>, reads: Vec<usize>, hooks: Vec<usize>, ctx: Vec<(u32, A::Val)>, runs: u64, bound: usize }
-struct Cell<V> { value: V, readers: BTreeSet<usize> }
-struct Task<A: App> { state: A::Task, scope: usize, live: bool, holds: Vec<usize> }
+struct Cell<V> { value: V, readers: BTreeSet<usize>, wakes: BTreeSet<usize> }       // wakes: the tasks of memos that read it
+struct Task<A: App> { state: A::Task, scope: usize, live: bool, holds: Vec<usize>, reads: Vec<usize> }
 #[derive(Clone, Copy)] pub enum Word { Build, Input(u64), Rerun(usize), Fed(usize), Made(usize), Kept(usize), Removed(usize), Heard(usize), Poll(usize) }
 #[derive(Default)] pub struct Report { pub units: u64, pub bodies: u64, pub edits: u64, pub log: Vec<Word> }
 pub struct Rt<A: App> { app: Rc<A>, scopes: Vec<Option<Scope<A>>>, cells: Vec<Cell<A::Val>>, work: BTreeSet<(u32, usize, bool, usize)>, tasks: Vec<Task<A>>, listeners: HashMap<u64, (usize, A::Handler)>, next_el: u64, sink: Box<dyn Sink>, mute: bool, gone: Vec<Block>, pub rep: Report }
@@ -51,10 +53,11 @@ impl<A: App> Cx<'_, A> {
         if k == self.rt.scope(self.scope).hooks.len() { let x = make(self); self.rt.scope_mut(self.scope).hooks.push(x) }
         self.rt.scope(self.scope).hooks[k]
     }
-    pub fn cell(&mut self, init: impl FnOnce(&mut Self) -> A::Val) -> usize { self.hook(|cx| { let value = init(cx); cx.rt.cells.push(Cell { value, readers: BTreeSet::new() }); cx.rt.cells.len() - 1 }) }
+    pub fn cell(&mut self, init: impl FnOnce(&mut Self) -> A::Val) -> usize { self.hook(|cx| { let value = init(cx); cx.rt.cells.push(Cell { value, readers: BTreeSet::new(), wakes: BTreeSet::new() }); cx.rt.cells.len() - 1 }) }
     pub fn spawn(&mut self, state: impl FnOnce(&mut Self) -> A::Task) -> usize {
-        self.hook(|cx| { let state = state(cx); let scope = cx.scope; cx.rt.tasks.push(Task { state, scope, live: true, holds: vec![] }); let t = cx.rt.tasks.len() - 1; cx.rt.queue(t); t })
+        self.hook(|cx| { let state = state(cx); let scope = cx.scope; cx.rt.start(state, scope) })
     }
+    pub fn memo(&mut self, state: impl FnOnce(usize) -> A::Task) -> usize { self.hook(|cx| { let c = cx.rt.cells.len(); cx.rt.cells.push(Cell { value: A::none(), readers: BTreeSet::new(), wakes: BTreeSet::new() }); cx.rt.start(state(c), cx.scope); c }) }
     pub fn read(&mut self, c: usize) -> A::Val { self.reads.push(c); self.rt.cells[c].value.clone() }
     pub fn provide(&mut self, k: u32, v: A::Val) { let s = self.rt.scope_mut(self.scope); match s.ctx.iter_mut().find(|x| x.0 == k) { Some(x) => x.1 = v, None => s.ctx.push((k, v)) } }
     pub fn context(&self, k: u32) -> Option<A::Val> {
@@ -75,10 +78,18 @@ impl<A: App> Rt<A> {
     fn put(&mut self, e: Edit) { if !self.mute { self.rep.edits += 1; self.sink.put(e) } }
     fn el(&mut self) -> u64 { self.next_el += 1; self.next_el - 1 }
     pub fn value(&self, c: usize) -> A::Val { self.cells[c].value.clone() }
+    fn start(&mut self, state: A::Task, scope: usize) -> usize { let t = self.tasks.len(); self.tasks.push(Task { state, scope, live: true, holds: vec![], reads: vec![] }); self.queue(t); t }
+    pub fn keep(&mut self, t: usize, c: usize, v: A::Val, mut reads: Vec<usize>) {     // a memo's cell and sources after a poll
+        reads.sort_unstable(); reads.dedup();
+        let old = std::mem::replace(&mut self.tasks[t].reads, reads); let new = &self.tasks[t].reads;
+        if old != *new { for c in &old { self.cells[*c].wakes.remove(&t); } for c in new { self.cells[*c].wakes.insert(t); } }
+        if self.cells[c].value != v { self.write(c, v) }
+    }
     pub fn write(&mut self, c: usize, v: A::Val) {
         if c >= self.cells.len() { return }
         let cell = &mut self.cells[c]; cell.value = v;
         for &s in &cell.readers { self.work.insert((self.scopes[s].as_ref().unwrap().height, s, true, 0)); }
+        for &t in &cell.wakes { let s = self.tasks[t].scope; self.work.insert((self.scopes[s].as_ref().unwrap().height, s, false, t)); }
     }
     fn mark(&mut self, s: usize) { self.work.insert((self.scope(s).height, s, true, 0)); }
     fn queue(&mut self, t: usize) { let s = self.tasks[t].scope; self.work.insert((self.scope(s).height, s, false, t)); }
