@@ -1,0 +1,6 @@
+-- No newline so far.
+use Rattle.std.proofs.Common.{◌≡◌, ℕ, ◌<◌, ◌≤◌, get_or}
+use Rattle.show_lines.proofs.reader.end_of_line.Given as goal
+
+abbrev pub invariant-loop-at : goal.invariant-loop-at
+invariant-loop-at l = (k : ℕ) → l.from ≤ k → k < l.at → get_or l.bytes k 0 ≡ 10 → ⊥
