@@ -99,6 +99,9 @@ pub fn unknown_word(alloc: Global, words: &[Text]) -> Result<String, OutOfMemory
             if word.as_str() == "--posters" {
                 return Ok(String::from_str(alloc, POSTERS)?);
             }
+            if word.as_str() == "--stream" {
+                return Ok(String::from_str(alloc, STREAM)?);
+            }
             let Some(one) = find_known(word.as_str()) else {
                 return of_unknown(alloc, word.as_str());
             };
@@ -113,10 +116,12 @@ pub fn unknown_word(alloc: Global, words: &[Text]) -> Result<String, OutOfMemory
 }
 
 /// The words that stand alone.
-const ALONE: &str = "--make N, --screen W H, --audit and --posters alone";
+const ALONE: &str = "--make N, --screen W H, --audit, --posters and --stream alone";
 
 const SCREEN: &str = "wanted --screen W H alone, W and H whole numbers from 1 to 200";
 
 const AUDIT: &str = "wanted --audit alone";
 
 const POSTERS: &str = "wanted --posters alone";
+
+const STREAM: &str = "wanted --stream alone";
