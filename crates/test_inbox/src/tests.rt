@@ -1,0 +1,4 @@
+//! The tables, a file each.
+
+mod posters;
+mod ringing;
