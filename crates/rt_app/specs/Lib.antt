@@ -8,6 +8,12 @@ pub use Rattle.rt_author.specs.Carrying
 pub use Rattle.rt_author.specs.Same
 pub use Rattle.rt_author.specs.Given
 pub use Rattle.rt_author.specs.Inside
+pub use Rattle.rt_author.specs.MemoTasks
+pub use Rattle.rt_author.specs.Load
+pub use Rattle.rt_author.specs.MemoTask
+pub use Rattle.rt_author.specs.Formulas
+pub use Rattle.rt_author.specs.Looking
+pub use Rattle.rt_author.specs.Memos
 pub use Rattle.rt_author.specs.Signals
 pub use Rattle.rt_author.specs.Pair
 pub use Rattle.rt_author.specs.Signal
@@ -122,6 +128,8 @@ pub use Rattle.rt_vdom.specs.Carried as StepsCarried
 pub use Rattle.rt_vdom.specs.Doms
 pub use Rattle.law_kept.specs.Calls as ValuesMade
 pub use Rattle.law_kept.specs.Settles as ValuesLeft
+pub use Rattle.law_minding.specs.Settling as MemosSettled
+pub use Rattle.law_minding.specs.Tended as MemosTended
 pub use Rattle.rt_vdom.specs.Handles
 pub use Rattle.rt_vdom.specs.Runs
 pub use Rattle.rt_vdom.specs.declared.dom.VirtualDom
