@@ -331,7 +331,7 @@ def memos(size):
 
 
 def derived(size):
-    """So many rows with a cell and a memo of it, and a write to every cell, in an order that jumps."""
+    """So many rows with a cell and a memo of it, and a write to each, in an order that jumps."""
     app = component(element("ul", many(size, "place", use("Row", get("place")))))
     known = [cell("value", get("place")), memo("twice", {"mul": [read("value"), 2]})]
     row = component(element("li", text(read("twice"))), params=["place"], do=known)

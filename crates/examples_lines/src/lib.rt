@@ -2,13 +2,14 @@
 #![tactic(auto)]
 
 use rt_app::{
-    App, ElementId, Input, Limits, List, Mutations, OutOfMemory, SessionFault, Text, session,
+    App, ElementId, Input, Limits, List, Mutations, OutOfMemory, Report, SessionFault, Text,
+    session,
 };
 use show_print::{edit_line, fault_line, report_line};
 use std::alloc::Global;
 
 /// What the program of the JSON language allows a session, where its words ask for nothing else.
-const LIMITS: Limits = Limits {
+pub const LIMITS: Limits = Limits {
     units: 10_000,
     height: 128,
     drain: 1_024,
@@ -37,6 +38,16 @@ pub fn lines<A: App>(
 ) -> Result<List<u8>, OutOfMemory> {
     let mut sink = Mutations::default_list(alloc);
     let ended = session(alloc, app, props, inputs, &mut sink, LIMITS);
+    lines_of(alloc, &sink, ended)
+}
+
+/// The lines of a session that has ended: the edits that its sink kept, its reports, and its fault
+/// where there is one.
+pub fn lines_of(
+    alloc: Global,
+    sink: &Mutations,
+    ended: Result<List<Report>, SessionFault>,
+) -> Result<List<u8>, OutOfMemory> {
     let mut lines = List::new(alloc);
     for edit in sink.edits() {
         lines.append(edit_line(alloc, edit)?)?;

@@ -2,7 +2,7 @@
 ghost use Rattle.std.specs.Prelude.{◌≡◌};
 ghost use Rattle.rt_language.specs.Formulas as meanings;
 ghost use Rattle.lang_syntax.specs.Looking.{derived_looks};
-ghost use Rattle.lang_syntax.specs.Mirror.{expression_of, arguments_of};
+ghost use Rattle.lang_syntax.specs.Expressions.{expression_of, arguments_of};
 
 use crate::derived::Derived;
 use crate::expression::Expression;

@@ -55,9 +55,11 @@ pub use Rattle.law_lasting.specs.CellsLast
 pub use Rattle.law_lasting.specs.ComponentsLast
 pub use Rattle.law_lasting.specs.NumbersLast
 pub use Rattle.law_lasting.specs.OneFinish
+pub use Rattle.law_minding.specs.Coming
 pub use Rattle.law_minding.specs.Held
 pub use Rattle.law_minding.specs.Sessions
 pub use Rattle.law_minding.specs.Unpolled
+pub use Rattle.law_minding.specs.Waking
 pub use Rattle.law_pages.specs.Keeps
 pub use Rattle.law_pages.specs.OnePage
 pub use Rattle.law_pages.specs.Updates

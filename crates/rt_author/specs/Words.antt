@@ -25,6 +25,11 @@ pub use Rattle.author_bodies.specs.Bodies.{ProgramsDecide}
 pub use Rattle.author_bodies.specs.declared.bodied.Bodied.{Bodied}
 pub use Rattle.author_bodies.specs.declared.paged.Paged.{Paged}
 pub use Rattle.author_carrying.specs.Carrying.{Carrying}
+pub use Rattle.author_deriving.specs.Task.{as_task, load_of, task_of}
+pub use Rattle.author_deriving.specs.declared.task.MemoTask.{MemoTask}
+pub use Rattle.author_formulas.specs.Formulas.{Formulas, FormulasLook, Load, loaded, wait}
+pub use Rattle.author_formulas.specs.Looking.{Looks}
+pub use Rattle.author_formulas.specs.Memos.{memo_polled, own_memo}
 pub use Rattle.author_given.proofs.Decides.{given_tests}
 pub use Rattle.author_given.specs.Same.{same_given}
 pub use Rattle.author_programs.proofs.Lawful.{coded_tests, either_tests, pair_tests, plain_tests}

@@ -51,6 +51,7 @@ pub use law_pages::{
     one_read_shows, pages_keep_cells,
 };
 pub use law_reduce::{
-    bodies_show, cells_are_kept, folds_show, one_hears, pages_reduce, pages_show_values,
-    reports_reduce, reports_show_bodies, reports_show_reduced, runs_are_given, unrun_reads_stay,
+    bodies_show, cells_are_kept, folds_show, one_hears, own_cells_fold, own_pages_show,
+    pages_reduce, pages_show_values, reports_reduce, reports_show_bodies, reports_show_reduced,
+    runs_are_given, unrun_reads_stay,
 };

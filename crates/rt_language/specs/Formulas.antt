@@ -122,4 +122,5 @@ keeping = record { kind = 3; keeps = CellValue; kept = cell_in }
 -- the cell of a memo or of a resource, which is made with its task on first use and kept
 abbrev pub derived_cell : List Value → Derived → Program SourceTypes (Option ℕ)
 derived_cell held derived =
-    own_memo {K = SourceTypes} {F = Deriving} keeping (λ task. Minding task) NoValue (record { held = held; derived = derived }) (is_loaded derived)
+    let of : Deriving = record { held = held; derived = derived } in
+    own_memo {K = SourceTypes} {F = Deriving} keeping (λ task. Minding task) NoValue of (is_loaded derived)

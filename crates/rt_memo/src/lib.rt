@@ -4,7 +4,7 @@
 mod keeping;
 
 pub use author_deriving::{
-    HasMemo, Load, MemoApp, MemoBodies, MemoTask, poll_memo, use_memo, use_resource,
+    HasMemo, Load, MemoApp, MemoBodies, MemoTask, poll_memo, step_memo, use_memo, use_resource,
 };
 pub use keeping::memo_session;
 pub use law_minding::{polls_are_done, sessions_keep_memos};

@@ -3,9 +3,7 @@
 #![tactic(auto)]
 
 use rt_inbox::NoGate;
-use rt_show::{
-    asks_for_posters, asks_for_stream, show_and_say, show_posted_and_say, show_streamed,
-};
+use rt_show::{asks_for_posters, show_and_say, show_posted_and_say};
 use rt_values::Text;
 use show_streams::{StandardIn, StandardOut};
 use std::env;
@@ -24,7 +22,7 @@ fn meaning(status: u8) -> Option<&'static str> {
     match status {
         0 => None,
         2 => Some(
-            "status 2: the words aren't among --units N, --height N, --make N, --screen W H, --audit, --posters, --stream",
+            "status 2: the words aren't among --units N, --height N, --make N, --screen W H, --audit, --posters",
         ),
         3 => Some("status 3: the source is too long, or isn't in the form of an application"),
         4 => Some("status 4: the run ended in the fault that was printed last"),
@@ -90,21 +88,9 @@ fn run_posted<R: Threads + Wait + Sync + Print + AllocGlobal, I: Read + Drop>(
     )
 }
 
-/// The same line by line: each line is answered before the next one is read.
-fn run_streamed<R: Print + Eprint + AllocGlobal, I: Read + Drop>(
-    rt: &R,
-    reader: I,
-    words: &[Text],
-    refusal: &mut Option<String>,
-) -> u8 {
-    let mut source = StandardIn::new(reader);
-    let mut out = StandardOut::new(rt);
-    show_streamed(rt.alloc(), words, &mut source, &mut out, rt, refusal)
-}
-
 /// Runs what the words ask for. The status; and of a source that isn't in the form, where and what
 /// was wanted there.
-fn run_as_asked<R: Env + Threads + Wait + Sync + Print + Eprint + AllocGlobal, I: Read + Drop>(
+fn run_as_asked<R: Env + Threads + Wait + Sync + Print + AllocGlobal, I: Read + Drop>(
     rt: &R,
     reader: I,
 ) -> (u8, Option<String>) {
@@ -112,9 +98,6 @@ fn run_as_asked<R: Env + Threads + Wait + Sync + Print + Eprint + AllocGlobal, I
     let status = match words_given(rt) {
         Ok(words) if asks_for_posters(words.as_slice()) => {
             run_posted(rt, reader, words.as_slice(), &mut refusal)
-        }
-        Ok(words) if asks_for_stream(words.as_slice()) => {
-            run_streamed(rt, reader, words.as_slice(), &mut refusal)
         }
         Ok(words) => run(rt, reader, words.as_slice(), &mut refusal),
         Err(status) => status,

@@ -1,4 +1,0 @@
-pub mod Streams
-pub mod Put
-pub mod UnderWay
-pub mod Statuses

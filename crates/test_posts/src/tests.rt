@@ -1,6 +1,0 @@
-//! The tables, a file each.
-
-mod lines;
-mod meeting;
-mod posters;
-mod reports;
