@@ -1,0 +1,5 @@
+//! The tables, a file each.
+
+mod lines;
+mod meeting;
+mod reports;
