@@ -6,15 +6,16 @@ use Rattle.rt_model.specs.Tree.{Types, VComponent, Own, Tree, Element, rendered,
 use Rattle.rt_model.specs.World.{Renders, at_end, before_render_kind, after_render_kind, CallFault, Hook, HookValue, HookEffect, Command, World, Meaning, Application}
 use Rattle.rt_model.specs.State.{MainSide, Scope, LastCall, State, Outcome, Done, Cut, IdsExhausted, BadNode, onward, side_of, change, hooks_of, renders_of, world_of}
 use Rattle.rt_model.specs.Commands.{commands}
+use Rattle.rt_model.specs.Replay.{with_props}
 use Rattle.rt_model.specs.Run.{with_next, called_once, answer_fits, output_of, kept_call, is_kind, fault_of, raised, unmarked, spots_of, body_of, hook_called, hooks_called, after_hooks, call_body, patched, start_agenda, after_answer, run_as, run}
 use Rattle.rt_model.proofs.Maps.{eq_same, at_put_here}
 use Rattle.rt_model.proofs.Tour.{AllFresh}
-use Rattle.law_behavior.specs.Deeds.{Deed, effect_deeds}
+use Rattle.law_behavior.specs.Deeds.{Deed, effect_deeds, run_deeds}
 use Rattle.law_behavior.proofs.Frames.{Free, permits, Frame, Called}
 use Rattle.law_behavior.proofs.Enduring.{Enduring, finely, kept_so}
 use Rattle.law_behavior.proofs.Commanded.{AllAllowed}
-use Rattle.law_behavior.proofs.Lived.{AllGood, Ends, changes, called, acted_on}
-use Rattle.law_behavior.proofs.Steadfast.{Of, Other, Bears, from_zero, fresh_anyway, draw_anyway, of_again, of_endures, all_allowed}
+use Rattle.law_behavior.proofs.Lived.{AllGood, Ends, Leaves, changes, called, acted_on, run_on}
+use Rattle.law_behavior.proofs.Steadfast.{Of, Other, Bears, from_zero, fresh_anyway, draw_anyway, of_again, of_change, of_endures, all_allowed}
 use Rattle.author_programs.specs.Cells.{Keeping}
 use Rattle.author_programs.specs.Pages.{Pages, meaning_of_pages}
 use Rattle.author_programs.specs.Shows.{KeepAll, present}
@@ -35,6 +36,15 @@ module _ {K : Types} (app : Application K) (P : State K → Type 0) (feedable re
 
   abbrev pub End : Outcome K → Type 0
   End o = Ends app P P 0 (permits Free Free feedable removable) law (λ t. tt) bodies (λ w r polled cs. Unit {0}) (λ w r polled cs f g. freely w r polled cs f g) (draw_anyway app) o
+
+  -- what a run leaves
+  abbrev pub Left : Outcome K → Type 0
+  Left o = Leaves app P P 0 (permits Free Free feedable removable) law (λ t. tt) bodies (λ w r polled cs. Unit {0}) (λ w r polled cs f g. freely w r polled cs f g) (draw_anyway app) o
+
+  pub run_ends : (w : State K) (s : ℕ) → P w → Left (run app w s)
+  run_ends w s p =
+      run_on app P P 0 (permits Free Free feedable removable) law (λ t. tt) bodies (λ v r polled cs. Unit {0}) (λ v r polled cs f g. freely v r polled cs f g) (draw_anyway app)
+      w s (all_good (run_deeds app w s)) p
 
   either_end : (b : Bool) (x y : Outcome K) → End x → End y → End (if b then x else y)
   either_end true x y f g = f
@@ -85,14 +95,14 @@ module _ {K : Types} (app : Application K) (P : State K → Type 0) (feedable re
       (then_end (raised w s) (λ v. after_hooks app v s) (raised_ends w s p) (λ v q. hooks_end after_render_kind s (hooks_of v s) v q))
       (λ v q. agenda_at v s tree (at v.scopes s) refl q)
 
-module _ {K : Types} (k : Keeping K.Value) (a : Pages K) (s : ℕ) (own : List ℕ) (c : K.Component) (p : K.Props) where
+module _ {K : Types} (k : Keeping K.Value) (a : Pages K) (s : ℕ) (own : List ℕ) (c : K.Component) where
   abbrev app : Application K
   app = meaning_of_pages k a
 
-  -- the scope is that page's, and its hooks keep the cells
+  -- the scope is that page's, whatever its props, and its hooks keep the cells
 
   abbrev pub IsPage : Scope K → Type 0
-  IsPage x = KeepAll k x.hooks 0 own × (x.component ≡ Own c p)
+  IsPage x = KeepAll k x.hooks 0 own × (q : K.Props) × (x.component ≡ Own c q)
 
   abbrev pub Page_is : State K → Type 0
   Page_is w = Of s IsPage w
@@ -100,8 +110,8 @@ module _ {K : Types} (k : Keeping K.Value) (a : Pages K) (s : ℕ) (own : List �
   page_bears : Bears {K = K} s IsPage Free Free (λ t. Other s t)
   page_bears =
       record {
-        same = λ x y same q. (subst (λ (hs : List (Hook K)). KeepAll k hs 0 own) (sym (same.but).hooks) q.0, (same.but).component ∙ q.1);
-        hooks = λ x h q. (kept_longer k s own None [] x.hooks h 0 own q.0, q.1);
+        same = λ x y same q. (subst (λ (hs : List (Hook K)). KeepAll k hs 0 own) (sym (same.but).hooks) q.0, q.1, (same.but).component ∙ q.2);
+        hooks = λ x h q. (kept_longer k s own None [] x.hooks h 0 own q.0, q.1, q.2);
         joins = λ x t origin q. q;
         throws = λ x e none q. q;
         clears = λ x may q. q;
@@ -118,7 +128,7 @@ module _ {K : Types} (k : Keeping K.Value) (a : Pages K) (s : ℕ) (own : List �
   pub page_called : Called app (λ w. Page_is w) 0
   page_called =
       kept_so (λ w. Page_is w) 0 Free Free (λ t. Other s t) (λ t. Other s t) page_endures app
-      (of_again s IsPage (λ x y same q. (subst (λ (hs : List (Hook K)). KeepAll k hs 0 own) (sym same.hooks) q.0, same.component ∙ q.1)))
+      (of_again s IsPage (λ x y same q. (subst (λ (hs : List (Hook K)). KeepAll k hs 0 own) (sym same.hooks) q.0, q.1, same.component ∙ q.2)))
 
   -- its last call was given such hooks
   abbrev pub Told : State K → Type 0
@@ -137,16 +147,16 @@ module _ {K : Types} (k : Keeping K.Value) (a : Pages K) (s : ℕ) (own : List �
   done_so (Cut v fault) h = tt
 
   -- the call itself
-  called_anew : (w : State K) → Page_is w → Told (kept_call (called_once w) s (world_of w s None true) (body_of app (Own c p) (world_of w s None true)))
-  called_anew w h = ((one_called k s own None [] app).bodies w s (Own c p) (from_zero (body_of app (Own c p) (world_of w s None true)).next.tasks) kept, given)
+  called_anew : (w : State K) (q : K.Props) → Page_is w → Told (kept_call (called_once w) s (world_of w s None true) (body_of app (Own c q) (world_of w s None true)))
+  called_anew w q h = ((one_called k s own None [] app).bodies w s (Own c q) (from_zero (body_of app (Own c q) (world_of w s None true)).next.tasks) kept, given)
     where
       kept : Of s (Keeps k s own None []) w
       kept = record { row = h.row; there = h.there; holds = (h.holds).0 }
 
-      given : Given k s own None [] (kept_call (called_once w) s (world_of w s None true) (body_of app (Own c p) (world_of w s None true)))
+      given : Given k s own None [] (kept_call (called_once w) s (world_of w s None true) (body_of app (Own c q) (world_of w s None true)))
       given last e =
           let world : World K = world_of w s None true in
-          let m : Meaning K (Element K) = body_of app (Own c p) world in
+          let m : Meaning K (Element K) = body_of app (Own c q) world in
           let u : State K = called_once w in
           let n : State K = with_next u m.next in
           let call : LastCall K = record { given = world; aside = m.aside; answer = m.answer; before = output_of u s } in
@@ -158,16 +168,16 @@ module _ {K : Types} (k : Keeping K.Value) (a : Pages K) (s : ℕ) (own : List �
           ap (λ (o : Option (Scope K)). elim o as (λ z. List (Hook K)) [ None ↦ [] | Some x ↦ x.hooks ]) h.there in
           inr (subst (λ (l : LastCall K). KeepAll k l.given.given.hooks 0 own) this (subst (λ (hs : List (Hook K)). KeepAll k hs 0 own) (sym hooks) (h.holds).0))
 
-  module _ (same : length (a.page c p).cells ≡ length own) where
+  module _ (same : (q : K.Props) → length (a.page c q).cells ≡ length own) where
     -- the body's call, and what follows it
-    body_gives : (w : State K) → Page_is w → DoneSo (call_body app w s (Own c p) (λ v answer. after_answer app v s answer))
-    body_gives w h = by_fault m.fault
+    body_gives : (w : State K) (q : K.Props) → Page_is w → DoneSo (call_body app w s (Own c q) (λ v answer. after_answer app v s answer))
+    body_gives w q h = by_fault m.fault
       where
         world : World K
         world = world_of w s None true
 
         m : Meaning K (Element K)
-        m = body_of app (Own c p) world
+        m = body_of app (Own c q) world
 
         u : State K
         u = commands app (kept_call (called_once w) s world m) s None m.commands
@@ -179,17 +189,17 @@ module _ {K : Types} (k : Keeping K.Value) (a : Pages K) (s : ℕ) (own : List �
         kept = subst (λ (hs : List (Hook K)). KeepAll k hs 0 own) (sym hooks) (h.holds).0
 
         tree : Tree K
-        tree = (a.page c p).shows world.given.scope own (map (present world) ((a.page c p).reads own))
+        tree = (a.page c q).shows world.given.scope own (map (present world) ((a.page c q).reads own))
 
         answer_is : m.answer ≡ rendered tree
-        answer_is = shows-present-values K k (a.page c p) world own kept same
+        answer_is = shows-present-values K k (a.page c q) world own kept (same q)
 
         after : DoneSo (after_answer app u s m.answer)
         after =
             subst (λ (e : Element K). DoneSo (after_answer app u s e)) (sym answer_is)
             (done_so (after_answer app u s (rendered tree))
             (answer_ends app (λ v. Told v) Free (λ t. Other s t) (both_frame k s own None [] app) (both_called k s own None [] app) u s tree
-            (commands_end app (λ v. Told v) Free (λ t. Other s t) (both_frame k s own None [] app) (both_called k s own None [] app) (kept_call (called_once w) s world m) s m.commands (called_anew w h))))
+            (commands_end app (λ v. Told v) Free (λ t. Other s t) (both_frame k s own None [] app) (both_called k s own None [] app) (kept_call (called_once w) s world m) s m.commands (called_anew w q h))))
 
         by_fit : (b : Bool) → DoneSo (if b then after_answer app u s m.answer else Cut (kept_call (called_once w) s world m) (BadNode s))
         by_fit true = after
@@ -215,8 +225,27 @@ module _ {K : Types} (k : Keeping K.Value) (a : Pages K) (s : ℕ) (own : List �
         (hooks_end app (λ v. Page_is v) (λ t. Other s t) (λ t. Other s t) page_frame page_called before_render_kind s (h.row).hooks (unmarked w s) (page_frame.unmarks w s h)))
       where
         as_page : (v : State K) → Page_is v → DoneSo (run_as app v s h.row (h.row).component)
-        as_page v q = subst (λ (d : VComponent K). DoneSo (run_as app v s h.row d)) (sym (h.holds).1) (body_gives v q)
+        as_page v g = subst (λ (d : VComponent K). DoneSo (run_as app v s h.row d)) (sym (h.holds).2) (body_gives v (h.holds).1 g)
 
         on : (o : Outcome K) → End app (λ v. Page_is v) (λ t. Other s t) (λ t. Other s t) page_frame page_called o → DoneSo (onward o (λ v. run_as app v s h.row (h.row).component))
         on (Done v work) q = as_page v q
         on (Cut v fault) q = tt
+
+  -- it stays that page's through a run, in the state that it leads to, and in the one at which a fault cut it
+  abbrev pub StillSo : Outcome K → Type 0
+  StillSo (Done v work) = Page_is v
+  StillSo (Cut v fault) = Page_is v
+
+  abbrev RunLeft : Outcome K → Type 0
+  RunLeft o = Left app (λ w. Page_is w) (λ t. Other s t) (λ t. Other s t) page_frame page_called o
+
+  still_so : (o : Outcome K) → RunLeft o → StillSo o
+  still_so (Done v work) h = h
+  still_so (Cut v fault) h = h
+
+  pub run_leaves : (w : State K) → Page_is w → StillSo (run app w s)
+  run_leaves w h = still_so (run app w s) (run_ends app (λ v. Page_is v) (λ t. Other s t) (λ t. Other s t) page_frame page_called w s h)
+
+  -- and where it is handed another component of the page
+  pub given_page : (w : State K) (t : ℕ) (d : VComponent K) (q : K.Props) → d ≡ Own c q → Page_is w → Page_is (with_props app w t d)
+  given_page w t d q is h = of_change s IsPage w t (λ x. record x { component = d }) (λ x e g. (g.0, q, is)) h

@@ -10,7 +10,9 @@ use Rattle.rt_model.specs.Current.{AllCurrent}
 use Rattle.rt_model.specs.Told.{Told}
 use Rattle.rt_model.specs.Reports.{Report}
 use Rattle.law_behavior.specs.Along.{NoneRemoves}
+use Rattle.law_moves.specs.Sorts.{FedFit}
 use Rattle.law_behavior.specs.Owed.{MarksAreRun}
+use Rattle.law_lasting.specs.ComponentsLast.{ComponentsLast}
 use Rattle.author_programs.specs.Cells.{Keeping}
 use Rattle.author_programs.specs.Pages.{Pages, meaning_of_pages}
 use Rattle.law_pages.specs.Updates.{Model, model_of}
@@ -76,11 +78,12 @@ own_cells_fold K k a props inputs limits taken reports ran =
     folds_of a inputs reports ran.told (reports_reduce K k a props inputs limits taken reports ran)
     (each_owns k a props inputs reports ran.told (ran.done).one_each (ran.recorded).accepted (ran.recorded).settled)
 
-pub own_pages_show : (K : Types) → ((k : Keeping K.Value) (a : Pages K) → MarksAreRun (meaning_of_pages k a)) → OwnPagesShow K
-own_pages_show K marks k a back props inputs limits taken reports h =
+pub own_pages_show : (K : Types) → ((k : Keeping K.Value) (a : Pages K) → MarksAreRun (meaning_of_pages k a)) → ((k : Keeping K.Value) (a : Pages K) → FedFit (meaning_of_pages k a)) → ((k : Keeping K.Value) (a : Pages K) → ComponentsLast (meaning_of_pages k a))
+    → OwnPagesShow K
+own_pages_show K marks fed lasts k a back lawful props inputs limits taken reports h =
     by reports h.told
     (own_cells_fold K k a props inputs limits taken reports (ran_of k a props inputs limits taken reports h))
-    (each_goes_on k a (marks k a) props inputs reports h.told (h.done).one_each ((h.holds).recorded).accepted ((h.holds).recorded).settled)
+    (each_goes_on k a (marks k a) (record { lawful = lawful; fed = fed k a; lasts = lasts k a }) props inputs reports h.told (h.done).one_each ((h.holds).recorded).accepted ((h.holds).recorded).settled)
     (h.holds).current
   where
     by : (rs : List Report) (ts : List (Told K)) → OwnFolds a inputs rs ts → EachGoesOn k a rs ts
@@ -88,20 +91,22 @@ own_pages_show K marks k a back props inputs limits taken reports h =
         → OwnShows k a inputs rs ts
     by [] ts folds go current = absurd go
     by (r ∷ rs) [] folds go current = absurd go
-    by (r ∷ rs) (t ∷ ts) folds go current = λ s c p run reads among owned stays unfed.
+    by (r ∷ rs) (t ∷ ts) folds go current = λ s c p run reads among many owned stays.
         let w : State K = (t.machine).state in
         let own : List ℕ = own_of k a s c p run.first in
         let v : State K = last_state w ts in
-        let now : ShowsNow k a s c p own v = shows_end k a back s c p w run rs ts go current.0 current.1 stays unfed in
+        let now : ShowsNow k a s c p own v = shows_end k a back s c p w run many rs ts go current.0 current.1 stays in
         let m : Model K = folded a w inputs ts (model_of w) in
         record {
           row = now.row;
           there = now.there;
+          props = now.props;
+          page = now.page;
           last = now.last;
           call = now.call;
           drawn = now.drawn;
           output =
               now.output
-              ∙ ap (λ (vs : List (Option K.Value)). Some ((a.page c p).shows (now.last).given.given.scope own vs))
-              (reads_among own (model_of v) m now.drawn ((a.page c p).reads own) among (folds s own reads owned stays));
+              ∙ ap (λ (vs : List (Option K.Value)). Some ((a.page c now.props).shows (now.last).given.given.scope own vs))
+              (reads_among own (model_of v) m now.drawn ((a.page c now.props).reads own) (among now.props) (folds s own reads owned stays));
         }

@@ -1,11 +1,11 @@
 -- The listeners of an event in turn: after them none is left, owners are as they were, and the values are what they make of them.
-use Rattle.std.proofs.Common.{ℕ, true, List, [], ◌∷◌, ◌++◌, ◌≡◌, refl, sym, ap, ◌∙◌, subst}
-use Rattle.std.specs.Prelude.{Option, Some}
+use Rattle.std.proofs.Common.{ℕ, Bool, true, List, [], ◌∷◌, ◌++◌, ◌≡◌, refl, sym, ap, ◌∙◌, subst}
+use Rattle.std.specs.Prelude.{Option, Some, None, if◌then◌else◌}
 use Rattle.rt_model.specs.Tree.{Types}
 use Rattle.rt_model.specs.World.{Event, Application}
 use Rattle.rt_model.specs.State.{Scope}
 use Rattle.rt_model.specs.Heard.{Listener}
-use Rattle.rt_model.specs.Replay.{Entry, Heard, Machine, if_live, waiting, due, is_due, step, heard_event, is_quiet, replay_on}
+use Rattle.rt_model.specs.Replay.{Entry, Heard, Machine, if_live, waiting, due, is_due, step, accepts, heard_event, is_quiet, replay_on}
 use Rattle.rt_model.specs.State.{is_live}
 use Rattle.rt_model.proofs.Maps.{by_test, pick_true, pick_false}
 use Rattle.rt_model.proofs.OneLogOnly.{fork}
@@ -28,6 +28,7 @@ module _ {K : Types} (k : Keeping K.Value) (a : Pages K) where
     pub rest : List Entry
     pub between : Machine K
     pub parts : log ≡ heards ++ rest
+    pub hears : replay_on app (Some m) heards ≡ Some between
     pub goes_on : replay_on app (Some between) rest ≡ Some v
     pub model : model_of between.state ≡ updates a m.bubbles m.state.next.cells ls e (model_of m.state)
     pub owners : owners_of between.state ≡ owners_of m.state
@@ -45,6 +46,7 @@ module _ {K : Types} (k : Keeping K.Value) (a : Pages K) where
         rest = log;
         between = m;
         parts = refl;
+        hears = refl;
         goes_on = accepted;
         model = refl;
         owners = refl;
@@ -57,18 +59,20 @@ module _ {K : Types} (k : Keeping K.Value) (a : Pages K) where
 
   -- one more before them
   done_more : (m x v : Machine K) (ls others : List (Listener K)) (e left : Event K) (f : Entry) (fs : List Entry)
+      → accepts app m f ≡ Some x
       → owners_of x.state ≡ owners_of m.state
       → Minds m.state x.state
       → x.inputs ≡ m.inputs
       → updates a x.bubbles x.state.next.cells others left (model_of x.state) ≡ updates a m.bubbles m.state.next.cells ls e (model_of m.state)
       → EventDone x others left fs v
       → EventDone m ls e (f ∷ fs) v
-  done_more m x v ls others e left f fs owners minds inputs models u =
+  done_more m x v ls others e left f fs taken owners minds inputs models u =
       record {
         heards = f ∷ u.heards;
         rest = u.rest;
         between = u.between;
         parts = ap (λ (es : List Entry). f ∷ es) u.parts;
+        hears = ap (λ (o : Option (Machine K)). replay_on app o u.heards) taken ∙ u.hears;
         goes_on = u.goes_on;
         model = u.model ∙ models;
         owners = u.owners ∙ owners;
@@ -97,6 +101,8 @@ module _ {K : Types} (k : Keeping K.Value) (a : Pages K) where
       let is : Heard l.origin ≡ f = that_one k a (is_live m.state l.origin) (Heard l.origin) f here in
       let x : Machine K = step app m (Heard l.origin) in
       let left : Event K = (a.reply l.handler e).leaves in
+      let taken : accepts app m f ≡ Some x =
+      ap (λ (b : Bool). if b then Some (step app m f) else None) forked.0 ∙ ap (λ (d : Entry). Some (step app m d)) (sym is) in
       let up : Updated a m l ls e x = heard_entries_update K k a m l ls e rests.alive rests.idle rests.unit event waits in
       let called : x ≡ heard_event app m l ls (Some e) = heard_entry_is k a m l ls e rests.alive rests.idle rests.unit event waits in
       let goes : replay_on app (Some x) fs ≡ Some v = subst (λ (d : Entry). replay_on app (Some (step app m d)) fs ≡ Some v) (sym is) forked.1 in
@@ -110,12 +116,12 @@ module _ {K : Types} (k : Keeping K.Value) (a : Pages K) where
       by_test (stops k a m l e)
       (
       λ q.
-      done_more m x v (l ∷ ls) [] e left f fs owners minds inputs (up.model ∙ sym (pick_true made onwards q))
+      done_more m x v (l ∷ ls) [] e left f fs taken owners minds inputs (up.model ∙ sym (pick_true made onwards q))
       (done_none x left fs v (up.rest.4 ∙ built) still (up.listeners ∙ pick_true [] ls q) goes)
       )
       (
       λ q.
-      done_more m x v (l ∷ ls) ls e left f fs owners minds inputs
+      done_more m x v (l ∷ ls) ls e left f fs taken owners minds inputs
       (same_updates k a ls left m x made up.rest.3 up.next up.model ∙ sym (pick_false made onwards q))
       (later x (up.rest.4 ∙ built) still up.event (up.listeners ∙ pick_false [] ls q) all_live goes)
       )

@@ -5,6 +5,8 @@ pub mod Calm
 pub mod InTurn
 pub mod Taking
 pub mod Calling
+pub mod Led
+pub mod Handing
 pub mod Runs
 pub mod GoesOn
 pub mod OneReport

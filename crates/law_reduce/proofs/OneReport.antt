@@ -7,7 +7,7 @@ use Rattle.rt_model.specs.World.{Cell, Event, Application}
 use Rattle.rt_model.specs.State.{Fault, Scope, State, CellRow, Item, is_live}
 use Rattle.rt_model.specs.Next.{Work, RunEffects, next, owes, is_before, least}
 use Rattle.rt_model.specs.Heard.{Listener}
-use Rattle.rt_model.specs.Replay.{Entry, Build, Taken, Input, EventAt, WakeOf, WriteOf, MarkOf, Drain, Machine, if_live, no_work, no_listener, waiting, looked_where_quiet, then_looked, taken_in, due_work, due_heard, due_item, due, is_due, step, is_quiet, replay_on}
+use Rattle.rt_model.specs.Replay.{Entry, Build, Taken, Input, EventAt, WakeOf, WriteOf, MarkOf, Drain, Machine, if_live, no_work, no_listener, waiting, looked_where_quiet, then_looked, taken_in, due_work, due_heard, due_item, due, is_due, step, accepts, is_quiet, replay_on}
 use Rattle.rt_model.specs.Causes.{Limits}
 use Rattle.rt_model.specs.Told.{count_entries, is_settled}
 use Rattle.rt_model.specs.Reports.{is_opening, OpensWith}
@@ -28,11 +28,11 @@ use Rattle.law_pages.proofs.Keeping.{pages_keep_cells}
 use Rattle.law_pages.proofs.Listening.{at_values}
 use Rattle.law_pages.proofs.Hearing.{waits_on, machine_is}
 use Rattle.law_reduce.specs.Reduces.{hearers, reduced, Reduces}
-use Rattle.law_lasting.specs.ComponentsLast.{NoneFeeds}
 use Rattle.law_reduce.specs.Reads.{NoneRuns, ReadsStay}
-use Rattle.law_reduce.proofs.GoesOn.{later_stays, later_unrun, later_unfed, PagesGoOn, page_after}
+use Rattle.law_reduce.proofs.GoesOn.{later_stays, later_unrun, PagesGoOn, Knows, page_after}
 use Rattle.law_reduce.specs.Elm.{Owned, OwnersStay}
 use Rattle.law_reduce.proofs.Owners.{owners_of, still_owned}
+use Rattle.law_reduce.proofs.Led.{LedTo, led_on, Way, way_on}
 use Rattle.law_reduce.proofs.Minds.{Minds}
 use Rattle.rt_model.specs.Commands.{names_source}
 use Rattle.law_reduce.proofs.Calm.{none_opens, none_later, Calm, calm_moves}
@@ -115,12 +115,13 @@ module _ {K : Types} (k : Keeping K.Value) (a : Pages K) where
     pub reduces : Reduces a m.state input log v.state
     pub owners_stay : OwnersStay m.state log v.state
     pub reads_stay : MarksAreRun app → ReadsStay m.state log v.state
-    pub pages_go_on : MarksAreRun app → PagesGoOn k a m.state log v.state
+    pub pages_go_on : MarksAreRun app → Knows k a → (props : K.Props) (all : List (Input K)) → LedTo app props all m → PagesGoOn k a m.state log v.state
     pub ready_again : Ready v
     pub inputs : v.inputs ≡ more
 
   -- from where nobody is left to wait, and the values are the input's
   onwards : (m b v : Machine K) (input : Input K) (more : List (Input K)) (before rest log : List Entry) → log ≡ before ++ rest
+      → replay_on app (Some m) before ≡ Some b
       → Calm more b
       → AtRest b
       → owners_of b.state ≡ owners_of m.state
@@ -130,7 +131,7 @@ module _ {K : Types} (k : Keeping K.Value) (a : Pages K) where
       → count_entries is_opening rest ≡ 0
       → is_settled v ≡ true
       → Came m input more log v
-  onwards m b v input more before rest log parts calm rests owners minds model accepted none settled =
+  onwards m b v input more before rest log parts led calm rests owners minds model accepted none settled =
       let found = some_limits app rest b v accepted in
       let limits : Limits = found.0 in
       let moved = logs_are_moves app limits b v rest (at_rest_settled b rests) found.1 in
@@ -164,15 +165,17 @@ module _ {K : Types} (k : Keeping K.Value) (a : Pages K) where
             (subst (λ (es : List Entry). NoneRuns s es) (sym moved.2) (later_unrun s before rest (subst (λ (es : List Entry). NoneRuns s es) parts unrun)))
             named cell (stays_on row.owner stays);
         pages_go_on =
-            λ marks s x c p own same there page keeps stays unfed.
+            λ marks known props all came s x c p own same there page keeps stays.
+            let way : Way app props all b rest v = way_on app props all b v rest (at_rest_settled b rests) (led_on app props all m b before came led) accepted in
+            let alike : entries way.moves ≡ entries moved.0 = way.entries_are ∙ sym moved.2 in
+            let none_here : count_entries is_opening (entries way.moves) ≡ 0 = ap (λ (es : List Entry). count_entries is_opening es) alike ∙ none_moves in
             let stays_here : NoneRemoves s (entries moved.0) = stays_on s stays in
-            let unfed_here : NoneFeeds s (entries moved.0) =
-            subst (λ (es : List Entry). NoneFeeds s es) (sym moved.2) (later_unfed s before rest (subst (λ (es : List Entry). NoneFeeds s es) parts unfed)) in
             let at_b : at b.state.scopes s ≡ Some x = ap (λ (es : List (ℕ × Scope K)). at es s) minds.scopes ∙ there in
-            page_after k a marks m.state b v limits moved.0 moved.1 (again.rests).alive none_moves minds.calls s x c p own same at_b page keeps stays_here unfed_here
+            page_after k a known m.state b v way.limits props all way.moves way.reached way.leads (again.rests).alive none_here minds.calls s x c p own same at_b page keeps
+            (subst (λ (es : List Entry). NoneRemoves s es) (sym alike) stays_here)
             (
             λ live unrun n r named cell mine.
-            cell_stays marks s x n r there live unrun named cell (subst (λ (o : ℕ). NoneRemoves o (entries moved.0)) (sym mine) stays_here)
+            cell_stays marks s x n r there live (subst (λ (es : List Entry). NoneRuns s es) alike unrun) named cell (subst (λ (o : ℕ). NoneRemoves o (entries moved.0)) (sym mine) stays_here)
             );
         owners_stay =
             λ n row there stays.
@@ -210,8 +213,8 @@ module _ {K : Types} (k : Keeping K.Value) (a : Pages K) where
         owners_stay = λ n row there stays. record { row = row; there = there; owner_is = refl };
         reads_stay = λ marks s x n row there live unrun named cell stays. cell;
         pages_go_on =
-            λ marks s x c p own same there page keeps stays unfed.
-            record { row = x; there = there; page = page; keeps = keeps; calls = λ last e. inr (e, refl, λ n r named cell mine. cell) };
+            λ marks known props all came s x c p own same there page keeps stays.
+            record { row = x; there = there; props = p; page = page; keeps = keeps; calls = λ last e. inr (e, refl, refl, λ n r named cell mine. cell) };
         ready_again = still;
         inputs = refl;
       } in
@@ -219,6 +222,7 @@ module _ {K : Types} (k : Keeping K.Value) (a : Pages K) where
 
   -- somebody hears it
   heard_by_some : (m y v : Machine K) (name : Text) (payload : K.Payload) (element : ℕ) (bubbles : Bool) (more : List (Input K)) (first : Entry) (log : List Entry) (l : Listener K) (ls : List (Listener K))
+      → accepts app m first ≡ Some y
       → y ≡ taken_in (ready m more) (EventAt name payload element bubbles)
       → Ready m
       → hearers m.state name element bubbles ≡ l ∷ ls
@@ -226,12 +230,12 @@ module _ {K : Types} (k : Keeping K.Value) (a : Pages K) where
       → count_entries is_opening log ≡ 0
       → is_settled v ≡ true
       → Came m (EventAt name payload element bubbles) more (first ∷ log) v
-  heard_by_some m y v name payload element bubbles more first [] l ls is h hears accepted none settled =
+  heard_by_some m y v name payload element bubbles more first [] l ls begun is h hears accepted none settled =
       let x : Machine K = taken_in (ready m more) (EventAt name payload element bubbles) in
       let waits : waiting x ≡ l ∷ ls = hearers_emptied m.state name element bubbles ∙ hears in
       let quiet : is_quiet v ≡ true = and-left (is_quiet v) (not (owes v.state)) settled in
       absurd (waits_on k a x v l ls (machine_is x v (subst (λ (z : Machine K). replay_on app (Some z) [] ≡ Some v) is accepted)) waits quiet)
-  heard_by_some m y v name payload element bubbles more first (f ∷ fs) l ls is h hears accepted none settled =
+  heard_by_some m y v name payload element bubbles more first (f ∷ fs) l ls begun is h hears accepted none settled =
       let x : Machine K = taken_in (ready m more) (EventAt name payload element bubbles) in
       let e : Event K = record { payload = payload; propagates = bubbles; prevented = false } in
       let waits : waiting x ≡ l ∷ ls = hearers_emptied m.state name element bubbles ∙ hears in
@@ -243,6 +247,7 @@ module _ {K : Types} (k : Keeping K.Value) (a : Pages K) where
       h.built ((took m more (EventAt name payload element bubbles)).rests h.rests) refl waits goes in
       onwards m done.between v (EventAt name payload element bubbles) more (first ∷ done.heards) done.rest (first ∷ f ∷ fs)
       (ap (λ (es : List Entry). first ∷ es) done.parts)
+      (ap (λ (o : Option (Machine K)). replay_on app o done.heards) (begun ∙ ap (λ (z : Machine K). Some z) is) ∙ done.hears)
       (record { built = done.built; listeners = done.listeners; inputs = done.inputs })
       done.rests
       done.owners
@@ -254,6 +259,7 @@ module _ {K : Types} (k : Keeping K.Value) (a : Pages K) where
 
   -- an event
   event_comes : (m y v : Machine K) (name : Text) (payload : K.Payload) (element : ℕ) (bubbles : Bool) (more : List (Input K)) (first : Entry) (log : List Entry) (ls : List (Listener K))
+      → accepts app m first ≡ Some y
       → y ≡ taken_in (ready m more) (EventAt name payload element bubbles)
       → Ready m
       → hearers m.state name element bubbles ≡ ls
@@ -261,10 +267,10 @@ module _ {K : Types} (k : Keeping K.Value) (a : Pages K) where
       → count_entries is_opening log ≡ 0
       → is_settled v ≡ true
       → Came m (EventAt name payload element bubbles) more (first ∷ log) v
-  event_comes m y v name payload element bubbles more first log [] is h hears accepted none settled =
+  event_comes m y v name payload element bubbles more first log [] begun is h hears accepted none settled =
       unheard m y v name payload element bubbles more first log is h hears accepted none
-  event_comes m y v name payload element bubbles more first log (l ∷ ls) is h hears accepted none settled =
-      heard_by_some m y v name payload element bubbles more first log l ls is h hears accepted none settled
+  event_comes m y v name payload element bubbles more first log (l ∷ ls) begun is h hears accepted none settled =
+      heard_by_some m y v name payload element bubbles more first log l ls begun is h hears accepted none settled
 
   -- a look changes nothing where nothing is posted
   look_idle : (y : Machine K) (ls : List (Listener K)) → y ≡ record y { state = emptied y.state } → looked_where_quiet y ls ≡ y
@@ -273,6 +279,7 @@ module _ {K : Types} (k : Keeping K.Value) (a : Pages K) where
 
   -- what isn't an event
   other_comes : (m x v : Machine K) (input : Input K) (more : List (Input K)) (first : Entry) (log : List Entry)
+      → accepts app m first ≡ Some x
       → IsNoEvent a input
       → x ≡ then_looked (taken_in (ready m more) input)
       → AtRest x
@@ -282,9 +289,10 @@ module _ {K : Types} (k : Keeping K.Value) (a : Pages K) where
       → count_entries is_opening log ≡ 0
       → is_settled v ≡ true
       → Came m input more (first ∷ log) v
-  other_comes m x v input more first log other is rests built inputs accepted none settled =
+  other_comes m x v input more first log begun other is rests built inputs accepted none settled =
       let made : Made a m input x = subst (λ (z : Machine K). Made a m input z) (sym is) (made_at_once a m more input other) in
       onwards m x v input more (first ∷ []) log (first ∷ log) refl
+      (ap (λ (o : Option (Machine K)). replay_on app o []) begun)
       (record { built = built; listeners = made.listeners; inputs = inputs })
       rests
       made.owners
@@ -296,16 +304,17 @@ module _ {K : Types} (k : Keeping K.Value) (a : Pages K) where
 
   at_once : (m x v : Machine K) (input : Input K) (more : List (Input K)) (first : Entry) (log : List Entry)
       → Ready m
+      → accepts app m first ≡ Some x
       → IsNoEvent a input
       → x ≡ then_looked (taken_in (ready m more) input)
       → replay_on app (Some x) log ≡ Some v
       → count_entries is_opening log ≡ 0
       → is_settled v ≡ true
       → Came m input more (first ∷ log) v
-  at_once m x v input more first log h other is accepted none settled =
+  at_once m x v input more first log h begun other is accepted none settled =
       let y : Machine K = taken_in (ready m more) input in
       let t : Took m more (then_looked y) = took_looked m more y (waiting y) (took m more input) in
-      other_comes m x v input more first log other is
+      other_comes m x v input more first log begun other is
       (subst (λ (z : Machine K). AtRest z) (sym is) (t.rests h.rests))
       (ap (λ (z : Machine K). z.built) is ∙ t.built ∙ h.built)
       (ap (λ (z : Machine K). z.inputs) is ∙ t.inputs)
@@ -316,18 +325,19 @@ module _ {K : Types} (k : Keeping K.Value) (a : Pages K) where
   -- by the input
   input_comes : (m x v : Machine K) (input : Input K) (more : List (Input K)) (first : Entry) (log : List Entry)
       → Ready m
+      → accepts app m first ≡ Some x
       → x ≡ then_looked (taken_in (ready m more) input)
       → replay_on app (Some x) log ≡ Some v
       → count_entries is_opening log ≡ 0
       → is_settled v ≡ true
       → Came m input more (first ∷ log) v
-  input_comes m x v (EventAt name payload element bubbles) more first log h is accepted none settled =
+  input_comes m x v (EventAt name payload element bubbles) more first log h begun is accepted none settled =
       let y : Machine K = taken_in (ready m more) (EventAt name payload element bubbles) in
-      event_comes m x v name payload element bubbles more first log (hearers m.state name element bubbles) (is ∙ look_idle y (waiting y) refl) h refl accepted none settled
-  input_comes m x v (WakeOf t) more first log h is accepted none settled = at_once m x v (WakeOf t) more first log h tt is accepted none settled
-  input_comes m x v (WriteOf n w) more first log h is accepted none settled = at_once m x v (WriteOf n w) more first log h tt is accepted none settled
-  input_comes m x v (MarkOf s) more first log h is accepted none settled = at_once m x v (MarkOf s) more first log h tt is accepted none settled
-  input_comes m x v (Drain messages) more first log h is accepted none settled = at_once m x v (Drain messages) more first log h tt is accepted none settled
+      event_comes m x v name payload element bubbles more first log (hearers m.state name element bubbles) begun (is ∙ look_idle y (waiting y) refl) h refl accepted none settled
+  input_comes m x v (WakeOf t) more first log h begun is accepted none settled = at_once m x v (WakeOf t) more first log h begun tt is accepted none settled
+  input_comes m x v (WriteOf n w) more first log h begun is accepted none settled = at_once m x v (WriteOf n w) more first log h begun tt is accepted none settled
+  input_comes m x v (MarkOf s) more first log h begun is accepted none settled = at_once m x v (MarkOf s) more first log h begun tt is accepted none settled
+  input_comes m x v (Drain messages) more first log h begun is accepted none settled = at_once m x v (Drain messages) more first log h begun tt is accepted none settled
 
   -- the report of an input
   pub report_comes : (m v : Machine K) (input : Input K) (more : List (Input K)) (i : ℕ) (log : List Entry)
@@ -341,4 +351,5 @@ module _ {K : Types} (k : Keeping K.Value) (a : Pages K) where
   report_comes m v input more i (f ∷ fs) h inputs opens accepted settled =
       let x : Machine K = step app m f in
       let is : x ≡ then_looked (taken_in (ready m more) input) = ap (λ (d : Entry). step app m d) opens.0 ∙ take_is app m input more i h.rests h.none inputs in
-      input_comes m x v input more f fs h is (fork app (is_due app (due app m) f) x fs v accepted).1 opens.1 settled
+      let forked = fork app (is_due app (due app m) f) x fs v accepted in
+      input_comes m x v input more f fs h (ap (λ (b : Bool). if b then Some x else None) forked.0) is forked.1 opens.1 settled

@@ -22,7 +22,8 @@ use Rattle.law_reduce.specs.Elm.{OwnersStay}
 use Rattle.law_reduce.specs.Reads.{AllReadsStay, EachReadsStay, UnrunReadsStay}
 use Rattle.law_reduce.proofs.Calm.{Calm, ended_calm, calm_moves}
 use Rattle.rt_model.specs.State.{State}
-use Rattle.law_reduce.proofs.GoesOn.{PagesGoOn}
+use Rattle.law_reduce.proofs.GoesOn.{PagesGoOn, Knows}
+use Rattle.law_reduce.proofs.Led.{LedTo, led_start, led_on}
 use Rattle.law_reduce.proofs.OneReport.{Ready, settled_ready, Came, report_comes}
 
 -- what owns cells stays from report to report
@@ -115,24 +116,26 @@ module _ {K : Types} (k : Keeping K.Value) (a : Pages K) where
       subst (λ (x : List (Told K)). AllReadsStay m.state (r ∷ rs) x) f.4
       (came.reads_stay marks, inputs_stay marks (i + 1) more rs v f.1 came.ready_again came.inputs each.1 f.3 ends.1)
 
-  inputs_go_on : MarksAreRun app → (i : ℕ) (inputs : List (Input K)) (reports : List Report) (m : Machine K) (told : List (Told K))
+  inputs_go_on : MarksAreRun app → Knows k a → (props : K.Props) (all : List (Input K)) → (i : ℕ) (inputs : List (Input K)) (reports : List Report) (m : Machine K) (told : List (Told K))
+      → LedTo app props all m
       → Ready m
       → m.inputs ≡ inputs
       → InputsFrom i inputs (logs_of reports)
       → tell_reports app m (logs_of reports) ≡ Some told
       → AllSettled told
       → AllGoOn k a m.state reports told
-  inputs_go_on marks i [] [] m told h inputs each accepted settled =
+  inputs_go_on marks known props all i [] [] m told led h inputs each accepted settled =
       subst (λ (rs : List (Told K)). AllGoOn k a m.state [] rs) (none_told told accepted) tt
-  inputs_go_on marks i [] (r ∷ rs) m told h inputs each accepted settled = absurd each
-  inputs_go_on marks i (input ∷ more) [] m told h inputs each accepted settled = absurd each
-  inputs_go_on marks i (input ∷ more) (r ∷ rs) m told h inputs each accepted settled =
+  inputs_go_on marks known props all i [] (r ∷ rs) m told led h inputs each accepted settled = absurd each
+  inputs_go_on marks known props all i (input ∷ more) [] m told led h inputs each accepted settled = absurd each
+  inputs_go_on marks known props all i (input ∷ more) (r ∷ rs) m told led h inputs each accepted settled =
       let f = first-of app m r.log (logs_of rs) told accepted in
       let v : Machine K = (f.0).machine in
       let ends : AllSettled (told_by f.0 ∷ f.1) = subst (λ (x : List (Told K)). AllSettled x) (sym f.4) settled in
-      let came : Came k a m input more r.log v = report_comes k a m v input more i r.log h inputs each.0 (log-replays app r.log (telling m) f.0 f.2) ends.0 in
+      let goes : replay_on app (Some m) r.log ≡ Some v = log-replays app r.log (telling m) f.0 f.2 in
+      let came : Came k a m input more r.log v = report_comes k a m v input more i r.log h inputs each.0 goes ends.0 in
       subst (λ (x : List (Told K)). AllGoOn k a m.state (r ∷ rs) x) f.4
-      (came.pages_go_on marks, inputs_go_on marks (i + 1) more rs v f.1 came.ready_again came.inputs each.1 f.3 ends.1)
+      (came.pages_go_on marks known props all led, inputs_go_on marks known props all (i + 1) more rs v f.1 (led_on app props all m v r.log led goes) came.ready_again came.inputs each.1 f.3 ends.1)
 
   -- after the build nobody waits, and the inputs are as they were
   build_calm : (props : K.Props) (inputs : List (Input K)) (limits : Limits) (v : Machine K) (moves : List Move) (log : List Entry)
@@ -219,20 +222,21 @@ module _ {K : Types} (k : Keeping K.Value) (a : Pages K) where
       subst (λ (x : List (Told K)). EachReadsStay (r ∷ rs) x) f.4
       (inputs_stay marks 1 inputs rs v f.1 built.0 built.1 each.1 f.3 ends.1)
 
-  pub each_goes_on : MarksAreRun app → (props : K.Props) (inputs : List (Input K)) (reports : List Report) (told : List (Told K))
+  pub each_goes_on : MarksAreRun app → Knows k a → (props : K.Props) (inputs : List (Input K)) (reports : List Report) (told : List (Told K))
       → OneEach inputs (logs_of reports)
       → tell_reports app (start app props inputs) (logs_of reports) ≡ Some told
       → AllSettled told
       → EachGoesOn k a reports told
-  each_goes_on marks props inputs [] told each accepted settled = absurd each
-  each_goes_on marks props inputs (r ∷ rs) told each accepted settled =
+  each_goes_on marks known props inputs [] told each accepted settled = absurd each
+  each_goes_on marks known props inputs (r ∷ rs) told each accepted settled =
       let m : Machine K = start app props inputs in
       let f = first-of app m r.log (logs_of rs) told accepted in
       let v : Machine K = (f.0).machine in
       let ends : AllSettled (told_by f.0 ∷ f.1) = subst (λ (x : List (Told K)). AllSettled x) (sym f.4) settled in
-      let built = build_ready props inputs r.log v each.0 (log-replays app r.log (telling m) f.0 f.2) ends.0 in
+      let goes : replay_on app (Some m) r.log ≡ Some v = log-replays app r.log (telling m) f.0 f.2 in
+      let built = build_ready props inputs r.log v each.0 goes ends.0 in
       subst (λ (x : List (Told K)). EachGoesOn k a (r ∷ rs) x) f.4
-      (inputs_go_on marks 1 inputs rs v f.1 built.0 built.1 each.1 f.3 ends.1)
+      (inputs_go_on marks known props inputs 1 inputs rs v f.1 (led_on app props inputs m v r.log (led_start app props inputs) goes) built.0 built.1 each.1 f.3 ends.1)
 
 pub reports_reduce : (K : Types) → ReportsReduce K
 reports_reduce K k a props inputs limits taken reports ran =

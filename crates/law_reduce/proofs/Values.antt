@@ -10,7 +10,9 @@ use Rattle.rt_model.specs.Commands.{names_source}
 use Rattle.rt_model.specs.Current.{AllCurrent, IsCurrent, CurrentAs, BodyIsCurrent}
 use Rattle.rt_model.specs.Told.{Told}
 use Rattle.rt_model.specs.Reports.{Report}
+use Rattle.law_moves.specs.Sorts.{FedFit}
 use Rattle.law_behavior.specs.Owed.{MarksAreRun}
+use Rattle.law_lasting.specs.ComponentsLast.{ComponentsLast}
 use Rattle.author_programs.specs.Cells.{Keeping}
 use Rattle.author_programs.specs.First.{GivesBack, made_from, numbers_from, first_value}
 use Rattle.author_programs.specs.Pages.{Pages, meaning_of_pages}
@@ -19,7 +21,7 @@ use Rattle.author_programs.proofs.First.{first-pages-show}
 use Rattle.author_programs.proofs.Present.{found, current-pages-show}
 use Rattle.law_pages.specs.Updates.{model_of, read_in}
 use Rattle.law_pages.proofs.Listening.{at_values}
-use Rattle.law_reduce.specs.Elm.{NeverRemoved, NeverFed}
+use Rattle.law_reduce.specs.Elm.{NeverRemoved}
 use Rattle.law_reduce.specs.Folds.{last_state}
 use Rattle.law_reduce.specs.Values.{own_of, HasFirst, HasRun, ShowsNow, AllShowNow, EachShowsNow, PagesShowValues}
 use Rattle.law_reduce.proofs.GoesOn.{PageAfter}
@@ -31,26 +33,27 @@ same_number [] n = refl
 same_number (v ∷ vs) n = ap (λ (m : ℕ). suc m) (same_number vs (n + 1))
 
 module _ {K : Types} (k : Keeping K.Value) (a : Pages K) (back : GivesBack k) (s : ℕ) (c : K.Component) (p : K.Props) (first : LastCall K) (bare : first.given.given.hooks ≡ [])
-    (fits : first.given.given.next.cells + length (a.page c p).cells ≤ last_number) where
+    (fits : first.given.given.next.cells + length (a.page c p).cells ≤ last_number) (many : (q : K.Props) → length (a.page c q).cells ≡ length (a.page c p).cells) where
   abbrev app : Application K
   app = meaning_of_pages k a
 
   abbrev own : List ℕ
   own = own_of k a s c p first
 
-  same : length (a.page c p).cells ≡ length own
-  same = same_number (a.page c p).cells first.given.given.next.cells
+  same : (q : K.Props) → length (a.page c q).cells ≡ length own
+  same q = many q ∙ same_number (a.page c p).cells first.given.given.next.cells
 
-  -- the last call is the first one, and its cells are as they were, or it was given hooks that keep them
+  -- the last call is the first one, with the props that it had, and its cells are as they were, or it was given hooks that keep them
   abbrev Phase : State K → Scope K → LastCall K → Type 0
   Phase w x last =
       KeepAll k last.given.given.hooks 0 own
-      ⊎ ((last ≡ first) × AllByRecursion (λ (n : ℕ). HasFirst k a s c p w x first n) ((a.page c p).reads own))
+      ⊎ ((last ≡ first) × (x.component ≡ Own c p) × AllByRecursion (λ (n : ℕ). HasFirst k a s c p w x first n) ((a.page c p).reads own))
 
   record Stands (w : State K) : Type 0 where
     row : Scope K
     there : at w.scopes s ≡ Some row
-    page : row.component ≡ Own c p
+    props : K.Props
+    page : row.component ≡ Own c props
     keeps : KeepAll k row.hooks 0 own
     phase : (last : LastCall K) → at w.last_calls s ≡ Some last → Phase w row last
 
@@ -67,11 +70,12 @@ module _ {K : Types} (k : Keeping K.Value) (a : Pages K) (back : GivesBack k) (s
     stays_first w v x y ns reads stay h.1,
   )
 
-  goes_on : (w v : State K) (h : Stands w) → PageAfter k a w v s h.row c p own → Stands v
+  goes_on : (w v : State K) (h : Stands w) → PageAfter k a w v s h.row c own → Stands v
   goes_on w v h f =
       record {
         row = f.row;
         there = f.there;
+        props = f.props;
         page = f.page;
         keeps = f.keeps;
         phase =
@@ -81,7 +85,7 @@ module _ {K : Types} (k : Keeping K.Value) (a : Pages K) (back : GivesBack k) (s
               | inr o ↦
                   elim (h.phase last o.0) [
                     | inl g ↦ inl g
-                    | inr z ↦ inr (z.0, stays_first w v h.row f.row ((a.page c p).reads own) o.1 o.2 z.1)
+                    | inr z ↦ inr (z.0, o.2 ∙ z.1, stays_first w v h.row f.row ((a.page c p).reads own) o.1 o.3 z.2)
                   ]
             ];
       }
@@ -113,7 +117,7 @@ module _ {K : Types} (k : Keeping K.Value) (a : Pages K) (back : GivesBack k) (s
   shows_now : (v : State K) → AllCurrent app v → Stands v → ShowsNow k a s c p own v
   shows_now v current h = by (at v.last_calls s) refl scope
     where
-      scope : CurrentAs app v h.row (at v.last_calls s) (Own c p)
+      scope : CurrentAs app v h.row (at v.last_calls s) (Own c h.props)
       scope =
           subst (λ (d : VComponent K). CurrentAs app v h.row (at v.last_calls s) d) h.page
           (found (λ (e : ℕ × Scope K). IsCurrent app v e.0 e.1) v.scopes s h.row current h.there)
@@ -126,26 +130,30 @@ module _ {K : Types} (k : Keeping K.Value) (a : Pages K) (back : GivesBack k) (s
                 record {
                   row = h.row;
                   there = h.there;
+                  props = h.props;
+                  page = h.page;
                   last = last;
                   call = e;
                   drawn = last.given.given.next.cells;
                   output =
-                      current-pages-show K k a v current s h.row last c p own h.there e h.page g same
-                      ∙ ap (λ (vs : List (Option K.Value)). Some ((a.page c p).shows last.given.given.scope own vs))
-                      (reads_now k a v last (model_of v) ((a.page c p).reads own) (nows_all v ((a.page c p).reads own)));
+                      current-pages-show K k a v current s h.row last c h.props own h.there e h.page g (same h.props)
+                      ∙ ap (λ (vs : List (Option K.Value)). Some ((a.page c h.props).shows last.given.given.scope own vs))
+                      (reads_now k a v last (model_of v) ((a.page c h.props).reads own) (nows_all v ((a.page c h.props).reads own)));
                 }
             | inr z ↦
                 let call : at v.last_calls s ≡ Some first = e ∙ ap (λ (l : LastCall K). Some l) z.0 in
                 record {
                   row = h.row;
                   there = h.there;
+                  props = p;
+                  page = z.1;
                   last = first;
                   call = call;
                   drawn = first.given.given.next.cells + length (a.page c p).cells;
                   output =
-                      first-pages-show K k a v back current s h.row first c p h.there call h.page bare fits
+                      first-pages-show K k a v back current s h.row first c p h.there call z.1 bare fits
                       ∙ ap (λ (vs : List (Option K.Value)). Some ((a.page c p).shows first.given.given.scope own vs))
-                      (firsts_now v h.row ((a.page c p).reads own) z.1);
+                      (firsts_now v h.row ((a.page c p).reads own) z.2);
                 }
           ]
 
@@ -154,9 +162,9 @@ module _ {K : Types} (k : Keeping K.Value) (a : Pages K) (back : GivesBack k) (s
       → AllShowNow k a s c p own reports told
   all_show_now w [] told h go current = tt
   all_show_now w (r ∷ rs) [] h go current = tt
-  all_show_now w (r ∷ rs) (t ∷ ts) h go current = λ stays unfed.
+  all_show_now w (r ∷ rs) (t ∷ ts) h go current = λ stays.
       let v : State K = (t.machine).state in
-      let now : Stands v = goes_on w v h (go.0 s h.row c p own same h.there h.page h.keeps stays unfed) in
+      let now : Stands v = goes_on w v h (go.0 s h.row c h.props own same h.there h.page h.keeps stays) in
       (shows_now v current.0 now, all_show_now v rs ts now go.1 current.1)
 
   -- after the last of them
@@ -164,53 +172,53 @@ module _ {K : Types} (k : Keeping K.Value) (a : Pages K) (back : GivesBack k) (s
       → AllCurrent app w
       → AllByRecursion (λ (r : Told K). AllCurrent app (r.machine).state) told
       → NeverRemoved s reports
-      → NeverFed s reports
       → ShowsNow k a s c p own (last_state w told)
-  shows_last w [] [] h go here current stays unfed = shows_now w here h
-  shows_last w [] (t ∷ ts) h go here current stays unfed = absurd go
-  shows_last w (r ∷ rs) [] h go here current stays unfed = absurd go
-  shows_last w (r ∷ rs) (t ∷ ts) h go here current stays unfed =
+  shows_last w [] [] h go here current stays = shows_now w here h
+  shows_last w [] (t ∷ ts) h go here current stays = absurd go
+  shows_last w (r ∷ rs) [] h go here current stays = absurd go
+  shows_last w (r ∷ rs) (t ∷ ts) h go here current stays =
       let v : State K = (t.machine).state in
-      shows_last v rs ts (goes_on w v h (go.0 s h.row c p own same h.there h.page h.keeps stays.0 unfed.0)) go.1 current.0 current.1 stays.1 unfed.1
+      shows_last v rs ts (goes_on w v h (go.0 s h.row c h.props own same h.there h.page h.keeps stays.0)) go.1 current.0 current.1 stays.1
 
 -- of a scope that has run once
-module _ {K : Types} (k : Keeping K.Value) (a : Pages K) (back : GivesBack k) (s : ℕ) (c : K.Component) (p : K.Props) (w : State K) (run : HasRun k a s c p w) where
-  begins : Stands k a back s c p run.first run.bare run.fits w
+module _ {K : Types} (k : Keeping K.Value) (a : Pages K) (back : GivesBack k) (s : ℕ) (c : K.Component) (p : K.Props) (w : State K) (run : HasRun k a s c p w) (many : (q : K.Props) → length (a.page c q).cells ≡ length (a.page c p).cells) where
+  begins : Stands k a back s c p run.first run.bare run.fits many w
   begins =
       record {
         row = run.row;
         there = run.there;
+        props = p;
         page = run.page;
         keeps = run.keeps;
         phase =
             λ last e.
             let same_call : Some last ≡ Some run.first = sym e ∙ run.call in
             let is : last ≡ run.first = cc in
-            inr (is, run.reads);
+            inr (is, run.page, run.reads);
       }
 
   pub shows_each : (reports : List Report) (told : List (Told K)) → AllGoOn k a w reports told
       → AllByRecursion (λ (r : Told K). AllCurrent (meaning_of_pages k a) (r.machine).state) told
       → AllShowNow k a s c p (own_of k a s c p run.first) reports told
-  shows_each reports told go current = all_show_now k a back s c p run.first run.bare run.fits w reports told begins go current
+  shows_each reports told go current = all_show_now k a back s c p run.first run.bare run.fits many w reports told begins go current
 
   pub shows_end : (reports : List Report) (told : List (Told K)) → AllGoOn k a w reports told
       → AllCurrent (meaning_of_pages k a) w
       → AllByRecursion (λ (r : Told K). AllCurrent (meaning_of_pages k a) (r.machine).state) told
       → NeverRemoved s reports
-      → NeverFed s reports
       → ShowsNow k a s c p (own_of k a s c p run.first) (last_state w told)
-  shows_end reports told go here current stays unfed =
-      shows_last k a back s c p run.first run.bare run.fits w reports told begins go here current stays unfed
+  shows_end reports told go here current stays =
+      shows_last k a back s c p run.first run.bare run.fits many w reports told begins go here current stays
 
-pub pages_show_values : (K : Types) → ((k : Keeping K.Value) (a : Pages K) → MarksAreRun (meaning_of_pages k a)) → PagesShowValues K
-pages_show_values K marks k a back props inputs limits taken reports h =
+pub pages_show_values : (K : Types) → ((k : Keeping K.Value) (a : Pages K) → MarksAreRun (meaning_of_pages k a)) → ((k : Keeping K.Value) (a : Pages K) → FedFit (meaning_of_pages k a)) → ((k : Keeping K.Value) (a : Pages K) → ComponentsLast (meaning_of_pages k a))
+    → PagesShowValues K
+pages_show_values K marks fed lasts k a back lawful props inputs limits taken reports h =
     by reports h.told
-    (each_goes_on k a (marks k a) props inputs reports h.told (h.done).one_each ((h.holds).recorded).accepted ((h.holds).recorded).settled)
+    (each_goes_on k a (marks k a) (record { lawful = lawful; fed = fed k a; lasts = lasts k a }) props inputs reports h.told (h.done).one_each ((h.holds).recorded).accepted ((h.holds).recorded).settled)
     (h.holds).current
   where
     by : (rs : List Report) (ts : List (Told K)) → EachGoesOn k a rs ts → AllByRecursion (λ (r : Told K). AllCurrent (meaning_of_pages k a) (r.machine).state) ts → EachShowsNow k a rs ts
     by [] ts go current = absurd go
     by (r ∷ rs) [] go current = absurd go
-    by (r ∷ rs) (t ∷ ts) go current = λ s c p run.
-        shows_each k a back s c p (t.machine).state run rs ts go current.1
+    by (r ∷ rs) (t ∷ ts) go current = λ s c p run many.
+        shows_each k a back s c p (t.machine).state run many rs ts go current.1

@@ -1,9 +1,10 @@
 -- Elm's equation for the cells of one scope: where listeners read no others, these have at the end what the fold of all inputs makes of
 -- them, and the scope shows its page's function of that.
-use Rattle.std.specs.Prelude.{ℕ, true, List, [], ◌∷◌, map, Option, Some, ◌≡◌}
+use Rattle.std.specs.Prelude.{ℕ, true, List, [], ◌∷◌, map, length, Option, Some, ◌≡◌}
 use Rattle.std.specs.List.{AllByRecursion}
 use Rattle.rt_model.specs.Lists.{at, has}
-use Rattle.rt_model.specs.Tree.{Types}
+use Rattle.rt_model.specs.Tree.{Types, Own}
+use Rattle.rt_model.specs.Laws.{IsLawful}
 use Rattle.rt_model.specs.World.{Event}
 use Rattle.rt_model.specs.State.{CellRow, Scope, LastCall, State}
 use Rattle.rt_model.specs.Heard.{Listener}
@@ -15,7 +16,6 @@ use Rattle.rt_model.specs.Reports.{Report}
 use Rattle.rt_model.specs.Ran.{Ran}
 use Rattle.rt_model.specs.Headline.{Headline}
 use Rattle.law_behavior.specs.Along.{NoneRemoves}
-use Rattle.law_lasting.specs.ComponentsLast.{NoneFeeds}
 use Rattle.author_programs.specs.Cells.{Keeping}
 use Rattle.author_programs.specs.First.{GivesBack}
 use Rattle.author_programs.specs.Pages.{Pages, meaning_of_pages}
@@ -41,10 +41,6 @@ OwnersStay {K = K} w log v =
 -- no log of these reports removes the scope
 abbrev pub NeverRemoved : ℕ → List Report → Type 0
 NeverRemoved s reports = AllByRecursion (λ (r : Report). NoneRemoves s r.log) reports
-
--- and none hands it a component
-abbrev pub NeverFed : ℕ → List Report → Type 0
-NeverFed s reports = AllByRecursion (λ (r : Report). NoneFeeds s r.log) reports
 
 module _ {K : Types} (a : Pages K) where
   -- a listener reads cells among these alone, whatever event it hears
@@ -86,38 +82,44 @@ OwnCellsFold K =
     → (reports : List Report) (ran : Ran (meaning_of_pages k a) props inputs limits taken reports)
     → OwnFolds a inputs reports ran.told
 
-module _ {K : Types} (a : Pages K) (s : ℕ) (c : K.Component) (p : K.Props) where
-  -- a scope shows its page's function of a model; none of a number that wasn't drawn once its last call had made its cells
+module _ {K : Types} (a : Pages K) (s : ℕ) (c : K.Component) where
+  -- a scope shows the function of its page, with the props that it has now, of a model; none of a number that wasn't drawn once its last
+  -- call had made its cells
   pub record ShowsModel (own : List ℕ) (v : State K) (m : Model K) : Type 0 where
     pub row : Scope K
     pub there : at v.scopes s ≡ Some row
+    pub props : K.Props
+    pub page : row.component ≡ Own c props
     pub last : LastCall K
     pub call : at v.last_calls s ≡ Some last
     pub drawn : ℕ
     pub output :
         row.main_side.output
-        ≡ Some ((a.page c p).shows last.given.given.scope own (map (read_in m drawn) ((a.page c p).reads own)))
+        ≡ Some ((a.page c props).shows last.given.given.scope own (map (read_in m drawn) ((a.page c props).reads own)))
 
 module _ {K : Types} (k : Keeping K.Value) (a : Pages K) where
   -- of a scope that has run once when the build is reported: where its page and all who hear read no cells but those that its run
-  -- made, and no log removes it or hands it a component, it shows after the last report its page's function of the fold
+  -- made, how many these are doesn't depend on its props, and no log removes it, it shows after the last report the function of its
+  -- page of the fold
   abbrev pub OwnShows : List (Input K) → List Report → List (Told K) → Type 0
   OwnShows inputs (build ∷ reports) (told ∷ rest) =
       (s : ℕ) (c : K.Component) (p : K.Props) (run : HasRun k a s c p told.machine.state)
       → AllRead a (own_of k a s c p run.first) told.machine.state inputs rest
-      → AllByRecursion (λ (n : ℕ). has (own_of k a s c p run.first) n ≡ true) ((a.page c p).reads (own_of k a s c p run.first))
+      → ((q : K.Props)
+      → AllByRecursion (λ (n : ℕ). has (own_of k a s c p run.first) n ≡ true) ((a.page c q).reads (own_of k a s c p run.first)))
+      → ((q : K.Props) → length (a.page c q).cells ≡ length (a.page c p).cells)
       → ((n : ℕ) → has (own_of k a s c p run.first) n ≡ true → Owned told.machine.state n s)
       → NeverRemoved s reports
-      → NeverFed s reports
-      → ShowsModel a s c p (own_of k a s c p run.first) (last_state told.machine.state rest)
+      → ShowsModel a s c (own_of k a s c p run.first) (last_state told.machine.state rest)
       (folded a told.machine.state inputs rest (model_of told.machine.state))
   OwnShows inputs _ _ = ⊥
 
--- so it is of every session of pages whose headline holds, where a hook gives back the number that it was made to keep
+-- so it is of every session of lawful pages whose headline holds, where a hook gives back the number that it was made to keep
 abbrev pub OwnPagesShow : Types → Type 0
 OwnPagesShow K =
     (k : Keeping K.Value) (a : Pages K)
     → GivesBack k
+    → IsLawful K (meaning_of_pages k a)
     → (props : K.Props) (inputs : List (Input K)) (limits : Limits) (taken : Option (List Edit)) (reports : List Report)
     → (h : Headline (meaning_of_pages k a) props inputs limits taken reports)
     → OwnShows k a inputs reports h.told

@@ -5,6 +5,7 @@ use Rattle.rt_model.specs.Lists.{at}
 use Rattle.rt_model.specs.Tree.{Types, Own}
 use Rattle.rt_model.specs.World.{Cell, last_number}
 use Rattle.rt_model.specs.State.{Scope, LastCall, State}
+use Rattle.rt_model.specs.Laws.{IsLawful}
 use Rattle.rt_model.specs.Commands.{names_source}
 use Rattle.rt_model.specs.Replay.{Input}
 use Rattle.rt_model.specs.Document.{Edit}
@@ -13,7 +14,6 @@ use Rattle.rt_model.specs.Told.{Told}
 use Rattle.rt_model.specs.Reports.{Report}
 use Rattle.rt_model.specs.Headline.{Headline}
 use Rattle.law_behavior.specs.Along.{NoneRemoves}
-use Rattle.law_lasting.specs.ComponentsLast.{NoneFeeds}
 use Rattle.author_programs.specs.Cells.{Keeping}
 use Rattle.author_programs.specs.First.{GivesBack, numbers_from, made_from}
 use Rattle.author_programs.specs.Pages.{Pages, meaning_of_pages}
@@ -45,36 +45,41 @@ module _ {K : Types} (k : Keeping K.Value) (a : Pages K) (s : ℕ) (c : K.Compon
     pub keeps : KeepAll k row.hooks 0 (own_of first)
     pub reads : AllByRecursion (λ (n : ℕ). HasFirst w row first n) ((a.page c p).reads (own_of first))
 
-  -- it shows its page's function of present values; none of a number that wasn't drawn once its last call had made its cells
+  -- it shows the function of its page, with the props that it has now, of present values; none of a number that wasn't drawn once its
+  -- last call had made its cells
   pub record ShowsNow (own : List ℕ) (v : State K) : Type 0 where
     pub row : Scope K
     pub there : at v.scopes s ≡ Some row
+    pub props : K.Props
+    pub page : row.component ≡ Own c props
     pub last : LastCall K
     pub call : at v.last_calls s ≡ Some last
     pub drawn : ℕ
     pub output :
         row.main_side.output
-        ≡ Some ((a.page c p).shows last.given.given.scope own (map (read_in (model_of v) drawn) ((a.page c p).reads own)))
+        ≡ Some ((a.page c props).shows last.given.given.scope own (map (read_in (model_of v) drawn) ((a.page c props).reads own)))
 
-  -- after each of these reports it does, as long as no log removes it or hands it a component
+  -- after each of these reports it does, as long as no log removes it
   abbrev pub AllShowNow : List ℕ → List Report → List (Told K) → Type 0
   AllShowNow own (report ∷ reports) (told ∷ rest) =
-      NoneRemoves s report.log → NoneFeeds s report.log → ShowsNow own told.machine.state × AllShowNow own reports rest
+      NoneRemoves s report.log → ShowsNow own told.machine.state × AllShowNow own reports rest
   AllShowNow own _ _ = Unit {0}
 
--- of a scope that has run once when the build is reported
+-- of a scope that has run once when the build is reported, where how many cells its page has doesn't depend on its props
 module _ {K : Types} (k : Keeping K.Value) (a : Pages K) where
   abbrev pub EachShowsNow : List Report → List (Told K) → Type 0
   EachShowsNow (build ∷ reports) (told ∷ rest) =
       (s : ℕ) (c : K.Component) (p : K.Props) (run : HasRun k a s c p told.machine.state)
+      → ((q : K.Props) → length (a.page c q).cells ≡ length (a.page c p).cells)
       → AllShowNow k a s c p (own_of k a s c p run.first) reports rest
   EachShowsNow _ _ = ⊥
 
--- so it is of every session of pages whose headline holds, where a hook gives back the number that it was made to keep
+-- so it is of every session of lawful pages whose headline holds, where a hook gives back the number that it was made to keep
 abbrev pub PagesShowValues : Types → Type 0
 PagesShowValues K =
     (k : Keeping K.Value) (a : Pages K)
     → GivesBack k
+    → IsLawful K (meaning_of_pages k a)
     → (props : K.Props) (inputs : List (Input K)) (limits : Limits) (taken : Option (List Edit)) (reports : List Report)
     → (h : Headline (meaning_of_pages k a) props inputs limits taken reports)
     → EachShowsNow k a reports h.told

@@ -7,6 +7,8 @@ ghost use Rattle.rt_model.specs.OneLog.{types};
 ghost use Rattle.rt_model.specs.World.{Application};
 
 use law_behavior::marks_are_run;
+use law_lasting::components_last;
+use law_moves::fed_fit;
 
 /// Along moves that don't remove a scope whose hooks keep cells they go on to keep them, and each
 /// call of its body is given hooks that do.
@@ -24,7 +26,11 @@ pub fn unrun_reads_stay<C, P, V, H, T, E, L>()
 }
 
 /// Where moves run a scope of a page whose hooks keep its cells, its last call was given hooks that
-/// do, if nothing removes it or hands it a component.
+/// do, if nothing removes it.
 pub fn runs_are_given<C, P, V, H, T, E, L>()
     ensures { RunsAreGiven (types C P V H T E L) }
-{}
+{
+    // A page is handed that page, with other props or its own.
+    fed_fit::<C, P, V, H, T, E, L>();
+    components_last::<C, P, V, H, T, E, L>();
+}
