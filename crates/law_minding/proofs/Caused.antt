@@ -39,7 +39,7 @@ module _ {K : Types} (app : Application K) where
   not_fed true t s h = cc
   not_fed false t s h = cc
 
-  poll_next : (m : Machine K) (t : ℕ) → due app m ≡ Some (Poll t) → next m.state ≡ Some (PollTask t)
+  pub poll_next : (m : Machine K) (t : ℕ) → due app m ≡ Some (Poll t) → next m.state ≡ Some (PollTask t)
   poll_next m t h = by m.dead h
     where
       untaken : (inputs : List (Input K)) → if_live m.state (due_work app m None inputs) ≡ Some (Poll t) → next m.state ≡ Some (PollTask t)
@@ -83,7 +83,7 @@ module _ {K : Types} (app : Application K) (lawful : IsLawful K app) (t : ℕ) w
   -- calls that don't wake the task
 
   -- none of the commands of a call wakes the task
-  abbrev Quiet : State K → ℕ → Option ℕ → List (Command K) → Type 0
+  abbrev pub Quiet : State K → ℕ → Option ℕ → List (Command K) → Type 0
   Quiet w s polled cs = any_wakes app t w s polled cs ≡ false
 
   thrown : (w : State K) (o : Option ℕ) → hears_throw t w o ≡ false → MayThrow app (λ w. Calm t w) (λ w. Calm t w) (t + 1) (others_wake t) (frame t app) w o
@@ -128,14 +128,14 @@ module _ {K : Types} (app : Application K) (lawful : IsLawful K app) (t : ℕ) w
   allowed w s (ReadInto n source) cs f = tt
   allowed w s c cs f = tt
 
-  all_allowed : (w : State K) (s : ℕ) (polled : Option ℕ) (cs : List (Command K)) → AllFresh app (t + 1) cs → Quiet w s polled cs
+  pub all_allowed : (w : State K) (s : ℕ) (polled : Option ℕ) (cs : List (Command K)) → AllFresh app (t + 1) cs → Quiet w s polled cs
       → AllAllowed app (λ w. Calm t w) (λ w. Calm t w) (t + 1) (others_wake t) (frame t app) w s polled cs
   all_allowed w s polled [] f h = tt
   all_allowed w s polled (c ∷ cs) f h =
       let both = neither (wakes app t w s c) (any_wakes app t (command app w s polled c) s polled cs) h in
       ((allowed w s c cs f, caused w s c both.0), all_allowed (command app w s polled c) s polled cs f.1 both.1)
 
-  calls_quiet : (ds : List (Deed K)) → calls_wake app t ds ≡ false → AllByRecursion (λ (d : Deed K). Quiet d.state d.scope d.polled d.wants) ds
+  pub calls_quiet : (ds : List (Deed K)) → calls_wake app t ds ≡ false → AllByRecursion (λ (d : Deed K). Quiet d.state d.scope d.polled d.wants) ds
   calls_quiet [] h = tt
   calls_quiet (d ∷ ds) h =
       let both = neither (any_wakes app t d.state d.scope d.polled d.wants) (calls_wake app t ds) h in (both.0, calls_quiet ds both.1)
@@ -238,7 +238,7 @@ module _ {K : Types} (app : Application K) (lawful : IsLawful K app) (t : ℕ) w
       let both = neither (calls_wake app t (move_deeds app m (Logged e))) (entry_wakes t m e) quiet in
       by_frame limits m u (Logged e) step both.0 ((entry_spares m.inputs e, entry_quiet m e both.1), λ g. g, tt) h
 
-  all_calm : (limits : Limits) (m v : Machine K) (moves : List Move) (leads : Leads app limits m moves v) → some_wakes app limits t m v moves leads ≡ false → Calm t m.state → Calm t v.state
+  pub all_calm : (limits : Limits) (m v : Machine K) (moves : List Move) (leads : Leads app limits m moves v) → some_wakes app limits t m v moves leads ≡ false → Calm t m.state → Calm t v.state
   all_calm limits m v [] leads quiet h = subst (λ (z : Machine K). Calm t z.state) (sym leads) h
   all_calm limits m v (move ∷ moves) leads quiet h =
       let both = neither (move_wakes app t m move) (some_wakes app limits t leads.0 v moves leads.2) quiet in
@@ -254,7 +254,7 @@ module _ {K : Types} (app : Application K) (lawful : IsLawful K app) (t : ℕ) w
   ended_calm m (Done v work) h = h
   ended_calm m (Cut v fault) h = h
 
-  poll_calm : (limits : Limits) (m u : Machine K) → Moves app limits m (Logged (Poll t)) u → move_wakes app t m (Logged (Poll t)) ≡ false → t + 1 ≤ m.state.next.tasks → Calm t u.state
+  pub poll_calm : (limits : Limits) (m u : Machine K) → Moves app limits m (Logged (Poll t)) u → move_wakes app t m (Logged (Poll t)) ≡ false → t + 1 ≤ m.state.next.tasks → Calm t u.state
   poll_calm limits m u step quiet low =
       let w : State K = at_rest m.state in
       let v : State K = unqueued w t in
@@ -266,7 +266,7 @@ module _ {K : Types} (app : Application K) (lawful : IsLawful K app) (t : ℕ) w
       subst (λ (z : Machine K). Calm t z.state) (sym (step.gives ∙ poll_change app t m m.work)) (ended_calm (one_more_unit (rested app m)) (polled app w t) left)
 
   -- who isn't woken isn't polled next
-  not_next : (w : State K) → Calm t w → next w ≡ Some (PollTask t) → ⊥
+  pub not_next : (w : State K) → Calm t w → next w ≡ Some (PollTask t) → ⊥
   not_next w h up =
       let calm : Calm t (at_rest w) =
       rest_on app (λ w. Calm t w) (λ w. Calm t w) (t + 1) (others_wake t) (frame t app) (λ u. tt) (called t app) (λ w s polled cs. Quiet w s polled cs) (λ w s polled cs f g. all_allowed w s polled cs f g) (lawful_draw app (t + 1) lawful) w h in

@@ -37,5 +37,6 @@ pub mod Coming
 pub mod Hearing
 pub mod Unwoken
 pub mod Caused
+pub mod Through
 pub mod Settling
 pub mod Sessions

@@ -73,7 +73,7 @@ module _ {K : Types} (t : ℕ) where
     pub unposted : IsPosted w.posted (Woken t) → ⊥
     pub unqueued_yet : has w.queued t ≡ true → ⊥
 
-  stays : (w v : State K) → v.next ≡ w.next → v.posted ≡ w.posted → v.queued ≡ w.queued → Calm w → Calm v
+  pub stays : (w v : State K) → v.next ≡ w.next → v.posted ≡ w.posted → v.queued ≡ w.queued → Calm w → Calm v
   stays w v next posted queued h =
       record {
         low = subst (λ (f : Firsts). t + 1 ≤ f.tasks) (sym next) h.low;
@@ -151,7 +151,7 @@ module _ {K : Types} (t : ℕ) where
           }
       by false = h
 
-  look_calm : (w : State K) → Calm w → Calm (look w)
+  pub look_calm : (w : State K) → Calm w → Calm (look w)
   look_calm w h =
       looks_calm w.posted (record w { posted = [] }) h.unposted (record { low = h.low; unposted = λ p. p; unqueued_yet = h.unqueued_yet })
 

@@ -6,13 +6,16 @@ use Rattle.rt_model.specs.Laws.{IsLawful}
 use Rattle.rt_model.specs.Tree.{Types}
 use Rattle.rt_model.specs.World.{Source, Cell, Error, Context, Target, ScopeTarget, TaskTarget, Command, Write, DropCell, Wake, SetActive, Provide, Throw, ClearErrors, Application}
 use Rattle.rt_model.specs.State.{Scope, CellRow, ContextRow, TaskRow, State, error_context}
-use Rattle.rt_model.specs.Commands.{names_source, command}
+use Rattle.rt_model.specs.Commands.{names_source, unqueued, command}
 use Rattle.rt_model.specs.Next.{at_rest}
 use Rattle.rt_model.specs.Removal.{cells_in}
 use Rattle.rt_model.specs.Replay.{Entry, Taken, Poll, Removed, Post, WakeTask, Message, Input, WakeOf, WriteOf, Drain, Machine}
 use Rattle.rt_model.specs.Causes.{Limits}
+use Rattle.rt_model.specs.Run.{with_next}
+use Rattle.rt_model.specs.Asides.{Aside, Asked, Advanced}
+use Rattle.law_moves.specs.Reached.{Part, ByMoves, ByAside, Comes}
 use Rattle.law_moves.specs.Moves.{Move, Silent, Closed, Logged, Moves, Leads}
-use Rattle.law_behavior.specs.Deeds.{Deed, move_deeds}
+use Rattle.law_behavior.specs.Deeds.{Deed, poll_deeds, move_deeds}
 use Rattle.law_behavior.specs.Wakes.{differs}
 
 -- a reactive context targets a task
@@ -133,3 +136,27 @@ module _ {K : Types} (app : Application K) where
       → t < m.state.next.tasks
       → Moves app limits v (Logged (Poll t)) u
       → some_wakes limits t m v (Logged (Poll t) ∷ moves) leads ≡ true
+
+  -- a call of a program that logs no entry wakes a task: by its commands, or by those of the poll of a task at once
+  abbrev pub aside_wakes : ℕ → State K → Aside K → Bool
+  aside_wakes t w (Asked s next cs) = any_wakes t (with_next w next) s None cs
+  aside_wakes t w (Advanced u) = calls_wake t (poll_deeds app (unqueued w u) u (at w.tasks u))
+  aside_wakes t w _ = false
+
+  -- one of these parts of a program's way does
+  abbrev pub parts_wake : (limits : Limits) (t : ℕ) (m v : Machine K) (parts : List (Part K)) → Comes app limits m parts v → Bool
+  parts_wake limits t m v [] comes = false
+  parts_wake limits t m v (ByMoves moves ∷ parts) comes =
+      some_wakes limits t m comes.0 moves comes.1 || parts_wake limits t comes.0 v parts comes.2
+  parts_wake limits t m v (ByAside x ∷ parts) comes = aside_wakes t m.state x || parts_wake limits t comes.0 v parts comes.2
+
+  -- and so it is past calls that log no entry, of a runtime that a program keeps
+  abbrev pub PollsAreCausedThrough : Type 0
+  PollsAreCausedThrough =
+      IsLawful K app
+      → (limits : Limits) (m u v z : Machine K) (moves : List Move) (parts : List (Part K)) (t : ℕ)
+      → (leads : Leads app limits m (Logged (Poll t) ∷ moves) u)
+      → (comes : Comes app limits u parts v)
+      → t < m.state.next.tasks
+      → Moves app limits v (Logged (Poll t)) z
+      → some_wakes limits t m u (Logged (Poll t) ∷ moves) leads || parts_wake limits t u v parts comes ≡ true

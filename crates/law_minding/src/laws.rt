@@ -12,7 +12,7 @@ ghost use Rattle.law_minding.specs.Sessions.{SessionsKeepMemos};
 ghost use Rattle.law_minding.specs.Coming.{SpawnedStand};
 ghost use Rattle.law_minding.specs.Settling.{CallsAreParts, SettledKeep};
 ghost use Rattle.law_minding.specs.Tended.{TendedAreKept};
-ghost use Rattle.law_minding.specs.Waking.{PollsAreCaused};
+ghost use Rattle.law_minding.specs.Waking.{PollsAreCaused, PollsAreCausedThrough};
 ghost use Rattle.law_minding.specs.Hiding.{RowsHideWrites};
 
 use law_behavior::wakes_are_polled;
@@ -178,3 +178,8 @@ pub fn settled_keep<C, P, V, H, T, E, L, F>()
 {
     wakes_are_polled::<C, P, V, H, T, E, L>();
 }
+
+/// And so it is along a program's way with a runtime that it keeps, past calls that log no entry.
+pub fn polls_are_caused_through<C, P, V, H, T, E, L>()
+    ensures { (app : Application (types C P V H T E L)) → PollsAreCausedThrough app }
+{}
