@@ -16,7 +16,8 @@ use rt_values::List;
 use std::alloc::Global;
 
 /// Builds an application and settles, and then takes in each input and settles, as `session` does.
-/// Its memos and resources are kept after each report.
+/// The edits go to the sink. The reports of the build and of each input, after each of which memos
+/// and resources that nobody else touches are kept; a fault comes with those that were finished.
 pub fn memo_session<A: MemoApp, M: WriteMutations>(
     alloc: Global,
     app: A,

@@ -62,14 +62,15 @@ pub fn put_posted<O: Out>(
     drains: &[List<Msg>],
     out: &mut O,
 ) -> Result<(), OutError>
-    ensures writes { Writes (posted_text (map edit_of edits.now) (map report_of reports.now) (drains_of drains.now))
+    ensures writes { Writes (posted_text (map edit_of edits.now) (map report_of reports.now)
+        (drains_of drains.now))
         (O.puts out.old) (O.puts out.new) (O.faults out.old) (O.faults out.new) result }
 {
     put_run(alloc, edits, reports, out)?;
     put_drains(alloc, drains, out)
 }
 
-/// The same, and one line more.
+/// Puts the lines of edits, those of reports, those of messages, and one line more.
 pub fn put_ended_posted<O: Out>(
     alloc: Global,
     edits: &[Edit],
@@ -78,7 +79,8 @@ pub fn put_ended_posted<O: Out>(
     line: &[u8],
     out: &mut O,
 ) -> Result<(), OutError>
-    ensures writes { Writes (posted_text (map edit_of edits.now) (map report_of reports.now) (drains_of drains.now) ++ line.now ∷ [])
+    ensures writes { Writes (posted_text (map edit_of edits.now) (map report_of reports.now)
+        (drains_of drains.now) ++ line.now ∷ [])
         (O.puts out.old) (O.puts out.new) (O.faults out.old) (O.faults out.new) result }
 {
     put_posted(alloc, edits, reports, drains, out)?;

@@ -1,6 +1,6 @@
 -- The texts of runs, by what a session tells of its reports and of the edits that its sink took.
-use Rattle.std.proofs.Common.{◌≡◌, ℕ, List, [], ◌∷◌, ◌++◌, Option, Some, None, map, refl, ap, sym, subst}
-use Rattle.std.specs.Prelude.{option_map}
+use Rattle.std.proofs.Common.{◌≡◌, ℕ, List, [], ◌∷◌, ◌++◌, Option, Some, None, Result, map, refl, ap, sym, subst}
+use Rattle.std.specs.Prelude.{option_map, IfOk}
 use Rattle.rt_edits.specs.declared.edit.Edit.{Edit}
 use Rattle.tree_edits.specs.Documents.{edit_of}
 use Rattle.rt_model.specs.State as model
@@ -11,7 +11,9 @@ use Rattle.rt_model.specs.Reports as sessions
 use Rattle.rt_model.specs.Headline.{Headline, CameTo}
 use Rattle.rt_model.specs.World.{Application}
 use Rattle.rt_language.specs.Syntax.{Source}
-use Rattle.rt_language.specs.Expressions.{SourceTypes}
+use Rattle.law_minding.specs.Sessions.{MemosKept}
+use Rattle.rt_language.specs.Expressions.{Minding, SourceTypes}
+use Rattle.rt_language.specs.Formulas.{formulas}
 use Rattle.rt_language.specs.Meaning.{meaning_of, props_of, inputs_of}
 use Rattle.rt_language.specs.Values.{Value}
 use Rattle.rt_language.specs.Lines.{line, fault_text}
@@ -22,9 +24,13 @@ use Rattle.run_reports.specs.declared.fault.SessionFault.{SessionFault}
 use Rattle.run_reports.specs.declared.limits.Limits.{Limits}
 use Rattle.run_outside.specs.Sessions.{Headlined, CameAt}
 use Rattle.show_print.specs.Taken.{lines_of}
+use Rattle.lang_script.specs.Applications.{meaning_of_script}
+use Rattle.lang_script.specs.declared.script.Script.{Script}
+use Rattle.show_words.specs.Kept.{KeepsMemos}
+use Rattle.show_words.specs.Ready.{MadeOf}
 use Rattle.show_words.specs.Texts.{report_lines_from, run_lines_of}
 use Rattle.show_words.specs.Runs.{HasHeadline, HasCome, IsRunText, IsFaultText, IsSummary}
-use Rattle.show_words.proofs.Preparing.{holds_of, named}
+use Rattle.show_words.proofs.Preparing.{holds_of, named, of_source}
 
 -- a session into a sink that began with nothing has the headline with what it tells
 pub headline_of : (limits : Limits) (said : Source) (old new : Option (List Edit)) (edits : List Edit) (reports shown : List Report) →
@@ -48,7 +54,28 @@ unfolding HasHeadline
 headline_untold limits said old new reports headlined =
     headline_alone (meaning_of said) (props_of said) (inputs_of said.inputs) (limits_of limits) (map edit_of headlined.wrote) (map report_of reports) headlined.headline
 
--- the generated source
+-- memos that are kept in a session of the script are kept in one of the source
+pub memos_of :
+    (limits : Limits) (said : Source) (script : Script) (props : List Value) (inputs : List (Input SourceTypes))
+    (result : Result (List Report) SessionFault)
+    → MadeOf said script props inputs
+    → IfOk result (λ reports. MemosKept formulas (meaning_of_script script) Minding props inputs (limits_of limits) (map report_of reports))
+    → IfOk result (λ reports. KeepsMemos limits said (map report_of reports))
+unfolding KeepsMemos
+memos_of limits said script props inputs result made kept =
+    of_source (λ app p i. IfOk result (λ reports. MemosKept formulas app Minding p i (limits_of limits) (map report_of reports)))
+    said script props inputs made kept
+
+-- so are those of the reports that are told
+pub memos_shown : (limits : Limits) (said : Source) (reports shown : List Report)
+    → shown ≡ reports → KeepsMemos limits said (map report_of reports) → KeepsMemos limits said (map report_of shown)
+memos_shown limits said reports shown same kept = subst (λ (r : List Report). KeepsMemos limits said (map report_of r)) (sym same) kept
+
+-- the generated source: its memos, and its headline
+pub memos_generated : (rows : ℕ) (said : Source) (reports : List Report)
+    → said ≡ generated rows → KeepsMemos usual said (map report_of reports) → KeepsMemos usual (generated rows) (map report_of reports)
+memos_generated rows said reports is kept = subst (λ (s : Source). KeepsMemos usual s (map report_of reports)) is kept
+
 pub headline_generated : (rows : ℕ) (said : Source) (reports : List Report) → said ≡ generated rows → HasHeadline usual said None (map report_of reports) → HasHeadline usual (generated rows) None (map report_of reports)
 headline_generated rows said reports is held = subst (λ (s : Source). HasHeadline usual s None (map report_of reports)) is held
 
@@ -64,14 +91,17 @@ came_to limits said old new edits ended shown fault began tells same came =
 
 -- edits and reports are the text of a run that was done
 pub run_of : (limits : Limits) (said : Source) (edits : List Edit) (shown : List Report)
-    → HasHeadline limits said (Some (map edit_of edits)) (map report_of shown) → IsRunText limits said (run_lines_of edits shown)
-run_of limits said edits shown held = record { edits = map edit_of edits; reports = map report_of shown; headline = held; printed = refl }
+    → HasHeadline limits said (Some (map edit_of edits)) (map report_of shown) → KeepsMemos limits said (map report_of shown)
+    → IsRunText limits said (run_lines_of edits shown)
+run_of limits said edits shown held kept =
+    record { edits = map edit_of edits; reports = map report_of shown; headline = held; memos = kept; printed = refl }
 
 -- the same of lines that are those of the edits
 pub printed_of : (limits : Limits) (said : Source) (edits : List Edit) (lines : List (List ℕ)) (shown : List Report) → lines ≡ lines_of edits
-    → HasHeadline limits said (Some (map edit_of edits)) (map report_of shown) → IsRunText limits said (lines ++ report_lines_from 0 shown)
-printed_of limits said edits lines shown same held =
-    subst (λ (ls : List (List ℕ)). IsRunText limits said (ls ++ report_lines_from 0 shown)) (sym same) (run_of limits said edits shown held)
+    → HasHeadline limits said (Some (map edit_of edits)) (map report_of shown) → KeepsMemos limits said (map report_of shown)
+    → IsRunText limits said (lines ++ report_lines_from 0 shown)
+printed_of limits said edits lines shown same held kept =
+    subst (λ (ls : List (List ℕ)). IsRunText limits said (ls ++ report_lines_from 0 shown)) (sym same) (run_of limits said edits shown held kept)
 
 pub printed_end : (limits : Limits) (said : Source) (edits : List Edit) (lines : List (List ℕ)) (shown : List Report) (text : List ℕ) → lines ≡ lines_of edits
     → IsFaultText limits said (run_lines_of edits shown ++ text ∷ []) → IsFaultText limits said ((lines ++ report_lines_from 0 shown) ++ text ∷ [])
@@ -80,10 +110,12 @@ printed_end limits said edits lines shown text same ended =
 
 -- a summary is that of reports
 pub summed_up : (rows : ℕ) (source : Source) (reports shown : List Report) (said : List ℕ) → shown ≡ reports
-    → HasHeadline usual source None (map report_of reports) → said ≡ summary_line rows (map report_of shown) → IsSummary rows source (said ∷ [])
-summed_up rows source reports shown said same held is = record {
+    → HasHeadline usual source None (map report_of reports) → KeepsMemos usual source (map report_of reports)
+    → said ≡ summary_line rows (map report_of shown) → IsSummary rows source (said ∷ [])
+summed_up rows source reports shown said same held kept is = record {
   reports = map report_of shown;
   headline = subst (λ (r : List Report). HasHeadline usual source None (map report_of r)) (sym same) held;
+  memos = memos_shown usual source reports shown same kept;
   printed = ap (λ (text : List ℕ). text ∷ []) is;
 }
 

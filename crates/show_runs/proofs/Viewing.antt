@@ -25,6 +25,7 @@ use Rattle.run_reports.specs.Seen.{fault_of, limits_of, report_of, usual}
 use Rattle.run_reports.specs.declared.limits.Limits.{Limits}
 use Rattle.run_reports.specs.declared.report.Report as code
 use Rattle.run_reports.specs.declared.fault.SessionFault.{SessionFault}
+use Rattle.show_words.specs.Kept.{KeepsMemos}
 use Rattle.show_words.specs.Pictures.{HasViews, HasViewsBefore, IsScreenText, IsEndedScreenText, screen_text, views_of}
 use Rattle.show_screens.specs.Drawing.{LeadAlong, ShowInTurn}
 use Rattle.show_words.specs.Runs.{HasHeadline, HasCome}
@@ -110,9 +111,10 @@ came_before limits said edits reports fault seen held = held.0
 
 -- the text of a screen that was drawn to the end
 pub screen_of : (size : Size) (said : Source) (edits : List Edit) (shown : List code.Report) (seen : List Forest)
-    → HasViews usual said (map edit_of edits) (map report_of shown) seen → IsScreenText size said (screen_text size seen)
-screen_of size said edits shown seen held =
-    record { edits = map edit_of edits; reports = map report_of shown; shown = seen; headline = held; printed = refl }
+    → HasViews usual said (map edit_of edits) (map report_of shown) seen → KeepsMemos usual said (map report_of shown)
+    → IsScreenText size said (screen_text size seen)
+screen_of size said edits shown seen held kept =
+    record { edits = map edit_of edits; reports = map report_of shown; shown = seen; headline = held; memos = kept; printed = refl }
 
 -- what a session that came to a fault showed, and the line of the fault
 pub record Ended (size : Size) (said : Source) (edits : List Edit) (reports : List Report) (text : List ℕ) : Type 0 where

@@ -8,7 +8,7 @@ ghost use Rattle.show_words.specs.Words.{IsSize};
 use crate::running::run_script;
 use lang_syntax::Source as Described;
 use rt_edits::Mutations;
-use rt_session::SessionFault;
+use rt_memo::SessionFault;
 use run_reports::USUAL;
 use show_print::fault_line;
 use show_screens::{put_ended_screens, put_screens};

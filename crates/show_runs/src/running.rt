@@ -7,6 +7,7 @@ ghost use Rattle.lang_syntax.specs.Mirror.{source_of};
 ghost use Rattle.run_outside.specs.Sessions.{CameAt, Headlined};
 ghost use Rattle.show_words.specs.declared.words.Wish.TheVariants as wishes;
 ghost use Rattle.show_words.specs.Asked.{alone};
+ghost use Rattle.show_words.specs.Kept.{KeepsMemos};
 ghost use Rattle.show_words.specs.Ready.{MadeOf};
 ghost use Rattle.show_words.specs.Runs.{HasHeadline, Prints};
 
@@ -14,7 +15,7 @@ use lang_script::Script;
 use lang_syntax::Source as Described;
 use lang_views::Props;
 use rt_edits::{NoOpMutations, WriteMutations};
-use rt_session::{Input, Limits, Report, SessionFault, session};
+use rt_memo::{Input, Limits, Report, SessionFault, memo_session};
 use rt_values::{List, OutOfMemory};
 use run_reports::USUAL;
 use show_print::{EditLines, fault_line};
@@ -25,7 +26,8 @@ use show_words::{
 };
 use std::alloc::Global;
 
-/// A session of a script. What holds of it is said of each source that the script is made of.
+/// A session of a script, whose memos and resources are kept. What holds of it is said of each
+/// source that the script is made of.
 pub(crate) fn run_script<M: WriteMutations>(
     alloc: Global,
     script: Script,
@@ -37,12 +39,14 @@ pub(crate) fn run_script<M: WriteMutations>(
     ensures headline { (said : _) → MadeOf said script props (map input_of inputs) →
         IfOk result (λ reports. Headlined (meaning_of said) (props_of said) (inputs_of said.inputs)
         (limits_of limits) (M.taken sink.old) (M.taken sink.new) (map report_of reports)) }
+    ensures memos { (said : _) → MadeOf said script props (map input_of inputs) →
+        IfOk result (λ reports. KeepsMemos limits said (map report_of reports)) }
     ensures came_to { (said : _) → MadeOf said script props (map input_of inputs) →
         IfErr result (λ refused. (fault : _) → fault_of refused.fault ≡ Some fault →
         CameAt (meaning_of said) (props_of said) (inputs_of said.inputs)
         (limits_of limits) (M.taken sink.old) (M.taken sink.new) (map report_of refused.reports) fault) }
 {
-    session(alloc, script, props, inputs, sink, limits)
+    memo_session(alloc, script, props, inputs, sink, limits)
 }
 
 /// Runs an application and prints what became of it; of a fault `line` says more.
@@ -89,6 +93,8 @@ fn make(alloc: Global, rows: u64) -> Result<List<Report>, OutOfMemory>
     requires few { rows ≤ 10000 }
     ensures headline { IfOk result (λ reports.
         HasHeadline usual (language.generated rows) None (map report_of reports)) }
+    ensures memos { IfOk result (λ reports.
+        KeepsMemos usual (language.generated rows) (map report_of reports)) }
 {
     let described = generated(alloc, rows)?;
     let Prepared {

@@ -132,7 +132,7 @@ pub fn put_screens<O: Out>(
     put_pictures(alloc, &mut screen, edits, reports, out)
 }
 
-/// The same, with one line more.
+/// Puts the rows of a screen of this size that change, report by report, and one line more.
 #[tactic(auto, using(show_words::proofs::Puts::writes_first))]
 pub fn put_ended_screens<O: Out>(
     alloc: Global,

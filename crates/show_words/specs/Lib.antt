@@ -3,6 +3,7 @@ pub mod Listed
 pub mod Texts
 pub mod Outs
 pub mod Ready
+pub mod Kept
 pub mod Pictures
 pub mod Asked
 pub mod Judged

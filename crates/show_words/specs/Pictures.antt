@@ -14,6 +14,7 @@ use Rattle.run_reports.specs.Seen.{limits_of, usual}
 use Rattle.run_reports.specs.declared.limits.Limits.{Limits}
 use Rattle.rt_text.specs.Layout.{fitted, layout}
 use Rattle.rt_text.specs.Printed.{picture}
+use Rattle.show_words.specs.Kept.{KeepsMemos}
 use Rattle.show_words.specs.declared.words.Size.{Size}
 
 -- the lines of reports from the one with this number on, by the rows before it and what shows after each: the rows become the layout of what
@@ -51,6 +52,7 @@ pub record IsScreenText (size : Size) (said : Source) (text : List (List ℕ)) :
   pub shown : List Forest
   -- they are those of a session of the source
   pub headline : HasViews usual said edits reports shown
+  pub memos : KeepsMemos usual said reports
   pub printed : text ≡ screen_text size shown
 
 -- the text of a run that a fault ended: that of the finished reports, and the line of the fault

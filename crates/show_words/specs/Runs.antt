@@ -17,6 +17,7 @@ use Rattle.run_reports.specs.declared.limits.Limits.{Limits}
 use Rattle.lang_sources.specs.Describes.{Describes}
 use Rattle.lang_sources.specs.declared.reading.TheConstants.{SOURCE_LIMIT}
 use Rattle.show_words.specs.Asked.{Asked, SaysNone}
+use Rattle.show_words.specs.Kept.{KeepsMemos}
 use Rattle.show_words.specs.Judged.{IsVerdictText, RecordedBy, RecordedInput}
 use Rattle.show_words.specs.Pictures.{IsScreenText, IsEndedScreenText}
 use Rattle.show_words.specs.Texts.{run_lines}
@@ -70,6 +71,7 @@ pub record IsRunText (limits : Limits) (said : Source) (text : List (List ℕ)) 
   pub reports : List Report
   -- they are those of a session of the source
   pub headline : HasHeadline limits said (Some edits) reports
+  pub memos : KeepsMemos limits said reports
   pub printed : text ≡ run_lines edits reports
 
 -- the text of a run that a fault ended: lines of edits and of finished reports, and the line of the fault
@@ -86,6 +88,7 @@ pub record IsSummary (rows : ℕ) (said : Source) (text : List (List ℕ)) : Typ
   pub reports : List Report
   -- they are those of a session of the source
   pub headline : HasHeadline usual said None reports
+  pub memos : KeepsMemos usual said reports
   pub printed : text ≡ summary_line rows reports ∷ []
 
 -- the text of what was done: what each wish says of a source and of bytes

@@ -96,7 +96,7 @@ pub fn put_printed<O: Out>(
     put_reports(alloc, reports, out)
 }
 
-/// The same, and one line more.
+/// Puts the lines that edits have, those of reports, and one line more.
 pub fn put_ended_printed<O: Out>(
     alloc: Global,
     lines: &[List<u8>],
