@@ -1,0 +1,4 @@
+pub mod Streams
+pub mod Put
+pub mod UnderWay
+pub mod Statuses

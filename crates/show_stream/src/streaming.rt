@@ -1,0 +1,195 @@
+//! An application that is given line by line, under way.
+ghost use Rattle.std.specs.Prelude.{◌≡◌, ◌≤◌, ◌∷◌, [], Some, map, IfOk};
+ghost use Rattle.lang_syntax.specs.Mirror.{input_of as said_input, source_of};
+ghost use Rattle.rt_language.specs.Meaning as language;
+ghost use Rattle.run_reports.specs.Seen.{input_of};
+ghost use Rattle.show_words.specs.Ready.{MadeOf};
+ghost use Rattle.show_stream.specs.Streams.{IsStreamed};
+ghost use Rattle.show_stream.specs.UnderWay.{Answers, Begins, Builds, IsAt, IsUnderWay, Opens, TakesAll};
+
+use crate::answers::{put_answer, put_fault, put_refusal};
+use crate::refused::say_refused;
+use lang_inputs::read_input;
+use lang_script::{Script, inputs_of};
+use lang_sources::read_source;
+use lang_syntax::{InputSource, Source as Described};
+use lang_views::Props;
+use rt_values::{List, OutOfMemory};
+use run_ongoing::Ongoing;
+use run_reports::{Input, USUAL};
+use show_logs::refusal;
+use show_print::EditLines;
+use show_streams::Out;
+use show_words::{Prepared, Stop, prepare, said_where};
+use std::alloc::Global;
+
+/// The only input of some.
+fn input_said(alloc: Global, said: InputSource) -> Result<List<Input<Script>>, OutOfMemory>
+    ensures input { IfOk result (λ inputs. map input_of inputs
+        ≡ language.inputs_of (said_input said ∷ [])) }
+{
+    let mut one = List::new(alloc);
+    one.push(said)?;
+    inputs_of(alloc, one.as_slice())
+}
+
+/// An application that was built, and takes in one line after another. It keeps nothing of the past.
+#[derive(Drop)]
+pub struct Streaming {
+    session: Ongoing<Script>,
+}
+
+impl Streaming {
+    /// Builds the application that a line is, takes in the inputs that stand in it, and puts the
+    /// edits and the report of each. Where the line is no application, `line` says why; of a fault it
+    /// says more.
+    pub fn open<O: Out>(
+        alloc: Global,
+        first: &[u8],
+        out: &mut O,
+        line: &mut Option<String>,
+    ) -> Result<Streaming, Stop>
+        ensures opens { Opens first.now (O.puts out.old) (O.puts out.new)
+            (O.faults out.old) (O.faults out.new) result }
+        ensures later { O.faults out.old ≤ O.faults out.new }
+    {
+        match read_source(alloc, first)? {
+            Some(described) => Streaming::run(alloc, described, out, line),
+            None => {
+                *line = said_where(refusal(alloc, first));
+                Err(Stop::Form)
+            }
+        }
+    }
+
+    /// Answers a line: puts the edits and the report of the input that it is; or where it is none,
+    /// which changes nothing, the one line that says so, after `errors` was told why. Of a fault
+    /// `line` says more.
+    pub fn answer<O: Out, E: Eprint>(
+        &mut self,
+        alloc: Global,
+        bytes: &[u8],
+        out: &mut O,
+        errors: &E,
+        line: &mut Option<String>,
+    ) -> Result<(), Stop>
+        ensures answers { (first : _) (lines : _) (text : _) →
+            IsUnderWay first lines text self.old →
+            Answers first lines bytes.now text (O.puts out.old) (O.puts out.new)
+            (O.faults out.old) (O.faults out.new) self.new result }
+        ensures later { O.faults out.old ≤ O.faults out.new }
+    {
+        self.session.holds();
+        match read_input(alloc, bytes)? {
+            Some(said) => {
+                let inputs = input_said(alloc, said)?;
+                self.take_all(alloc, inputs, out, line)
+            }
+            None => {
+                say_refused(alloc, bytes, errors);
+                put_refusal(out)?;
+                Ok(())
+            }
+        }
+    }
+
+    /// At each time what was put is the text of a session of which the headline holds.
+    pub fn holds(&self)
+        ensures streamed { (first : _) (lines : _) (text : _) →
+            IsUnderWay first lines text self.now → IsStreamed first lines text }
+    {
+        self.session.holds();
+    }
+
+    /// Builds an application, and takes in the inputs that stand in it.
+    fn run<O: Out>(
+        alloc: Global,
+        described: Described,
+        out: &mut O,
+        line: &mut Option<String>,
+    ) -> Result<Streaming, Stop>
+        ensures begins { Begins (source_of described) (O.puts out.old) (O.puts out.new)
+            (O.faults out.old) (O.faults out.new) result }
+        ensures later { O.faults out.old ≤ O.faults out.new }
+    {
+        let Prepared {
+            script,
+            props,
+            inputs,
+        } = prepare(alloc, described)?;
+        let mut streaming = Streaming::build(alloc, script, props, out, line)?;
+        streaming.take_all(alloc, inputs, out, line)?;
+        Ok(streaming)
+    }
+
+    /// Builds an application.
+    fn build<O: Out>(
+        alloc: Global,
+        script: Script,
+        props: Props,
+        out: &mut O,
+        line: &mut Option<String>,
+    ) -> Result<Streaming, Stop>
+        ensures builds { (source : _) (inputs : _) → MadeOf source script props inputs →
+            Builds source (O.puts out.old) (O.puts out.new)
+            (O.faults out.old) (O.faults out.new) result }
+        ensures later { O.faults out.old ≤ O.faults out.new }
+    {
+        let mut sink = EditLines::new(alloc);
+        match Ongoing::begin(alloc, script, props, USUAL, &mut sink) {
+            Ok((session, report)) => {
+                session.holds();
+                put_answer(alloc, sink.lines(), 0, &report, out)?;
+                Ok(Streaming { session })
+            }
+            Err(fault) => Err(put_fault(alloc, sink.lines(), fault, out, line)),
+        }
+    }
+
+    /// Takes inputs in, one after the other.
+    fn take_all<O: Out>(
+        &mut self,
+        alloc: Global,
+        inputs: List<Input<Script>>,
+        out: &mut O,
+        line: &mut Option<String>,
+    ) -> Result<(), Stop>
+        ensures takes { (source : _) (asked : _) (said : _) (text : _) →
+            IsAt source asked text self.old → map input_of inputs ≡ language.inputs_of said →
+            TakesAll source asked (map Some said) text (O.puts out.old) (O.puts out.new)
+            (O.faults out.old) (O.faults out.new) self.new result }
+        ensures later { O.faults out.old ≤ O.faults out.new }
+    {
+        for input in inputs.into_vec() {
+            self.take(alloc, input, out, line)?;
+        }
+        Ok(())
+    }
+
+    /// Takes an input in, and puts its edits and its report.
+    fn take<O: Out>(
+        &mut self,
+        alloc: Global,
+        input: Input<Script>,
+        out: &mut O,
+        line: &mut Option<String>,
+    ) -> Result<(), Stop>
+        ensures takes { (source : _) (asked : _) (said : _) (text : _) →
+            IsAt source asked text self.old → input_of input ≡ language.input_of said →
+            TakesAll source asked (Some said ∷ []) text (O.puts out.old) (O.puts out.new)
+            (O.faults out.old) (O.faults out.new) self.new result }
+        ensures later { O.faults out.old ≤ O.faults out.new }
+    {
+        self.session.holds();
+        let mut sink = EditLines::new(alloc);
+        match self.session.take(input, &mut sink) {
+            Ok(report) => {
+                self.session.holds();
+                let number = self.session.taken();
+                put_answer(alloc, sink.lines(), number, &report, out)?;
+                Ok(())
+            }
+            Err(fault) => Err(put_fault(alloc, sink.lines(), fault, out, line)),
+        }
+    }
+}
