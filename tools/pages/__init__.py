@@ -26,6 +26,11 @@ def style_of(source: pathlib.Path) -> str:
     return text("application.css") + (own.read_text(encoding="utf-8") if own.exists() else "")
 
 
+def policy(script: str) -> str:
+    """The policy of a page that runs this script, and no other."""
+    return POLICY.format(base64.b64encode(hashlib.sha256(script.encode()).digest()).decode())
+
+
 def page(kind: str, source: pathlib.Path, run: dict, **words: str) -> str:
     """A page of this kind, replay or live, which needs no other file."""
     data = json.dumps({"name": source.name, "style": style_of(source), **run})
@@ -34,7 +39,5 @@ def page(kind: str, source: pathlib.Path, run: dict, **words: str) -> str:
     words |= {"name": source.stem.replace("_", " "), "file": source.name}
     parts = {name: html.escape(word) for name, word in words.items()}
     body = string.Template(text(f"{kind}.html")).substitute(parts)
-    digest = base64.b64encode(hashlib.sha256(script.encode()).digest()).decode()
-    whole = {"body": body, "style": text("style.css"), "script": script}
-    whole["policy"] = POLICY.format(digest)
+    whole = {"body": body, "style": text("style.css"), "script": script, "policy": policy(script)}
     return string.Template(text("page.html")).substitute(parts, **whole)

@@ -1,4 +1,4 @@
-// Shows an application that one can use: each event is an input, for which the program runs again.
+// Shows an application that one can use: each event is an input, which the program answers.
 // Inputs are texts of JSON all the way, so that each number stays as it was written.
 "use strict";
 

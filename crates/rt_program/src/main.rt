@@ -3,7 +3,10 @@
 #![tactic(auto)]
 
 use rt_inbox::NoGate;
-use rt_show::{asks_for_posters, show_and_say, show_posted_and_say};
+use rt_show::{
+    asks_for_page, asks_for_posters, asks_for_stream, show_and_say, show_paged_and_say,
+    show_posted_and_say, show_streamed,
+};
 use rt_values::Text;
 use show_streams::{StandardIn, StandardOut};
 use std::env;
@@ -22,7 +25,7 @@ fn meaning(status: u8) -> Option<&'static str> {
     match status {
         0 => None,
         2 => Some(
-            "status 2: the words aren't among --units N, --height N, --make N, --screen W H, --audit, --posters",
+            "status 2: the words aren't among --units N, --height N, --make N, --screen W H, --audit, --posters, --stream, --html",
         ),
         3 => Some("status 3: the source is too long, or isn't in the form of an application"),
         4 => Some("status 4: the run ended in the fault that was printed last"),
@@ -88,9 +91,33 @@ fn run_posted<R: Threads + Wait + Sync + Print + AllocGlobal, I: Read + Drop>(
     )
 }
 
+/// The same line by line: each line is answered before the next one is read.
+fn run_streamed<R: Print + Eprint + AllocGlobal, I: Read + Drop>(
+    rt: &R,
+    reader: I,
+    words: &[Text],
+    refusal: &mut Option<String>,
+) -> u8 {
+    let mut source = StandardIn::new(reader);
+    let mut out = StandardOut::new(rt);
+    show_streamed(rt.alloc(), words, &mut source, &mut out, rt, refusal)
+}
+
+/// The same as a page in pieces, without threads.
+fn run_paged<R: Print + AllocGlobal, I: Read + Drop>(
+    rt: &R,
+    reader: I,
+    words: &[Text],
+    refusal: &mut Option<String>,
+) -> u8 {
+    let mut source = StandardIn::new(reader);
+    let mut out = StandardOut::new(rt);
+    show_paged_and_say(rt.alloc(), words, &mut source, &mut out, refusal)
+}
+
 /// Runs what the words ask for. The status; and of a source that isn't in the form, where and what
 /// was wanted there.
-fn run_as_asked<R: Env + Threads + Wait + Sync + Print + AllocGlobal, I: Read + Drop>(
+fn run_as_asked<R: Env + Threads + Wait + Sync + Print + Eprint + AllocGlobal, I: Read + Drop>(
     rt: &R,
     reader: I,
 ) -> (u8, Option<String>) {
@@ -98,6 +125,12 @@ fn run_as_asked<R: Env + Threads + Wait + Sync + Print + AllocGlobal, I: Read + 
     let status = match words_given(rt) {
         Ok(words) if asks_for_posters(words.as_slice()) => {
             run_posted(rt, reader, words.as_slice(), &mut refusal)
+        }
+        Ok(words) if asks_for_page(words.as_slice()) => {
+            run_paged(rt, reader, words.as_slice(), &mut refusal)
+        }
+        Ok(words) if asks_for_stream(words.as_slice()) => {
+            run_streamed(rt, reader, words.as_slice(), &mut refusal)
         }
         Ok(words) => run(rt, reader, words.as_slice(), &mut refusal),
         Err(status) => status,

@@ -99,6 +99,9 @@ pub fn unknown_word(alloc: Global, words: &[Text]) -> Result<String, OutOfMemory
             if word.as_str() == "--posters" {
                 return Ok(String::from_str(alloc, POSTERS)?);
             }
+            if word.as_str() == "--html" {
+                return Ok(String::from_str(alloc, HTML)?);
+            }
             if word.as_str() == "--stream" {
                 return Ok(String::from_str(alloc, STREAM)?);
             }
@@ -116,7 +119,7 @@ pub fn unknown_word(alloc: Global, words: &[Text]) -> Result<String, OutOfMemory
 }
 
 /// The words that stand alone.
-const ALONE: &str = "--make N, --screen W H, --audit, --posters and --stream alone";
+const ALONE: &str = "--make N, --screen W H, --audit, --posters, --stream and --html alone";
 
 const SCREEN: &str = "wanted --screen W H alone, W and H whole numbers from 1 to 200";
 
@@ -125,3 +128,5 @@ const AUDIT: &str = "wanted --audit alone";
 const POSTERS: &str = "wanted --posters alone";
 
 const STREAM: &str = "wanted --stream alone";
+
+const HTML: &str = "wanted --html alone";
