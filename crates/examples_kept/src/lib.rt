@@ -11,13 +11,6 @@ use rt_app::{Edit, ElementId, Event, Limits, List, Mutations, Nothing, Paged, Sc
 use show_print::edit_line;
 use std::alloc::Global;
 
-/// What a call may do at most.
-const LIMITS: Limits = Limits {
-    units: 10_000,
-    height: 128,
-    drain: 1_024,
-};
-
 /// The scope of the counter's component, below the root wrapper and its two boundaries.
 const COUNTER: ScopeId = ScopeId(3);
 
@@ -34,7 +27,7 @@ type Kept = VirtualDom<Paged<Counter>>;
 
 /// A counter that isn't built yet.
 fn made(alloc: Global) -> Result<Kept, DomFault> {
-    Ok(VirtualDom::new(alloc, Paged { pages: Counter }, LIMITS)?)
+    Ok(VirtualDom::new(alloc, Paged { pages: Counter }, Limits::usual())?)
 }
 
 /// It is built once, and what shows is written to a list.

@@ -1,4 +1,5 @@
-//! What the example programs share: a click, and the lines that a session prints.
+//! What the example programs share: a click, the lines that a session prints, and that they are
+//! printed.
 #![tactic(auto)]
 
 use rt_app::{
@@ -7,13 +8,6 @@ use rt_app::{
 };
 use show_print::{edit_line, fault_line, report_line};
 use std::alloc::Global;
-
-/// What the program of the JSON language allows a session, where its words ask for nothing else.
-pub const LIMITS: Limits = Limits {
-    units: 10_000,
-    height: 128,
-    drain: 1_024,
-};
 
 /// A click at an element.
 pub fn click<A: App>(
@@ -37,7 +31,7 @@ pub fn lines<A: App>(
     inputs: List<Input<A>>,
 ) -> Result<List<u8>, OutOfMemory> {
     let mut sink = Mutations::default_list(alloc);
-    let ended = session(alloc, app, props, inputs, &mut sink, LIMITS);
+    let ended = session(alloc, app, props, inputs, &mut sink, Limits::usual());
     lines_of(alloc, &sink, ended)
 }
 
@@ -64,4 +58,19 @@ pub fn lines_of(
         lines.append(line)?;
     }
     Ok(lines)
+}
+
+/// Prints the lines, or that there was no memory for them.
+pub fn print_lines<R: Print>(rt: &R, printed: Result<List<u8>, OutOfMemory>) {
+    match printed {
+        Ok(lines) => {
+            for byte in lines.as_slice() {
+                let byte = *byte as char;
+                let _ = print!(rt; "{byte}");
+            }
+        }
+        Err(_) => {
+            let _ = println!(rt; "out of memory");
+        }
+    }
 }

@@ -2,7 +2,7 @@
 //! printed.
 #![tactic(auto)]
 
-use examples_lines::{click, lines};
+use examples_lines::{click, lines, print_lines};
 use examples_template::Application;
 use rt_app::{List, Nothing, OutOfMemory, Paged};
 use std::alloc::Global;
@@ -15,15 +15,5 @@ fn printed(alloc: Global) -> Result<List<u8>, OutOfMemory> {
 }
 
 fn main(rt: HostRuntime) {
-    match printed(rt.alloc()) {
-        Ok(lines) => {
-            for byte in lines.as_slice() {
-                let byte = *byte as char;
-                let _ = print!(rt; "{byte}");
-            }
-        }
-        Err(_) => {
-            let _ = println!(rt; "out of memory");
-        }
-    }
+    print_lines(&rt, printed(rt.alloc()));
 }
