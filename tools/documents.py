@@ -39,10 +39,11 @@ class Reader:
 
 class Document:
     """Nodes by their numbers, of which 0 is the root: each has a tag or none, and its parent. An
-    element has its attributes, of which those that were taken away are none."""
+    element has its attributes, of which those that were taken away are none, and its listeners."""
 
     def __init__(self):
-        self.nodes = {0: {"tag": None, "text": "", "kids": [], "up": None, "attrs": {}}}
+        self.nodes = {}
+        self.numbered(0, None, "", None)
 
     def built(self, reader, up):
         """The nodes to the end of what stands here, each after a space."""
@@ -65,7 +66,7 @@ class Document:
         while reader.sees(" "):
             reader.take(" ")
             if reader.sees("@"):
-                reader.take("@" + NAME)
+                self.nodes[number]["on"].add(reader.take(f"@({NAME})"))
             elif any(map(reader.sees, ("(", '"', "_#"))):
                 self.nodes[number]["kids"].append(self.built_node(reader, number))
             else:
@@ -75,7 +76,8 @@ class Document:
         return number
 
     def numbered(self, number, tag, text, up):
-        self.nodes[number] = {"tag": tag, "text": text, "kids": [], "up": up, "attrs": {}}
+        node = {"tag": tag, "text": text, "kids": [], "up": up, "attrs": {}, "on": set()}
+        self.nodes[number] = node
         return number
 
     def leave(self, number):
@@ -105,6 +107,10 @@ class Document:
             reader.take(" ")
             name = reader.take(NAME)
             self.nodes[number]["attrs"][name] = reader.value()
+        elif word in ("listen", "unlisten"):
+            reader.take(" ")
+            change = set.add if word == "listen" else set.discard
+            change(self.nodes[number]["on"], reader.take(NAME))
 
     def below(self, number=0):
         """The numbers of all nodes below one, in order."""

@@ -61,6 +61,14 @@ def example(word: str) -> str:
     return word
 
 
+def found() -> pathlib.Path:
+    """The program that answers now, which tools/program may have to build first."""
+    ran = subprocess.run([TOP / "tools" / "program"], stdout=subprocess.PIPE, text=True)
+    if ran.returncode:
+        sys.exit(ran.returncode)
+    return pathlib.Path(ran.stdout.rstrip("\n"))
+
+
 @contextlib.contextmanager
 def telling(name: str, what: Callable[[], str]) -> Iterator[None]:
     """Tells meanwhile what a command waits for, and for how long it has."""
