@@ -12,6 +12,8 @@ import tempfile
 import time
 from collections.abc import Iterator
 
+import pngs
+
 COMMANDS = "chromium", "chromium-browser", "google-chrome"
 SECONDS = 120
 KEYS = {"Enter": (13, "\r"), "Escape": (27, ""), "Tab": (9, ""), "Backspace": (8, "")}
@@ -144,9 +146,9 @@ class Browser:
             self.press("Backspace")
 
     def picture(self, file: str) -> None:
-        """Writes what is seen as a PNG."""
+        """Writes what is seen as a PNG of few colours."""
         taken = self.ask("Page.captureScreenshot", format="png", captureBeyondViewport=True)
-        pathlib.Path(file).write_bytes(base64.b64decode(taken["data"]))
+        pathlib.Path(file).write_bytes(pngs.reduced(base64.b64decode(taken["data"])))
 
 
 @contextlib.contextmanager
