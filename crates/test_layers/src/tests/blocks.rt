@@ -1,6 +1,0 @@
-//! Builds and patches by examples.
-
-mod cases;
-mod printing;
-mod serving;
-mod trees;

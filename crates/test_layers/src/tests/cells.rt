@@ -1,4 +1,0 @@
-//! What the worked cases and a million readers say.
-
-mod cases;
-mod steps;

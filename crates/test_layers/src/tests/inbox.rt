@@ -1,4 +1,0 @@
-//! What an inbox answers to calls in a fixed order.
-
-mod calls;
-mod cases;

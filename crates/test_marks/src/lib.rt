@@ -1,5 +1,0 @@
-//! Tests of what takes no memory.
-#![tactic(auto)]
-
-#[cfg(test)]
-mod marks;
