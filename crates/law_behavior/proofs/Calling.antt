@@ -1,9 +1,10 @@
 -- What the calls of an application spawn, and facts of their lists.
-use Rattle.std.proofs.Common.{ℕ, List, [], ◌∷◌, ◌++◌, ◌≤◌}
+use Rattle.std.proofs.Common.{ℕ, List, [], ◌∷◌, ◌++◌, ◌≤◌, arith}
 use Rattle.std.specs.Prelude.{Option, Some, None}
 use Rattle.std.specs.List.{AllByRecursion}
 use Rattle.rt_model.specs.Tree.{Types, CapturedError, placeholder_tree, VComponent, Own, Root, Fragment, ErrorBoundary, SuspenseBoundary, Element, rendered}
 use Rattle.rt_model.specs.World.{Source, Error, Firsts, Event, Command, World, Application}
+use Rattle.rt_model.specs.Laws.{IsLawful}
 use Rattle.rt_model.specs.Run.{plain, error_tree, children_tree, root_tree, caught, body_of}
 use Rattle.rt_model.proofs.Tour.{AllFresh}
 
@@ -17,9 +18,14 @@ all_last Q [] ys h = h
 all_last Q (x ∷ xs) ys h = all_last Q xs ys h.1
 
 module _ {K : Types} (app : Application K) where
+  -- numbers that a call leaves: tasks' are from a bound on, and where the application is lawful those of cells haven't fallen
+  pub record Follows (bound : ℕ) (first next : Firsts) : Type 0 where
+    pub low : bound ≤ next.tasks
+    pub rises : IsLawful K app → first.cells ≤ next.cells
+
   -- a call whose first numbers are from a bound on spawns tasks from there on, and leaves such numbers
   abbrev pub Draws : ℕ → Firsts → List (Command K) → Firsts → Type 0
-  Draws bound first cs next = bound ≤ first.tasks → AllFresh app bound cs × (bound ≤ next.tasks)
+  Draws bound first cs next = bound ≤ first.tasks → AllFresh app bound cs × Follows bound first next
 
   -- so does each call of the application
   pub record AllDraw (bound : ℕ) : Type 0 where
@@ -33,7 +39,9 @@ module _ {K : Types} (app : Application K) where
   fresh_both bound (c ∷ cs) ds f g = (f.0, fresh_both bound cs ds f.1 g)
 
   plain_draws : (bound : ℕ) (w : World K) (reads : List Source) (answer : Element K) → Draws bound w.given.next (plain w reads answer).commands (plain w reads answer).next
-  plain_draws bound w reads answer = λ low. (tt, low)
+  plain_draws bound w reads answer = λ low.
+      let level : w.given.next.cells ≤ w.given.next.cells = omega arith in
+      (tt, record { low = low; rises = λ lawful. level })
 
   caught_draws : (bound : ℕ) → AllDraw bound → (children : Element K) (handler : Option (K.Component × K.Props)) (w : World K) (o : Option CapturedError)
       → Draws bound w.given.next (caught app children handler w o).commands (caught app children handler w o).next

@@ -146,7 +146,7 @@ module _ {K : Types} where
           unqueues = λ w t a h. law.others w (unqueued w t) refl refl refl h;
           unmarks = λ w s h. law.others w (unmarked w s) refl refl refl h;
           asides = λ w v e h. law.others w v (ap (λ (x : State K). x.scopes) e) (ap (λ (x : State K). x.tasks) e) (ap (λ (x : State K). x.next) e) h;
-          nexts = λ w next low h. law.nexts w next low h;
+          nexts = λ w next drawn h. law.nexts w next drawn.low h;
           writes = λ w n v old e a c h. let u : State K = record w { cells = put w.cells n (record old { value = v }) } in told_keeps u (Cell n) (law.others w u refl refl refl h);
           drops = λ w n a c h. let u : State K = record w { cells = without w.cells n } in told_keeps u (Cell n) (law.others w u refl refl refl h);
           new_cells = λ w s n v a h. law.others w (record w { cells = w.cells ++ (n, record { owner = s; value = v }) ∷ [] }) refl refl refl h;
@@ -196,13 +196,13 @@ module _ {K : Types} where
     kept_so app again =
         record {
           bodies =
-              λ w s c low h.
+              λ w s c drawn h.
               let world : World K = world_of w s None true in
               let m : Meaning K (Element K) = body_of app c world in
               let u : State K = called_where (is_own c world) w in
               let v : State K = change (with_next u m.next) s (λ x. record x { reads = m.reads }) in
               law.others v (kept_call u s world m) refl refl refl
-              (read_anew again (with_next u m.next) s m.reads (law.nexts u m.next low (called_keeps (is_own c world) w h)));
+              (read_anew again (with_next u m.next) s m.reads (law.nexts u m.next drawn.low (called_keeps (is_own c world) w h)));
           turns =
               λ w b x e h.
               let y : Scope K = record x { shows = Some ChildrenSide; reads = [] } in

@@ -11,6 +11,7 @@ use Rattle.rt_model.specs.Removal.{gone}
 use Rattle.rt_model.specs.Run.{with_next, called_where, is_own, kept_call, kept_numbers, kept_children, spots_of, unmarked, body_of}
 use Rattle.rt_model.specs.Replay.{numbered, with_new_scope, mounted_state}
 use Rattle.law_behavior.specs.Wakes.{differs}
+use Rattle.law_behavior.proofs.Calling.{Follows}
 
 -- nothing is asked of a number
 abbrev pub Free : ℕ → Type 0
@@ -84,7 +85,7 @@ module _ {K : Types} where
     pub unmarks : (w : State K) (s : ℕ) → P w → P (unmarked w s)
     -- what no call reads
     pub asides : (w v : State K) → v ≡ record w { resolved = v.resolved; skipped = v.skipped; calls = v.calls } → P w → P v
-    pub nexts : (w : State K) (next : Firsts) → bound ≤ next.tasks → P w → P (with_next w next)
+    pub nexts : (w : State K) (next : Firsts) → Follows app bound w.next next → P w → P (with_next w next)
     -- cells, each with its readers told
     pub writes : (w : State K) (n : ℕ) (v : K.Value) (old : CellRow K) → at w.cells n ≡ Some old → may.writable n → may.causable w (Tells (Cell n)) → P w → P (tell (record w { cells = put w.cells n (record old { value = v }) }) (Cell n))
     pub drops : (w : State K) (n : ℕ) → may.droppable n → may.causable w (Tells (Cell n)) → P w → P (tell (record w { cells = without w.cells n }) (Cell n))
@@ -120,7 +121,7 @@ module _ {K : Types} where
   pub record Called (app : Application K) (P : State K → Type 0) (bound : ℕ) : Type 0 where
     pub bodies :
         (w : State K) (s : ℕ) (c : VComponent K)
-        → bound ≤ (body_of app c (world_of w s None true)).next.tasks
+        → Follows app bound w.next (body_of app c (world_of w s None true)).next
         → P w
         → P (kept_call (called_where (is_own c (world_of w s None true)) w) s (world_of w s None true) (body_of app c (world_of w s None true)))
     pub turns :

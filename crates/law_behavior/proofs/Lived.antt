@@ -1,10 +1,10 @@
 -- What runs, the steps of boundaries and removals leave of such a fact, where the commands of their calls are good.
-use Rattle.std.proofs.Common.{ℕ, ◌+◌, Bool, true, false, List, [], ◌∷◌, ◌++◌, ◌≡◌, ◌≤◌, refl, sym, ap, ◌∙◌, subst}
+use Rattle.std.proofs.Common.{ℕ, ◌+◌, Bool, true, false, List, [], ◌∷◌, ◌++◌, ◌≡◌, refl, sym, ap, ◌∙◌, subst}
 use Rattle.std.specs.Prelude.{Option, Some, None, if◌then◌else◌}
 use Rattle.std.specs.List.{AllByRecursion}
 use Rattle.rt_model.specs.Lists.{at, put, without, drop_number}
 use Rattle.rt_model.specs.Tree.{Types, Tree, placeholder_tree, VComponent, Own, Root, Fragment, ErrorBoundary, SuspenseBoundary, Element, rendered, failed, suspended, Place, Kind, spots}
-use Rattle.rt_model.specs.World.{Renders, Elements, Scopes, at_end, before_render_kind, after_render_kind, CallFault, Hook, HookValue, HookEffect, Command, Throw, World, Meaning, Nothing, Application}
+use Rattle.rt_model.specs.World.{Renders, Elements, Scopes, at_end, before_render_kind, after_render_kind, Firsts, CallFault, Hook, HookValue, HookEffect, Command, Throw, World, Meaning, Nothing, Application}
 use Rattle.rt_model.specs.State.{SideName, MainSide, ChildrenSide, FallbackSide, Mark, SuspendedTask, IdsExhausted, BadNode, RowStep, PatchChildren, MadeChildren, RunFallback, ShowFallback, ShowChildren, DropFallback, Resolve, Scope, TaskRow, State, Outcome, Done, Cut, onward, empty_side, side_of, is_live, changed_scope, change, location, is_held, holds, hooks_of, renders_of, world_of}
 use Rattle.rt_model.specs.Commands.{post, end, commands}
 use Rattle.rt_model.specs.Run.{fault_of, with_next, called_once, called_where, is_own, answer_fits, kept_call, is_kind, spots_of, patched, raised, joins, suspends_on, unmarked, has_output, row_of, runs_fallback, row_items, body_of, acted, hook_called, hooks_called, after_hooks, call_body, start_agenda, settled_answer, new_output, after_answer, run_as, run}
@@ -16,7 +16,7 @@ use Rattle.law_behavior.specs.Deeds.{Deed, deeds_on, effect_deeds, hook_deeds, h
 use Rattle.law_behavior.proofs.Frames.{GoesAway, Permits, Still, Called, Frame}
 use Rattle.law_behavior.proofs.Commanded.{either, change_on, end_on, AllAllowed, commands_on}
 use Rattle.law_behavior.proofs.Standing.{SameRows, stopped_rows}
-use Rattle.law_behavior.proofs.Calling.{all_first, all_last, AllDraw, fresh_both, body_draws}
+use Rattle.law_behavior.proofs.Calling.{all_first, all_last, Follows, AllDraw, fresh_both, body_draws}
 
 module _ {K : Types} (app : Application K) (P Q : State K → Type 0) (bound : ℕ) (may : Permits K) (law : Frame app P Q bound may) (ends : (t : ℕ) → may.endable t) (bodies : Called app P bound)
     (Good : State K → ℕ → Option ℕ → List (Command K) → Type 0)
@@ -77,6 +77,10 @@ module _ {K : Types} (app : Application K) (P Q : State K → Type 0) (bound : �
   pub once_on : (w : State K) → P w → P (called_once w)
   once_on w h = law.asides w (called_once w) refl h
 
+  follows_where : (b : Bool) (w : State K) (next : Firsts) → Follows app bound w.next next → Follows app bound (called_where b w).next next
+  follows_where true w next h = h
+  follows_where false w next h = h
+
   where_on : (b : Bool) (w : State K) → P w → P (called_where b w)
   where_on true w h = once_on w h
   where_on false w h = h
@@ -86,7 +90,7 @@ module _ {K : Types} (app : Application K) (P Q : State K → Type 0) (bound : �
 
   -- effects, hooks and callbacks
 
-  acted_at : (w : State K) (s : ℕ) (m : Meaning K Nothing) (o : Option CallFault) → AllFresh app bound m.commands → bound ≤ m.next.tasks
+  acted_at : (w : State K) (s : ℕ) (m : Meaning K Nothing) (o : Option CallFault) → AllFresh app bound m.commands → Follows app bound w.next m.next
       → AllGood (elim o as (λ z. List (Deed K)) [ None ↦ record { state = with_next w m.next; scope = s; polled = None; wants = m.commands } ∷ [] | Some f ↦ [] ])
       → P w
       → Ends (elim o as (λ z. Outcome K) [ None ↦ Done (commands app (with_next w m.next) s None m.commands) [] | Some f ↦ Cut (with_next w m.next) (fault_of f) ])
@@ -162,7 +166,7 @@ module _ {K : Types} (app : Application K) (P Q : State K → Type 0) (bound : �
   answered_on : (w : State K) (s : ℕ) (world : World K) (then_on : State K → Element K → Outcome K) (ds : State K → Element K → List (Deed K)) (m : Meaning K (Element K)) (o : Option CallFault)
       → ((v : State K) (answer : Element K) → AllGood (ds v answer) → P v → Leaves (then_on v answer))
       → AllFresh app bound m.commands
-      → bound ≤ m.next.tasks
+      → Follows app bound w.next m.next
       → AllGood (elim o as (λ z. List (Deed K)) [
         | Some f ↦ []
         | None ↦
@@ -194,7 +198,7 @@ module _ {K : Types} (app : Application K) (P Q : State K → Type 0) (bound : �
       let world : World K = world_of w s None true in
       let m : Meaning K (Element K) = body_of app c world in
       let drawn = body_draws app bound draws c world (law.low w h) in
-      answered_on (called_where (is_own c world) w) s world then_on ds m m.fault go drawn.0 drawn.1 good (where_on (is_own c world) w h) (bodies.bodies w s c drawn.1 h)
+      answered_on (called_where (is_own c world) w) s world then_on ds m m.fault go drawn.0 (follows_where (is_own c world) w m.next drawn.1) good (where_on (is_own c world) w h) (bodies.bodies w s c drawn.1 h)
 
   agenda_at : (w : State K) (s : ℕ) (side : SideName) (tree : Tree K) (o : Option (Scope K)) → at w.scopes s ≡ o → P w
       → Leaves (elim o as (λ z. Outcome K) [ None ↦ Done w [] | Some x ↦ patched app w s side tree (spots_of (side_of x side).output) (spots [] tree) (side_of x side) x ])
@@ -410,7 +414,7 @@ module _ {K : Types} (app : Application K) (P Q : State K → Type 0) (bound : �
 
   cleaned_at : (s : ℕ) (es : List K.Effect) (w : State K) (waiting : List (Command K)) (m : Meaning K Nothing) (o : Option CallFault)
       → (AllGood (clean_deeds app s es (with_next w m.next) (waiting ++ m.commands)) → P (with_next w m.next) → Ends (cleaned_in app true s es (with_next w m.next) (waiting ++ m.commands)))
-      → bound ≤ m.next.tasks
+      → Follows app bound w.next m.next
       → AllGood (elim o as (λ z. List (Deed K)) [ None ↦ clean_deeds app s es (with_next w m.next) (waiting ++ m.commands) | Some f ↦ [] ])
       → P w
       → Ends (elim o as (λ z. Outcome K) [ None ↦ cleaned_in app true s es (with_next w m.next) (waiting ++ m.commands) | Some f ↦ Cut (with_next w m.next) (fault_of f) ])

@@ -1,5 +1,5 @@
 -- What looks, polls and effects leave of such a fact.
-use Rattle.std.proofs.Common.{ℕ, false, List, [], ◌∷◌, ◌≡◌, ◌≤◌, refl}
+use Rattle.std.proofs.Common.{ℕ, false, List, [], ◌∷◌, ◌≡◌, refl}
 use Rattle.std.specs.Prelude.{Option, Some, None}
 use Rattle.rt_model.specs.Lists.{at, put, drop_number}
 use Rattle.rt_model.specs.Tree.{Types}
@@ -13,7 +13,7 @@ use Rattle.rt_model.proofs.Tour.{AllFresh}
 use Rattle.law_behavior.specs.Deeds.{Deed, deeds_on, poll_finds, effect_deeds, batch_deeds, poll_deeds}
 use Rattle.law_behavior.proofs.Frames.{Permits, Frame, Called}
 use Rattle.law_behavior.proofs.Commanded.{end_on, AllAllowed}
-use Rattle.law_behavior.proofs.Calling.{AllDraw}
+use Rattle.law_behavior.proofs.Calling.{Follows, AllDraw}
 use Rattle.law_behavior.proofs.Lived.{AllGood, good_first, good_last, Ends, onward_on, changes, called, once_on, acted_on}
 
 module _ {K : Types} (app : Application K) (P Q : State K → Type 0) (bound : ℕ) (may : Permits K) (law : Frame app P Q bound may) (ends : (t : ℕ) → may.endable t) (bodies : Called app P bound)
@@ -54,7 +54,7 @@ module _ {K : Types} (app : Application K) (P Q : State K → Type 0) (bound : �
       let v : State K = commands app w x.scope (Some t) m.commands in
       end_on app P Q bound may law v t (ends t) (called app P Q bound may law ends bodies Good allows draws w x.scope (Some t) m.commands f good h)
 
-  poll_by : (w : State K) (t : ℕ) (x : TaskRow K) (m : Meaning K (TaskStep K)) (o : Option CallFault) → at w.tasks t ≡ Some x → may.pollable t → AllFresh app bound m.commands → bound ≤ m.next.tasks
+  poll_by : (w : State K) (t : ℕ) (x : TaskRow K) (m : Meaning K (TaskStep K)) (o : Option CallFault) → at w.tasks t ≡ Some x → may.pollable t → AllFresh app bound m.commands → Follows app bound w.next m.next
       → AllGood app P Q bound may law ends bodies Good allows draws (elim o as (λ z. List (Deed K)) [ None ↦ record { state = poll_finds (with_next w m.next) t x m.answer; scope = x.scope; polled = Some t; wants = m.commands } ∷ [] | Some f ↦ [] ])
       → P w
       → Ends app P Q bound may law ends bodies Good allows draws (elim o as (λ z. Outcome K) [ None ↦ Done (polled_to app (with_next w m.next) t x m m.answer) [] | Some f ↦ Cut (with_next w m.next) (fault_of f) ])

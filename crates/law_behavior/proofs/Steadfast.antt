@@ -21,7 +21,7 @@ use Rattle.law_behavior.specs.Along.{NoneRemoves, NoneClearsOn, FirstErrorLasts,
 use Rattle.law_behavior.proofs.Frames.{Free, permits, Frame, Called}
 use Rattle.law_behavior.proofs.Enduring.{LastsBut, LastsIn, lasts_all, Again, Enduring, finely, kept_so}
 use Rattle.law_behavior.proofs.Commanded.{MayClear, Allowed, caused_anyway, AllAllowed, commands_on}
-use Rattle.law_behavior.proofs.Calling.{AllDraw}
+use Rattle.law_behavior.proofs.Calling.{Follows, AllDraw}
 use Rattle.law_behavior.proofs.Onwards.{GoodOn, moves_on, good_anyway, spares_all}
 
 -- another scope, another task
@@ -38,21 +38,28 @@ module _ {K : Types} (app : Application K) where
   fresh_anyway (Spawn t a forever isomorphic ∷ cs) = (from_zero t, fresh_anyway cs)
   fresh_anyway (c ∷ cs) = (tt, fresh_anyway cs)
 
+  anyway : (first : Firsts) (cs : List (Command K)) (next : Firsts) → (IsLawful K app → IsNumbered first cs next) → AllFresh app 0 cs × Follows app 0 first next
+  anyway first cs next numbers = (fresh_anyway cs, record { low = from_zero next.tasks; rises = λ lawful. (numbered_rises first cs next (numbers lawful)).cells })
+
   -- every call spawns from 0 on
   pub draw_anyway : AllDraw app 0
   draw_anyway =
       record {
-        bodies = λ c p w low. (fresh_anyway (app.body c p w).commands, from_zero (app.body c p w).next.tasks);
-        polls = λ a w low. (fresh_anyway (app.poll a w).commands, from_zero (app.poll a w).next.tasks);
-        effects = λ e w low. (fresh_anyway (app.effect e w).commands, from_zero (app.effect e w).next.tasks);
-        handlers = λ h e w low. (fresh_anyway (app.handle h e w).commands, from_zero (app.handle h e w).next.tasks);
+        bodies =
+            λ c p w low.
+            anyway w.given.next (app.body c p w).commands (app.body c p w).next (λ lawful. lawful.bodies_number c p w);
+        polls = λ a w low. anyway w.given.next (app.poll a w).commands (app.poll a w).next (λ lawful. lawful.polls_number a w);
+        effects = λ e w low. anyway w.given.next (app.effect e w).commands (app.effect e w).next (λ lawful. lawful.effects_number e w);
+        handlers =
+            λ h e w low.
+            anyway w.given.next (app.handle h e w).commands (app.handle h e w).next (λ lawful. lawful.handlers_number h e w);
       }
 
-  drawn_by : (bound : ℕ) → IsLawful K app → (first : Firsts) (cs : List (Command K)) (next : Firsts) → IsNumbered first cs next → bound ≤ first.tasks → AllFresh app bound cs × (bound ≤ next.tasks)
+  drawn_by : (bound : ℕ) → IsLawful K app → (first : Firsts) (cs : List (Command K)) (next : Firsts) → IsNumbered first cs next → bound ≤ first.tasks → AllFresh app bound cs × Follows app bound first next
   drawn_by bound lawful first cs next n low =
       let rises : first.tasks ≤ next.tasks = (numbered_rises first cs next n).tasks in
       let above : bound ≤ next.tasks = omega (arith, low, rises) in
-      (fresh app lawful first.tasks next.tasks bound cs low n.tasks, above)
+      (fresh app lawful first.tasks next.tasks bound cs low n.tasks, record { low = above; rises = λ l. (numbered_rises first cs next n).cells })
 
   -- the calls of a lawful application spawn from the next number on
   pub lawful_draw : (bound : ℕ) → IsLawful K app → AllDraw app bound

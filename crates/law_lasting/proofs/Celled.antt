@@ -39,15 +39,15 @@ other_way_round a b h =
     (λ q. q)
 
 module _ {K : Types} where
-  changes_same : (w : State K) (s : ℕ) (f : Scope K → Scope K) (o : Option (Scope K)) → (changed_scope w s f o).cells ≡ w.cells
+  pub changes_same : (w : State K) (s : ℕ) (f : Scope K → Scope K) (o : Option (Scope K)) → (changed_scope w s f o).cells ≡ w.cells
   changes_same w s f None = refl
   changes_same w s f (Some x) = refl
 
-  bodies_same : (w : State K) (s : ℕ) (own : Bool) (world : World K) (m : Meaning K (Element K)) → (kept_call (called_where own w) s world m).cells ≡ w.cells
+  pub bodies_same : (w : State K) (s : ℕ) (own : Bool) (world : World K) (m : Meaning K (Element K)) → (kept_call (called_where own w) s world m).cells ≡ w.cells
   bodies_same w s own world m =
       let u : State K = with_next (called_where own w) m.next in changes_same u s (λ x. record x { reads = m.reads }) (at u.scopes s) ∙ (calls_same own w).cells
 
-  provided_same : (app : Application K) (w : State K) (s k : ℕ) (v : K.Value) (o : Option K.Value) → (provided_at app w s k v o).cells ≡ w.cells
+  pub provided_same : (app : Application K) (w : State K) (s k : ℕ) (v : K.Value) (o : Option K.Value) → (provided_at app w s k v o).cells ≡ w.cells
   provided_same app w s k v o = on o
     where
       u : State K
@@ -64,7 +64,7 @@ module _ {K : Types} where
       on None = (tell_same u (Context k s)).cells ∙ changed
       on (Some old) = one_or_other u (tell u (Context k s)) (app.same_value old v) changed ((tell_same u (Context k s)).cells ∙ changed)
 
-  numbered_same : (w : State K) (s : ℕ) (side : SideName) (p : Place) (k : Kind) → (numbered w s side p k).cells ≡ w.cells
+  pub numbered_same : (w : State K) (s : ℕ) (side : SideName) (p : Place) (k : Kind) → (numbered w s side p k).cells ≡ w.cells
   numbered_same w s side p k =
       changes_same (with_next w (record (w.next) { elements = w.next.elements + 1 })) s
       (λ x. with_side x side (record (side_of x side) { numbers = (side_of x side).numbers ++ (p, k, w.next.elements) ∷ [] }))

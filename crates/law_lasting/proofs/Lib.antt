@@ -1,5 +1,7 @@
 pub mod Told
 pub mod Celled
 mod Handed
+mod Sided
 mod Placed
+mod Kids
 mod Finished

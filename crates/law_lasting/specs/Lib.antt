@@ -1,4 +1,5 @@
 pub mod CellsLast
+pub mod ChildrenLast
 pub mod ComponentsLast
 pub mod NumbersLast
 pub mod OneFinish

@@ -10,6 +10,6 @@ mod lasting;
 
 pub use finishing::{one_finish, rows_are_sessions};
 pub use lasting::{
-    cells_last, cells_stay, components_last, logged_cells_last, logged_components_last,
-    logged_numbers_last, numbers_last,
+    cells_last, cells_stay, children_last, children_stay, components_last, logged_cells_last,
+    logged_children_last, logged_components_last, logged_numbers_last, numbers_last,
 };
