@@ -138,7 +138,7 @@ module _
           unqueues = λ w u a h. keep_on w (unqueued w u) (owed_passes last t n cell scope held place polled reads target home w (unqueued w u) refl (λ owes. (unqueued_stays w u).polls t a owes)) h;
           unmarks = λ w s h. keep_on w (unmarked w s) (owed_passes last t n cell scope held place polled reads target home w (unmarked w s) refl (λ owes. (unmarked_stays w s).polls t refl owes)) h;
           asides = λ w v e h. aside w v e h;
-          nexts = λ w next low h. next_on w next low h;
+          nexts = λ w next drawn h. next_on w next drawn.low h;
           writes = λ w c v old e a told h. keep_on w _ (write_passes last t n cell scope held place polled reads target home w c (record old { value = v }) a) h;
           drops = λ w c a told h. keep_on w _ (drop_passes last t n cell scope held place polled reads target home w c a) h;
           new_cells = λ w s c v a h. keep_on w _ (new_cell_passes last t n cell scope held place polled reads target home w c (record { owner = s; value = v }) a) h;
@@ -216,7 +216,7 @@ module _
     pub called : Called app (λ w. Is w) bound
     called =
         record {
-          bodies = λ w s c low h. body_on w s (is_own c (world_of w s None true)) (world_of w s None true) (body_of app c (world_of w s None true)) low h;
+          bodies = λ w s c drawn h. body_on w s (is_own c (world_of w s None true)) (world_of w s None true) (body_of app c (world_of w s None true)) drawn.low h;
           turns =
               λ w b x e h.
               let y : Scope K = record x { shows = Some ChildrenSide; reads = [] } in
@@ -365,7 +365,7 @@ module _
       apart_on keep w u (Some x) e other good k h =
           let m : Meaning K (TaskStep K) = poll_meant app w u x in
           let drawn = (lawful_draw app bound lawful).polls x.state (world_of w x.scope (Some u) false) (low_of w h) in
-          apart_by keep (called_once w) u x m m.fault e other drawn.0 drawn.1 good k (aside w (called_once w) refl h)
+          apart_by keep (called_once w) u x m m.fault e other drawn.0 (drawn.1).low good k (aside w (called_once w) refl h)
 
       advanced_on : (w : State K) (u : ℕ) → nat_eq u t ≡ false
           → AllByRecursion (λ (d : Deed K). GoodCall d.state d.scope d.polled d.wants) (poll_deeds app (unqueued w u) u (at w.tasks u))

@@ -1,5 +1,5 @@
 -- Between the starts of two polls of a task something woke it.
-use Rattle.std.proofs.Common.{ℕ, ◌+◌, ◌≤◌, ◌<◌, Bool, true, false, List, [], ◌∷◌, ◌≡◌, ◌&&◌, ◌||◌, not, refl, sym, ap, ◌∙◌, subst, nat_eq, arith}
+use Rattle.std.proofs.Common.{ℕ, ◌+◌, ◌≤◌, Bool, true, false, List, [], ◌∷◌, ◌≡◌, not, refl, sym, ap, ◌∙◌, subst, nat_eq, arith}
 use Rattle.std.specs.Prelude.{Option, Some, None, if◌then◌else◌, is_some}
 use Rattle.std.specs.List.{AllByRecursion}
 use Rattle.rt_model.specs.Lists.{at, kept_by, has}
@@ -14,7 +14,6 @@ use Rattle.rt_model.specs.Heard.{Listener}
 use Rattle.rt_model.specs.Replay.{Entry, Build, Taken, Heard, Rerun, Poll, Effects, Made, Fed, Kept, Removed, Post, MarkScope, WakeTask, AllDirty, Message, Input, EventAt, WakeOf, WriteOf, MarkOf, Drain, Machine, waiting, ended_by, post_message, one_more_unit, rested, if_live, fed_child, keeps, due_item, due_heard, due_work, due, polled}
 use Rattle.rt_model.specs.Causes.{Limits}
 use Rattle.rt_model.proofs.Maps.{by_test}
-use Rattle.rt_model.proofs.Members.{clash}
 use Rattle.rt_model.proofs.Tour.{AllFresh}
 use Rattle.law_moves.specs.Moves.{Move, Silent, Closed, Logged, Moves, Leads}
 use Rattle.law_moves.proofs.Insides.{live_due, made_due, fed_due}
@@ -30,7 +29,7 @@ use Rattle.law_behavior.proofs.Steadfast.{lawful_draw}
 use Rattle.law_minding.specs.Waking.{post_wakes, messages_wake, hears, is_empty, hears_throw, hears_clear, hears_provide, removal_wakes, input_wakes, entry_wakes, wakes, any_wakes, calls_wake, move_wakes, some_wakes, PollsAreCaused}
 use Rattle.law_minding.proofs.Rested.{rest_leaves, poll_change}
 use Rattle.law_minding.proofs.Hearing.{neither, other_false, has_middle}
-use Rattle.law_minding.proofs.Unwoken.{Calm, starts_calm, NotIt, others_wake, frame, called}
+use Rattle.law_minding.proofs.Unwoken.{Calm, starts_calm, others_wake, frame, called}
 
 module _ {K : Types} (app : Application K) where
   -- a poll that is due comes next

@@ -1,6 +1,6 @@
 -- A task that is spawned fresh stands so behind the move that spawns it.
-use Rattle.std.proofs.Common.{ℕ, ◌+◌, ◌≤◌, ◌<◌, Bool, true, false, List, [], ◌∷◌, ◌++◌, ◌≡◌, ◌⊎◌, inl, inr, refl, sym, ap, ◌∙◌, subst, nat_eq, nat_lt, arith}
-use Rattle.std.specs.Prelude.{Option, Some, None, is_some, if◌then◌else◌}
+use Rattle.std.proofs.Common.{ℕ, ◌+◌, ◌≤◌, ◌<◌, Bool, true, false, List, [], ◌∷◌, ◌++◌, ◌≡◌, inl, inr, refl, sym, ap, ◌∙◌, subst, nat_eq, nat_lt, arith}
+use Rattle.std.specs.Prelude.{Option, Some, None, is_some}
 use Rattle.std.specs.List.{AllByRecursion}
 use Rattle.std.proofs.lemmas.Bool.{eqb-true}
 use Rattle.rt_model.specs.Lists.{at}
@@ -9,7 +9,6 @@ use Rattle.rt_model.specs.Tree.{Types}
 use Rattle.rt_model.specs.World.{TaskTarget, Firsts, Command, Spawn, World, Application}
 use Rattle.rt_model.specs.State.{Woken, CellRow, ContextRow, TaskRow, State, is_live, world_of}
 use Rattle.rt_model.specs.Commands.{post, command}
-use Rattle.rt_model.specs.Next.{is_active}
 use Rattle.rt_model.specs.Run.{with_next}
 use Rattle.rt_model.specs.Replay.{Entry, Poll, Machine, due_any}
 use Rattle.rt_model.specs.Causes.{Limits}
@@ -33,7 +32,7 @@ use Rattle.law_minding.proofs.Counting.{LowTask, tasks_count}
 use Rattle.law_minding.proofs.Below.{move_under}
 use Rattle.law_minding.proofs.Entries.{polls_it}
 use Rattle.law_minding.proofs.Since.{Minding, Here, Standing, Passes, stand_on, posts_pass}
-use Rattle.law_minding.proofs.Tasked.{posted_now, spawned_passes}
+use Rattle.law_minding.proofs.Tasked.{posted_now}
 use Rattle.law_minding.proofs.Leaving.{AllLeave, MoveLeaves}
 use Rattle.law_minding.proofs.Carried.{MaySpawn, AllSpawn, GoodCall, move_keeps}
 use Rattle.law_minding.proofs.Moved.{next_stands}
@@ -41,10 +40,10 @@ use Rattle.law_minding.proofs.Numbers.{move_new}
 use Rattle.law_minding.proofs.Unpolled.{deeds_leave}
 
 -- tests of numbers
-tested_low : (n m : ℕ) → nat_lt n m ≡ true → n < m
+pub tested_low : (n m : ℕ) → nat_lt n m ≡ true → n < m
 tested_low n m q = grind (arith, q)
 
-not_low : (n m : ℕ) → nat_lt n m ≡ false → m ≤ n
+pub not_low : (n m : ℕ) → nat_lt n m ≡ false → m ≤ n
 not_low n m q = grind (arith, q)
 
 module _ {K : Types} (last : World K) (t cell scope : ℕ) (held : CellRow K) (place : K.TaskState) where

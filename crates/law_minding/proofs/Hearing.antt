@@ -3,7 +3,7 @@ use Rattle.std.proofs.Common.{ℕ, Bool, true, false, List, [], ◌∷◌, ◌++
 use Rattle.std.specs.List.{AllByRecursion}
 use Rattle.rt_model.specs.Lists.{has}
 use Rattle.rt_model.specs.Tree.{Types}
-use Rattle.rt_model.specs.World.{Source, Cell, Error, Context, Target, ScopeTarget, TaskTarget, same_source}
+use Rattle.rt_model.specs.World.{Source, Target, ScopeTarget, TaskTarget, same_source}
 use Rattle.rt_model.specs.State.{Mark, Woken, CellRow, ContextRow, State}
 use Rattle.rt_model.specs.Commands.{names_source}
 use Rattle.rt_model.specs.Removal.{cell_sources, cells_in, context_sources}

@@ -40,13 +40,13 @@ module _ {K : Types} where
   tells_tasks [] w = refl
   tells_tasks (x ∷ xs) w = tells_tasks xs (tell w x) ∙ ap (λ (v : State K). v.tasks) (tell_posts w x).alike
 
-  gone_tasks : (w : State K) (s : ℕ) → (gone w s).tasks ≡ w.tasks
+  pub gone_tasks : (w : State K) (s : ℕ) → (gone w s).tasks ≡ w.tasks
   gone_tasks w s =
       let v : State K = without_scope w s in
       let u : State K = tell_all v (cell_sources (cells_in s w.cells)) in
       tells_tasks (Error s ∷ read_contexts u s) u ∙ tells_tasks (cell_sources (cells_in s w.cells)) v
 
-  change_tasks : (w : State K) (s : ℕ) (f : Scope K → Scope K) (o : Option (Scope K)) → (changed_scope w s f o).tasks ≡ w.tasks
+  pub change_tasks : (w : State K) (s : ℕ) (f : Scope K → Scope K) (o : Option (Scope K)) → (changed_scope w s f o).tasks ≡ w.tasks
   change_tasks w s f None = refl
   change_tasks w s f (Some x) = refl
 

@@ -34,6 +34,8 @@ pub mod Unpolled
 pub mod Spawned
 pub mod Tended
 pub mod Coming
+pub mod Drawn
+pub mod DrawnCells
 pub mod Hearing
 pub mod Unwoken
 pub mod Caused

@@ -17,7 +17,7 @@ use Rattle.law_moves.specs.Moves.{Move, Moves}
 use Rattle.law_behavior.specs.Deeds.{Deed, poll_deeds, move_deeds}
 use Rattle.law_behavior.proofs.Frames.{Frame}
 use Rattle.law_behavior.proofs.Readers.{post_posts}
-use Rattle.law_minding.proofs.Since.{sees, Minding, Here, Minded, Standing, Passes, pass, posts_pass}
+use Rattle.law_minding.proofs.Since.{sees, Minding, Minded, Standing, Passes, pass, posts_pass}
 use Rattle.law_minding.proofs.Values.{apart}
 use Rattle.law_minding.proofs.Tasked.{spawned_passes}
 use Rattle.law_minding.proofs.Leaving.{AllLeave, MoveLeaves}

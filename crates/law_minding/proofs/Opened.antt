@@ -53,22 +53,22 @@ below low high h =
     (λ q. let e : low ≡ high = eqb-true low high q in absurd (omega (arith, e, h)))
     (λ q. q)
 
-module _ {K : Types} where
-  -- who isn't there isn't there when the contexts of a scope are gone
-  kept_none : (n s : ℕ) (es : List (ℕ × ContextRow K)) → at es n ≡ None → at (kept_by (λ e. not (nat_eq (e.1).scope s)) es) n ≡ None
-  kept_none n s [] h = refl
-  kept_none n s (e ∷ es) h =
-      let later : List (ℕ × ContextRow K) = kept_by (λ d. not (nat_eq (d.1).scope s)) es in
-      by_test (nat_eq e.0 n)
-      (λ q. none_some h (at_here e.0 e.1 es n q))
-      (
-      λ q.
-      let rest : at later n ≡ None = kept_none n s es (sym (at_there e.0 e.1 es n q) ∙ h) in
-      by_test (not (nat_eq (e.1).scope s))
-      (λ p. ap (λ (ds : List (ℕ × ContextRow K)). at ds n) (pick_true (e ∷ later) later p) ∙ at_there e.0 e.1 later n q ∙ rest)
-      (λ p. ap (λ (ds : List (ℕ × ContextRow K)). at ds n) (pick_false (e ∷ later) later p) ∙ rest)
-      )
+-- what isn't there isn't there when others are gone
+pub kept_none : {A : Type 0} (f : ℕ × A → Bool) (n : ℕ) (es : List (ℕ × A)) → at es n ≡ None → at (kept_by f es) n ≡ None
+kept_none f n [] h = refl
+kept_none {A = A} f n (e ∷ es) h =
+    let later : List (ℕ × A) = kept_by f es in
+    by_test (nat_eq e.0 n)
+    (λ q. none_some h (at_here e.0 e.1 es n q))
+    (
+    λ q.
+    let rest : at later n ≡ None = kept_none f n es (sym (at_there e.0 e.1 es n q) ∙ h) in
+    by_test (f e)
+    (λ p. ap (λ (ds : List (ℕ × A)). at ds n) (pick_true (e ∷ later) later p) ∙ at_there e.0 e.1 later n q ∙ rest)
+    (λ p. ap (λ (ds : List (ℕ × A)). at ds n) (pick_false (e ∷ later) later p) ∙ rest)
+    )
 
+module _ {K : Types} where
   changes_same : (w : State K) (s : ℕ) (f : Scope K → Scope K) (o : Option (Scope K)) → (changed_scope w s f o).contexts ≡ w.contexts
   changes_same w s f None = refl
   changes_same w s f (Some x) = refl
@@ -155,7 +155,7 @@ module _ {K : Types} (n : ℕ) where
           draws = λ w s side p k h. by_contexts w (numbered w s side p k) (numbered_same w s side p k) h;
           empties = λ w b x e h. h;
           makes = λ w s side p c x e h. h;
-          goes = λ w s free told h. by_contexts (without_scope w s) (gone w s) (gone_same w s).contexts (kept_none n s w.contexts h);
+          goes = λ w s free told h. by_contexts (without_scope w s) (gone w s) (gone_same w s).contexts (kept_none (λ (e : ℕ × ContextRow K). not (nat_eq (e.1).scope s)) n w.contexts h);
           mounts = λ w h. h;
           ends = λ w t a h. h;
           spawns =

@@ -1,5 +1,5 @@
 -- The memos and resources of a session's reports.
-use Rattle.std.proofs.Common.{ℕ, ◌<◌, Bool, true, false, not, List, [], ◌∷◌, ◌++◌, ◌≡◌, refl, sym, ap, ◌∙◌, subst, append_assoc}
+use Rattle.std.proofs.Common.{ℕ, ◌<◌, Bool, true, not, List, [], ◌∷◌, ◌++◌, ◌≡◌, refl, sym, ap, ◌∙◌, subst}
 use Rattle.std.proofs.lemmas.List.{append-nil}
 use Rattle.std.specs.Prelude.{Some, None}
 use Rattle.std.specs.List.{AllByRecursion}
@@ -8,13 +8,11 @@ use Rattle.rt_model.specs.Laws.{IsLawful}
 use Rattle.rt_model.specs.Tree.{Types}
 use Rattle.rt_model.specs.World.{Application}
 use Rattle.rt_model.specs.State.{CellRow, TaskRow}
-use Rattle.rt_model.specs.Next.{owes, next, is_active}
+use Rattle.rt_model.specs.Next.{owes, next}
 use Rattle.rt_model.specs.Replay.{Entry, Poll, Input, Machine, is_quiet, start, replay_on}
-use Rattle.rt_model.specs.Document.{Edit}
 use Rattle.rt_model.specs.Causes.{Limits, replay_within}
 use Rattle.rt_model.specs.Told.{Told, telling, told_by, tell_reports, is_settled}
 use Rattle.rt_model.specs.Reports.{Report, logs_of}
-use Rattle.rt_model.specs.Headline.{Headline}
 use Rattle.rt_model.proofs.Conjunctions.{and-left, and-right}
 use Rattle.rt_model.proofs.ToldReplayed.{First, first-of, log-replays, replay-append, within-replays}
 use Rattle.law_moves.specs.Moves.{Move, Logged, entries, Moves, IsSettled, Leads}
@@ -25,12 +23,13 @@ use Rattle.law_behavior.proofs.Leading.{within_split, quiet_alive}
 use Rattle.author_formulas.specs.Formulas.{Formulas, FormulasLook}
 use Rattle.author_formulas.specs.Memos.{MemoTask, fresh, PollsMemos}
 use Rattle.law_minding.specs.Held.{state_after_poll}
-use Rattle.law_minding.specs.Unpolled.{StandsFresh, UnpolledOn, KeptFrom, PausedFrom}
+use Rattle.law_minding.specs.Unpolled.{StandsFresh, KeptFrom, PausedFrom}
 use Rattle.law_minding.specs.Sessions.{MemosKept, SessionsKeepMemos}
 use Rattle.law_minding.proofs.Logged.{begins_with, none_next}
 use Rattle.law_minding.proofs.Rested.{alive_before}
 use Rattle.law_minding.proofs.PollsDone.{polls_are_done}
 use Rattle.law_minding.specs.Waking.{some_wakes}
+use Rattle.law_minding.proofs.Drawn.{tasks_are_drawn, polled_there}
 use Rattle.law_minding.proofs.Caused.{polls_are_caused}
 use Rattle.law_minding.specs.Coming.{FreshFrom}
 use Rattle.law_minding.proofs.Coming.{spawned_stand}
@@ -125,12 +124,11 @@ module _ {K : Types} {F : Type 0} (a : Formulas K F) (app : Application K) (stat
       → joined (logs_of reports) ≡ before ++ (Poll t ∷ (between ++ Poll t ∷ log))
       → replay_within app limits (Some from) before ≡ Some m
       → replay_within app limits (Some m) (Poll t ∷ between) ≡ Some v
-      → t < m.state.next.tasks
       → (moves : List Move)
       × (leads : Leads app limits m (Logged (Poll t) ∷ moves) v)
       × (entries moves ≡ between)
       × (some_wakes app limits t m v (Logged (Poll t) ∷ moves) leads ≡ true)
-  who_is_woken before between log m v t parts first second drawn =
+  who_is_woken before between log m v t parts first second =
       let whole : replay_within app limits (Some from) (before ++ (Poll t ∷ (between ++ Poll t ∷ log))) ≡ Some last =
       ap (λ (es : List Entry). replay_within app limits (Some from) es) (sym parts) ∙ within in
       let split = within_split app limits before (Poll t ∷ (between ++ Poll t ∷ log)) from last whole in
@@ -147,6 +145,8 @@ module _ {K : Types} {F : Type 0} (a : Formulas K F) (app : Application K) (stat
       let poll = begins_with app limits m v found.0 (Poll t) between waits found.1 found.2 in
       let found_next = logs_are_moves app limits v last (Poll t ∷ log) waits_there again in
       let poll_again = begins_with app limits v last found_next.0 (Poll t) log waits_there found_next.1 found_next.2 in
+      let begun = logs_are_moves app limits from m before refl first in
+      let drawn : t < m.state.next.tasks = tasks_are_drawn app lawful limits props inputs m begun.0 t begun.1 (polled_there app m t ((poll.1).1).due_is) in
       (poll.0, poll.1, poll.2, polls_are_caused app lawful limits m v (poll_again.1).0 poll.0 t poll.1 drawn (poll_again.1).1)
 
   who_is_spawned : (before : List Entry) (e : Entry) (m n : Machine K) (t cell scope : ℕ) (held : CellRow K) (f : F) (loads : Bool)
@@ -224,7 +224,7 @@ module _ {K : Types} {F : Type 0} (a : Formulas K F) (app : Application K) (stat
         kept =
             λ done later before between log m u v t cell scope held f loads parts logs first second third stands.
             who_is_kept done later before between log m u v t cell scope held f loads parts logs first second third stands;
-        caused = λ before between log m v t parts first second drawn. who_is_woken before between log m v t parts first second drawn;
+        caused = λ before between log m v t parts first second. who_is_woken before between log m v t parts first second;
         paused =
             λ done later before between m v t cell scope held f loads parts logs first second stands.
             who_is_paused done later before between m v t cell scope held f loads parts logs first second stands;

@@ -1,9 +1,8 @@
 -- Calls of a program that log no entry leave a memo that they spare as it stands.
-use Rattle.std.proofs.Common.{ℕ, ◌+◌, ◌≤◌, ◌<◌, true, false, List, [], ◌∷◌, ◌≡◌, ◌⊎◌, inl, inr, refl, sym, ap, ◌∙◌, subst, arith}
+use Rattle.std.proofs.Common.{ℕ, ◌+◌, ◌<◌, true, false, List, [], ◌∷◌, ◌≡◌, ◌⊎◌, inl, inr, refl, sym, ap, ◌∙◌, subst}
 use Rattle.std.specs.Prelude.{Option, Some, None, is_some}
 use Rattle.rt_model.specs.Lists.{at}
 use Rattle.rt_model.specs.Laws.{IsLawful}
-use Rattle.rt_model.specs.Lasting.{Rises}
 use Rattle.rt_model.specs.Tree.{Types}
 use Rattle.rt_model.specs.World.{Application}
 use Rattle.rt_model.specs.State.{Scope, TaskRow, State, world_of}
@@ -13,10 +12,9 @@ use Rattle.rt_model.specs.Asides.{Aside, Asked, Marked, AllMarked, Looked, Thinn
 use Rattle.rt_model.specs.Asides as asides
 use Rattle.rt_model.specs.Causes.{Limits}
 use Rattle.rt_model.proofs.Frames.{shape}
-use Rattle.rt_model.proofs.Members.{clash}
 use Rattle.rt_model.proofs.RunFrames.{Later}
 use Rattle.law_moves.specs.Asides.{IsAside}
-use Rattle.law_moves.specs.Moves.{Move, Logged, Leads}
+use Rattle.law_moves.specs.Moves.{Logged}
 use Rattle.law_moves.specs.Reached.{Part, ByMoves, ByAside, Comes, Reached}
 use Rattle.law_moves.proofs.Asides.{aside_later, beside}
 use Rattle.law_moves.proofs.Ways.{reached_moved, reached_aside}
@@ -26,7 +24,7 @@ use Rattle.law_behavior.specs.Owed.{WakesArePolled}
 use Rattle.author_formulas.specs.Looking.{StandAlike}
 use Rattle.author_formulas.specs.Formulas.{Formulas, FormulasLook}
 use Rattle.author_formulas.specs.Memos.{MemoTask, fresh, PollsMemos}
-use Rattle.law_minding.specs.Held.{Since, Spares, next_poll_world, after_poll, HeldOn, held_to, IsKept}
+use Rattle.law_minding.specs.Held.{Since, next_poll_world, after_poll, held_to, IsKept}
 use Rattle.law_minding.specs.Tended.{AsideSpares, HeldThrough, held_through, TendedAreKept}
 use Rattle.law_minding.proofs.Minding.{alike_then}
 use Rattle.law_minding.proofs.Since.{Here, Minded}

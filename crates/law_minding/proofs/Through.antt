@@ -20,7 +20,7 @@ use Rattle.rt_model.proofs.Maps.{by_test}
 use Rattle.rt_model.proofs.Members.{number_left}
 use Rattle.rt_model.proofs.RunFrames.{fresh, numbered_rises}
 use Rattle.rt_model.proofs.Tour.{AllFresh}
-use Rattle.law_moves.specs.Moves.{Move, Logged, Leads}
+use Rattle.law_moves.specs.Moves.{Logged}
 use Rattle.law_moves.specs.Reached.{Part, ByMoves, ByAside, Comes}
 use Rattle.law_moves.specs.Asides.{IsAside}
 use Rattle.law_moves.proofs.Asides.{beside}
@@ -104,7 +104,7 @@ module _ {K : Types} (app : Application K) (lawful : IsLawful K app) (t : ℕ) w
   apart_on keep w u (Some x) e good k h =
       let m : Meaning K (TaskStep K) = poll_meant app w u x in
       let drawn = (lawful_draw app (t + 1) lawful).polls x.state (world_of w x.scope (Some u) false) h.low in
-      apart_by keep (called_once w) u x m m.fault e drawn.0 drawn.1 good k (stays t w (called_once w) refl refl refl h)
+      apart_by keep (called_once w) u x m m.fault e drawn.0 (drawn.1).low good k (stays t w (called_once w) refl refl refl h)
 
   advanced_calm : (w : State K) (u : ℕ) → AllByRecursion (λ (d : Deed K). Quiet app lawful t d.state d.scope d.polled d.wants) (poll_deeds app (unqueued w u) u (at w.tasks u))
       → Calm t w

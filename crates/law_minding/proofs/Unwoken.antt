@@ -1,16 +1,16 @@
 -- What each change leaves of a task that isn't woken, where nothing wakes it.
-use Rattle.std.proofs.Common.{ℕ, ◌+◌, ◌≤◌, Bool, true, false, List, [], ◌∷◌, ◌++◌, ◌≡◌, ◌⊎◌, ◌&&◌, inl, inr, not, refl, sym, ap, ◌∙◌, subst, nat_eq, arith}
+use Rattle.std.proofs.Common.{ℕ, ◌+◌, ◌≤◌, Bool, true, false, List, [], ◌∷◌, ◌++◌, ◌≡◌, ◌⊎◌, ◌&&◌, inl, inr, not, refl, sym, ap, ◌∙◌, subst, nat_eq}
 use Rattle.std.specs.Prelude.{Option, Some, None, if◌then◌else◌, is_some}
 use Rattle.std.specs.List.{AllByRecursion}
 use Rattle.rt_model.specs.Lists.{at, put, without, kept_by, has, drop_number, join}
 use Rattle.rt_model.specs.Tree.{Types, Element}
 use Rattle.rt_model.specs.World.{Source, Cell, Error, Context, Firsts, World, Meaning, Application}
-use Rattle.rt_model.specs.State.{Posted, Mark, Woken, ChildrenSide, Scope, ContextRow, TaskRow, State, side_of, with_side, changed_scope, change, is_live, holds, world_of}
-use Rattle.rt_model.specs.Commands.{same_posted, drop_posted, holding, released, unqueued, post, tell, activated, provided_at}
+use Rattle.rt_model.specs.State.{Posted, Mark, Woken, Scope, ContextRow, TaskRow, State, side_of, with_side, changed_scope, change, is_live, holds, world_of}
+use Rattle.rt_model.specs.Commands.{same_posted, drop_posted, holding, unqueued, post, tell, activated, provided_at}
 use Rattle.rt_model.specs.Next.{look_on, look}
 use Rattle.rt_model.specs.Removal.{cells_in, cell_sources, tell_all, kinds_of_scopes, kinds_of_contexts, read_contexts, without_scope, gone}
 use Rattle.rt_model.specs.Run.{with_next, called_once, called_where, is_own, kept_call, body_of, unmarked}
-use Rattle.rt_model.specs.Replay.{mounted_state, numbered, with_new_scope}
+use Rattle.rt_model.specs.Replay.{mounted_state, with_new_scope}
 use Rattle.rt_model.proofs.Maps.{by_test, eq_same}
 use Rattle.rt_model.proofs.Members.{clash, number_left, number_gone, join_left}
 use Rattle.law_behavior.specs.Marking.{IsPosted}
@@ -285,7 +285,7 @@ module _ {K : Types} (t : ℕ) where
           unqueues = λ w u a h. less_calm w (unqueued w u) (λ x. not (same_posted x (Woken u))) refl refl (λ q. (number_left w.queued u t q).0) h;
           unmarks = λ w s h. less_calm w (unmarked w s) (λ x. not (same_posted x (Mark s))) refl refl (λ q. q) h;
           asides = λ w v e h. stays w v (ap (λ (z : State K). z.next) e) (ap (λ (z : State K). z.posted) e) (ap (λ (z : State K). z.queued) e) h;
-          nexts = λ w next low h. record { low = low; unposted = h.unposted; unqueued_yet = h.unqueued_yet };
+          nexts = λ w next drawn h. record { low = drawn.low; unposted = h.unposted; unqueued_yet = h.unqueued_yet };
           writes =
               λ w n v old e a none h.
               let u : State K = record w { cells = put w.cells n (record old { value = v }) } in tell_calm u (Cell n) none (stays w u refl refl refl h);
@@ -332,7 +332,7 @@ module _ {K : Types} (t : ℕ) where
     called =
         record {
           bodies =
-              λ w s c low h.
+              λ w s c drawn h.
               let world : World K = world_of w s None true in
               let m : Meaning K (Element K) = body_of app c world in
               let u : State K = called_where (is_own c world) w in
@@ -340,7 +340,7 @@ module _ {K : Types} (t : ℕ) where
               let begun : Calm u = once_calm w (is_own c world) h in
               let z : State K = change v s (λ x. record x { reads = m.reads }) in
               let kept : Calm z =
-              changed_calm v s (λ x. record x { reads = m.reads }) (at v.scopes s) (record { low = low; unposted = begun.unposted; unqueued_yet = begun.unqueued_yet }) in
+              changed_calm v s (λ x. record x { reads = m.reads }) (at v.scopes s) (record { low = drawn.low; unposted = begun.unposted; unqueued_yet = begun.unqueued_yet }) in
               stays z (kept_call u s world m) refl refl refl kept;
           turns = λ w b x e h. stays w _ refl refl refl h;
           turns_nowhere = λ w b e h. stays w _ refl refl refl h;

@@ -1,5 +1,5 @@
 -- The numbers that the calls of a move give to new cells and contexts.
-use Rattle.std.specs.Prelude.{◌+◌, ◌≤◌, List, None, ◌≡◌}
+use Rattle.std.specs.Prelude.{ℕ, ◌+◌, ◌≤◌, ◌<◌, true, List, None, ◌≡◌, is_some}
 use Rattle.std.specs.List.{AllByRecursion}
 use Rattle.rt_model.specs.Lists.{at}
 use Rattle.rt_model.specs.Laws.{IsLawful}
@@ -34,3 +34,21 @@ module _ {K : Types} where
       → (limits : Limits) (props : K.Props) (inputs : List (Input K)) (m : Machine K) (moves : List Move)
       → Leads app limits (start app props inputs) moves m
       → at m.state.contexts m.state.next.contexts ≡ None
+
+  -- and the number of each task that is there was drawn
+  abbrev pub TasksAreDrawn : Application K → Type 0
+  TasksAreDrawn app =
+      IsLawful K app
+      → (limits : Limits) (props : K.Props) (inputs : List (Input K)) (m : Machine K) (moves : List Move) (t : ℕ)
+      → Leads app limits (start app props inputs) moves m
+      → is_some (at m.state.tasks t) ≡ true
+      → t < m.state.next.tasks
+
+  -- and that of each cell
+  abbrev pub CellsAreDrawn : Application K → Type 0
+  CellsAreDrawn app =
+      IsLawful K app
+      → (limits : Limits) (props : K.Props) (inputs : List (Input K)) (m : Machine K) (moves : List Move) (n : ℕ)
+      → Leads app limits (start app props inputs) moves m
+      → is_some (at m.state.cells n) ≡ true
+      → n < m.state.next.cells

@@ -1,5 +1,5 @@
 -- What a session that finished says of its memos and resources.
-use Rattle.std.specs.Prelude.{ℕ, ◌<◌, Bool, true, List, [], ◌∷◌, ◌++◌, Option, Some, None, ◌≡◌}
+use Rattle.std.specs.Prelude.{ℕ, Bool, true, List, [], ◌∷◌, ◌++◌, Option, Some, None, ◌≡◌}
 use Rattle.rt_model.specs.Lists.{at, joined}
 use Rattle.rt_model.specs.Laws.{IsLawful}
 use Rattle.rt_model.specs.Tree.{Types}
@@ -48,14 +48,13 @@ module _ {K : Types} {F : Type 0} (a : Formulas K F) (app : Application K) (stat
         → replay_within app limits (Some u) (Poll t ∷ log) ≡ Some v
         → StandsFresh state m.state t cell scope held f loads
         → KeptFrom a app limits m u v between log t scope held.owner (fresh cell f loads)
-    -- from the start of a poll of a task whose number was drawn to that of its next one something woke it: a wake, a resume, or a mark of a
-    -- source that one of its reactive contexts read
+    -- from the start of a poll of a task to that of its next one something woke it: a wake, a resume, or a mark of a source that one of its
+    -- reactive contexts read
     pub caused :
         (before between log : List Entry) (m v : Machine K) (t : ℕ)
         → joined (logs_of reports) ≡ before ++ (Poll t ∷ (between ++ Poll t ∷ log))
         → replay_within app limits (Some (start app props inputs)) before ≡ Some m
         → replay_within app limits (Some m) (Poll t ∷ between) ≡ Some v
-        → t < m.state.next.tasks
         → (moves : List Move)
         × (leads : Leads app limits m (Logged (Poll t) ∷ moves) v)
         × (entries moves ≡ between)

@@ -15,7 +15,7 @@ use Rattle.law_moves.specs.Reached.{Part, ByMoves, ByAside, Comes, Reached}
 use Rattle.law_behavior.specs.Doms.{Until, Events, Renders, Settles, left_by, LedTo, CallRan}
 use Rattle.author_formulas.specs.Formulas.{Formulas, FormulasLook}
 use Rattle.author_formulas.specs.Memos.{MemoTask, fresh, PollsMemos}
-use Rattle.law_minding.specs.Held.{Since, next_poll_world, after_poll, HeldOn, held_to, IsFresh, IsKept}
+use Rattle.law_minding.specs.Held.{next_poll_world, after_poll, HeldOn, held_to, IsFresh, IsKept}
 use Rattle.law_minding.specs.Tended.{HeldThrough, held_through}
 
 module _ {K : Types} where

@@ -1,6 +1,6 @@
 -- What wakes a task: a wake, a resume, or a mark of a source that one of its reactive contexts read. Such a cause stands between the starts
 -- of two polls of it.
-use Rattle.std.specs.Prelude.{ℕ, ◌<◌, nat_eq, Bool, true, false, ◌&&◌, ◌||◌, not, List, [], ◌∷◌, ◌++◌, Option, Some, None, ◌≡◌, if◌then◌else◌, is_some}
+use Rattle.std.specs.Prelude.{ℕ, ◌<◌, nat_eq, Bool, true, false, ◌&&◌, ◌||◌, not, List, [], ◌∷◌, Option, Some, None, ◌≡◌, if◌then◌else◌, is_some}
 use Rattle.rt_model.specs.Lists.{at, has, kept_by}
 use Rattle.rt_model.specs.Laws.{IsLawful}
 use Rattle.rt_model.specs.Tree.{Types}

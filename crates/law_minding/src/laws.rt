@@ -5,7 +5,7 @@ ghost use Rattle.author_formulas.specs.Formulas.{Formulas};
 ghost use Rattle.author_formulas.specs.Memos.{MemoTask};
 ghost use Rattle.law_minding.specs.Minding.{MemosGoOn, OwedOrKept, PollsStand, WritesMind};
 ghost use Rattle.law_minding.specs.Held.{HeldAreKept, LoggedHeldAreKept, PollsAreDone, SessionsKeep};
-ghost use Rattle.law_minding.specs.Numbering.{MovesNumber, NextIsFree};
+ghost use Rattle.law_minding.specs.Numbering.{CellsAreDrawn, MovesNumber, NextIsFree, TasksAreDrawn};
 ghost use Rattle.law_minding.specs.Homes.{HomesAreLive};
 ghost use Rattle.law_minding.specs.Unpolled.{FreshAreKept, FreshIsOwed, FreshStay};
 ghost use Rattle.law_minding.specs.Sessions.{SessionsKeepMemos};
@@ -95,6 +95,16 @@ pub fn moves_number<C, P, V, H, T, E, L>()
 /// So at no machine that moves reach from a replay's start a context has the next number.
 pub fn next_is_free<C, P, V, H, T, E, L>()
     ensures { (app : Application (types C P V H T E L)) → NextIsFree app }
+{}
+
+/// And the number of each task that is there was drawn.
+pub fn tasks_are_drawn<C, P, V, H, T, E, L>()
+    ensures { (app : Application (types C P V H T E L)) → TasksAreDrawn app }
+{}
+
+/// And so was that of each cell.
+pub fn cells_are_drawn<C, P, V, H, T, E, L>()
+    ensures { (app : Application (types C P V H T E L)) → CellsAreDrawn app }
 {}
 
 /// At each machine that moves reach from a replay's start the scope of a task that is there is live.
