@@ -273,7 +273,24 @@ listeners_update K k a m l ls e =
           );
     }
 
--- the entry of a listener's call leaves what the call leaves, where nothing else is at work
+-- the entry of a listener's call leaves what the call leaves, where nothing else is at work and the call leaves it so
+pub entry_is : {K : Types} (app : Application K) (m : Machine K) (l : Listener K) (ls : List (Listener K)) (e : Event K)
+    → m.work ≡ []
+    → m.event ≡ Some e
+    → waiting m ≡ l ∷ ls
+    → (heard_event app m l ls (Some e)).dead ≡ None
+    → (heard_event app m l ls (Some e)).work ≡ []
+    → (heard_event app m l ls (Some e)).unit ≡ false
+    → step app m (Heard l.origin) ≡ heard_event app m l ls (Some e)
+entry_is {K = K} app m l ls e idle event waits alive no_work no_unit =
+    let x : Machine K = heard_event app m l ls (Some e) in
+    let changed : change_by app m m.work (Heard l.origin) ≡ x =
+    ap (λ (items : List (Item K)). change_by app m items (Heard l.origin)) idle
+    ∙ ap (λ (ns : List (Listener K)). heard_first app m ns) waits
+    ∙ ap (λ (o : Option (Event K)). heard_event app m l ls o) event in
+    ap (λ (y : Machine K). settled app y) changed ∙ settled_none app x alive no_work no_unit
+
+-- so it is of pages
 pub heard_entry_is : {K : Types} (k : Keeping K.Value) (a : Pages K) (m : Machine K) (l : Listener K) (ls : List (Listener K)) (e : Event K)
     → m.dead ≡ None
     → m.work ≡ []
@@ -283,14 +300,8 @@ pub heard_entry_is : {K : Types} (k : Keeping K.Value) (a : Pages K) (m : Machin
     → step (meaning_of_pages k a) m (Heard l.origin) ≡ heard_event (meaning_of_pages k a) m l ls (Some e)
 heard_entry_is {K = K} k a m l ls e alive idle no_unit event waits =
     let app : Application K = meaning_of_pages k a in
-    let x : Machine K = heard_event app m l ls (Some e) in
-    let now : Updated a m l ls e x = listeners_update K k a m l ls e in
-    let changed : change_by app m m.work (Heard l.origin) ≡ x =
-    ap (λ (items : List (Item K)). change_by app m items (Heard l.origin)) idle
-    ∙ ap (λ (ns : List (Listener K)). heard_first app m ns) waits
-    ∙ ap (λ (o : Option (Event K)). heard_event app m l ls o) event in
-    ap (λ (y : Machine K). settled app y) changed
-    ∙ settled_none app x (now.rest.0 ∙ alive) (now.rest.1 ∙ idle) (now.rest.2 ∙ no_unit)
+    let now : Updated a m l ls e (heard_event app m l ls (Some e)) = listeners_update K k a m l ls e in
+    entry_is app m l ls e idle event waits (now.rest.0 ∙ alive) (now.rest.1 ∙ idle) (now.rest.2 ∙ no_unit)
 
 pub heard_entries_update : (K : Types) → HeardEntriesUpdate K
 heard_entries_update K k a m l ls e alive idle no_unit event waits =

@@ -1,3 +1,4 @@
 pub mod Keeps
 pub mod Updates
 pub mod OnePage
+pub mod Writes
