@@ -13,6 +13,7 @@ use Rattle.rt_model.proofs.Tour.{AllFresh}
 use Rattle.law_behavior.specs.Deeds.{Deed, effect_deeds, run_deeds}
 use Rattle.law_behavior.proofs.Frames.{Free, permits, Frame, Called}
 use Rattle.law_behavior.proofs.Enduring.{Enduring, finely, kept_so}
+use Rattle.law_behavior.proofs.Calling.{body_draws}
 use Rattle.law_behavior.proofs.Commanded.{AllAllowed}
 use Rattle.law_behavior.proofs.Lived.{AllGood, Ends, Leaves, changes, called, acted_on, run_on}
 use Rattle.law_behavior.proofs.Steadfast.{Of, Other, Bears, from_zero, fresh_anyway, draw_anyway, of_again, of_change, of_endures, all_allowed}
@@ -148,7 +149,7 @@ module _ {K : Types} (k : Keeping K.Value) (a : Pages K) (s : ℕ) (own : List �
 
   -- the call itself
   called_anew : (w : State K) (q : K.Props) → Page_is w → Told (kept_call (called_once w) s (world_of w s None true) (body_of app (Own c q) (world_of w s None true)))
-  called_anew w q h = ((one_called k s own None [] app).bodies w s (Own c q) (from_zero (body_of app (Own c q) (world_of w s None true)).next.tasks) kept, given)
+  called_anew w q h = ((one_called k s own None [] app).bodies w s (Own c q) (body_draws app 0 (draw_anyway app) (Own c q) (world_of w s None true) (from_zero w.next.tasks)).1 kept, given)
     where
       kept : Of s (Keeps k s own None []) w
       kept = record { row = h.row; there = h.there; holds = (h.holds).0 }

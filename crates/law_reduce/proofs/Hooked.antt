@@ -59,7 +59,7 @@ module _ {K : Types} where
   changes_calls w s f None = refl
   changes_calls w s f (Some x) = refl
 
-  calls_where : (b : Bool) (w : State K) → (called_where b w).last_calls ≡ w.last_calls
+  pub calls_where : (b : Bool) (w : State K) → (called_where b w).last_calls ≡ w.last_calls
   calls_where true w = refl
   calls_where false w = refl
 
@@ -67,7 +67,7 @@ module _ {K : Types} where
   scopes_where true w = refl
   scopes_where false w = refl
 
-  provided_calls : (app : Application K) (w : State K) (s k : ℕ) (v : K.Value) (o : Option K.Value) → (provided_at app w s k v o).last_calls ≡ w.last_calls
+  pub provided_calls : (app : Application K) (w : State K) (s k : ℕ) (v : K.Value) (o : Option K.Value) → (provided_at app w s k v o).last_calls ≡ w.last_calls
   provided_calls app w s k v o = on o
     where
       u : State K
@@ -80,19 +80,19 @@ module _ {K : Types} where
       on None = tell_calls u (Context k s) ∙ changed
       on (Some old) = either_calls w u (tell u (Context k s)) (app.same_value old v) changed (tell_calls u (Context k s) ∙ changed)
 
-  numbered_calls : (w : State K) (s : ℕ) (side : SideName) (p : Place) (k : Kind) → (numbered w s side p k).last_calls ≡ w.last_calls
+  pub numbered_calls : (w : State K) (s : ℕ) (side : SideName) (p : Place) (k : Kind) → (numbered w s side p k).last_calls ≡ w.last_calls
   numbered_calls w s side p k =
       changes_calls (with_next w (record (w.next) { elements = w.next.elements + 1 })) s
       (λ x. with_side x side (record (side_of x side) { numbers = (side_of x side).numbers ++ (p, k, w.next.elements) ∷ [] }))
       (at w.scopes s)
 
-  gone_calls : (w : State K) (s : ℕ) → (gone w s).last_calls ≡ without w.last_calls s
+  pub gone_calls : (w : State K) (s : ℕ) → (gone w s).last_calls ≡ without w.last_calls s
   gone_calls w s =
       let v : State K = without_scope w s in
       let u : State K = tell_all v (cell_sources (cells_in s w.cells)) in
       tells_calls (Error s ∷ read_contexts u s) u ∙ tells_calls (cell_sources (cells_in s w.cells)) v
 
-  activated_calls : (w : State K) (t : ℕ) (active : Bool) (x : TaskRow K) → (activated w t active (Some x)).last_calls ≡ w.last_calls
+  pub activated_calls : (w : State K) (t : ℕ) (active : Bool) (x : TaskRow K) → (activated w t active (Some x)).last_calls ≡ w.last_calls
   activated_calls w t active x =
       let v : State K = record w { tasks = put w.tasks t (record x { active = active }) } in
       either_calls w (post v (Woken t)) v (active && not x.active) (posts_calls v (post v (Woken t)) (post_posts v (Woken t))) refl

@@ -1,5 +1,6 @@
 pub mod Owners
 pub mod Hooked
+pub mod Later
 pub mod Minds
 pub mod Calm
 pub mod InTurn
@@ -11,6 +12,11 @@ pub mod Runs
 pub mod GoesOn
 pub mod OneReport
 pub mod Reports
+pub mod Live
+pub mod Wraps
+pub mod Around
+pub mod RootRuns
+pub mod RootStays
 pub mod Alike
 pub mod Folded
 pub mod Shown

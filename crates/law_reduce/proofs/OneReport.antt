@@ -54,16 +54,23 @@ module _ {K : Types} where
     pub built : m.built ≡ true
     pub none : next m.state ≡ None
 
-  at_rest_settled : (m : Machine K) → AtRest m → IsSettled m
+  pub at_rest_settled : (m : Machine K) → AtRest m → IsSettled m
   at_rest_settled m h =
       ap (λ (o : Option Fault). moves_alone o m.work m.unit) h.alive ∙ ap (λ (items : List (Item K)). moves_alone None items m.unit) h.idle ∙ h.unit
 
-  -- where nothing is owed
+  -- where nothing is owed no fault ended the run, and nothing is at work
+  quiet_front : (m : Machine K) → is_settled m ≡ true → not (is_some m.dead) && no_work m.work ≡ true
+  quiet_front m h =
+      let quiet : is_quiet m ≡ true = and-left (is_quiet m) (not (owes m.state)) h in
+      and-left (not (is_some m.dead) && no_work m.work) (no_listener (waiting m)) quiet
+
+  pub settled_alive : (m : Machine K) → is_settled m ≡ true → m.dead ≡ None
+  settled_alive m h = none_of m.dead (and-left (not (is_some m.dead)) (no_work m.work) (quiet_front m h))
+
   pub settled_ready : (m : Machine K) → m.built ≡ true → IsSettled m → is_settled m ≡ true → Ready m
   settled_ready m built still h =
-      let quiet : is_quiet m ≡ true = and-left (is_quiet m) (not (owes m.state)) h in
-      let front : not (is_some m.dead) && no_work m.work ≡ true = and-left (not (is_some m.dead) && no_work m.work) (no_listener (waiting m)) quiet in
-      let alive : m.dead ≡ None = none_of m.dead (and-left (not (is_some m.dead)) (no_work m.work) front) in
+      let front : not (is_some m.dead) && no_work m.work ≡ true = quiet_front m h in
+      let alive : m.dead ≡ None = settled_alive m h in
       let idle : m.work ≡ [] = no_items m.work (and-right (not (is_some m.dead)) (no_work m.work) front) in
       record {
         rests =

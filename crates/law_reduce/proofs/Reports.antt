@@ -4,6 +4,8 @@ use Rattle.std.specs.Prelude.{Option, Some, None}
 use Rattle.std.specs.List.{AllByRecursion}
 use Rattle.rt_model.specs.Tree.{Types}
 use Rattle.rt_model.specs.World.{Application}
+use Rattle.rt_model.specs.State.{State}
+use Rattle.rt_model.specs.Laws.{IsLawful}
 use Rattle.rt_model.specs.Run.{run}
 use Rattle.rt_model.specs.Replay.{Entry, Build, Input, Machine, change_by, replay_on, start}
 use Rattle.rt_model.specs.Causes.{Limits}
@@ -19,12 +21,13 @@ use Rattle.author_programs.specs.Cells.{Keeping}
 use Rattle.author_programs.specs.Pages.{Pages, meaning_of_pages}
 use Rattle.law_reduce.specs.Reduces.{AllReduce, EachReduces, ReportsReduce}
 use Rattle.law_reduce.specs.Elm.{OwnersStay}
+use Rattle.law_reduce.specs.Later.{ComesLater}
 use Rattle.law_reduce.specs.Reads.{AllReadsStay, EachReadsStay, UnrunReadsStay}
 use Rattle.law_reduce.proofs.Calm.{Calm, ended_calm, calm_moves}
-use Rattle.rt_model.specs.State.{State}
+use Rattle.law_reduce.proofs.Later.{calls_come_later}
 use Rattle.law_reduce.proofs.GoesOn.{PagesGoOn, Knows}
 use Rattle.law_reduce.proofs.Led.{LedTo, led_start, led_on}
-use Rattle.law_reduce.proofs.OneReport.{Ready, settled_ready, Came, report_comes}
+use Rattle.law_reduce.proofs.OneReport.{Ready, at_rest_settled, settled_ready, Came, report_comes}
 
 -- what owns cells stays from report to report
 module _ {K : Types} where
@@ -41,22 +44,25 @@ module _ {K : Types} where
 module _ {K : Types} (k : Keeping K.Value) (a : Pages K) where
   abbrev pub AllGoOn : State K → List Report → List (Told K) → Type 0
   AllGoOn w [] [] = Unit {0}
-  AllGoOn w (report ∷ reports) (told ∷ rest) = PagesGoOn k a w report.log (told.machine).state × AllGoOn (told.machine).state reports rest
+  AllGoOn w (report ∷ reports) (told ∷ rest) =
+      (PagesGoOn k a w report.log (told.machine).state × ComesLater w (told.machine).state) × AllGoOn (told.machine).state reports rest
   AllGoOn w _ _ = ⊥
 
   abbrev pub EachGoesOn : List Report → List (Told K) → Type 0
   EachGoesOn (build ∷ reports) (told ∷ rest) = AllGoOn (told.machine).state reports rest
   EachGoesOn _ _ = ⊥
 
+-- nothing is owed where a report is told
+module _ {K : Types} where
+  abbrev pub AllSettled : List (Told K) → Type 0
+  AllSettled told = AllByRecursion (λ (r : Told K). is_settled r.machine ≡ true) told
+
+  pub none_told : (told : List (Told K)) → Some [] ≡ Some told → [] ≡ told
+  none_told told h = ap (λ (o : Option (List (Told K))). elim o as (λ z. List (Told K)) [ None ↦ [] | Some rs ↦ rs ]) h
+
 module _ {K : Types} (k : Keeping K.Value) (a : Pages K) where
   abbrev app : Application K
   app = meaning_of_pages k a
-
-  abbrev AllSettled : List (Told K) → Type 0
-  AllSettled told = AllByRecursion (λ (r : Told K). is_settled r.machine ≡ true) told
-
-  none_told : (told : List (Told K)) → Some [] ≡ Some told → [] ≡ told
-  none_told told h = ap (λ (o : Option (List (Told K))). elim o as (λ z. List (Told K)) [ None ↦ [] | Some rs ↦ rs ]) h
 
   -- the reports of inputs
   inputs_reduce : (i : ℕ) (inputs : List (Input K)) (reports : List Report) (m : Machine K) (told : List (Told K))
@@ -116,6 +122,13 @@ module _ {K : Types} (k : Keeping K.Value) (a : Pages K) where
       subst (λ (x : List (Told K)). AllReadsStay m.state (r ∷ rs) x) f.4
       (came.reads_stay marks, inputs_stay marks (i + 1) more rs v f.1 came.ready_again came.inputs each.1 f.3 ends.1)
 
+  -- what was drawn stays drawn
+  later_there : IsLawful K app → (m v : Machine K) (log : List Entry) → Ready m → replay_on app (Some m) log ≡ Some v → ComesLater m.state v.state
+  later_there lawful m v log h goes =
+      let found = some_limits app log m v goes in
+      let moved = logs_are_moves app found.0 m v log (at_rest_settled m h.rests) found.1 in
+      calls_come_later app lawful found.0 m v moved.0 moved.1
+
   inputs_go_on : MarksAreRun app → Knows k a → (props : K.Props) (all : List (Input K)) → (i : ℕ) (inputs : List (Input K)) (reports : List Report) (m : Machine K) (told : List (Told K))
       → LedTo app props all m
       → Ready m
@@ -135,7 +148,7 @@ module _ {K : Types} (k : Keeping K.Value) (a : Pages K) where
       let goes : replay_on app (Some m) r.log ≡ Some v = log-replays app r.log (telling m) f.0 f.2 in
       let came : Came k a m input more r.log v = report_comes k a m v input more i r.log h inputs each.0 goes ends.0 in
       subst (λ (x : List (Told K)). AllGoOn k a m.state (r ∷ rs) x) f.4
-      (came.pages_go_on marks known props all led, inputs_go_on marks known props all (i + 1) more rs v f.1 (led_on app props all m v r.log led goes) came.ready_again came.inputs each.1 f.3 ends.1)
+      ((came.pages_go_on marks known props all led, later_there known.lawful m v r.log h goes), inputs_go_on marks known props all (i + 1) more rs v f.1 (led_on app props all m v r.log led goes) came.ready_again came.inputs each.1 f.3 ends.1)
 
   -- after the build nobody waits, and the inputs are as they were
   build_calm : (props : K.Props) (inputs : List (Input K)) (limits : Limits) (v : Machine K) (moves : List Move) (log : List Entry)
@@ -206,6 +219,20 @@ module _ {K : Types} (k : Keeping K.Value) (a : Pages K) where
       let built = build_ready props inputs r.log v each.0 (log-replays app r.log (telling m) f.0 f.2) ends.0 in
       subst (λ (x : List (Told K)). EachOwns (r ∷ rs) x) f.4
       (inputs_own 1 inputs rs v f.1 built.0 built.1 each.1 f.3 ends.1)
+
+  -- the build's report is told where a log leads from the start
+  abbrev pub BuiltBy : K.Props → List (Input K) → List (Told K) → Type 0
+  BuiltBy props inputs [] = Unit {0}
+  BuiltBy props inputs (told ∷ rest) = LedTo app props inputs told.machine
+
+  pub each_built : (props : K.Props) (inputs : List (Input K)) (reports : List Report) (told : List (Told K)) → tell_reports app (start app props inputs) (logs_of reports) ≡ Some told → BuiltBy props inputs told
+  each_built props inputs [] told accepted = subst (λ (rs : List (Told K)). BuiltBy props inputs rs) (none_told told accepted) tt
+  each_built props inputs (r ∷ rs) told accepted =
+      let m : Machine K = start app props inputs in
+      let f = first-of app m r.log (logs_of rs) told accepted in
+      let v : Machine K = (f.0).machine in
+      subst (λ (x : List (Told K)). BuiltBy props inputs x) f.4
+      (led_on app props inputs m v r.log (led_start app props inputs) (log-replays app r.log (telling m) f.0 f.2))
 
   each_stays : MarksAreRun app → (props : K.Props) (inputs : List (Input K)) (reports : List Report) (told : List (Told K))
       → OneEach inputs (logs_of reports)

@@ -35,7 +35,7 @@ use Rattle.law_reduce.proofs.Hooked.{both_last}
 use Rattle.law_reduce.proofs.Handing.{Fits, Comes, logged_by}
 
 -- one or the other
-neither_first : (b c : Bool) → b || c ≡ true → b ≡ false → c ≡ true
+pub neither_first : (b c : Bool) → b || c ≡ true → b ≡ false → c ≡ true
 neither_first true c h q = cc
 neither_first false c h q = h
 

@@ -1,15 +1,17 @@
 -- A page's scope shows its page's function of present values, run again or not.
-use Rattle.std.proofs.Common.{ℕ, suc, ◌+◌, true, List, [], ◌∷◌, ◌≡◌, ◌⊎◌, inl, inr, refl, sym, ap, ◌∙◌, ◌≤◌, subst, map, length, nat_lt}
+use Rattle.std.proofs.Common.{ℕ, suc, ◌+◌, true, false, List, [], ◌∷◌, ◌≡◌, ◌⊎◌, inl, inr, refl, sym, ap, ◌∙◌, ◌≤◌, ◌<◌, subst, map, length, nat_lt, nat_eq, arith}
+use Rattle.std.proofs.lemmas.Bool.{eqb-true}
 use Rattle.std.specs.Prelude.{Option, Some, None, if◌then◌else◌}
 use Rattle.std.specs.List.{AllByRecursion}
-use Rattle.rt_model.specs.Lists.{at, first_of}
+use Rattle.rt_model.specs.Lists.{at, first_of, has}
 use Rattle.rt_model.specs.Tree.{Types, VComponent, Own}
-use Rattle.rt_model.specs.World.{Source, Cell, Application, last_number}
+use Rattle.rt_model.specs.World.{Source, Cell, Hook, Application, last_number}
 use Rattle.rt_model.specs.State.{Scope, LastCall, State, CellRow, values_of}
 use Rattle.rt_model.specs.Commands.{names_source}
 use Rattle.rt_model.specs.Current.{AllCurrent, IsCurrent, CurrentAs, BodyIsCurrent}
 use Rattle.rt_model.specs.Told.{Told}
 use Rattle.rt_model.specs.Reports.{Report}
+use Rattle.rt_model.proofs.Maps.{by_test}
 use Rattle.law_moves.specs.Sorts.{FedFit}
 use Rattle.law_behavior.specs.Owed.{MarksAreRun}
 use Rattle.law_lasting.specs.ComponentsLast.{ComponentsLast}
@@ -23,7 +25,9 @@ use Rattle.law_pages.specs.Updates.{model_of, read_in}
 use Rattle.law_pages.proofs.Listening.{at_values}
 use Rattle.law_reduce.specs.Elm.{NeverRemoved}
 use Rattle.law_reduce.specs.Folds.{last_state}
+use Rattle.law_reduce.specs.Later.{ComesLater}
 use Rattle.law_reduce.specs.Values.{own_of, HasFirst, HasRun, ShowsNow, AllShowNow, EachShowsNow, PagesShowValues}
+use Rattle.law_reduce.proofs.Runs.{neither_first}
 use Rattle.law_reduce.proofs.GoesOn.{PageAfter}
 use Rattle.law_reduce.proofs.Reports.{AllGoOn, EachGoesOn, each_goes_on}
 use Rattle.law_reduce.proofs.Shown.{reads_now}
@@ -32,8 +36,27 @@ same_number : {V : Type 0} (vs : List V) (n : ℕ) → length vs ≡ length (num
 same_number [] n = refl
 same_number (v ∷ vs) n = ap (λ (m : ℕ). suc m) (same_number vs (n + 1))
 
+-- the numbers of cells that are made one after another
+numbers_below : {V : Type 0} (vs : List V) (m n : ℕ) → has (numbers_from m vs) n ≡ true → n < m + length vs
+numbers_below [] m n h = let absurdity : false ≡ true = h in cc
+numbers_below (v ∷ vs) m n h =
+    let rest : ℕ = length vs in
+    by_test (nat_eq m n)
+    (λ q. let e : m ≡ n = eqb-true m n q in let here : n < m + suc rest = omega (arith, e) in here)
+    (
+    λ q.
+    let more : n < (m + 1) + rest = numbers_below vs (m + 1) n (neither_first (nat_eq m n) (has (numbers_from (m + 1) vs) n) h q) in
+    let here : n < m + suc rest = omega (arith, more) in
+    here
+    )
+
+-- no hooks keep none
+none_keep : (K : Types) (k : Keeping K.Value) (ms : List ℕ) → KeepAll {K = K} k [] 0 ms → (n : ℕ) → has ms n ≡ true → ⊥
+none_keep K k [] h n q = let absurdity : false ≡ true = q in cc
+none_keep K k (m ∷ ms) h n q = let is = (h.0).is in cc
+
 module _ {K : Types} (k : Keeping K.Value) (a : Pages K) (back : GivesBack k) (s : ℕ) (c : K.Component) (p : K.Props) (first : LastCall K) (bare : first.given.given.hooks ≡ [])
-    (fits : first.given.given.next.cells + length (a.page c p).cells ≤ last_number) (many : (q : K.Props) → length (a.page c q).cells ≡ length (a.page c p).cells) where
+    (fits : first.given.given.next.cells + length (a.page c p).cells ≤ last_number) (many : (q : K.Props) → length (a.page c q).cells ≡ length (a.page c p).cells) (built : State K) where
   abbrev app : Application K
   app = meaning_of_pages k a
 
@@ -43,10 +66,14 @@ module _ {K : Types} (k : Keeping K.Value) (a : Pages K) (back : GivesBack k) (s
   same : (q : K.Props) → length (a.page c q).cells ≡ length own
   same q = many q ∙ same_number (a.page c p).cells first.given.given.next.cells
 
+  -- own numbers that were drawn before the call
+  abbrev Below : LastCall K → Type 0
+  Below last = (n : ℕ) → has own n ≡ true → n < built.next.cells → n < last.given.given.next.cells
+
   -- the last call is the first one, with the props that it had, and its cells are as they were, or it was given hooks that keep them
   abbrev Phase : State K → Scope K → LastCall K → Type 0
   Phase w x last =
-      KeepAll k last.given.given.hooks 0 own
+      (KeepAll k last.given.given.hooks 0 own × Below last)
       ⊎ ((last ≡ first) × (x.component ≡ Own c p) × AllByRecursion (λ (n : ℕ). HasFirst k a s c p w x first n) ((a.page c p).reads own))
 
   record Stands (w : State K) : Type 0 where
@@ -55,6 +82,7 @@ module _ {K : Types} (k : Keeping K.Value) (a : Pages K) (back : GivesBack k) (s
     props : K.Props
     page : row.component ≡ Own c props
     keeps : KeepAll k row.hooks 0 own
+    later : built.next.cells ≤ w.next.cells
     phase : (last : LastCall K) → at w.last_calls s ≡ Some last → Phase w row last
 
   -- from report to report
@@ -70,18 +98,33 @@ module _ {K : Types} (k : Keeping K.Value) (a : Pages K) (back : GivesBack k) (s
     stays_first w v x y ns reads stay h.1,
   )
 
-  goes_on : (w v : State K) (h : Stands w) → PageAfter k a w v s h.row c own → Stands v
-  goes_on w v h f =
+  below_after : (w v : State K) (h : Stands w) → ComesLater w v → (last : LastCall K) → at v.last_calls s ≡ Some last → KeepAll k last.given.given.hooks 0 own → Below last
+  below_after w v h rises last e kept =
+      elim (rises.1 s last e) [
+        | inl old ↦
+            elim (h.phase last old) [
+              | inl g ↦ g.1
+              | inr z ↦
+                  λ n q low.
+                  let none : KeepAll {K = K} k [] 0 own = subst (λ (hs : List (Hook K)). KeepAll k hs 0 own) (ap (λ (l : LastCall K). l.given.given.hooks) z.0 ∙ bare) kept in
+                  absurd (none_keep K k own none n q)
+            ]
+        | inr up ↦ λ n q low. let drawn : built.next.cells ≤ w.next.cells = h.later in omega (arith, low, drawn, up)
+      ]
+
+  goes_on : (w v : State K) (h : Stands w) → PageAfter k a w v s h.row c own → ComesLater w v → Stands v
+  goes_on w v h f rises =
       record {
         row = f.row;
         there = f.there;
         props = f.props;
         page = f.page;
         keeps = f.keeps;
+        later = let drawn : built.next.cells ≤ w.next.cells = h.later in let more : w.next.cells ≤ v.next.cells = rises.0 in omega (arith, drawn, more);
         phase =
             λ last e.
             elim (f.calls last e) [
-              | inl g ↦ inl g
+              | inl g ↦ inl (g, below_after w v h rises last e g)
               | inr o ↦
                   elim (h.phase last o.0) [
                     | inl g ↦ inl g
@@ -114,7 +157,7 @@ module _ {K : Types} (k : Keeping K.Value) (a : Pages K) (back : GivesBack k) (s
   nows_all v (n ∷ ns) = (refl, nows_all v ns)
 
   -- where all is current
-  shows_now : (v : State K) → AllCurrent app v → Stands v → ShowsNow k a s c p own v
+  shows_now : (v : State K) → AllCurrent app v → Stands v → ShowsNow k a s c p built own v
   shows_now v current h = by (at v.last_calls s) refl scope
     where
       scope : CurrentAs app v h.row (at v.last_calls s) (Own c h.props)
@@ -122,7 +165,7 @@ module _ {K : Types} (k : Keeping K.Value) (a : Pages K) (back : GivesBack k) (s
           subst (λ (d : VComponent K). CurrentAs app v h.row (at v.last_calls s) d) h.page
           (found (λ (e : ℕ × Scope K). IsCurrent app v e.0 e.1) v.scopes s h.row current h.there)
 
-      by : (o : Option (LastCall K)) → at v.last_calls s ≡ o → BodyIsCurrent app v h.row o → ShowsNow k a s c p own v
+      by : (o : Option (LastCall K)) → at v.last_calls s ≡ o → BodyIsCurrent app v h.row o → ShowsNow k a s c p built own v
       by None e body = absurd body
       by (Some last) e body =
           elim (h.phase last e) [
@@ -135,8 +178,9 @@ module _ {K : Types} (k : Keeping K.Value) (a : Pages K) (back : GivesBack k) (s
                   last = last;
                   call = e;
                   drawn = last.given.given.next.cells;
+                  below = g.1;
                   output =
-                      current-pages-show K k a v current s h.row last c h.props own h.there e h.page g (same h.props)
+                      current-pages-show K k a v current s h.row last c h.props own h.there e h.page g.0 (same h.props)
                       ∙ ap (λ (vs : List (Option K.Value)). Some ((a.page c h.props).shows last.given.given.scope own vs))
                       (reads_now k a v last (model_of v) ((a.page c h.props).reads own) (nows_all v ((a.page c h.props).reads own)));
                 }
@@ -150,6 +194,7 @@ module _ {K : Types} (k : Keeping K.Value) (a : Pages K) (back : GivesBack k) (s
                   last = first;
                   call = call;
                   drawn = first.given.given.next.cells + length (a.page c p).cells;
+                  below = λ n q low. numbers_below (a.page c p).cells first.given.given.next.cells n q;
                   output =
                       first-pages-show K k a v back current s h.row first c p h.there call z.1 bare fits
                       ∙ ap (λ (vs : List (Option K.Value)). Some ((a.page c p).shows first.given.given.scope own vs))
@@ -159,12 +204,12 @@ module _ {K : Types} (k : Keeping K.Value) (a : Pages K) (back : GivesBack k) (s
 
   all_show_now : (w : State K) (reports : List Report) (told : List (Told K)) → Stands w → AllGoOn k a w reports told
       → AllByRecursion (λ (r : Told K). AllCurrent app (r.machine).state) told
-      → AllShowNow k a s c p own reports told
+      → AllShowNow k a s c p built own reports told
   all_show_now w [] told h go current = tt
   all_show_now w (r ∷ rs) [] h go current = tt
   all_show_now w (r ∷ rs) (t ∷ ts) h go current = λ stays.
       let v : State K = (t.machine).state in
-      let now : Stands v = goes_on w v h (go.0 s h.row c h.props own same h.there h.page h.keeps stays) in
+      let now : Stands v = goes_on w v h ((go.0).0 s h.row c h.props own same h.there h.page h.keeps stays) (go.0).1 in
       (shows_now v current.0 now, all_show_now v rs ts now go.1 current.1)
 
   -- after the last of them
@@ -172,17 +217,20 @@ module _ {K : Types} (k : Keeping K.Value) (a : Pages K) (back : GivesBack k) (s
       → AllCurrent app w
       → AllByRecursion (λ (r : Told K). AllCurrent app (r.machine).state) told
       → NeverRemoved s reports
-      → ShowsNow k a s c p own (last_state w told)
+      → ShowsNow k a s c p built own (last_state w told)
   shows_last w [] [] h go here current stays = shows_now w here h
   shows_last w [] (t ∷ ts) h go here current stays = absurd go
   shows_last w (r ∷ rs) [] h go here current stays = absurd go
   shows_last w (r ∷ rs) (t ∷ ts) h go here current stays =
       let v : State K = (t.machine).state in
-      shows_last v rs ts (goes_on w v h (go.0 s h.row c h.props own same h.there h.page h.keeps stays.0)) go.1 current.0 current.1 stays.1
+      shows_last v rs ts (goes_on w v h ((go.0).0 s h.row c h.props own same h.there h.page h.keeps stays.0) (go.0).1) go.1 current.0 current.1 stays.1
 
 -- of a scope that has run once
 module _ {K : Types} (k : Keeping K.Value) (a : Pages K) (back : GivesBack k) (s : ℕ) (c : K.Component) (p : K.Props) (w : State K) (run : HasRun k a s c p w) (many : (q : K.Props) → length (a.page c q).cells ≡ length (a.page c p).cells) where
-  begins : Stands k a back s c p run.first run.bare run.fits many w
+  level : w.next.cells ≤ w.next.cells
+  level = omega arith
+
+  begins : Stands k a back s c p run.first run.bare run.fits many w w
   begins =
       record {
         row = run.row;
@@ -190,6 +238,7 @@ module _ {K : Types} (k : Keeping K.Value) (a : Pages K) (back : GivesBack k) (s
         props = p;
         page = run.page;
         keeps = run.keeps;
+        later = level;
         phase =
             λ last e.
             let same_call : Some last ≡ Some run.first = sym e ∙ run.call in
@@ -199,16 +248,16 @@ module _ {K : Types} (k : Keeping K.Value) (a : Pages K) (back : GivesBack k) (s
 
   pub shows_each : (reports : List Report) (told : List (Told K)) → AllGoOn k a w reports told
       → AllByRecursion (λ (r : Told K). AllCurrent (meaning_of_pages k a) (r.machine).state) told
-      → AllShowNow k a s c p (own_of k a s c p run.first) reports told
-  shows_each reports told go current = all_show_now k a back s c p run.first run.bare run.fits many w reports told begins go current
+      → AllShowNow k a s c p w (own_of k a s c p run.first) reports told
+  shows_each reports told go current = all_show_now k a back s c p run.first run.bare run.fits many w w reports told begins go current
 
   pub shows_end : (reports : List Report) (told : List (Told K)) → AllGoOn k a w reports told
       → AllCurrent (meaning_of_pages k a) w
       → AllByRecursion (λ (r : Told K). AllCurrent (meaning_of_pages k a) (r.machine).state) told
       → NeverRemoved s reports
-      → ShowsNow k a s c p (own_of k a s c p run.first) (last_state w told)
+      → ShowsNow k a s c p w (own_of k a s c p run.first) (last_state w told)
   shows_end reports told go here current stays =
-      shows_last k a back s c p run.first run.bare run.fits many w reports told begins go here current stays
+      shows_last k a back s c p run.first run.bare run.fits many w w reports told begins go here current stays
 
 pub pages_show_values : (K : Types) → ((k : Keeping K.Value) (a : Pages K) → MarksAreRun (meaning_of_pages k a)) → ((k : Keeping K.Value) (a : Pages K) → FedFit (meaning_of_pages k a)) → ((k : Keeping K.Value) (a : Pages K) → ComponentsLast (meaning_of_pages k a))
     → PagesShowValues K

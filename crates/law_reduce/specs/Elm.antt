@@ -1,6 +1,6 @@
 -- Elm's equation for the cells of one scope: where listeners read no others, these have at the end what the fold of all inputs makes of
 -- them, and the scope shows its page's function of that.
-use Rattle.std.specs.Prelude.{ℕ, true, List, [], ◌∷◌, map, length, Option, Some, ◌≡◌}
+use Rattle.std.specs.Prelude.{ℕ, true, List, ◌∷◌, map, length, Option, Some, ◌≡◌}
 use Rattle.std.specs.List.{AllByRecursion}
 use Rattle.rt_model.specs.Lists.{at, has}
 use Rattle.rt_model.specs.Tree.{Types, Own}
@@ -19,7 +19,7 @@ use Rattle.law_behavior.specs.Along.{NoneRemoves}
 use Rattle.author_programs.specs.Cells.{Keeping}
 use Rattle.author_programs.specs.First.{GivesBack}
 use Rattle.author_programs.specs.Pages.{Pages, meaning_of_pages}
-use Rattle.law_pages.specs.Updates.{Model, model_of, read_in}
+use Rattle.law_pages.specs.Updates.{Model, model_of}
 use Rattle.law_reduce.specs.Reduces.{hearers}
 use Rattle.law_reduce.specs.Folds.{folded, last_state}
 use Rattle.law_reduce.specs.Values.{own_of, HasRun}
@@ -83,8 +83,7 @@ OwnCellsFold K =
     → OwnFolds a inputs reports ran.told
 
 module _ {K : Types} (a : Pages K) (s : ℕ) (c : K.Component) where
-  -- a scope shows the function of its page, with the props that it has now, of a model; none of a number that wasn't drawn once its last
-  -- call had made its cells
+  -- a scope shows the function of its page, with the props that it has now, of what a model has of the cells that it reads
   pub record ShowsModel (own : List ℕ) (v : State K) (m : Model K) : Type 0 where
     pub row : Scope K
     pub there : at v.scopes s ≡ Some row
@@ -92,10 +91,9 @@ module _ {K : Types} (a : Pages K) (s : ℕ) (c : K.Component) where
     pub page : row.component ≡ Own c props
     pub last : LastCall K
     pub call : at v.last_calls s ≡ Some last
-    pub drawn : ℕ
     pub output :
         row.main_side.output
-        ≡ Some ((a.page c props).shows last.given.given.scope own (map (read_in m drawn) ((a.page c props).reads own)))
+        ≡ Some ((a.page c props).shows last.given.given.scope own (map (λ n. at m n) ((a.page c props).reads own)))
 
 module _ {K : Types} (k : Keeping K.Value) (a : Pages K) where
   -- of a scope that has run once when the build is reported: where its page and all who hear read no cells but those that its run

@@ -2,8 +2,11 @@ pub mod Reduces
 pub mod Folds
 pub mod Shows
 pub mod Kept
+pub mod Later
 pub mod Reads
 pub mod Runs
 pub mod Values
 pub mod Elm
+pub mod Live
+pub mod RootStays
 pub mod Bodies

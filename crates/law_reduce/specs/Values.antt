@@ -1,7 +1,7 @@
 -- What a scope of a page shows from its first run on: its page's function of the values that its cells have then.
-use Rattle.std.specs.Prelude.{ℕ, ◌+◌, ◌≤◌, true, List, [], ◌∷◌, map, length, Option, Some, ◌≡◌}
+use Rattle.std.specs.Prelude.{ℕ, ◌+◌, ◌≤◌, ◌<◌, true, List, [], ◌∷◌, map, length, Option, Some, ◌≡◌}
 use Rattle.std.specs.List.{AllByRecursion}
-use Rattle.rt_model.specs.Lists.{at}
+use Rattle.rt_model.specs.Lists.{at, has}
 use Rattle.rt_model.specs.Tree.{Types, Own}
 use Rattle.rt_model.specs.World.{Cell, last_number}
 use Rattle.rt_model.specs.State.{Scope, LastCall, State}
@@ -46,8 +46,8 @@ module _ {K : Types} (k : Keeping K.Value) (a : Pages K) (s : ℕ) (c : K.Compon
     pub reads : AllByRecursion (λ (n : ℕ). HasFirst w row first n) ((a.page c p).reads (own_of first))
 
   -- it shows the function of its page, with the props that it has now, of present values; none of a number that wasn't drawn once its
-  -- last call had made its cells
-  pub record ShowsNow (own : List ℕ) (v : State K) : Type 0 where
+  -- last call had made its cells, but each of its own that was drawn in an earlier state
+  pub record ShowsNow (w : State K) (own : List ℕ) (v : State K) : Type 0 where
     pub row : Scope K
     pub there : at v.scopes s ≡ Some row
     pub props : K.Props
@@ -55,15 +55,16 @@ module _ {K : Types} (k : Keeping K.Value) (a : Pages K) (s : ℕ) (c : K.Compon
     pub last : LastCall K
     pub call : at v.last_calls s ≡ Some last
     pub drawn : ℕ
+    pub below : (n : ℕ) → has own n ≡ true → n < w.next.cells → n < drawn
     pub output :
         row.main_side.output
         ≡ Some ((a.page c props).shows last.given.given.scope own (map (read_in (model_of v) drawn) ((a.page c props).reads own)))
 
   -- after each of these reports it does, as long as no log removes it
-  abbrev pub AllShowNow : List ℕ → List Report → List (Told K) → Type 0
-  AllShowNow own (report ∷ reports) (told ∷ rest) =
-      NoneRemoves s report.log → ShowsNow own told.machine.state × AllShowNow own reports rest
-  AllShowNow own _ _ = Unit {0}
+  abbrev pub AllShowNow : State K → List ℕ → List Report → List (Told K) → Type 0
+  AllShowNow w own (report ∷ reports) (told ∷ rest) =
+      NoneRemoves s report.log → ShowsNow w own told.machine.state × AllShowNow w own reports rest
+  AllShowNow w own _ _ = Unit {0}
 
 -- of a scope that has run once when the build is reported, where how many cells its page has doesn't depend on its props
 module _ {K : Types} (k : Keeping K.Value) (a : Pages K) where
@@ -71,7 +72,7 @@ module _ {K : Types} (k : Keeping K.Value) (a : Pages K) where
   EachShowsNow (build ∷ reports) (told ∷ rest) =
       (s : ℕ) (c : K.Component) (p : K.Props) (run : HasRun k a s c p told.machine.state)
       → ((q : K.Props) → length (a.page c q).cells ≡ length (a.page c p).cells)
-      → AllShowNow k a s c p (own_of k a s c p run.first) reports rest
+      → AllShowNow k a s c p told.machine.state (own_of k a s c p run.first) reports rest
   EachShowsNow _ _ = ⊥
 
 -- so it is of every session of lawful pages whose headline holds, where a hook gives back the number that it was made to keep

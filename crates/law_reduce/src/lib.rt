@@ -10,7 +10,10 @@ mod reducing;
 mod showing;
 
 pub use folding::{own_cells_fold, pages_reduce};
-pub use keeping::{cells_are_kept, runs_are_given, unrun_reads_stay};
+pub use keeping::{
+    calls_come_later, cells_are_kept, live_never_removed, live_unremoved, root_stays,
+    runs_are_given, unrun_reads_stay, wrappers_stay,
+};
 pub use reducing::{one_hears, reports_reduce};
 pub use showing::{
     bodies_show, folds_show, own_pages_show, pages_show_values, reports_show_bodies,

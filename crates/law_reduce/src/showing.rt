@@ -8,6 +8,7 @@ ghost use Rattle.rt_model.specs.OneLog.{types};
 
 use law_behavior::marks_are_run;
 use law_lasting::components_last;
+use law_minding::cells_are_drawn;
 use law_moves::fed_fit;
 
 /// After each report a scope of a page whose hooks kept its cells shows the page's function of what
@@ -56,4 +57,6 @@ pub fn own_pages_show<C, P, V, H, T, E, L>()
     // A page is handed that page, with other props or its own.
     fed_fit::<C, P, V, H, T, E, L>();
     components_last::<C, P, V, H, T, E, L>();
+    // The numbers of the cells that its run made were drawn.
+    cells_are_drawn::<C, P, V, H, T, E, L>();
 }

@@ -8,4 +8,5 @@ returns g c = λ k a back lawful props inputs limits taken reports h.
     (λ keeping pages. c.marks_are_run.ensures (meaning_of_pages keeping pages))
     (λ keeping pages. c.fed_fit.ensures (meaning_of_pages keeping pages))
     (λ keeping pages. c.components_last.ensures (meaning_of_pages keeping pages))
+    (λ keeping pages. c.cells_are_drawn.ensures (meaning_of_pages keeping pages))
     k a back lawful props inputs limits taken reports h
