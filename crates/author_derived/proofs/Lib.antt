@@ -1,0 +1,4 @@
+pub mod Gathered
+pub mod Standing
+pub mod Derives
+pub mod Telling

@@ -1,0 +1,4 @@
+pub mod Derived
+pub mod Decides
+pub mod Trees
+pub mod DerivedShow
