@@ -4,6 +4,10 @@ pub use Rattle.rt_author.specs.Bodies
 pub use Rattle.rt_author.specs.Bodied
 pub use Rattle.rt_author.specs.Nothing
 pub use Rattle.rt_author.specs.Paged
+pub use Rattle.rt_author.specs.Derived
+pub use Rattle.rt_author.specs.DerivedShow
+pub use Rattle.rt_author.specs.DerivedTrees
+pub use Rattle.rt_author.specs.DerivedPaged
 pub use Rattle.rt_author.specs.Carrying
 pub use Rattle.rt_author.specs.Same
 pub use Rattle.rt_author.specs.Given
@@ -54,20 +58,26 @@ pub use Rattle.rt_author.specs.OtherKinds
 pub use Rattle.rt_author.specs.CellsLast
 pub use Rattle.rt_author.specs.ComponentsLast
 pub use Rattle.rt_author.specs.NumbersLast
+pub use Rattle.rt_author.specs.ChildrenLast
 pub use Rattle.rt_author.specs.OneFinish
 pub use Rattle.rt_author.specs.Coming
 pub use Rattle.rt_author.specs.Held
+pub use Rattle.rt_author.specs.NumbersDrawn
 pub use Rattle.rt_author.specs.Sessions as MemoSessions
 pub use Rattle.rt_author.specs.Unpolled
 pub use Rattle.rt_author.specs.Waking
 pub use Rattle.rt_author.specs.Keeps
 pub use Rattle.rt_author.specs.OnePage
 pub use Rattle.rt_author.specs.Updates
+pub use Rattle.rt_author.specs.ListenersWrite
 pub use Rattle.rt_author.specs.Reduces
 pub use Rattle.rt_author.specs.Folds
 pub use Rattle.rt_author.specs.ReducedShows
 pub use Rattle.rt_author.specs.ReadsStay
 pub use Rattle.rt_author.specs.CellsKept
+pub use Rattle.rt_author.specs.CallsLater
+pub use Rattle.rt_author.specs.LiveStay
+pub use Rattle.rt_author.specs.RootStays
 pub use Rattle.rt_author.specs.RunsGiven
 pub use Rattle.rt_author.specs.ShowsValues
 pub use Rattle.rt_author.specs.Elm

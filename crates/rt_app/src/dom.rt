@@ -5,7 +5,9 @@
 pub use law_kept::{calls_keep_cells, calls_reduce, handled_update, settled_show, written_update};
 
 // Laws of what they leave of memos and resources.
-pub use law_minding::{calls_are_parts, polls_are_caused, settled_keep, tended_are_kept};
+pub use law_minding::{
+    calls_are_parts, polls_are_caused, polls_are_caused_through, settled_keep, tended_are_kept,
+};
 
 // The runtime.
 pub use rt_boundary::NotBuilt;

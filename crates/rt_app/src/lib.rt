@@ -13,7 +13,8 @@ pub use rt_author::{
 
 // Memos and resources.
 pub use rt_author::{
-    HasMemo, Load, MemoApp, MemoBodies, MemoTask, poll_memo, step_memo, use_memo, use_resource,
+    DerivedPaged, DerivedPages, HasMemo, Load, MemoApp, MemoBodies, MemoTask, poll_memo, step_memo,
+    use_memo, use_resource,
 };
 
 // Components of libraries.
@@ -37,17 +38,19 @@ pub use rt_author::{
 
 // Laws.
 pub use rt_author::{
-    bodies_show, cells_are_kept, cells_last, cells_stay, coded_tests, commands_keep_others,
-    commands_within, components_last, current_pages_show, either_tests, events_update,
-    first_pages_show, folds_show, given_tests, heard_entries_update, heard_from_below,
-    kept_pages_ask_nothing, kinds_apart, kinds_go_on, listeners_update, logged_cells_last,
+    bodies_show, calls_come_later, cells_are_drawn, cells_are_kept, cells_last, cells_stay,
+    children_last, children_stay, coded_tests, commands_keep_others, commands_within,
+    components_last, current_derived_show, current_pages_show, either_tests, events_update,
+    first_pages_show, folds_show, given_tests, heard_entries_update, heard_entries_write,
+    heard_from_below, kept_are_derived, kept_pages_ask_nothing, kinds_apart, kinds_go_on,
+    listeners_update, live_never_removed, live_unremoved, logged_cells_last, logged_children_last,
     logged_components_last, logged_numbers_last, memoized_are_lawful, numbers_last, one_finish,
     one_hears, one_page_shows, one_read_shows, other_kinds_stay, own_cells_fold, own_pages_show,
     pages_are_lawful, pages_keep_cells, pages_reduce, pages_show_present_values, pages_show_values,
     pair_tests, plain_tests, polls_are_done, programs_come_to_their_meaning, programs_go_on,
-    programs_keep_others, reports_reduce, reports_show_bodies, reports_show_pages,
-    reports_show_reduced, rows_are_sessions, runs_are_given, sessions_keep_memos,
-    unread_runs_nothing, unrun_reads_stay,
+    programs_keep_others, reports_reduce, reports_show_bodies, reports_show_derived,
+    reports_show_pages, reports_show_reduced, root_stays, rows_are_sessions, runs_are_given,
+    sessions_keep_memos, unread_runs_nothing, unrun_reads_stay, wrappers_stay,
 };
 
 // Values.

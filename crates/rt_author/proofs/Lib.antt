@@ -4,5 +4,9 @@ pub use Rattle.author_bodies.proofs.Meant
 pub use Rattle.author_bodies.proofs.Refused
 pub use Rattle.author_bodies.proofs.Contexts
 pub use Rattle.author_bodies.proofs.Following
+pub use Rattle.author_bodies.proofs.Placeholders
+pub use Rattle.author_pieces.proofs.Rows
+pub use Rattle.tree_mirror.proofs.SealedNodes
+pub use Rattle.tree_mirror.proofs.SealedTrees
 pub use Rattle.rt_model.proofs.Maps
 pub mod Rules

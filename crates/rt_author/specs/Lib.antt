@@ -8,6 +8,10 @@ pub use Rattle.author_carrying.specs.Carrying
 pub use Rattle.author_given.specs.Same
 pub use Rattle.author_given.specs.declared.props.Given
 pub use Rattle.author_given.specs.declared.props.Inside
+pub use Rattle.author_derived.specs.Derived
+pub use Rattle.author_derived.specs.DerivedShow
+pub use Rattle.author_derived.specs.Trees as DerivedTrees
+pub use Rattle.author_derived.specs.declared.paged.DerivedPaged
 pub use Rattle.author_deriving.specs.Task as MemoTasks
 pub use Rattle.author_deriving.specs.declared.task.Load
 pub use Rattle.author_deriving.specs.declared.task.MemoTask
@@ -52,22 +56,28 @@ pub use Rattle.author_programs.specs.Sequence
 pub use Rattle.author_programs.specs.Shows
 pub use Rattle.law_kinds.specs.OtherKinds
 pub use Rattle.law_lasting.specs.CellsLast
+pub use Rattle.law_lasting.specs.ChildrenLast
 pub use Rattle.law_lasting.specs.ComponentsLast
 pub use Rattle.law_lasting.specs.NumbersLast
 pub use Rattle.law_lasting.specs.OneFinish
 pub use Rattle.law_minding.specs.Coming
 pub use Rattle.law_minding.specs.Held
+pub use Rattle.law_minding.specs.Numbering as NumbersDrawn
 pub use Rattle.law_minding.specs.Sessions
 pub use Rattle.law_minding.specs.Unpolled
 pub use Rattle.law_minding.specs.Waking
 pub use Rattle.law_pages.specs.Keeps
 pub use Rattle.law_pages.specs.OnePage
 pub use Rattle.law_pages.specs.Updates
+pub use Rattle.law_pages.specs.Writes as ListenersWrite
 pub use Rattle.law_reduce.specs.Reduces
 pub use Rattle.law_reduce.specs.Folds
 pub use Rattle.law_reduce.specs.Shows as ReducedShows
 pub use Rattle.law_reduce.specs.Reads as ReadsStay
 pub use Rattle.law_reduce.specs.Kept as CellsKept
+pub use Rattle.law_reduce.specs.Later as CallsLater
+pub use Rattle.law_reduce.specs.Live as LiveStay
+pub use Rattle.law_reduce.specs.RootStays
 pub use Rattle.law_reduce.specs.Runs as RunsGiven
 pub use Rattle.law_reduce.specs.Values as ShowsValues
 pub use Rattle.law_reduce.specs.Elm
@@ -84,6 +94,7 @@ pub use Rattle.tree_nodes.specs.declared.error.RenderError
 pub use Rattle.tree_nodes.specs.declared.error.SuspendedFuture
 pub use Rattle.tree_nodes.specs.declared.template.TemplateAttribute
 pub use Rattle.tree_nodes.specs.declared.template.TemplateNode
+pub use Rattle.tree_nodes.specs.declared.template.TemplateParts
 pub use Rattle.tree_nodes.specs.declared.vnode.DynamicNode
 pub use Rattle.tree_nodes.specs.declared.vnode.ErrorHandler
 pub use Rattle.tree_nodes.specs.declared.vnode.Fallback

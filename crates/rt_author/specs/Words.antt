@@ -25,6 +25,9 @@ pub use Rattle.author_bodies.specs.Bodies.{ProgramsDecide}
 pub use Rattle.author_bodies.specs.declared.bodied.Bodied.{Bodied}
 pub use Rattle.author_bodies.specs.declared.paged.Paged.{Paged}
 pub use Rattle.author_carrying.specs.Carrying.{Carrying}
+pub use Rattle.author_derived.specs.Derived.{Derivations, derived_types}
+pub use Rattle.author_derived.specs.Trees.{DerivedTree}
+pub use Rattle.author_derived.specs.declared.paged.DerivedPaged.{DerivedPaged}
 pub use Rattle.author_deriving.specs.Task.{as_task, load_of, task_of}
 pub use Rattle.author_deriving.specs.declared.task.MemoTask.{MemoTask}
 pub use Rattle.author_formulas.specs.Formulas.{Formulas, FormulasLook, Load, loaded, wait}

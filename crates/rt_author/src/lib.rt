@@ -10,6 +10,9 @@ pub use author_bodies::{
 };
 pub use author_calls::{App, BodyCx, BodyTurn, Cx, TaskStep, Turn};
 pub use author_carrying::{Carries, carried, read_held, write_held};
+pub use author_derived::{
+    DerivedPaged, DerivedPages, current_derived_show, kept_are_derived, reports_show_derived,
+};
 pub use author_deriving::{
     HasMemo, Load, MemoApp, MemoBodies, MemoTask, poll_memo, step_memo, use_memo, use_resource,
 };
@@ -42,16 +45,18 @@ pub use tree_nodes::{
 // Laws of sessions, of pages and bodies, of contexts, and of memos.
 pub use law_kinds::{commands_keep_others, programs_keep_others};
 pub use law_lasting::{
-    cells_last, cells_stay, components_last, logged_cells_last, logged_components_last,
-    logged_numbers_last, numbers_last, one_finish, rows_are_sessions,
+    cells_last, cells_stay, children_last, children_stay, components_last, logged_cells_last,
+    logged_children_last, logged_components_last, logged_numbers_last, numbers_last, one_finish,
+    rows_are_sessions,
 };
-pub use law_minding::{polls_are_done, sessions_keep_memos};
+pub use law_minding::{cells_are_drawn, polls_are_done, sessions_keep_memos};
 pub use law_pages::{
-    events_update, heard_entries_update, kept_pages_ask_nothing, listeners_update, one_page_shows,
-    one_read_shows, pages_keep_cells,
+    events_update, heard_entries_update, heard_entries_write, kept_pages_ask_nothing,
+    listeners_update, one_page_shows, one_read_shows, pages_keep_cells,
 };
 pub use law_reduce::{
-    bodies_show, cells_are_kept, folds_show, one_hears, own_cells_fold, own_pages_show,
-    pages_reduce, pages_show_values, reports_reduce, reports_show_bodies, reports_show_reduced,
-    runs_are_given, unrun_reads_stay,
+    bodies_show, calls_come_later, cells_are_kept, folds_show, live_never_removed, live_unremoved,
+    one_hears, own_cells_fold, own_pages_show, pages_reduce, pages_show_values, reports_reduce,
+    reports_show_bodies, reports_show_reduced, root_stays, runs_are_given, unrun_reads_stay,
+    wrappers_stay,
 };
