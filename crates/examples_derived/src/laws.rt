@@ -1,0 +1,32 @@
+//! What a session keeps of the memo and of the resource. The function does nothing: what it claims
+//! is its contract, which follows of the laws that it names.
+ghost use Rattle.examples_derived.specs.Sentences.{DerivedAreKept};
+
+use crate::derived::{Component, Formula};
+use crate::parts::Value;
+use rt_author::{MemoTask, Nothing, memoized_are_lawful, sessions_keep_memos};
+
+/// A session keeps the memo and the resource that nobody else touches.
+pub fn derived_are_kept()
+    ensures { DerivedAreKept }
+{
+    memoized_are_lawful::<
+        Component,
+        Nothing,
+        Value,
+        Nothing,
+        MemoTask<Value, Formula>,
+        Nothing,
+        Nothing,
+    >();
+    sessions_keep_memos::<
+        Component,
+        Nothing,
+        Value,
+        Nothing,
+        MemoTask<Value, Formula>,
+        Nothing,
+        Nothing,
+        Formula,
+    >();
+}

@@ -1,0 +1,2 @@
+pub mod AllLines
+pub mod More

@@ -1,0 +1,4 @@
+pub mod Tests
+pub mod Shapes
+pub mod Meaning
+pub mod Sentences
