@@ -77,7 +77,8 @@ fn chosen(alloc: Global, cx: &mut Cx<'_, Memos>, pair: Pair) -> Result<Option<u6
     Ok(get_unless(alloc, cx, first == 0, pair.derived)?)
 }
 
-/// The same, computed in a reactive context that has no other source from then on.
+/// What the memo is, computed in a reactive context that has no other source from then on; none
+/// where a cell is gone.
 #[tactic(auto, using(rt_author::proofs::Rules::reacting))]
 fn chosen_in(
     alloc: Global,

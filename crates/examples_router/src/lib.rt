@@ -3,6 +3,8 @@
 //! below them reads it.
 #![tactic(auto)]
 
+mod laws;
 mod router;
 
+pub use laws::{links_last, numbers_stay, route_lasts, rows_are_all, sessions_agree};
 pub use router::{Component, Routed, Router};

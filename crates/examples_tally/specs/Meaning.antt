@@ -1,107 +1,97 @@
--- What the calls are, and that the tests decide.
+-- What the component, its derived cell and its listener are, and that the tests decide.
 use Rattle.std.proofs.Common.{refl}
-use Rattle.std.specs.Prelude.{ℕ, ◌+◌, true, List, codes, min, nat_eq, nat_lt, Option, Some, None, if◌then◌else◌}
-use Rattle.rt_author.specs.Words.{Bodied, Element, Event, Keeping, Nothing, Pair, Program, Programs, ProgramsDecide, TaskStep, Types, VNode}
-use Rattle.rt_author.specs.Words.{current_scope, done, element, go_on, listens, last_number, nothing, pending, shown, view}
-use Rattle.rt_author.specs.Words.{placeholder_tree, plain_tests, ready, rendered, tree_of, types}
-use Rattle.rt_author.specs.Signals.{get, set, set_unless, follow, own_pair, spawn_once}
-use Rattle.examples_tally.specs.declared.tally.Deriving.{Deriving}
+use Rattle.std.specs.Prelude.{ℕ, ◌+◌, true, List, [], ◌∷◌, codes, min, nat_eq, nat_lt, Option, Some, None, if◌then◌else◌}
+use Rattle.std.specs.List.{slice_get}
+use Rattle.rt_author.specs.Words.{AllDecide, Derivations, DerivedTree, Event, Keeping, Nothing, Page, Pages, Reply, Types}
+use Rattle.rt_author.specs.Words.{derived_types, element, last_number, listens, placeholder_tree, plain_tests, shown, tree_of, view}
 use Rattle.examples_tally.specs.declared.tally.Tally.{Tally}
 
+-- its values, handlers and formulas are numbers
 abbrev pub TallyTypes : Types
-TallyTypes = types Nothing Nothing ℕ ℕ Deriving Nothing Nothing
+TallyTypes = derived_types Nothing Nothing ℕ ℕ ℕ Nothing
 
--- a tree of the application, and a body that answers one
 abbrev pub TallyTree : Type 0
-TallyTree = VNode (Bodied Tally Nothing Nothing ℕ ℕ Deriving Nothing Nothing) Nothing Nothing ℕ ℕ Deriving Nothing Nothing
-
-abbrev pub Body : Type 0
-Body = Program TallyTypes (Element TallyTypes)
-
-abbrev pub tree : TallyTree → Body
-tree t = done (rendered (tree_of t))
+TallyTree = DerivedTree Tally Nothing Nothing ℕ ℕ ℕ Nothing Nothing
 
 -- hooks keep the numbers of cells as they are
 abbrev pub keeping : Keeping ℕ
 keeping = record { kind = 0; keeps = λ n. n; kept = λ n. Some n }
 
--- what the button says
-abbrev pub word : ℕ → List ℕ
-word many = if nat_eq many 0 then codes "few" else codes "many"
-
--- the button of a scope, where the derived signal has a value
-abbrev pub face : ℕ → Option ℕ → ℕ → TallyTree
-face scope None count = placeholder_tree
-face scope (Some said) count = view (element (codes "button") (listens (codes "onclick") scope count) (shown (word said)))
-
-abbrev pub said_in : ℕ → Option ℕ → Body
-said_in count said = current_scope (λ scope. tree (face scope said count))
-
-abbrev pub saying : Pair → Body
-saying pair = go_on (get pair.derived.0) (λ said. said_in pair.source.0 said)
-
--- the task as it is spawned, and then the button
-abbrev pub first : Pair → Deriving
-first pair = record { pair = pair; said = 0; context = None }
-
-abbrev pub with_task : Option Pair → Body
-with_task None = tree placeholder_tree
-with_task (Some pair) = go_on (spawn_once pair.is_new (first pair)) (λ _. saying pair)
-
-abbrev pub button : Body
-button = go_on (own_pair keeping 0 0) (λ pair. with_task pair)
+-- a cell, where it is had
+abbrev pub listed : Option ℕ → List ℕ
+listed None = []
+listed (Some cell) = cell ∷ []
 
 -- whether a count is many
-abbrev pub derived : ℕ → ℕ
-derived count = if nat_lt 1 count then 1 else 0
+abbrev pub is_many : ℕ → ℕ
+is_many count = if nat_lt 1 count then 1 else 0
 
--- the task once it has set its signal
-abbrev pub as_derived : Pair → ℕ → ℕ → TaskStep TallyTypes
-as_derived pair context said = pending (record { pair = pair; said = said; context = Some (record { 0 = context }) })
+-- so of what was read
+abbrev pub many : Option (Option ℕ) → ℕ
+many (Some (Some count)) = is_many count
+many _ = 0
 
--- the signal is set, unless it was
-abbrev pub as_said : Deriving → ℕ → ℕ → Program TallyTypes (TaskStep TallyTypes)
-as_said state context said =
-    go_on (set_unless (nat_eq said state.said) state.pair.derived.0 said) (λ _. done (as_derived state.pair context said))
+-- what the button says
+abbrev pub word : ℕ → List ℕ
+word said = if nat_eq said 0 then codes "few" else codes "many"
 
--- it is set of the count, where the count was read in a context
-abbrev pub of_count : Deriving → Option (ℕ × ℕ) → Program TallyTypes (TaskStep TallyTypes)
-of_count state None = done ready
-of_count state (Some found) = as_said state (found.0) (derived (found.1))
+-- the button of a scope
+abbrev pub button : ℕ → ℕ → ℕ → TallyTree
+button scope count said = view (element (codes "button") (listens (codes "onclick") scope count) (shown (word said)))
 
--- a step of the task
-abbrev pub derive : Deriving → Program TallyTypes (TaskStep TallyTypes)
-derive state = go_on (follow state.pair.source.0 state.context) (λ found. of_count state found)
+-- where its cells have values
+abbrev pub face : ℕ → Option ℕ → Option (Option ℕ) → TallyTree
+face scope (Some count) (Some (Some said)) = button scope count said
+face scope _ _ = placeholder_tree
+
+-- the component: it has the count, and reads the derived cell behind it
+abbrev pub page : Page TallyTypes
+page =
+    record {
+      cells = 0 ∷ [];
+      reads = λ all. listed (slice_get all 1);
+      shows = λ scope all values. tree_of (face scope (slice_get all 0) (slice_get values 0));
+    }
 
 -- one more, up to the greatest number
-abbrev pub raised : ℕ → Event TallyTypes → Option ℕ → Program TallyTypes (Event TallyTypes)
-raised count event None = done event
-raised count event (Some value) = go_on (set count (min (value + 1) last_number)) (λ _. done event)
+abbrev pub raised : ℕ → Option (Option ℕ) → List (ℕ × ℕ)
+raised cell (Some (Some count)) = (cell, min (count + 1) last_number) ∷ []
+raised cell _ = []
+
+-- the listener
+abbrev pub reply : ℕ → Event TallyTypes → Reply TallyTypes
+reply cell event = record { reads = cell ∷ []; writes = λ values. raised cell (slice_get values 0); leaves = event }
 
 -- the one component, and its props
 abbrev pub none : Nothing
 none = record {}
 
--- its calls
-abbrev pub programs : Programs TallyTypes
-programs =
+abbrev pub pages : Pages TallyTypes
+pages =
     record {
       root = none;
       same_component = λ a b. true;
       same_props = λ a b. true;
       same_value = nat_eq;
       same_handler = nat_eq;
-      memoize = λ c p q. true;
-      body = λ c p. button;
-      poll = derive;
-      effect = λ e. done nothing;
-      handle = λ count event. go_on (get count) (λ value. raised count event value);
+      page = λ c p. page;
+      reply = reply;
     }
 
-pub decides : ProgramsDecide TallyTypes programs
+-- the whole application: it derives of the count whether it is many
+abbrev pub answers : Derivations TallyTypes ℕ
+answers =
+    record {
+      pages = pages;
+      derived = λ c p own. listed (slice_get own 0);
+      sources = λ count. count ∷ [];
+      value = λ count values. many (slice_get values 0);
+      empty = 0;
+    }
+
+pub decides : AllDecide TallyTypes pages
 decides =
     record {
-      memoized = λ c p q. refl;
       components = (λ a b h. refl, λ a. refl);
       props = (λ a b h. refl, λ a. refl);
       values = plain_tests.numbers;

@@ -1,6 +1,6 @@
-//! An application of signals: a button raises a count, and a text says whether it is many.
+//! An application of pages with a derived cell: a button raises a count, and says whether it is many.
 #![tactic(auto)]
 
 mod tally;
 
-pub use tally::{Deriving, Tallied, Tally};
+pub use tally::{Tallied, Tally, application};

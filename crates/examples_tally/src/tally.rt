@@ -1,13 +1,12 @@
-//! A button that raises a count and says whether it is many. A task derives that of the count, and is
-//! woken when the count is set; the button is run again only where what it says is another.
+//! A button that raises a count and says whether it is many. That is derived of the count: the button
+//! is run again only where it says something else.
 ghost use Rattle.std.specs.Prelude.{◌≡◌, IfOk};
-ghost use Rattle.rt_author.specs.Words.{ComesIfRemembered, element_of, step_of};
+ghost use Rattle.std.specs.Option.{option_copied};
 ghost use Rattle.examples_tally.specs.Meaning as meaning;
 
 use rt_author::{
-    Bodied, Bodies, BodyCx, Cx, Element, Event, KeepsCells, Nothing, OutOfMemory, Pair, Parts,
-    ReactiveContext, ScopeId, Signal, TaskStep, Text, VNode, element, listens, own_pair, shown,
-    spawn_once, view,
+    Bodied, DerivedPaged, DerivedPages, Event, KeepsCells, List, Nothing, OutOfMemory, Parts,
+    ScopeId, Text, VNode, element, listens, one, shown, view,
 };
 use std::alloc::Global;
 
@@ -16,92 +15,13 @@ use std::alloc::Global;
 pub struct Tally;
 
 /// The application.
-pub type Tallied = Bodied<Tally>;
+pub type Tallied = Bodied<DerivedPaged<Tally>>;
 
-/// The state of the task: its signals, what it derived last, and its context once it has one.
-#[derive(Clone, Copy, PartialEq, Eq)]
-pub struct Deriving {
-    pub pair: Pair,
-    pub said: u64,
-    pub context: Option<ReactiveContext>,
-}
-
-/// The button: its task is spawned at the first run.
-#[tactic(auto, using(rt_author::proofs::Rules::hooking, rt_author::proofs::Rules::looking))]
-fn button(alloc: Global, cx: &mut BodyCx<'_, Tallied>) -> Result<Element<Tallied>, OutOfMemory>
-    ensures came { IfOk result (λ answer.
-        ComesIfRemembered cx.old cx.new meaning.button (element_of answer)) }
-    ensures world { cx.new.world ≡ cx.old.world }
-{
-    let Some(pair) = own_pair(alloc, cx, 0, 0)? else {
-        return Ok(VNode::empty(alloc)?);
-    };
-    let (said, context) = (0, None);
-    let state = Deriving {
-        pair,
-        said,
-        context,
-    };
-    spawn_once(cx, pair.is_new, state)?;
-    let said = pair.derived.get(alloc, cx)?;
-    let scope = cx.current_scope_id();
-    Ok(Ok(face(alloc, scope, said, pair.source.0)?))
-}
-
-/// The button of a scope, by what it says and the cell that it raises.
-fn face(
-    alloc: Global,
-    scope: ScopeId,
-    said: Option<u64>,
-    count: u64,
-) -> Result<VNode<Tallied>, OutOfMemory>
-    ensures tree { IfOk result (λ tree. tree ≡ meaning.face scope.0 said count) }
-{
-    match said {
-        Some(said) => {
-            let words = Text::from_str(alloc, word(said))?;
-            let raises = listens(alloc, "onclick", scope, count);
-            Ok(view(alloc, element(alloc, "button", raises, shown(alloc, words)))?)
-        }
-        None => Ok(VNode::placeholder(alloc)?),
+/// The application.
+pub fn application() -> Tallied {
+    Bodied {
+        bodies: DerivedPaged { pages: Tally },
     }
-}
-
-/// The words for a derived value.
-fn word(many: u64) -> &'static str
-    ensures word { result.now ≡ meaning.word many }
-{
-    if many == 0 { "few" } else { "many" }
-}
-
-/// Whether a count is many, as a value.
-fn derived(count: u64) -> u64
-    ensures derived { result ≡ meaning.derived count }
-{
-    if count > 1 { 1 } else { 0 }
-}
-
-/// A step of the task: the count is read, and its derived signal is set.
-#[tactic(auto, using(rt_author::proofs::Rules::hooking))]
-fn derive(
-    alloc: Global,
-    cx: &mut Cx<'_, Tallied>,
-    state: Deriving,
-) -> Result<TaskStep<Deriving>, OutOfMemory>
-    ensures came { IfOk result (λ step.
-        ComesIfRemembered cx.old cx.new (meaning.derive state) (step_of step)) }
-    ensures world { cx.new.world ≡ cx.old.world }
-{
-    let Some(found) = state.pair.source.follow(alloc, cx, state.context)? else {
-        return Ok(TaskStep::Ready);
-    };
-    let said = derived(found.1);
-    state.pair.derived.set_unless(cx, said == state.said, said)?;
-    Ok(TaskStep::Pending(Deriving {
-        pair: state.pair,
-        said,
-        context: Some(found.0),
-    }))
 }
 
 impl Parts for Tally {
@@ -115,7 +35,8 @@ impl Parts for Tally {
     /// The cell that is raised.
     type Handler = u64;
 
-    type TaskState = Deriving;
+    /// The cell of which it is derived whether it is many.
+    type TaskState = u64;
 
     type Effect = Nothing;
 
@@ -138,8 +59,8 @@ impl KeepsCells for Tally {
     }
 }
 
-impl Bodies for Tally {
-    ghost programs = { λ _. meaning.programs };
+impl DerivedPages for Tally {
+    ghost answers = { λ _. meaning.answers };
 
     ghost props_of_none = { λ _. meaning.none };
 
@@ -153,46 +74,162 @@ impl Bodies for Tally {
         Ok(Nothing)
     }
 
-    fn body(
+    fn cells(
         &self,
         alloc: Global,
         _component: &Nothing,
         _props: &Nothing,
-        cx: &mut BodyCx<'_, Tallied>,
-    ) -> Result<Element<Tallied>, OutOfMemory> {
-        button(alloc, cx)
+    ) -> Result<List<u64>, OutOfMemory> {
+        one(alloc, 0)
     }
 
-    fn step(
+    fn derived(
         &self,
         alloc: Global,
-        state: Deriving,
-        cx: &mut Cx<'_, Tallied>,
-    ) -> Result<TaskStep<Deriving>, OutOfMemory> {
-        derive(alloc, cx, state)
+        _component: &Nothing,
+        _props: &Nothing,
+        own: &[u64],
+    ) -> Result<List<u64>, OutOfMemory> {
+        listed(alloc, own.get(0))
     }
 
-    #[tactic(auto, using(rt_author::proofs::Rules::hooking))]
-    fn effect(
+    fn sources(&self, alloc: Global, count: &u64) -> Result<List<u64>, OutOfMemory> {
+        one(alloc, *count)
+    }
+
+    fn value(
         &self,
         _alloc: Global,
-        _effect: &Nothing,
-        _cx: &mut Cx<'_, Tallied>,
-    ) -> Result<(), OutOfMemory> {
-        Ok(())
+        _count: &u64,
+        values: &[Option<u64>],
+    ) -> Result<u64, OutOfMemory> {
+        Ok(many(values.get(0)))
     }
 
-    #[tactic(auto, using(rt_author::proofs::Rules::hooking))]
-    fn hear(
+    fn empty(&self, _alloc: Global) -> Result<u64, OutOfMemory> {
+        Ok(0)
+    }
+
+    fn reads(
+        &self,
+        alloc: Global,
+        _component: &Nothing,
+        _props: &Nothing,
+        all: &[u64],
+    ) -> Result<List<u64>, OutOfMemory> {
+        listed(alloc, all.get(1))
+    }
+
+    fn shows(
+        &self,
+        alloc: Global,
+        _component: &Nothing,
+        _props: &Nothing,
+        scope: ScopeId,
+        all: &[u64],
+        values: &[Option<u64>],
+    ) -> Result<VNode<Tallied>, OutOfMemory> {
+        face(alloc, scope, all.get(0), values.get(0))
+    }
+
+    fn hears(
+        &self,
+        alloc: Global,
+        handler: &u64,
+        _event: &Event<Nothing>,
+    ) -> Result<List<u64>, OutOfMemory> {
+        one(alloc, *handler)
+    }
+
+    fn writes(
         &self,
         alloc: Global,
         handler: &u64,
         _event: &mut Event<Nothing>,
-        cx: &mut Cx<'_, Tallied>,
-    ) -> Result<(), OutOfMemory> {
-        match Signal(*handler).get(alloc, cx)? {
-            Some(count) => Signal(*handler).set(cx, count.saturating_add(1)),
-            None => Ok(()),
-        }
+        values: &[Option<u64>],
+    ) -> Result<List<(u64, u64)>, OutOfMemory> {
+        raised(alloc, *handler, values.get(0))
     }
+}
+
+/// A cell, where it is had.
+fn listed(alloc: Global, cell: Option<&u64>) -> Result<List<u64>, OutOfMemory>
+    ensures listed { IfOk result (λ cells. cells ≡ meaning.listed (option_copied cell.entry)) }
+{
+    match cell {
+        Some(cell) => one(alloc, *cell),
+        None => Ok(List::new(alloc)),
+    }
+}
+
+/// Whether a count is many, as a value.
+fn many(count: Option<&Option<u64>>) -> u64
+    ensures many { result ≡ meaning.many (option_copied count.entry) }
+{
+    match count {
+        Some(Some(count)) => is_many(*count),
+        _ => 0,
+    }
+}
+
+/// 1 where a count is many, else 0.
+fn is_many(count: u64) -> u64
+    ensures is_many { result ≡ meaning.is_many count }
+{
+    if count > 1 { 1 } else { 0 }
+}
+
+/// The write that raises a cell, up to the greatest number.
+fn raised(
+    alloc: Global,
+    cell: u64,
+    value: Option<&Option<u64>>,
+) -> Result<List<(u64, u64)>, OutOfMemory>
+    ensures writes { IfOk result (λ writes.
+        writes ≡ meaning.raised cell (option_copied value.entry)) }
+{
+    match value {
+        Some(Some(count)) => one(alloc, (cell, count.saturating_add(1))),
+        _ => Ok(List::new(alloc)),
+    }
+}
+
+/// What the component shows: the button, where its cells have values.
+fn face(
+    alloc: Global,
+    scope: ScopeId,
+    count: Option<&u64>,
+    said: Option<&Option<u64>>,
+) -> Result<VNode<Tallied>, OutOfMemory>
+    ensures tree { IfOk result (λ tree.
+        tree ≡ meaning.face scope.0 (option_copied count.entry) (option_copied said.entry)) }
+{
+    let Some(count) = count else {
+        return VNode::placeholder(alloc);
+    };
+    match said {
+        Some(Some(said)) => button(alloc, scope, *count, *said),
+        _ => VNode::placeholder(alloc),
+    }
+}
+
+/// The button of a scope, by the cell that it raises and what it says.
+fn button(
+    alloc: Global,
+    scope: ScopeId,
+    count: u64,
+    said: u64,
+) -> Result<VNode<Tallied>, OutOfMemory>
+    ensures tree { IfOk result (λ tree. tree ≡ meaning.button scope.0 count said) }
+{
+    let words = Text::from_str(alloc, word(said))?;
+    let raises = listens(alloc, "onclick", scope, count);
+    view(alloc, element(alloc, "button", raises, shown(alloc, words)))
+}
+
+/// The words for a derived value.
+fn word(many: u64) -> &'static str
+    ensures word { result.now ≡ meaning.word many }
+{
+    if many == 0 { "few" } else { "many" }
 }

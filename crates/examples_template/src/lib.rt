@@ -3,5 +3,7 @@
 #![tactic(auto)]
 
 mod application;
+mod laws;
 
 pub use application::Application;
+pub use laws::{button_shows_fold, click_raises, one_click, report_raises};
