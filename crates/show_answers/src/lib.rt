@@ -4,4 +4,4 @@
 
 mod laws;
 
-pub use laws::{answers_grow, refusals_grow};
+pub use laws::{answers_grow, forms_tell_alike, refusals_grow};

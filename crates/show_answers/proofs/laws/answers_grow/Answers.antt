@@ -2,7 +2,7 @@ use Rattle.show_answers.proofs.Growing.{grow, grow-answered}
 use Rattle.show_answers.proofs.laws.answers_grow.Goals as goal
 
 pub returns-clause-grows : goal.returns-clause-grows
-returns-clause-grows c = λ lines number edits own reports report are h. grow lines number edits own reports report are h
+returns-clause-grows c = λ form lines number edits own reports report are h. grow form lines number edits own reports report are h
 
 pub returns-clause-answered : goal.returns-clause-answered
 returns-clause-answered c = λ lines edits own reports report are h. grow-answered lines edits own reports report are h
