@@ -2,7 +2,6 @@
 import contextlib
 import json
 import os
-import pathlib
 import select
 import subprocess
 import time
@@ -19,14 +18,16 @@ class Passed(Exception):
 
 
 class Stream:
-    """The program with the word --stream, one line after another.
+    """The program with the word --stream, or another one for it, one line after another.
 
     `goes_on` says whether more may be asked: not once the program has ended, or is about to."""
 
-    def __init__(self, command: list, bounds: bounded.Bounds | None = None, **how):
+    def __init__(
+        self, command: list, bounds: bounded.Bounds | None = None, word: str = "--stream", **how
+    ):
         pipe = subprocess.PIPE
         how = {"stderr": subprocess.DEVNULL, **how}
-        self.process = subprocess.Popen([*command, "--stream"], stdin=pipe, stdout=pipe, **how)
+        self.process = subprocess.Popen([*command, word], stdin=pipe, stdout=pipe, **how)
         self.bounds, self.goes_on, self.rest = bounds, True, b""
 
     def __enter__(self):
@@ -102,11 +103,6 @@ class Stream:
     def memory(self) -> int:
         """The bytes of memory in which the program stands."""
         return bounded.memory_of(self.process.pid)
-
-    def worked(self) -> float:
-        """The seconds in which the program's threads were at work so far."""
-        told = pathlib.Path(f"/proc/{self.process.pid}/task").glob("*/schedstat")
-        return sum(int(file.read_text("ascii").split()[0]) for file in told) / 1e9
 
 
 def one_line(value) -> bytes:

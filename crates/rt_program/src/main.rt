@@ -25,7 +25,7 @@ fn meaning(status: u8) -> Option<&'static str> {
     match status {
         0 => None,
         2 => Some(
-            "status 2: the words aren't among --units N, --height N, --make N, --screen W H, --audit, --posters, --stream, --html",
+            "status 2: the words aren't among --units N, --height N, --make N, --screen W H, --audit, --posters, --stream, --stream-json, --html",
         ),
         3 => Some("status 3: the source is too long, or isn't in the form of an application"),
         4 => Some("status 4: the run ended in the fault that was printed last"),
@@ -71,7 +71,7 @@ fn run<R: Print + AllocGlobal, I: Read + Drop>(
     show_and_say(rt.alloc(), words, &mut source, &mut out, refusal)
 }
 
-/// The same with threads that post.
+/// The whole program with threads that post. The answer and `refusal` are those of `run`.
 fn run_posted<R: Threads + Wait + Sync + Print + AllocGlobal, I: Read + Drop>(
     rt: &R,
     reader: I,
@@ -91,7 +91,8 @@ fn run_posted<R: Threads + Wait + Sync + Print + AllocGlobal, I: Read + Drop>(
     )
 }
 
-/// The same line by line: each line is answered before the next one is read.
+/// The whole program line by line: each line is answered before the next one is read. The answer
+/// and `refusal` are those of `run`.
 fn run_streamed<R: Print + Eprint + AllocGlobal, I: Read + Drop>(
     rt: &R,
     reader: I,
@@ -103,7 +104,8 @@ fn run_streamed<R: Print + Eprint + AllocGlobal, I: Read + Drop>(
     show_streamed(rt.alloc(), words, &mut source, &mut out, rt, refusal)
 }
 
-/// The same as a page in pieces, without threads.
+/// The whole program as a page in pieces, without threads. The answer and `refusal` are those of
+/// `run`.
 fn run_paged<R: Print + AllocGlobal, I: Read + Drop>(
     rt: &R,
     reader: I,

@@ -86,9 +86,9 @@ pub(crate) enum Want {
     Leaf(Leaf),
     /// A text, which is a variable's name from here on.
     Binds,
-    /// The same in place of the variable before it, which ends here.
+    /// A text, which is a variable's name in place of the one before it, which ends here.
     BindsInstead,
-    /// The same of a param, which no other one before it is called.
+    /// A text, which is a param's name: no other one before it is called so.
     Param,
     Expression,
     /// An expression that only looks, at what may be looked at in such a place.

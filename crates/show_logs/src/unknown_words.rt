@@ -105,6 +105,9 @@ pub fn unknown_word(alloc: Global, words: &[Text]) -> Result<String, OutOfMemory
             if word.as_str() == "--stream" {
                 return Ok(String::from_str(alloc, STREAM)?);
             }
+            if word.as_str() == "--stream-json" {
+                return Ok(String::from_str(alloc, STREAM_JSON)?);
+            }
             let Some(one) = find_known(word.as_str()) else {
                 return of_unknown(alloc, word.as_str());
             };
@@ -119,7 +122,8 @@ pub fn unknown_word(alloc: Global, words: &[Text]) -> Result<String, OutOfMemory
 }
 
 /// The words that stand alone.
-const ALONE: &str = "--make N, --screen W H, --audit, --posters, --stream and --html alone";
+const ALONE: &str =
+    "--make N, --screen W H, --audit, --posters, --stream, --stream-json and --html alone";
 
 const SCREEN: &str = "wanted --screen W H alone, W and H whole numbers from 1 to 200";
 
@@ -128,5 +132,7 @@ const AUDIT: &str = "wanted --audit alone";
 const POSTERS: &str = "wanted --posters alone";
 
 const STREAM: &str = "wanted --stream alone";
+
+const STREAM_JSON: &str = "wanted --stream-json alone";
 
 const HTML: &str = "wanted --html alone";

@@ -12,6 +12,7 @@ use Rattle.rt_language.specs.Meaning.{meaning_of, props_of, inputs_of}
 use Rattle.rt_language.specs.Syntax.{InputSource, Source}
 use Rattle.run_reports.specs.Seen.{limits_of, usual}
 use Rattle.run_reports.specs.declared.limits.Limits.{Limits}
+use Rattle.show_answers.specs.Told.{Form}
 use Rattle.show_words.specs.Runs.{HasHeadline}
 use Rattle.show_words.specs.Pictures.{HasViews}
 use Rattle.show_posts.specs.Posting.{HasHeadlineOver}
@@ -38,9 +39,9 @@ PostsKeepMemos =
     → HasHeadlineOver said drains edits reports
     → MemosKept formulas (meaning_of said) Minding (props_of said) (drained drains) (limits_of usual) reports
 
--- of an application that is given line by line (IsStreamed)
+-- of an application that is given line by line (IsStreamed), in each form
 abbrev pub StreamsKeepMemos : Type 0
 StreamsKeepMemos =
-    (source : Source) (asked : List (Option InputSource)) (text : List Text)
-    → (told : IsTold source asked text)
+    (form : Form) (source : Source) (asked : List (Option InputSource)) (text : List Text)
+    → (told : IsTold form source asked text)
     → MemosKept formulas (meaning_of source) Minding (props_of source) (inputs_of (inputs_in asked)) (limits_of usual) told.reports

@@ -9,6 +9,7 @@ use Rattle.lang_syntax.specs.declared.source.Source as checked
 use Rattle.rt_language.specs.Syntax.{InputSource, Source}
 use Rattle.rt_model.specs.Lists.{Text}
 use Rattle.show_answers.specs.Streamed.{refusal}
+use Rattle.show_answers.specs.Told.{Form}
 use Rattle.show_stream.proofs.Asking.{front_more, says_front, says_more}
 use Rattle.show_stream.proofs.Going.{none_more}
 use Rattle.show_stream.proofs.Stopping.{behind, cut_put, nothing_put, stops_behind, stops_more, stops_streamed}
@@ -39,7 +40,7 @@ no_source bytes read none answered said describes =
     let nothing : option_map source_of read ≡ None = ap (λ r. option_map source_of r) none in
     absurd (cc (sym nothing ∙ some))
 
-module _ (first : List ℕ) (lines : List (List ℕ)) (bytes : List ℕ) (text : List Text) (s : Streaming) (is : IsUnderWay first lines text s) where
+module _ (form : Form) (first : List ℕ) (lines : List (List ℕ)) (bytes : List ℕ) (text : List Text) (s : Streaming) (is : IsUnderWay form first lines text s) where
   abbrev asked : List (Option InputSource)
   asked = own_asked is.source ++ is.said
 
@@ -47,7 +48,7 @@ module _ (first : List ℕ) (lines : List (List ℕ)) (bytes : List ℕ) (text :
   more_asked said = append_assoc (own_asked is.source) is.said (said ∷ [])
 
   -- what was put so far, whatever the line says
-  part_now : Holds s → IsStreamedPart first (lines ++ bytes ∷ []) text
+  part_now : Holds s → IsStreamedPart form first (lines ++ bytes ∷ []) text
   part_now holds =
       record {
         source = is.source;
@@ -57,42 +58,42 @@ module _ (first : List ℕ) (lines : List (List ℕ)) (bytes : List ℕ) (text :
         asked = asked;
         rest = [];
         among = append-nil asked;
-        told = inl (told is.source asked text s is.at holds);
+        told = inl (told form is.source asked text s is.at holds);
       }
 
   -- memory was wanting before anything was put
-  pub wanting : (old new : Puts) (b n : ℕ) (t : Streaming) → Holds s → new ≡ old → Answers first lines bytes text old new b n t (Err stops.OutOfMemory)
-  wanting old new b n t holds same = nothing_put (λ own. IsStreamedPart first (lines ++ bytes ∷ []) own) text old new (part_now holds) same
+  pub wanting : (old new : Puts) (b n : ℕ) (t : Streaming) → Holds s → new ≡ old → Answers form first lines bytes text old new b n t (Err stops.OutOfMemory)
+  wanting old new b n t holds same = nothing_put (λ own. IsStreamedPart form first (lines ++ bytes ∷ []) own) text old new (part_now holds) same
 
-  under_way : (said : Option InputSource) (own : List Text) (t : Streaming) → Says bytes said → IsAt is.source (asked ++ said ∷ []) own t
-      → IsUnderWay first (lines ++ bytes ∷ []) own t
+  under_way : (said : Option InputSource) (own : List Text) (t : Streaming) → Says bytes said → IsAt form is.source (asked ++ said ∷ []) own t
+      → IsUnderWay form first (lines ++ bytes ∷ []) own t
   under_way said own t says at =
       record {
         source = is.source;
         described = is.described;
         said = is.said ++ said ∷ [];
         says = says_more lines is.said bytes said is.says says;
-        at = subst (λ a. IsAt is.source a own t) (more_asked said) at;
+        at = subst (λ a. IsAt form is.source a own t) (more_asked said) at;
       }
 
   -- the input that it says was taken in
   pub answered : (said : InputSource) (old new : Puts) (b n : ℕ) (t : Streaming) (result : Result (Unit {0}) Stop)
-      → DescribesInput bytes said → TakesAll is.source asked (Some said ∷ []) text old new b n t result → Answers first lines bytes text old new b n t result
+      → DescribesInput bytes said → TakesAll form is.source asked (Some said ∷ []) text old new b n t result → Answers form first lines bytes text old new b n t result
   answered said old new b n t (Ok u) says takes =
       record { own = takes.own; is = under_way (Some said) (text ++ takes.own) t says takes.is; put = takes.put }
   answered said old new b n t (Err stop) says takes =
-      stops_streamed first (lines ++ bytes ∷ []) is.source is.described (is.said ++ Some said ∷ []) (says_more lines is.said bytes (Some said) is.says says) text old new b n stop
-      (subst (λ a. StopsAmong is.source a text old new b n stop) (more_asked (Some said)) takes)
+      stops_streamed form first (lines ++ bytes ∷ []) is.source is.described (is.said ++ Some said ∷ []) (says_more lines is.said bytes (Some said) is.says says) text old new b n stop
+      (subst (λ a. StopsAmong form is.source a text old new b n stop) (more_asked (Some said)) takes)
 
   -- it says none
-  pub refused_put : (old new : Puts) (b n : ℕ) → Says bytes None → new ≡ grown old (refusal ∷ []) → Answers first lines bytes text old new b n s (Ok tt)
+  pub refused_put : (old new : Puts) (b n : ℕ) → Says bytes None → new ≡ grown old (refusal form ∷ []) → Answers form first lines bytes text old new b n s (Ok tt)
   refused_put old new b n says put =
-      record { own = refusal ∷ []; is = under_way None (text ++ refusal ∷ []) s says (none_more is.source asked text s is.at); put = put }
+      record { own = refusal form ∷ []; is = under_way None (text ++ refusal form ∷ []) s says (none_more form is.source asked text s is.at); put = put }
 
   pub refused_cut : (old new : Puts) (b n : ℕ) (t : Streaming) (error : OutError) → Says bytes None → Holds s
-      → Writes (refusal ∷ []) old new b n (Err error) → Answers first lines bytes text old new b n t (Err (stop_of error))
+      → Writes (refusal form ∷ []) old new b n (Err error) → Answers form first lines bytes text old new b n t (Err (stop_of error))
   refused_cut old new b n t error says holds put =
-      cut_put (λ own. IsStreamedFault first (lines ++ bytes ∷ []) own) (λ own. IsStreamedPart first (lines ++ bytes ∷ []) own) text (refusal ∷ []) old new b n error
+      cut_put (λ own. IsStreamedFault form first (lines ++ bytes ∷ []) own) (λ own. IsStreamedPart form first (lines ++ bytes ∷ []) own) text (refusal form ∷ []) old new b n error
       (record {
         source = is.source;
         described = is.described;
@@ -101,53 +102,53 @@ module _ (first : List ℕ) (lines : List (List ℕ)) (bytes : List ℕ) (text :
         asked = asked ++ None ∷ [];
         rest = [];
         among = append-nil (asked ++ None ∷ []) ∙ more_asked None;
-        told = inl (told is.source (asked ++ None ∷ []) (text ++ refusal ∷ []) s (none_more is.source asked text s is.at) holds);
+        told = inl (told form is.source (asked ++ None ∷ []) (text ++ refusal form ∷ []) s (none_more form is.source asked text s is.at) holds);
       }) put
 
 -- by what is answered of the inputs that stand in a source
-abbrev pub BeginsAll : Source → Streaming → (old new : Puts) (b n : ℕ) → Result (Unit {0}) Stop → Type 0
-BeginsAll source t old new b n (Ok u) = Begins source old new b n (Ok t)
-BeginsAll source t old new b n (Err stop) = StopsAmong source (own_asked source) [] old new b n stop
+abbrev pub BeginsAll : (form : Form) → Source → Streaming → (old new : Puts) (b n : ℕ) → Result (Unit {0}) Stop → Type 0
+BeginsAll form source t old new b n (Ok u) = Begins form source old new b n (Ok t)
+BeginsAll form source t old new b n (Err stop) = StopsAmong form source (own_asked source) [] old new b n stop
 
 -- the inputs that stand in a source are taken in once it was built
-pub begins_all : (source : Source) (s t : Streaming) (old mid new : Puts) (b m n : ℕ) (result : Result (Unit {0}) Stop)
-    → PutsBehind (λ own. IsAt source [] own s) [] old mid
+pub begins_all : (form : Form) → (source : Source) (s t : Streaming) (old mid new : Puts) (b m n : ℕ) (result : Result (Unit {0}) Stop)
+    → PutsBehind (λ own. IsAt form source [] own s) [] old mid
     → b ≤ m
-    → ((text : List Text) → IsAt source [] text s → TakesAll source [] (map Some source.inputs) text mid new m n t result)
-    → BeginsAll source t old new b n result
-begins_all source s t old mid new b m n (Ok u) built later takes =
-    behind (λ own. IsAt source (own_asked source) own t) [] built.own old mid new built.put (takes built.own built.is)
-begins_all source s t old mid new b m n (Err stop) built later takes =
-    stops_behind (IsAmong (own_asked source) (λ a own. IsFaulted source a own)) (IsAmong (own_asked source) (λ a t. Told source a t)) [] built.own old mid new b m n stop built.put later
+    → ((text : List Text) → IsAt form source [] text s → TakesAll form source [] (map Some source.inputs) text mid new m n t result)
+    → BeginsAll form source t old new b n result
+begins_all form source s t old mid new b m n (Ok u) built later takes =
+    behind (λ own. IsAt form source (own_asked source) own t) [] built.own old mid new built.put (takes built.own built.is)
+begins_all form source s t old mid new b m n (Err stop) built later takes =
+    stops_behind (IsAmong (own_asked source) (λ a own. IsFaulted form source a own)) (IsAmong (own_asked source) (λ a t. Told form source a t)) [] built.own old mid new b m n stop built.put later
     (takes built.own built.is)
 
 -- where the program stops among them
-pub begins_stop : (source : Source) (old new : Puts) (b n : ℕ) (stop : Stop) → StopsAmong source (own_asked source) [] old new b n stop
-    → Begins source old new b n (Err stop)
-begins_stop source old new b n stops.Fault at = at
-begins_stop source old new b n stops.Out at = at
-begins_stop source old new b n stops.OutOfMemory at = inr at
-begins_stop source old new b n stops.Words at = absurd at
-begins_stop source old new b n stops.Form at = absurd at
-begins_stop source old new b n stops.Source at = absurd at
+pub begins_stop : (form : Form) → (source : Source) (old new : Puts) (b n : ℕ) (stop : Stop) → StopsAmong form source (own_asked source) [] old new b n stop
+    → Begins form source old new b n (Err stop)
+begins_stop form source old new b n stops.Fault at = at
+begins_stop form source old new b n stops.Out at = at
+begins_stop form source old new b n stops.OutOfMemory at = inr at
+begins_stop form source old new b n stops.Words at = absurd at
+begins_stop form source old new b n stops.Form at = absurd at
+begins_stop form source old new b n stops.Source at = absurd at
 
 -- where it stops in the build, no input was asked
-pub builds_stop : (source : Source) (old new : Puts) (b n : ℕ) (stop : Stop) → Builds source old new b n (Err stop) → Begins source old new b n (Err stop)
-builds_stop source old new b n stops.Fault at = stops_more source [] (own_asked source) (own_asked source) [] old new b n stops.Fault refl at
-builds_stop source old new b n stops.Out at = stops_more source [] (own_asked source) (own_asked source) [] old new b n stops.Out refl at
-builds_stop source old new b n stops.OutOfMemory at =
+pub builds_stop : (form : Form) → (source : Source) (old new : Puts) (b n : ℕ) (stop : Stop) → Builds form source old new b n (Err stop) → Begins form source old new b n (Err stop)
+builds_stop form source old new b n stops.Fault at = stops_more form source [] (own_asked source) (own_asked source) [] old new b n stops.Fault refl at
+builds_stop form source old new b n stops.Out at = stops_more form source [] (own_asked source) (own_asked source) [] old new b n stops.Out refl at
+builds_stop form source old new b n stops.OutOfMemory at =
     elim at [
       | inl same ↦ inl same
-      | inr part ↦ inr (stops_more source [] (own_asked source) (own_asked source) [] old new b n stops.OutOfMemory refl part)
+      | inr part ↦ inr (stops_more form source [] (own_asked source) (own_asked source) [] old new b n stops.OutOfMemory refl part)
     ]
-builds_stop source old new b n stops.Words at = absurd at
-builds_stop source old new b n stops.Form at = absurd at
-builds_stop source old new b n stops.Source at = absurd at
+builds_stop form source old new b n stops.Words at = absurd at
+builds_stop form source old new b n stops.Form at = absurd at
+builds_stop form source old new b n stops.Source at = absurd at
 
 -- what is built of a first line that describes a source
-pub opens_of : (first : List ℕ) (source : Source) (old new : Puts) (b n : ℕ) (result : Result Streaming Stop) → Describes first source
-    → Begins source old new b n result → Opens first old new b n result
-opens_of first source old new b n (Ok s) described begins =
+pub opens_of : (form : Form) → (first : List ℕ) (source : Source) (old new : Puts) (b n : ℕ) (result : Result Streaming Stop) → Describes first source
+    → Begins form source old new b n result → Opens form first old new b n result
+opens_of form first source old new b n (Ok s) described begins =
     record {
       own = begins.own;
       is = record {
@@ -155,22 +156,22 @@ opens_of first source old new b n (Ok s) described begins =
         described = described;
         said = [];
         says = tt;
-        at = subst (λ a. IsAt source a begins.own s) (sym (append-nil (own_asked source))) begins.is;
+        at = subst (λ a. IsAt form source a begins.own s) (sym (append-nil (own_asked source))) begins.is;
       };
       put = begins.put;
     }
-opens_of first source old new b n (Err stops.Fault) described begins =
-    stops_streamed first [] source described [] tt [] old new b n stops.Fault
-    (subst (λ a. StopsAmong source a [] old new b n stops.Fault) (sym (append-nil (own_asked source))) begins)
-opens_of first source old new b n (Err stops.Out) described begins =
-    stops_streamed first [] source described [] tt [] old new b n stops.Out
-    (subst (λ a. StopsAmong source a [] old new b n stops.Out) (sym (append-nil (own_asked source))) begins)
-opens_of first source old new b n (Err stops.OutOfMemory) described begins =
+opens_of form first source old new b n (Err stops.Fault) described begins =
+    stops_streamed form first [] source described [] tt [] old new b n stops.Fault
+    (subst (λ a. StopsAmong form source a [] old new b n stops.Fault) (sym (append-nil (own_asked source))) begins)
+opens_of form first source old new b n (Err stops.Out) described begins =
+    stops_streamed form first [] source described [] tt [] old new b n stops.Out
+    (subst (λ a. StopsAmong form source a [] old new b n stops.Out) (sym (append-nil (own_asked source))) begins)
+opens_of form first source old new b n (Err stops.OutOfMemory) described begins =
     elim begins [
       | inl same ↦ inl same
-      | inr part ↦ inr (stops_streamed first [] source described [] tt [] old new b n stops.OutOfMemory
-          (subst (λ a. StopsAmong source a [] old new b n stops.OutOfMemory) (sym (append-nil (own_asked source))) part))
+      | inr part ↦ inr (stops_streamed form first [] source described [] tt [] old new b n stops.OutOfMemory
+          (subst (λ a. StopsAmong form source a [] old new b n stops.OutOfMemory) (sym (append-nil (own_asked source))) part))
     ]
-opens_of first source old new b n (Err stops.Words) described begins = absurd begins
-opens_of first source old new b n (Err stops.Form) described begins = absurd begins
-opens_of first source old new b n (Err stops.Source) described begins = absurd begins
+opens_of form first source old new b n (Err stops.Words) described begins = absurd begins
+opens_of form first source old new b n (Err stops.Form) described begins = absurd begins
+opens_of form first source old new b n (Err stops.Source) described begins = absurd begins

@@ -5,7 +5,6 @@ use Rattle.std.specs.Prelude.{Option, Some, None}
 use Rattle.lang_script.specs.Applications.{meaning_of_script}
 use Rattle.rt_edits.specs.Sinks.{grown}
 use Rattle.rt_edits.specs.declared.edit.Edit.{Edit}
-use Rattle.rt_language.specs.Lines.{fault_text, line}
 use Rattle.rt_language.specs.Meaning.{input_of, inputs_of, meaning_of, props_of}
 use Rattle.rt_language.specs.Expressions.{SourceTypes}
 use Rattle.rt_language.specs.Syntax.{InputSource, Source}
@@ -21,12 +20,13 @@ use Rattle.run_reports.specs.declared.fault.Fault.{Fault}
 use Rattle.run_reports.specs.declared.report.Report.{Report}
 use Rattle.show_answers.proofs.Growing.{grow, grow-answered, refuse, refuse-answered}
 use Rattle.show_answers.specs.Streamed.{AreAnswered, answer, refusal, streamed}
+use Rattle.show_answers.specs.Told.{Form, ToldFault}
+use Rattle.show_objects.specs.Lines.{lines_in, report_line_in}
 use Rattle.show_stream.proofs.Asking.{inputs_more, inputs_none, marks_more}
 use Rattle.show_stream.specs.Put.{faulted}
 use Rattle.show_stream.specs.Streams.{IsFaulted, IsTold, inputs_in, marks_of}
 use Rattle.show_stream.specs.UnderWay.{IsAt}
 use Rattle.show_stream.specs.declared.streaming.Streaming.{Streaming}
-use Rattle.show_words.specs.Texts.{lines_of, report_line_of}
 use Rattle.tree_edits.specs.Documents.{edit_of}
 
 some_same : {X : Type 0} (x y : X) → Some x ≡ Some y → x ≡ y
@@ -55,11 +55,11 @@ longer reports report taken next counted one =
     let all : length (reports ++ report ∷ []) ≡ length reports + 1 = length-append reports (report ∷ []) in
     omega (arith, all, counted, one)
 
-module _ (source : Source) (asked : List (Option InputSource)) (text : List Text) where
+module _ (form : Form) (source : Source) (asked : List (Option InputSource)) (text : List Text) where
   -- what was put is told
-  pub told_at : (s : Streaming) → (at : IsAt source asked text s)
+  pub told_at : (s : Streaming) → (at : IsAt form source asked text s)
       → Headlined (meaning_of source) (props_of source) (inputs_of (inputs_in asked)) (limits_of usual) (Some []) (Some at.wrote) (map report_of at.reports)
-      → IsTold source asked text
+      → IsTold form source asked text
   told_at s at headlined =
       record {
         edits = map edit_of at.wrote;
@@ -72,13 +72,13 @@ module _ (source : Source) (asked : List (Option InputSource)) (text : List Text
 
   -- an input was taken in, and is answered by its edits and its report
   pub one_more : (said : InputSource) (old new : Streaming) (report : Report) (own : List Edit) (lines : List Text)
-      → (at : IsAt source asked text old)
+      → (at : IsAt form source asked text old)
       → AwaitsMore (λ script. meaning_of_script script) (meaning_of source) usual (props_of source) (inputs_of (inputs_in asked) ++ input_of said ∷ [])
       (Some []) (Some (at.wrote ++ own)) (at.reports ++ report ∷ []) new.session
       → number_of new.session ≡ number_of old.session + 1
       → length (map edit_of own) ≡ (report_of report).edits
-      → lines ≡ lines_of own
-      → IsAt source (asked ++ Some said ∷ []) (text ++ (lines ++ report_line_of (number_of new.session) report ∷ [])) new
+      → lines ≡ lines_in form own
+      → IsAt form source (asked ++ Some said ∷ []) (text ++ (lines ++ report_line_in form (number_of new.session) report ∷ [])) new
   one_more said old new report own lines at awaits one counts are =
       let marks = marks_of asked in
       let wrote = map edit_of at.wrote in
@@ -87,9 +87,9 @@ module _ (source : Source) (asked : List (Option InputSource)) (text : List Text
       let reports_are : map report_of (at.reports ++ report ∷ []) ≡ reports ++ report_of report ∷ [] = map-append report_of at.reports (report ∷ []) in
       let number : length reports ≡ number_of new.session = length-map at.reports report_of ∙ at.counted ∙ sym one in
       let more : (marks_of (asked ++ Some said ∷ [])) ≡ marks ++ true ∷ [] = marks_more asked (Some said) in
-      let whole : streamed (marks ++ true ∷ []) 0 (wrote ++ map edit_of own) (reports ++ report_of report ∷ [])
-      ≡ streamed marks 0 wrote reports ++ answer (0 + length reports) (map edit_of own) (report_of report) =
-      grow marks 0 wrote (map edit_of own) reports (report_of report) at.answered counts in
+      let whole : streamed form (marks ++ true ∷ []) 0 (wrote ++ map edit_of own) (reports ++ report_of report ∷ [])
+      ≡ streamed form marks 0 wrote reports ++ answer form (0 + length reports) (map edit_of own) (report_of report) =
+      grow form marks 0 wrote (map edit_of own) reports (report_of report) at.answered counts in
       let none : 0 + length reports ≡ length reports = omega arith in
       let counted : 0 + length reports ≡ number_of new.session = none ∙ number in
       record {
@@ -105,17 +105,17 @@ module _ (source : Source) (asked : List (Option InputSource)) (text : List Text
             (grow-answered marks wrote (map edit_of own) reports (report_of report) at.answered counts)));
         counted = longer at.reports report (number_of old.session) (number_of new.session) at.counted one;
         printed =
-            ap (λ t. t ++ (lines ++ report_line_of (number_of new.session) report ∷ [])) at.printed
-            ∙ ap (λ (ls : List Text). streamed marks 0 wrote reports ++ (ls ++ report_line_of (number_of new.session) report ∷ [])) are
-            ∙ ap (λ n. streamed marks 0 wrote reports ++ answer n (map edit_of own) (report_of report)) (sym counted)
+            ap (λ t. t ++ (lines ++ report_line_in form (number_of new.session) report ∷ [])) at.printed
+            ∙ ap (λ (ls : List Text). streamed form marks 0 wrote reports ++ (ls ++ report_line_in form (number_of new.session) report ∷ [])) are
+            ∙ ap (λ n. streamed form marks 0 wrote reports ++ answer form n (map edit_of own) (report_of report)) (sym counted)
             ∙ sym whole
-            ∙ ap (λ es. streamed (marks ++ true ∷ []) 0 es (reports ++ report_of report ∷ [])) (sym edits_are)
-            ∙ ap (λ rs. streamed (marks ++ true ∷ []) 0 (map edit_of (at.wrote ++ own)) rs) (sym reports_are)
-            ∙ ap (λ ms. streamed ms 0 (map edit_of (at.wrote ++ own)) (map report_of (at.reports ++ report ∷ []))) (sym more);
+            ∙ ap (λ es. streamed form (marks ++ true ∷ []) 0 es (reports ++ report_of report ∷ [])) (sym edits_are)
+            ∙ ap (λ rs. streamed form (marks ++ true ∷ []) 0 (map edit_of (at.wrote ++ own)) rs) (sym reports_are)
+            ∙ ap (λ ms. streamed form ms 0 (map edit_of (at.wrote ++ own)) (map report_of (at.reports ++ report ∷ []))) (sym more);
       }
 
   -- a line that is no input changes nothing, and is answered by a refusal
-  pub none_more : (s : Streaming) → (at : IsAt source asked text s) → IsAt source (asked ++ None ∷ []) (text ++ refusal ∷ []) s
+  pub none_more : (s : Streaming) → (at : IsAt form source asked text s) → IsAt form source (asked ++ None ∷ []) (text ++ refusal form ∷ []) s
   none_more s at =
       let marks = marks_of asked in
       let wrote = map edit_of at.wrote in
@@ -130,18 +130,18 @@ module _ (source : Source) (asked : List (Option InputSource)) (text : List Text
         answered = subst (λ (ms : List Bool). AreAnswered ms wrote reports) (sym more) (refuse-answered marks wrote reports at.answered);
         counted = at.counted;
         printed =
-            ap (λ t. t ++ refusal ∷ []) at.printed
-            ∙ sym (refuse marks 0 wrote reports at.answered)
-            ∙ ap (λ ms. streamed ms 0 wrote reports) (sym more);
+            ap (λ t. t ++ refusal form ∷ []) at.printed
+            ∙ sym (refuse form marks 0 wrote reports at.answered)
+            ∙ ap (λ ms. streamed form ms 0 wrote reports) (sym more);
       }
 
   -- the session came to a fault at an input
   pub one_faulted : (said : InputSource) (old : Streaming) (fault : Fault) (own : List Edit) (lines : List Text)
-      → (at : IsAt source asked text old)
+      → (at : IsAt form source asked text old)
       → EndsAt (meaning_of source) usual (props_of source) (inputs_of (inputs_in asked) ++ input_of said ∷ []) (Some []) (Some (at.wrote ++ own)) at.reports fault
-      → lines ≡ lines_of own
+      → lines ≡ lines_in form own
       → (f : model.Fault) → fault_of fault ≡ Some f
-      → IsFaulted source (asked ++ Some said ∷ []) (text ++ faulted lines f)
+      → IsFaulted form source (asked ++ Some said ∷ []) (text ++ faulted form lines f)
   one_faulted said old fault own lines at ends are f why =
       let came = ends.0 f why in
       let edits_are : map edit_of (at.wrote ++ own) ≡ map edit_of at.wrote ++ map edit_of own = map-append edit_of at.wrote own in
@@ -161,18 +161,18 @@ module _ (source : Source) (asked : List (Option InputSource)) (text : List Text
             (subst (λ es. CameTo (meaning_of source) (props_of source) (inputs_of (inputs_in asked) ++ input_of said ∷ []) (limits_of usual) (Some es) (map report_of at.reports) f) edits_are to);
         answered = at.answered;
         printed =
-            ap (λ t. t ++ faulted lines f) at.printed
-            ∙ ap (λ (ls : List Text). streamed (marks_of asked) 0 (map edit_of at.wrote) (map report_of at.reports) ++ (ls ++ line (fault_text f) ∷ [])) are;
+            ap (λ t. t ++ faulted form lines f) at.printed
+            ∙ ap (λ (ls : List Text). streamed form (marks_of asked) 0 (map edit_of at.wrote) (map report_of at.reports) ++ (ls ++ form (ToldFault f) ∷ [])) are;
       }
 
-module _ (source : Source) where
+module _ (form : Form) (source : Source) where
   -- it was built
   pub built_at : (s : Streaming) (report : Report) (own : List Edit) (lines : List Text)
       → AwaitsMore (λ script. meaning_of_script script) (meaning_of source) usual (props_of source) [] (Some []) (Some own) (report ∷ []) s.session
       → number_of s.session ≡ 0
       → length (map edit_of own) ≡ (report_of report).edits
-      → lines ≡ lines_of own
-      → IsAt source [] ([] ++ (lines ++ report_line_of 0 report ∷ [])) s
+      → lines ≡ lines_in form own
+      → IsAt form source [] ([] ++ (lines ++ report_line_in form 0 report ∷ [])) s
   built_at s report own lines awaits none counts are =
       record {
         wrote = own;
@@ -181,16 +181,16 @@ module _ (source : Source) where
         answered = grow-answered [] [] (map edit_of own) [] (report_of report) refl counts;
         counted = ap (λ n. n + 1) (sym none);
         printed =
-            ap (λ (ls : List Text). ls ++ report_line_of 0 report ∷ []) are
-            ∙ sym (grow [] 0 [] (map edit_of own) [] (report_of report) refl counts);
+            ap (λ (ls : List Text). ls ++ report_line_in form 0 report ∷ []) are
+            ∙ sym (grow form [] 0 [] (map edit_of own) [] (report_of report) refl counts);
       }
 
   -- it came to a fault in the build
   pub built_faulted : (fault : Fault) (own : List Edit) (lines : List Text)
       → EndsAt (meaning_of source) usual (props_of source) [] (Some []) (Some own) [] fault
-      → lines ≡ lines_of own
+      → lines ≡ lines_in form own
       → (f : model.Fault) → fault_of fault ≡ Some f
-      → IsFaulted source [] ([] ++ faulted lines f)
+      → IsFaulted form source [] ([] ++ faulted form lines f)
   built_faulted fault own lines ends are f why =
       let came = ends.0 f why in
       record {
@@ -204,5 +204,5 @@ module _ (source : Source) where
             subst (λ (wrote : List Edit). CameTo (meaning_of source) (props_of source) [] (limits_of usual) (Some (map edit_of wrote)) [] f)
             (behind_none came.wrote own came.told) came.came_to;
         answered = refl;
-        printed = ap (λ (ls : List Text). ls ++ line (fault_text f) ∷ []) are;
+        printed = ap (λ (ls : List Text). ls ++ form (ToldFault f) ∷ []) are;
       }

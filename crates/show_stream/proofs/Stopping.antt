@@ -4,6 +4,7 @@ use Rattle.std.specs.Prelude.{Option, Some, None, Err}
 use Rattle.rt_language.specs.Syntax.{InputSource, Source}
 use Rattle.rt_model.specs.Lists.{Text}
 use Rattle.rt_model.specs.State as model
+use Rattle.show_answers.specs.Told.{Form}
 use Rattle.show_stream.proofs.Asking.{says_front}
 use Rattle.show_stream.proofs.Put.{put_none}
 use Rattle.show_stream.specs.Put.{PutsFault, faulted}
@@ -37,24 +38,24 @@ cut_put Fault Is text own old new before now errors.Failed is put = (put.cause r
 cut_put Fault Is text own old new before now errors.OutOfMemory is put = record { own = own; is = is; front = put.front }
 
 -- a fault that was put, or not
-pub fault_put : (Fault Is : List Text → Type 0) (text lines : List Text) (fault : Option model.Fault) (old new : Puts) (before now : ℕ) (stop : Stop)
-    → PutsFault lines fault old new before now stop
-    → ((f : model.Fault) → fault ≡ Some f → Fault (text ++ faulted lines f))
-    → ((f : model.Fault) → fault ≡ Some f → Is (text ++ faulted lines f))
+pub fault_put : (form : Form) → (Fault Is : List Text → Type 0) (text lines : List Text) (fault : Option model.Fault) (old new : Puts) (before now : ℕ) (stop : Stop)
+    → PutsFault form lines fault old new before now stop
+    → ((f : model.Fault) → fault ≡ Some f → Fault (text ++ faulted form lines f))
+    → ((f : model.Fault) → fault ≡ Some f → Is (text ++ faulted form lines f))
     → Is text
     → StopsAt Fault Is text old new before now stop
-fault_put Fault Is text lines fault old new before now stops.Fault put came part is =
-    record { own = faulted lines put.0; is = came put.0 put.1; put = put.2 }
-fault_put Fault Is text lines fault old new before now stops.Out put came part is =
-    (put.0, record { own = faulted lines put.1.0; is = part put.1.0 put.1.1; front = put.1.2 })
-fault_put Fault Is text lines fault old new before now stops.OutOfMemory put came part is =
+fault_put form Fault Is text lines fault old new before now stops.Fault put came part is =
+    record { own = faulted form lines put.0; is = came put.0 put.1; put = put.2 }
+fault_put form Fault Is text lines fault old new before now stops.Out put came part is =
+    (put.0, record { own = faulted form lines put.1.0; is = part put.1.0 put.1.1; front = put.1.2 })
+fault_put form Fault Is text lines fault old new before now stops.OutOfMemory put came part is =
     elim put [
       | inl same ↦ nothing_put Is text old new is same
-      | inr cut ↦ record { own = faulted lines cut.0; is = part cut.0 cut.1; front = cut.2 }
+      | inr cut ↦ record { own = faulted form lines cut.0; is = part cut.0 cut.1; front = cut.2 }
     ]
-fault_put Fault Is text lines fault old new before now stops.Words put came part is = absurd put
-fault_put Fault Is text lines fault old new before now stops.Form put came part is = absurd put
-fault_put Fault Is text lines fault old new before now stops.Source put came part is = absurd put
+fault_put form Fault Is text lines fault old new before now stops.Words put came part is = absurd put
+fault_put form Fault Is text lines fault old new before now stops.Form put came part is = absurd put
+fault_put form Fault Is text lines fault old new before now stops.Source put came part is = absurd put
 
 -- what was put behind what had been put
 pub behind : (Is : List Text → Type 0) (text first : List Text) (old mid new : Puts)
@@ -135,33 +136,33 @@ among_more Is whole rest all text are some =
       is = some.is;
     }
 
-pub stops_more : (source : Source) (whole rest all : List (Option InputSource)) (text : List Text) (old new : Puts) (before now : ℕ) (stop : Stop)
-    → whole ++ rest ≡ all → StopsAmong source whole text old new before now stop → StopsAmong source all text old new before now stop
-stops_more source whole rest all text old new before now stop are at =
-    stops_as (IsAmong whole (λ asked own. IsFaulted source asked own)) (IsAmong whole (λ asked own. IsTold source asked own ⊎ IsFaulted source asked own))
-    (IsAmong all (λ asked own. IsFaulted source asked own)) (IsAmong all (λ asked own. IsTold source asked own ⊎ IsFaulted source asked own))
+pub stops_more : (form : Form) → (source : Source) (whole rest all : List (Option InputSource)) (text : List Text) (old new : Puts) (before now : ℕ) (stop : Stop)
+    → whole ++ rest ≡ all → StopsAmong form source whole text old new before now stop → StopsAmong form source all text old new before now stop
+stops_more form source whole rest all text old new before now stop are at =
+    stops_as (IsAmong whole (λ asked own. IsFaulted form source asked own)) (IsAmong whole (λ asked own. IsTold form source asked own ⊎ IsFaulted form source asked own))
+    (IsAmong all (λ asked own. IsFaulted form source asked own)) (IsAmong all (λ asked own. IsTold form source asked own ⊎ IsFaulted form source asked own))
     text old new before now stop
-    (λ t is. among_more (λ asked own. IsFaulted source asked own) whole rest all t are is)
-    (λ t is. among_more (λ asked own. IsTold source asked own ⊎ IsFaulted source asked own) whole rest all t are is)
+    (λ t is. among_more (λ asked own. IsFaulted form source asked own) whole rest all t are is)
+    (λ t is. among_more (λ asked own. IsTold form source asked own ⊎ IsFaulted form source asked own) whole rest all t are is)
     at
 
-module _ (first : List ℕ) (lines : List (List ℕ)) (source : Source) (described : Describes first source) (said : List (Option InputSource))
+module _ (form : Form) (first : List ℕ) (lines : List (List ℕ)) (source : Source) (described : Describes first source) (said : List (Option InputSource))
     (says : EachSays lines said) where
   -- of a source that the first line describes, and of what the others say
-  pub streamed_fault : (text : List Text) → IsAmong (own_asked source ++ said) (λ asked own. IsFaulted source asked own) text → IsStreamedFault first lines text
+  pub streamed_fault : (text : List Text) → IsAmong (own_asked source ++ said) (λ asked own. IsFaulted form source asked own) text → IsStreamedFault form first lines text
   streamed_fault text some =
       record { source = source; described = described; said = said; says = says; asked = some.asked; rest = some.rest; among = some.among; faulted = some.is }
 
-  pub streamed_part : (text : List Text) → IsAmong (own_asked source ++ said) (λ asked own. IsTold source asked own ⊎ IsFaulted source asked own) text
-      → IsStreamedPart first lines text
+  pub streamed_part : (text : List Text) → IsAmong (own_asked source ++ said) (λ asked own. IsTold form source asked own ⊎ IsFaulted form source asked own) text
+      → IsStreamedPart form first lines text
   streamed_part text some =
       record { source = source; described = described; said = said; says = says_front lines said says; asked = some.asked; rest = some.rest; among = some.among; told = some.is }
 
   pub stops_streamed : (text : List Text) (old new : Puts) (before now : ℕ) (stop : Stop)
-      → StopsAmong source (own_asked source ++ said) text old new before now stop
-      → StopsAt (λ own. IsStreamedFault first lines own) (λ own. IsStreamedPart first lines own) text old new before now stop
+      → StopsAmong form source (own_asked source ++ said) text old new before now stop
+      → StopsAt (λ own. IsStreamedFault form first lines own) (λ own. IsStreamedPart form first lines own) text old new before now stop
   stops_streamed text old new before now stop at =
-      stops_as (IsAmong (own_asked source ++ said) (λ asked own. IsFaulted source asked own))
-      (IsAmong (own_asked source ++ said) (λ asked own. IsTold source asked own ⊎ IsFaulted source asked own))
-      (λ own. IsStreamedFault first lines own) (λ own. IsStreamedPart first lines own) text old new before now stop
+      stops_as (IsAmong (own_asked source ++ said) (λ asked own. IsFaulted form source asked own))
+      (IsAmong (own_asked source ++ said) (λ asked own. IsTold form source asked own ⊎ IsFaulted form source asked own))
+      (λ own. IsStreamedFault form first lines own) (λ own. IsStreamedPart form first lines own) text old new before now stop
       (λ t is. streamed_fault t is) (λ t is. streamed_part t is) at

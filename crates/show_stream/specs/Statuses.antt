@@ -1,6 +1,8 @@
 -- What each status of the program says of an application that is given line by line.
-use Rattle.std.specs.Prelude.{◌≡◌, ◌⊎◌, ◌↔◌, ℕ, ◌<◌, Bool, true, false, List, [], ◌∷◌, ◌++◌, bytes_eq, codes, Option, Some, None, Result, Ok, Err}
+use Rattle.std.specs.Prelude.{◌≡◌, ◌⊎◌, ◌↔◌, ◌||◌, ℕ, ◌<◌, Bool, true, false, List, [], ◌∷◌, ◌++◌, bytes_eq, codes, Option, Some, None, Result, Ok, Err}
 use Rattle.rt_model.specs.Lists.{Text}
+use Rattle.show_answers.specs.Told.{Form, text_form}
+use Rattle.show_objects.specs.Objects.{object_form}
 use Rattle.show_lines.specs.Lines.{FirstIsLonger, lines_of}
 use Rattle.show_stream.specs.Streams.{IsStreamed, IsStreamedFault, IsStreamedPart}
 use Rattle.show_stream.specs.UnderWay.{IsUnderWay}
@@ -12,11 +14,25 @@ use Rattle.show_words.specs.Outs.{status_of}
 use Rattle.show_words.specs.declared.reason.Stop.{Stop}
 use Rattle.show_words.specs.declared.reason.Stop.TheVariants as stops
 
--- the words are the one for an application that is given line by line
+-- the words are this one alone
+abbrev pub is_word : List (List ℕ) → List ℕ → Bool
+is_word [] name = false
+is_word (word ∷ []) name = bytes_eq word name
+is_word (word ∷ other ∷ words) name = false
+
+-- the form, by which word they are
+abbrev pub form_by : Bool → Bool → Option Form
+form_by true objects = Some text_form
+form_by false true = Some object_form
+form_by false false = None
+
+-- the form in which the words ask to tell of an application that is given line by line: in lines of text, or in objects of JSON
+abbrev pub form_asked : List (List ℕ) → Option Form
+form_asked words = form_by (is_word words (codes "--stream")) (is_word words (codes "--stream-json"))
+
+-- the words are one of these two
 abbrev pub asks_for_stream : List (List ℕ) → Bool
-asks_for_stream [] = false
-asks_for_stream (word ∷ []) = bytes_eq word (codes "--stream")
-asks_for_stream (word ∷ other ∷ words) = false
+asks_for_stream words = is_word words (codes "--stream") || is_word words (codes "--stream-json")
 
 -- of what was to be read, where that is told, the first line and these lines were handed out, and the others are those of what is left
 abbrev pub IsReading : List ℕ → List (List ℕ) → (start now : Option (List ℕ)) → Type 0
@@ -45,12 +61,12 @@ IsOver None = Unit {0}
 IsOver (Some rest) = rest ≡ []
 
 -- lines were read, and what was put is their text, of which the headline holds
-abbrev pub SoFar : (start : Option (List ℕ)) (Left : Option (List ℕ) → Type 0) (old new : Puts) → Type 0
-SoFar start Left old new = ReadAndPut start Left IsStreamed (λ text. new ≡ grown old text)
+abbrev pub SoFar : (form : Form) → (start : Option (List ℕ)) (Left : Option (List ℕ) → Type 0) (old new : Puts) → Type 0
+SoFar form start Left old new = ReadAndPut start Left (IsStreamed form) (λ text. new ≡ grown old text)
 
 -- what was put is a front of a text of the lines that were read
-abbrev pub PartSoFar : (start : Option (List ℕ)) (old new : Puts) → Type 0
-PartSoFar start old new = ReadAndPut start Whatever IsStreamedPart (λ text. AddsFront old new text)
+abbrev pub PartSoFar : (form : Form) → (start : Option (List ℕ)) (old new : Puts) → Type 0
+PartSoFar form start old new = ReadAndPut start Whatever (IsStreamedPart form) (λ text. AddsFront old new text)
 
 -- there is no first line, it is too long, or it describes no source
 abbrev pub HasNoFirst : Option (List ℕ) → Type 0
@@ -60,18 +76,20 @@ HasNoFirst (Some all) =
     ⊎ (FirstIsLonger MOST_BYTES (Some all) ⊎ ((first : List ℕ) × (lines : List (List ℕ)) × (lines_of all ≡ first ∷ lines) × SaysNone first))
 
 -- what the program comes to, by what is to be read, what is put, and the counts of failures, before and after
-abbrev pub Comes :
+abbrev pub Comes : (form : Form) →
     (start : Option (List ℕ)) (old new : Puts) → (source_before source_after out_before out_after : ℕ) → Result (Unit {0}) Stop → Type 0
-Comes start old new source_before source_after out_before out_after (Ok u) = SoFar start IsOver old new
-Comes start old new source_before source_after out_before out_after (Err stops.Form) =
-    (HasNoFirst start × (new ≡ old)) ⊎ SoFar start (FirstIsLonger MOST_BYTES) old new
-Comes start old new source_before source_after out_before out_after (Err stops.Fault) =
-    ReadAndPut start Whatever IsStreamedFault (λ text. new ≡ grown old text)
-Comes start old new source_before source_after out_before out_after (Err stops.Source) =
-    (source_before < source_after) × ((new ≡ old) ⊎ SoFar start Whatever old new)
-Comes start old new source_before source_after out_before out_after (Err stops.Out) = (out_before < out_after) × PartSoFar start old new
-Comes start old new source_before source_after out_before out_after (Err stops.OutOfMemory) = (new ≡ old) ⊎ PartSoFar start old new
-Comes start old new source_before source_after out_before out_after (Err stops.Words) = ⊥
+Comes form start old new source_before source_after out_before out_after (Ok u) = SoFar form start IsOver old new
+Comes form start old new source_before source_after out_before out_after (Err stops.Form) =
+    (HasNoFirst start × (new ≡ old)) ⊎ SoFar form start (FirstIsLonger MOST_BYTES) old new
+Comes form start old new source_before source_after out_before out_after (Err stops.Fault) =
+    ReadAndPut start Whatever (IsStreamedFault form) (λ text. new ≡ grown old text)
+Comes form start old new source_before source_after out_before out_after (Err stops.Source) =
+    (source_before < source_after) × ((new ≡ old) ⊎ SoFar form start Whatever old new)
+Comes form start old new source_before source_after out_before out_after (Err stops.Out) =
+    (out_before < out_after) × PartSoFar form start old new
+Comes form start old new source_before source_after out_before out_after (Err stops.OutOfMemory) =
+    (new ≡ old) ⊎ PartSoFar form start old new
+Comes form start old new source_before source_after out_before out_after (Err stops.Words) = ⊥
 
 -- no line was handed out, by why the program stops: a read failed, the line is too long, or memory was wanting
 abbrev pub LacksLine : (start : Option (List ℕ)) → (before after : ℕ) → Stop → Type 0
@@ -83,12 +101,12 @@ LacksLine start before after stops.Fault = ⊥
 LacksLine start before after stops.Out = ⊥
 
 -- the first line was opened, with what is left behind it; or the program stops there as it says
-abbrev pub OpensFirst :
+abbrev pub OpensFirst : (form : Form) →
     (start now : Option (List ℕ)) (old new : Puts) → (source_before source_after out_before out_after : ℕ) → Result Streaming Stop → Type 0
-OpensFirst start now old new source_before source_after out_before out_after (Ok s) =
-    (first : List ℕ) × (text : List Text) × IsReading first [] start now × IsUnderWay first [] text s × (new ≡ grown old text)
-OpensFirst start now old new source_before source_after out_before out_after (Err stop) =
-    Comes start old new source_before source_after out_before out_after (Err stop)
+OpensFirst form start now old new source_before source_after out_before out_after (Ok s) =
+    (first : List ℕ) × (text : List Text) × IsReading first [] start now × IsUnderWay form first [] text s × (new ≡ grown old text)
+OpensFirst form start now old new source_before source_after out_before out_after (Err stop) =
+    Comes form start old new source_before source_after out_before out_after (Err stop)
 
 -- what a status says, with the words, what is left of the input, what is written, and the counts of failures, before and after
 pub record ShowsStreamed
@@ -98,9 +116,9 @@ pub record ShowsStreamed
   pub end : Result (Unit {0}) Stop
   pub is : status ≡ status_of end
   -- 2: exactly where the words ask for something else; nothing is read or written then
-  pub unlisted : (end ≡ Err stops.Words) ↔ (asks_for_stream words ≡ false)
-  pub nothing : asks_for_stream words ≡ false → (new ≡ old) × (after ≡ left) × (source_after ≡ source_before)
+  pub unlisted : (end ≡ Err stops.Words) ↔ (form_asked words ≡ None)
+  pub nothing : form_asked words ≡ None → (new ≡ old) × (after ≡ left) × (source_after ≡ source_before)
   -- else: at 0 all lines were read and what was written is the text of a session of which the headline holds; at 3 so it is of the lines
   -- before one that is too long, or there is no first line of a source and nothing was written; at 4 the text ends with a fault's line;
   -- at 5 it is that of the lines before the read that failed, or nothing; at 6 and 7 a front of such a text was written
-  pub comes : asks_for_stream words ≡ true → Comes left old new source_before source_after out_before out_after end
+  pub comes : (form : Form) → form_asked words ≡ Some form → Comes form left old new source_before source_after out_before out_after end

@@ -10,6 +10,7 @@ use Rattle.run_ongoing.specs.Ongoings.{AwaitsMore, number_of}
 use Rattle.run_reports.specs.Seen.{report_of, usual}
 use Rattle.run_reports.specs.declared.report.Report.{Report}
 use Rattle.show_answers.specs.Streamed.{AreAnswered, streamed}
+use Rattle.show_answers.specs.Told.{Form}
 use Rattle.show_stream.specs.Streams.{EachSays, IsFaulted, IsStreamedPart, IsStreamedFault, IsTold, inputs_in, marks_of, own_asked}
 use Rattle.show_stream.specs.declared.streaming.Streaming.{Streaming}
 use Rattle.show_streams.specs.Writes.{AddsFront, Puts, grown}
@@ -19,7 +20,7 @@ use Rattle.show_words.specs.declared.reason.Stop.TheVariants as stops
 use Rattle.tree_edits.specs.Documents.{edit_of}
 
 -- it was asked this and put this text, and awaits what comes next
-pub record IsAt (source : Source) (asked : List (Option InputSource)) (text : List Text) (s : Streaming) : Type 0 where
+pub record IsAt (form : Form) (source : Source) (asked : List (Option InputSource)) (text : List Text) (s : Streaming) : Type 0 where
   pub wrote : List Edit
   pub reports : List Report
   pub awaits :
@@ -27,15 +28,15 @@ pub record IsAt (source : Source) (asked : List (Option InputSource)) (text : Li
       (Some wrote) reports s.session
   pub answered : AreAnswered (marks_of asked) (map edit_of wrote) (map report_of reports)
   pub counted : length reports ≡ number_of s.session + 1
-  pub printed : text ≡ streamed (marks_of asked) 0 (map edit_of wrote) (map report_of reports)
+  pub printed : text ≡ streamed form (marks_of asked) 0 (map edit_of wrote) (map report_of reports)
 
 -- it read these lines and put this text
-pub record IsUnderWay (first : List ℕ) (lines : List (List ℕ)) (text : List Text) (s : Streaming) : Type 0 where
+pub record IsUnderWay (form : Form) (first : List ℕ) (lines : List (List ℕ)) (text : List Text) (s : Streaming) : Type 0 where
   pub source : Source
   pub described : Describes first source
   pub said : List (Option InputSource)
   pub says : EachSays lines said
-  pub at : IsAt source (own_asked source ++ said) text s
+  pub at : IsAt form source (own_asked source ++ said) text s
 
 -- what is put next goes behind a text: the texts that may then stand there, for one of which the put was, and what came through of it
 pub record PutsBehind (Is : List Text → Type 0) (text : List Text) (old new : Puts) : Type 0 where
@@ -68,55 +69,56 @@ StopsAt IsFault IsPart text old new before now stops.Form = ⊥
 StopsAt IsFault IsPart text old new before now stops.Source = ⊥
 
 -- so it is of a source that was to be asked all this
-abbrev pub StopsAmong :
+abbrev pub StopsAmong : (form : Form) →
     Source → (whole : List (Option InputSource)) (text : List Text) (old new : Puts) (before now : ℕ) → Stop → Type 0
-StopsAmong source whole text old new before now stop =
-    StopsAt (IsAmong whole (λ asked own. IsFaulted source asked own))
-    (IsAmong whole (λ asked own. IsTold source asked own ⊎ IsFaulted source asked own)) text old new before now stop
+StopsAmong form source whole text old new before now stop =
+    StopsAt (IsAmong whole (λ asked own. IsFaulted form source asked own))
+    (IsAmong whole (λ asked own. IsTold form source asked own ⊎ IsFaulted form source asked own)) text old new before now stop
 
 -- what was asked more was taken in, by what is answered
-abbrev pub TakesAll :
+abbrev pub TakesAll : (form : Form) →
     Source → (asked more : List (Option InputSource)) (text : List Text) (old new : Puts) (before now : ℕ) → Streaming
     → Result (Unit {0}) Stop → Type 0
-TakesAll source asked more text old new before now s (Ok u) = PutsBehind (λ own. IsAt source (asked ++ more) own s) text old new
-TakesAll source asked more text old new before now s (Err stop) = StopsAmong source (asked ++ more) text old new before now stop
+TakesAll form source asked more text old new before now s (Ok u) = PutsBehind (λ own. IsAt form source (asked ++ more) own s) text old new
+TakesAll form source asked more text old new before now s (Err stop) = StopsAmong form source (asked ++ more) text old new before now stop
 
 -- it was built; where memory was wanting before that nothing was put
-abbrev pub BuiltAs :
+abbrev pub BuiltAs : (form : Form) →
     Source → (whole : List (Option InputSource)) (old new : Puts) (before now : ℕ) → Result Streaming Stop → Type 0
-BuiltAs source whole old new before now (Ok s) = PutsBehind (λ own. IsAt source whole own s) [] old new
-BuiltAs source whole old new before now (Err stops.OutOfMemory) =
-    (new ≡ old) ⊎ StopsAmong source whole [] old new before now stops.OutOfMemory
-BuiltAs source whole old new before now (Err stops.Fault) = StopsAmong source whole [] old new before now stops.Fault
-BuiltAs source whole old new before now (Err stops.Out) = StopsAmong source whole [] old new before now stops.Out
-BuiltAs source whole old new before now (Err stops.Words) = ⊥
-BuiltAs source whole old new before now (Err stops.Form) = ⊥
-BuiltAs source whole old new before now (Err stops.Source) = ⊥
+BuiltAs form source whole old new before now (Ok s) = PutsBehind (λ own. IsAt form source whole own s) [] old new
+BuiltAs form source whole old new before now (Err stops.OutOfMemory) =
+    (new ≡ old) ⊎ StopsAmong form source whole [] old new before now stops.OutOfMemory
+BuiltAs form source whole old new before now (Err stops.Fault) = StopsAmong form source whole [] old new before now stops.Fault
+BuiltAs form source whole old new before now (Err stops.Out) = StopsAmong form source whole [] old new before now stops.Out
+BuiltAs form source whole old new before now (Err stops.Words) = ⊥
+BuiltAs form source whole old new before now (Err stops.Form) = ⊥
+BuiltAs form source whole old new before now (Err stops.Source) = ⊥
 
 -- it was built, and no input was taken in yet
-abbrev pub Builds : Source → (old new : Puts) (before now : ℕ) → Result Streaming Stop → Type 0
-Builds source old new before now result = BuiltAs source [] old new before now result
+abbrev pub Builds : (form : Form) → Source → (old new : Puts) (before now : ℕ) → Result Streaming Stop → Type 0
+Builds form source old new before now result = BuiltAs form source [] old new before now result
 
 -- with the inputs that stand in the source
-abbrev pub Begins : Source → (old new : Puts) (before now : ℕ) → Result Streaming Stop → Type 0
-Begins source old new before now result = BuiltAs source (own_asked source) old new before now result
+abbrev pub Begins : (form : Form) → Source → (old new : Puts) (before now : ℕ) → Result Streaming Stop → Type 0
+Begins form source old new before now result = BuiltAs form source (own_asked source) old new before now result
 
 -- a first line, by what is answered
-abbrev pub Opens : List ℕ → (old new : Puts) (before now : ℕ) → Result Streaming Stop → Type 0
-Opens first old new before now (Ok s) = PutsBehind (λ own. IsUnderWay first [] own s) [] old new
-Opens first old new before now (Err stops.Form) = SaysNone first × (new ≡ old)
-Opens first old new before now (Err stops.Fault) = PutsBehind (λ own. IsStreamedFault first [] own) [] old new
-Opens first old new before now (Err stops.Out) = (before < now) × PutsPart (λ own. IsStreamedPart first [] own) [] old new
-Opens first old new before now (Err stops.OutOfMemory) = (new ≡ old) ⊎ PutsPart (λ own. IsStreamedPart first [] own) [] old new
-Opens first old new before now (Err stops.Words) = ⊥
-Opens first old new before now (Err stops.Source) = ⊥
+abbrev pub Opens : (form : Form) → List ℕ → (old new : Puts) (before now : ℕ) → Result Streaming Stop → Type 0
+Opens form first old new before now (Ok s) = PutsBehind (λ own. IsUnderWay form first [] own s) [] old new
+Opens form first old new before now (Err stops.Form) = SaysNone first × (new ≡ old)
+Opens form first old new before now (Err stops.Fault) = PutsBehind (λ own. IsStreamedFault form first [] own) [] old new
+Opens form first old new before now (Err stops.Out) = (before < now) × PutsPart (λ own. IsStreamedPart form first [] own) [] old new
+Opens form first old new before now (Err stops.OutOfMemory) = (new ≡ old) ⊎ PutsPart (λ own. IsStreamedPart form first [] own) [] old new
+Opens form first old new before now (Err stops.Words) = ⊥
+Opens form first old new before now (Err stops.Source) = ⊥
 
 -- a further line, by what is answered
-abbrev pub Answers :
+abbrev pub Answers : (form : Form) →
     (first : List ℕ) (lines : List (List ℕ)) (bytes : List ℕ) (text : List Text) (old new : Puts) (before now : ℕ) → Streaming
     → Result (Unit {0}) Stop → Type 0
-Answers first lines bytes text old new before now s (Ok u) = PutsBehind (λ own. IsUnderWay first (lines ++ bytes ∷ []) own s) text old new
-Answers first lines bytes text old new before now s (Err stop) =
+Answers form first lines bytes text old new before now s (Ok u) =
+    PutsBehind (λ own. IsUnderWay form first (lines ++ bytes ∷ []) own s) text old new
+Answers form first lines bytes text old new before now s (Err stop) =
     StopsAt
-    (λ own. IsStreamedFault first (lines ++ bytes ∷ []) own) (λ own. IsStreamedPart first (lines ++ bytes ∷ []) own)
+    (λ own. IsStreamedFault form first (lines ++ bytes ∷ []) own) (λ own. IsStreamedPart form first (lines ++ bytes ∷ []) own)
     text old new before now stop

@@ -18,7 +18,7 @@ use rt_values::{List, OutOfMemory};
 use run_ongoing::Ongoing;
 use run_reports::{Input, USUAL};
 use show_logs::refusal;
-use show_print::EditLines;
+use show_objects::Tells;
 use show_streams::Out;
 use show_words::{Prepared, Stop, prepare, said_where};
 use std::alloc::Global;
@@ -41,20 +41,20 @@ pub struct Streaming {
 
 impl Streaming {
     /// Builds the application that a line is, takes in the inputs that stand in it, and puts the
-    /// edits and the report of each. Where the line is no application, `line` says why; of a fault it
-    /// says more.
-    pub fn open<O: Out>(
+    /// edits and the report of each, as `T` tells them. Where the line is no application, `line` says
+    /// why; of a fault it says more.
+    pub fn open<T: Tells, O: Out>(
         alloc: Global,
         first: &[u8],
         out: &mut O,
         line: &mut Option<String>,
     ) -> Result<Streaming, Stop>
-        ensures opens { Opens first.now (O.puts out.old) (O.puts out.new)
+        ensures opens { Opens T.form first.now (O.puts out.old) (O.puts out.new)
             (O.faults out.old) (O.faults out.new) result }
         ensures later { O.faults out.old ≤ O.faults out.new }
     {
         match read_source(alloc, first)? {
-            Some(described) => Streaming::run(alloc, described, out, line),
+            Some(described) => Streaming::run::<T, O>(alloc, described, out, line),
             None => {
                 *line = said_where(refusal(alloc, first));
                 Err(Stop::Form)
@@ -64,8 +64,8 @@ impl Streaming {
 
     /// Answers a line: puts the edits and the report of the input that it is; or where it is none,
     /// which changes nothing, the one line that says so, after `errors` was told why. Of a fault
-    /// `line` says more.
-    pub fn answer<O: Out, E: Eprint>(
+    /// `line` says more. What was put so far is to have the same form.
+    pub fn answer<T: Tells, O: Out, E: Eprint>(
         &mut self,
         alloc: Global,
         bytes: &[u8],
@@ -74,8 +74,8 @@ impl Streaming {
         line: &mut Option<String>,
     ) -> Result<(), Stop>
         ensures answers { (first : _) (lines : _) (text : _) →
-            IsUnderWay first lines text self.old →
-            Answers first lines bytes.now text (O.puts out.old) (O.puts out.new)
+            IsUnderWay T.form first lines text self.old →
+            Answers T.form first lines bytes.now text (O.puts out.old) (O.puts out.new)
             (O.faults out.old) (O.faults out.new) self.new result }
         ensures later { O.faults out.old ≤ O.faults out.new }
     {
@@ -83,11 +83,11 @@ impl Streaming {
         match read_input(alloc, bytes)? {
             Some(said) => {
                 let inputs = input_said(alloc, said)?;
-                self.take_all(alloc, inputs, out, line)
+                self.take_all::<T, O>(alloc, inputs, out, line)
             }
             None => {
                 say_refused(alloc, bytes, errors);
-                put_refusal(out)?;
+                put_refusal::<T, O>(out)?;
                 Ok(())
             }
         }
@@ -95,20 +95,20 @@ impl Streaming {
 
     /// At each time what was put is the text of a session of which the headline holds.
     pub fn holds(&self)
-        ensures streamed { (first : _) (lines : _) (text : _) →
-            IsUnderWay first lines text self.now → IsStreamed first lines text }
+        ensures streamed { (form : _) (first : _) (lines : _) (text : _) →
+            IsUnderWay form first lines text self.now → IsStreamed form first lines text }
     {
         self.session.holds();
     }
 
     /// Builds an application, and takes in the inputs that stand in it.
-    fn run<O: Out>(
+    fn run<T: Tells, O: Out>(
         alloc: Global,
         described: Described,
         out: &mut O,
         line: &mut Option<String>,
     ) -> Result<Streaming, Stop>
-        ensures begins { Begins (source_of described) (O.puts out.old) (O.puts out.new)
+        ensures begins { Begins T.form (source_of described) (O.puts out.old) (O.puts out.new)
             (O.faults out.old) (O.faults out.new) result }
         ensures later { O.faults out.old ≤ O.faults out.new }
     {
@@ -117,13 +117,13 @@ impl Streaming {
             props,
             inputs,
         } = prepare(alloc, described)?;
-        let mut streaming = Streaming::build(alloc, script, props, out, line)?;
-        streaming.take_all(alloc, inputs, out, line)?;
+        let mut streaming = Streaming::build::<T, O>(alloc, script, props, out, line)?;
+        streaming.take_all::<T, O>(alloc, inputs, out, line)?;
         Ok(streaming)
     }
 
     /// Builds an application.
-    fn build<O: Out>(
+    fn build<T: Tells, O: Out>(
         alloc: Global,
         script: Script,
         props: Props,
@@ -131,23 +131,23 @@ impl Streaming {
         line: &mut Option<String>,
     ) -> Result<Streaming, Stop>
         ensures builds { (source : _) (inputs : _) → MadeOf source script props inputs →
-            Builds source (O.puts out.old) (O.puts out.new)
+            Builds T.form source (O.puts out.old) (O.puts out.new)
             (O.faults out.old) (O.faults out.new) result }
         ensures later { O.faults out.old ≤ O.faults out.new }
     {
-        let mut sink = EditLines::new(alloc);
+        let mut sink = T::fresh(alloc);
         match Ongoing::begin(alloc, script, props, USUAL, &mut sink) {
             Ok((session, report)) => {
                 session.holds();
-                put_answer(alloc, sink.lines(), 0, &report, out)?;
+                put_answer::<T, O>(alloc, sink.kept(), 0, &report, out)?;
                 Ok(Streaming { session })
             }
-            Err(fault) => Err(put_fault(alloc, sink.lines(), fault, out, line)),
+            Err(fault) => Err(put_fault::<T, O>(alloc, sink.kept(), fault, out, line)),
         }
     }
 
     /// Takes inputs in, one after the other.
-    fn take_all<O: Out>(
+    fn take_all<T: Tells, O: Out>(
         &mut self,
         alloc: Global,
         inputs: List<Input<Script>>,
@@ -155,19 +155,19 @@ impl Streaming {
         line: &mut Option<String>,
     ) -> Result<(), Stop>
         ensures takes { (source : _) (asked : _) (said : _) (text : _) →
-            IsAt source asked text self.old → map input_of inputs ≡ language.inputs_of said →
-            TakesAll source asked (map Some said) text (O.puts out.old) (O.puts out.new)
+            IsAt T.form source asked text self.old → map input_of inputs ≡ language.inputs_of said →
+            TakesAll T.form source asked (map Some said) text (O.puts out.old) (O.puts out.new)
             (O.faults out.old) (O.faults out.new) self.new result }
         ensures later { O.faults out.old ≤ O.faults out.new }
     {
         for input in inputs.into_vec() {
-            self.take(alloc, input, out, line)?;
+            self.take::<T, O>(alloc, input, out, line)?;
         }
         Ok(())
     }
 
     /// Takes an input in, and puts its edits and its report.
-    fn take<O: Out>(
+    fn take<T: Tells, O: Out>(
         &mut self,
         alloc: Global,
         input: Input<Script>,
@@ -175,21 +175,21 @@ impl Streaming {
         line: &mut Option<String>,
     ) -> Result<(), Stop>
         ensures takes { (source : _) (asked : _) (said : _) (text : _) →
-            IsAt source asked text self.old → input_of input ≡ language.input_of said →
-            TakesAll source asked (Some said ∷ []) text (O.puts out.old) (O.puts out.new)
+            IsAt T.form source asked text self.old → input_of input ≡ language.input_of said →
+            TakesAll T.form source asked (Some said ∷ []) text (O.puts out.old) (O.puts out.new)
             (O.faults out.old) (O.faults out.new) self.new result }
         ensures later { O.faults out.old ≤ O.faults out.new }
     {
         self.session.holds();
-        let mut sink = EditLines::new(alloc);
+        let mut sink = T::fresh(alloc);
         match self.session.take(input, &mut sink) {
             Ok(report) => {
                 self.session.holds();
                 let number = self.session.taken();
-                put_answer(alloc, sink.lines(), number, &report, out)?;
+                put_answer::<T, O>(alloc, sink.kept(), number, &report, out)?;
                 Ok(())
             }
-            Err(fault) => Err(put_fault(alloc, sink.lines(), fault, out, line)),
+            Err(fault) => Err(put_fault::<T, O>(alloc, sink.kept(), fault, out, line)),
         }
     }
 }

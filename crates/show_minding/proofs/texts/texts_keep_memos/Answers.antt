@@ -24,7 +24,7 @@ unfolding HasHeadlineOver
 posts_keep law said drains edits reports headline = law said (props_of said) (drained drains) (limits_of usual) (Some edits) reports headline
 
 streams_keep : SourcesKeepMemos → StreamsKeepMemos
-streams_keep law source asked text told = law source (props_of source) (inputs_of (inputs_in asked)) (limits_of usual) (Some told.edits) told.reports told.headline
+streams_keep law form source asked text told = law source (props_of source) (inputs_of (inputs_in asked)) (limits_of usual) (Some told.edits) told.reports told.headline
 
 pub returns : goal.returns
 returns c =

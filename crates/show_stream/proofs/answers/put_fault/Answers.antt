@@ -13,8 +13,8 @@ pub returns-in-Err-clause-puts : goal.returns-in-Err-clause-puts
 returns-in-Err-clause-puts g c =
     let stopped : c.from.result ≡ stop_of c.in-Err.error = search rules in
     subst
-    (λ stop. PutsFault c.args.lines.now (fault_of c.args.fault) (g.O.Out.puts c.args.out.now) (g.O.Out.puts c.put_last.new.out)
+    (λ stop. PutsFault g.T.Tells.form c.args.lines.now (fault_of c.args.fault) (g.O.Out.puts c.args.out.now) (g.O.Out.puts c.put_last.new.out)
     (g.O.Out.faults c.args.out.now) (g.O.Out.faults c.put_last.new.out) stop)
     (sym stopped)
-    (fault_stops c.args.lines.now (fault_of c.args.fault) (g.O.Out.puts c.args.out.now) (g.O.Out.puts c.put_last.new.out)
+    (fault_stops g.T.Tells.form c.args.lines.now (fault_of c.args.fault) (g.O.Out.puts c.args.out.now) (g.O.Out.puts c.put_last.new.out)
     (g.O.Out.faults c.args.out.now) (g.O.Out.faults c.put_last.new.out) c.in-Err.error c.in-Err.ensures.puts)

@@ -6,7 +6,7 @@ use Rattle.show_stream.proofs.answers.put_refusal.Goals as goal
 
 pub returns : goal.returns
 returns g c =
-    let same : c.as_bytes.result.now ≡ refusal = search rules in
+    let same : c.as_bytes.result.now ≡ refusal g.T.Tells.form = search rules in
     record {
       writes =
           subst

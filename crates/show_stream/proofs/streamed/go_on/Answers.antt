@@ -23,7 +23,7 @@ loop-preserved g c =
     record {
       goes = λ start at first lines text reading is put.
           let so = c.loop.invariant.goes start at first lines text reading is put in
-          goes_on start at first before (g.O.Out.puts c.loop.out) c.loop.streaming so c.as_slice.result.now after reads (g.O.Out.puts c.answer.new.out) c.answer.new.self
+          goes_on g.T.Tells.form start at first before (g.O.Out.puts c.loop.out) c.loop.streaming so c.as_slice.result.now after reads (g.O.Out.puts c.answer.new.out) c.answer.new.self
           (g.O.Out.faults c.loop.out) (g.O.Out.faults c.answer.new.out) (c.in_ok-answer.ensures.answers first so.lines so.text so.is);
       read =
           let was = c.loop.invariant.read in
@@ -41,10 +41,10 @@ returns-in_err-bytes g c =
     record {
       goes_on = λ start at first lines text reading is put.
           rw stopped
-          (goes_without start at first (preceded (unread c.loop.reader) (g.S.Source.left c.loop.source)) (g.O.Out.puts c.loop.out) c.loop.streaming
+          (goes_without g.T.Tells.form start at first (preceded (unread c.loop.reader) (g.S.Source.left c.loop.source)) (g.O.Out.puts c.loop.out) c.loop.streaming
           (c.loop.invariant.goes start at first lines text reading is put)
           (g.S.Source.faults c.args.source.now) (g.S.Source.faults c.loop.source) (g.S.Source.faults c.line_of.new.source) (g.O.Out.faults c.args.out.now) (g.O.Out.faults c.loop.out)
-          c.in_err-bytes.field-0.0 c.loop.invariant.read c.holds.ensures.streamed c.in_err-bytes.ensures.stops);
+          c.in_err-bytes.field-0.0 c.loop.invariant.read (c.holds.ensures.streamed g.T.Tells.form) c.in_err-bytes.ensures.stops);
     }
 
 pub returns-in_default : goal.returns-in_default
@@ -54,8 +54,8 @@ returns-in_default g c =
     let reads : ReadsLine None before after = subst (λ found. ReadsLine found before after) c.in_default.is c.in_ok-bytes.ensures.line in
     record {
       goes_on = λ start at first lines text reading is put.
-          goes_over start at first before (g.O.Out.puts c.loop.out) c.loop.streaming (c.loop.invariant.goes start at first lines text reading is put)
-          after (g.S.Source.faults c.args.source.now) (g.S.Source.faults c.line_of.new.source) (g.O.Out.faults c.args.out.now) (g.O.Out.faults c.loop.out) c.holds.ensures.streamed reads;
+          goes_over g.T.Tells.form start at first before (g.O.Out.puts c.loop.out) c.loop.streaming (c.loop.invariant.goes start at first lines text reading is put)
+          after (g.S.Source.faults c.args.source.now) (g.S.Source.faults c.line_of.new.source) (g.O.Out.faults c.args.out.now) (g.O.Out.faults c.loop.out) (c.holds.ensures.streamed g.T.Tells.form) reads;
     }
 
 pub returns-in_err-answer : goal.returns-in_err-answer
@@ -70,7 +70,7 @@ returns-in_err-answer g c =
       goes_on = λ start at first lines text reading is put.
           let so = c.loop.invariant.goes start at first lines text reading is put in
           rw stopped
-          (goes_stop start at first before (g.O.Out.puts c.loop.out) c.loop.streaming so c.as_slice.result.now after reads (g.O.Out.puts c.answer.new.out) c.answer.new.self
+          (goes_stop g.T.Tells.form start at first before (g.O.Out.puts c.loop.out) c.loop.streaming so c.as_slice.result.now after reads (g.O.Out.puts c.answer.new.out) c.answer.new.self
           (g.S.Source.faults c.args.source.now) (g.S.Source.faults c.line_of.new.source) (g.O.Out.faults c.args.out.now) (g.O.Out.faults c.loop.out) (g.O.Out.faults c.answer.new.out)
           c.in_err-answer.field-0.0 c.loop.invariant.written (c.in_err-answer.ensures.answers first so.lines so.text so.is));
     }
@@ -78,7 +78,7 @@ returns-in_err-answer g c =
 pub returns : goal.returns
 returns g c = record {
   goes_on = λ start at first lines text reading is put.
-      goes_wanting start at first (preceded (unread c.loop.reader) (g.S.Source.left c.loop.source)) (g.O.Out.puts c.loop.out) c.loop.streaming
+      goes_wanting g.T.Tells.form start at first (preceded (unread c.loop.reader) (g.S.Source.left c.loop.source)) (g.O.Out.puts c.loop.out) c.loop.streaming
       (c.loop.invariant.goes start at first lines text reading is put)
-      (g.S.Source.faults c.args.source.now) (g.S.Source.faults c.loop.source) (g.O.Out.faults c.args.out.now) (g.O.Out.faults c.loop.out) c.holds-2.ensures.streamed;
+      (g.S.Source.faults c.args.source.now) (g.S.Source.faults c.loop.source) (g.O.Out.faults c.args.out.now) (g.O.Out.faults c.loop.out) (c.holds-2.ensures.streamed g.T.Tells.form);
 }

@@ -15,7 +15,7 @@ returns-in_err-streaming g c =
       comes =
           rw stopped
           (subst
-          (λ start. Comes start (g.O.Out.puts c.args.out.now) (g.O.Out.puts c.opened.new.out) (g.S.Source.faults c.args.source.now) (g.S.Source.faults c.opened.new.source)
+          (λ start. Comes g.T.Tells.form start (g.O.Out.puts c.args.out.now) (g.O.Out.puts c.opened.new.out) (g.S.Source.faults c.args.source.now) (g.S.Source.faults c.opened.new.source)
           (g.O.Out.faults c.args.out.now) (g.O.Out.faults c.opened.new.out) (Err c.in_err-streaming.field-0.0))
           none c.in_err-streaming.ensures.opens);
     }
@@ -29,7 +29,7 @@ returns g c =
     let reading : IsReading opens.0 [] left now = subst (λ start. IsReading opens.0 [] start now) none opens.2 in
     record {
       comes =
-          comes_later left (g.O.Out.puts c.args.out.now) (g.O.Out.puts c.go_on.new.out)
+          comes_later g.T.Tells.form left (g.O.Out.puts c.args.out.now) (g.O.Out.puts c.go_on.new.out)
           (g.S.Source.faults c.args.source.now) (g.S.Source.faults c.opened.new.source) (g.S.Source.faults c.go_on.new.source)
           (g.O.Out.faults c.args.out.now) (g.O.Out.faults c.opened.new.out) (g.O.Out.faults c.go_on.new.out)
           c.go_on.result c.in_ok-streaming.ensures.later c.in_ok-streaming.ensures.written

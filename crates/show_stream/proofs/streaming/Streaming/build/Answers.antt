@@ -11,32 +11,32 @@ use Rattle.show_stream.proofs.streaming.Streaming.build.Goals as goal
 
 pub returns-in-Ok-clause-builds : goal.returns-in-Ok-clause-builds
 returns-in-Ok-clause-builds g c = λ source inputs made.
-    let own = c.lines.ensures.lines.edits in
+    let own = c.kept.ensures.lines.edits in
     let report = c.in-Ok.report in
     let here : Streaming = record { session = c.in-Ok.session } in
-    built_put source here report own c.lines.result.now (g.O.Out.puts c.args.out.now) (g.O.Out.puts c.put_answer.new.out)
-    (built_awaits source c.args.script c.args.props inputs made _ _ own c.new-sink.ensures.taken c.lines.ensures.lines.tells (report ∷ []) here c.in-Ok.ensures.begins)
-    c.in-Ok.ensures.none (own_count _ _ own _ _ report c.new-sink.ensures.taken c.lines.ensures.lines.tells c.in-Ok.ensures.took) c.lines.ensures.lines.printed
+    built_put g.T.Tells.form source here report own c.kept.result.now (g.O.Out.puts c.args.out.now) (g.O.Out.puts c.put_answer.new.out)
+    (built_awaits source c.args.script c.args.props inputs made _ _ own c.fresh-sink.ensures.taken c.kept.ensures.lines.tells (report ∷ []) here c.in-Ok.ensures.begins)
+    c.in-Ok.ensures.none (own_count _ _ own _ _ report c.fresh-sink.ensures.taken c.kept.ensures.lines.tells c.in-Ok.ensures.took) c.kept.ensures.lines.printed
     c.in_ok-put_answer-in-Ok.ensures.writes.ok
 
 pub returns-in_err-put_answer-in-Ok-clause-builds : goal.returns-in_err-put_answer-in-Ok-clause-builds
 returns-in_err-put_answer-in-Ok-clause-builds g c = λ source inputs made.
     let stopped = err_from_is_err_and c.from_residual.result c.from_residual.ensures.1 in
-    let own = c.lines.ensures.lines.edits in
+    let own = c.kept.ensures.lines.edits in
     let report = c.in-Ok.report in
     let here : Streaming = record { session = c.in-Ok.session } in
     rw (stopped.1, stopped.2)
-    (built_cut source here report own c.lines.result.now (g.O.Out.puts c.args.out.now) (g.O.Out.puts c.put_answer.new.out)
+    (built_cut g.T.Tells.form source here report own c.kept.result.now (g.O.Out.puts c.args.out.now) (g.O.Out.puts c.put_answer.new.out)
     (g.O.Out.faults c.args.out.now) (g.O.Out.faults c.put_answer.new.out) c.in_err-put_answer-in-Ok.field-0.0
-    (built_awaits source c.args.script c.args.props inputs made _ _ own c.new-sink.ensures.taken c.lines.ensures.lines.tells (report ∷ []) here c.in-Ok.ensures.begins)
-    c.in-Ok.ensures.none (own_count _ _ own _ _ report c.new-sink.ensures.taken c.lines.ensures.lines.tells c.in-Ok.ensures.took) c.lines.ensures.lines.printed
+    (built_awaits source c.args.script c.args.props inputs made _ _ own c.fresh-sink.ensures.taken c.kept.ensures.lines.tells (report ∷ []) here c.in-Ok.ensures.begins)
+    c.in-Ok.ensures.none (own_count _ _ own _ _ report c.fresh-sink.ensures.taken c.kept.ensures.lines.tells c.in-Ok.ensures.took) c.kept.ensures.lines.printed
     (λ s a now reports awaits. c.holds.ensures.headline (meaning_of s) usual (props_of s) (inputs_of (inputs_in a)) (Some []) now reports awaits)
     c.in_err-put_answer-in-Ok.ensures.writes)
 
 pub returns-clause-builds : goal.returns-clause-builds
 returns-clause-builds g c = λ source inputs made.
-    let own = c.lines-in-Err.ensures.lines.edits in
-    built_fault source c.in-Err.fault own c.lines-in-Err.result.now (g.O.Out.puts c.args.out.now) (g.O.Out.puts c.put_fault.new.out)
+    let own = c.kept-in-Err.ensures.lines.edits in
+    built_fault g.T.Tells.form source c.in-Err.fault own c.kept-in-Err.result.now (g.O.Out.puts c.args.out.now) (g.O.Out.puts c.put_fault.new.out)
     (g.O.Out.faults c.args.out.now) (g.O.Out.faults c.put_fault.new.out) c.put_fault.result
-    (built_ends source c.args.script c.args.props inputs made _ _ own c.new-sink.ensures.taken c.lines-in-Err.ensures.lines.tells c.in-Err.fault c.in-Err.ensures.begins)
-    c.lines-in-Err.ensures.lines.printed c.put_fault.ensures.puts
+    (built_ends source c.args.script c.args.props inputs made _ _ own c.fresh-sink.ensures.taken c.kept-in-Err.ensures.lines.tells c.in-Err.fault c.in-Err.ensures.begins)
+    c.kept-in-Err.ensures.lines.printed c.put_fault.ensures.puts

@@ -8,13 +8,13 @@ use Rattle.show_stream.proofs.streaming.Streaming.holds.Goals as goal
 
 pub returns : goal.returns
 returns c = record {
-  streamed = λ first lines text is.
+  streamed = λ form first lines text is.
       record {
         source = is.source;
         described = is.described;
         said = is.said;
         says = is.says;
-        told = told is.source (own_asked is.source ++ is.said) text c.args.self.now is.at
+        told = told form is.source (own_asked is.source ++ is.said) text c.args.self.now is.at
             (λ s a now reports awaits. c.holds.ensures.headline (meaning_of s) usual (props_of s) (inputs_of (inputs_in a)) _ now reports awaits);
       };
 }

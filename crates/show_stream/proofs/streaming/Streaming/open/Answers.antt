@@ -16,7 +16,7 @@ pub returns-in-Some-clause-opens : goal.returns-in-Some-clause-opens
 returns-in-Some-clause-opens g c =
     let describes : Describes c.args.first.now (source_of c.in-Some.described) =
     subst (λ read. IfSome read (λ found. Describes c.args.first.now (source_of found))) c.in-Some.is c.in_ok-described.ensures.described in
-    opens_of c.args.first.now (source_of c.in-Some.described) (g.O.Out.puts c.args.out.now) (g.O.Out.puts c.run.new.out)
+    opens_of g.T.Tells.form c.args.first.now (source_of c.in-Some.described) (g.O.Out.puts c.args.out.now) (g.O.Out.puts c.run.new.out)
     (g.O.Out.faults c.args.out.now) (g.O.Out.faults c.run.new.out) c.run.result describes c.run.ensures.begins
 
 pub returns-in-None-clause-opens : goal.returns-in-None-clause-opens

@@ -16,7 +16,7 @@ returns-in_err-streaming-clause-begins g c =
     let stopped = err_from_is_err_and c.from_residual-in_err-streaming.result c.from_residual-in_err-streaming.ensures.1 in
     let said = source_of c.args.described in
     rw (stopped.1, stopped.2)
-    (builds_stop said (g.O.Out.puts c.args.out.now) (g.O.Out.puts c.build.new.out) (g.O.Out.faults c.args.out.now) (g.O.Out.faults c.build.new.out) c.in_err-streaming.field-0.0
+    (builds_stop g.T.Tells.form said (g.O.Out.puts c.args.out.now) (g.O.Out.puts c.build.new.out) (g.O.Out.faults c.args.out.now) (g.O.Out.faults c.build.new.out) c.in_err-streaming.field-0.0
     (c.in_err-streaming.ensures.builds said _ c.in_ok-script.ensures.made))
 
 pub returns-in_err-take_all-clause-begins : goal.returns-in_err-take_all-clause-begins
@@ -24,8 +24,8 @@ returns-in_err-take_all-clause-begins g c =
     let stopped = err_from_is_err_and c.from_residual-in_err-take_all.result c.from_residual-in_err-take_all.ensures.1 in
     let said = source_of c.args.described in
     rw (stopped.1, stopped.2)
-    (begins_stop said (g.O.Out.puts c.args.out.now) (g.O.Out.puts c.take_all.new.out) (g.O.Out.faults c.args.out.now) (g.O.Out.faults c.take_all.new.out) c.in_err-take_all.field-0.0
-    (begins_all said c.in_ok-streaming.streaming c.take_all.new.self
+    (begins_stop g.T.Tells.form said (g.O.Out.puts c.args.out.now) (g.O.Out.puts c.take_all.new.out) (g.O.Out.faults c.args.out.now) (g.O.Out.faults c.take_all.new.out) c.in_err-take_all.field-0.0
+    (begins_all g.T.Tells.form said c.in_ok-streaming.streaming c.take_all.new.self
     (g.O.Out.puts c.args.out.now) (g.O.Out.puts c.build.new.out) (g.O.Out.puts c.take_all.new.out)
     (g.O.Out.faults c.args.out.now) (g.O.Out.faults c.build.new.out) (g.O.Out.faults c.take_all.new.out) (Err c.in_err-take_all.field-0.0)
     (c.in_ok-streaming.ensures.builds said _ c.in_ok-script.ensures.made) c.in_ok-streaming.ensures.later
@@ -34,7 +34,7 @@ returns-in_err-take_all-clause-begins g c =
 pub returns-clause-begins : goal.returns-clause-begins
 returns-clause-begins g c =
     let said = source_of c.args.described in
-    begins_all said c.in_ok-streaming.streaming c.take_all.new.self
+    begins_all g.T.Tells.form said c.in_ok-streaming.streaming c.take_all.new.self
     (g.O.Out.puts c.args.out.now) (g.O.Out.puts c.build.new.out) (g.O.Out.puts c.take_all.new.out)
     (g.O.Out.faults c.args.out.now) (g.O.Out.faults c.build.new.out) (g.O.Out.faults c.take_all.new.out) (Ok tt)
     (c.in_ok-streaming.ensures.builds said _ c.in_ok-script.ensures.made) c.in_ok-streaming.ensures.later

@@ -12,39 +12,39 @@ use Rattle.show_stream.proofs.streaming.Streaming.take.Goals as goal
 pub returns-in-Ok-clause-takes : goal.returns-in-Ok-clause-takes
 returns-in-Ok-clause-takes g c =
     λ source asked said text at is.
-    let own = c.lines.ensures.lines.edits in
+    let own = c.kept.ensures.lines.edits in
     let new : Streaming = record { session = c.take.new.self } in
-    taken_put source asked text (input_of c.args.input) said is c.args.self.now new own c.lines.result.now at c.lines.ensures.lines.printed
+    taken_put g.T.Tells.form source asked text (input_of c.args.input) said is c.args.self.now new own c.kept.result.now at c.kept.ensures.lines.printed
     c.in-Ok.report c.taken-number.result (g.O.Out.puts c.args.out.now) (g.O.Out.puts c.put_answer.new.out)
     (c.in-Ok.ensures.takes (meaning_of source) usual (props_of source) (inputs_of (inputs_in asked)) (Some []) (Some at.wrote) (Some (at.wrote ++ own)) at.reports at.awaits
-    (carries_on _ _ at.wrote own c.new-sink.ensures.taken c.lines.ensures.lines.tells))
-    c.in-Ok.ensures.number (own_count _ _ own _ _ c.in-Ok.report c.new-sink.ensures.taken c.lines.ensures.lines.tells c.in-Ok.ensures.took) c.taken-number.ensures.taken
+    (carries_on _ _ at.wrote own c.fresh-sink.ensures.taken c.kept.ensures.lines.tells))
+    c.in-Ok.ensures.number (own_count _ _ own _ _ c.in-Ok.report c.fresh-sink.ensures.taken c.kept.ensures.lines.tells c.in-Ok.ensures.took) c.taken-number.ensures.taken
     c.in_ok-put_answer-in-Ok.ensures.writes.ok
 
 pub returns-in_err-put_answer-in-Ok-clause-takes : goal.returns-in_err-put_answer-in-Ok-clause-takes
 returns-in_err-put_answer-in-Ok-clause-takes g c =
     let stopped : c.from_residual.result ≡ Err (stop_of c.in_err-put_answer-in-Ok.field-0.0) = search rules in
     λ source asked said text at is.
-    let own = c.lines.ensures.lines.edits in
+    let own = c.kept.ensures.lines.edits in
     let new : Streaming = record { session = c.take.new.self } in
     rw stopped
-    (taken_cut source asked text (input_of c.args.input) said is c.args.self.now new own c.lines.result.now at c.lines.ensures.lines.printed
+    (taken_cut g.T.Tells.form source asked text (input_of c.args.input) said is c.args.self.now new own c.kept.result.now at c.kept.ensures.lines.printed
     c.in-Ok.report c.taken-number.result (g.O.Out.puts c.args.out.now) (g.O.Out.puts c.put_answer.new.out)
     (g.O.Out.faults c.args.out.now) (g.O.Out.faults c.put_answer.new.out) c.in_err-put_answer-in-Ok.field-0.0
     (c.in-Ok.ensures.takes (meaning_of source) usual (props_of source) (inputs_of (inputs_in asked)) (Some []) (Some at.wrote) (Some (at.wrote ++ own)) at.reports at.awaits
-    (carries_on _ _ at.wrote own c.new-sink.ensures.taken c.lines.ensures.lines.tells))
-    c.in-Ok.ensures.number (own_count _ _ own _ _ c.in-Ok.report c.new-sink.ensures.taken c.lines.ensures.lines.tells c.in-Ok.ensures.took) c.taken-number.ensures.taken
+    (carries_on _ _ at.wrote own c.fresh-sink.ensures.taken c.kept.ensures.lines.tells))
+    c.in-Ok.ensures.number (own_count _ _ own _ _ c.in-Ok.report c.fresh-sink.ensures.taken c.kept.ensures.lines.tells c.in-Ok.ensures.took) c.taken-number.ensures.taken
     (λ s a now reports awaits. c.holds-in-Ok.ensures.headline (meaning_of s) usual (props_of s) (inputs_of (inputs_in a)) (Some []) now reports awaits)
     c.in_err-put_answer-in-Ok.ensures.writes)
 
 pub returns-clause-takes : goal.returns-clause-takes
 returns-clause-takes g c =
     λ source asked said text at is.
-    let own = c.lines-in-Err.ensures.lines.edits in
-    taken_fault source asked text (input_of c.args.input) said is c.args.self.now c.args.self.now own c.lines-in-Err.result.now at c.lines-in-Err.ensures.lines.printed
+    let own = c.kept-in-Err.ensures.lines.edits in
+    taken_fault g.T.Tells.form source asked text (input_of c.args.input) said is c.args.self.now c.args.self.now own c.kept-in-Err.result.now at c.kept-in-Err.ensures.lines.printed
     c.in-Err.fault (g.O.Out.puts c.args.out.now) (g.O.Out.puts c.put_fault.new.out)
     (g.O.Out.faults c.args.out.now) (g.O.Out.faults c.put_fault.new.out) c.put_fault.result
     (c.in-Err.ensures.takes (meaning_of source) usual (props_of source) (inputs_of (inputs_in asked)) (Some []) (Some at.wrote) (Some (at.wrote ++ own)) at.reports at.awaits
-    (carries_on _ _ at.wrote own c.new-sink.ensures.taken c.lines-in-Err.ensures.lines.tells))
+    (carries_on _ _ at.wrote own c.fresh-sink.ensures.taken c.kept-in-Err.ensures.lines.tells))
     (λ s a now reports awaits. c.holds.ensures.headline (meaning_of s) usual (props_of s) (inputs_of (inputs_in a)) (Some []) now reports awaits)
     c.put_fault.ensures.puts

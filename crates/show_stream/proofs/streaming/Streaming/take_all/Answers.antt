@@ -11,7 +11,7 @@ loop-input-init g c =
     let items = c.into_iter-input-iterator.ensures.into_iter_gives in
     record {
       took = λ source asked said text at is.
-          took_none source asked said text c.args.self.now _ _ at (ap (map input_of) (items.0 ∙ c.into_vec-input-items.ensures.items) ∙ is);
+          took_none g.T.Tells.form source asked said text c.args.self.now _ _ at (ap (map input_of) (items.0 ∙ c.into_vec-input-items.ensures.items) ∙ is);
       later = omega arith;
       count = search rules;
     }
@@ -21,9 +21,9 @@ loop-input-preserved g c =
     let steps : into_iter_items c.loop-input.input-iterator ≡ c.in-Some.input ∷ into_iter_items c.next.new.self = c.in-Some.ensures.steps.0 in
     record {
       took = λ source asked said text at is.
-          took_more source asked said text (input_of c.in-Some.input) (map input_of (into_iter_items c.next.new.self)) c.loop-input.self c.take.new.self
+          took_more g.T.Tells.form source asked said text (input_of c.in-Some.input) (map input_of (into_iter_items c.next.new.self)) c.loop-input.self c.take.new.self
           (g.O.Out.puts c.args.out.now) (g.O.Out.puts c.loop-input.out) (g.O.Out.puts c.take.new.out) (g.O.Out.faults c.loop-input.out) (g.O.Out.faults c.take.new.out)
-          (subst (λ left. TookSome source asked said text left (g.O.Out.puts c.args.out.now) (g.O.Out.puts c.loop-input.out) c.loop-input.self) (ap (map input_of) steps) (c.loop-input.invariant.took source asked said text at is))
+          (subst (λ left. TookSome g.T.Tells.form source asked said text left (g.O.Out.puts c.args.out.now) (g.O.Out.puts c.loop-input.out) c.loop-input.self) (ap (map input_of) steps) (c.loop-input.invariant.took source asked said text at is))
           c.in_ok-take.ensures.takes;
       later =
           let before = c.loop-input.invariant.later in
@@ -42,15 +42,15 @@ returns-in_err-take-clause-takes g c =
     let stopped : c.from_residual.result ≡ Err c.in_err-take.field-0.0 = search rules in
     λ source asked said text at is.
     rw stopped
-    (took_stop source asked said text (input_of c.in-Some.input) (map input_of (into_iter_items c.next.new.self)) c.loop-input.self c.take.new.self
+    (took_stop g.T.Tells.form source asked said text (input_of c.in-Some.input) (map input_of (into_iter_items c.next.new.self)) c.loop-input.self c.take.new.self
     (g.O.Out.puts c.args.out.now) (g.O.Out.puts c.loop-input.out) (g.O.Out.puts c.take.new.out)
     (g.O.Out.faults c.args.out.now) (g.O.Out.faults c.loop-input.out) (g.O.Out.faults c.take.new.out) c.in_err-take.field-0.0
-    (subst (λ left. TookSome source asked said text left (g.O.Out.puts c.args.out.now) (g.O.Out.puts c.loop-input.out) c.loop-input.self) (ap (map input_of) steps) (c.loop-input.invariant.took source asked said text at is))
+    (subst (λ left. TookSome g.T.Tells.form source asked said text left (g.O.Out.puts c.args.out.now) (g.O.Out.puts c.loop-input.out) c.loop-input.self) (ap (map input_of) steps) (c.loop-input.invariant.took source asked said text at is))
     c.loop-input.invariant.later c.in_err-take.ensures.takes)
 
 pub returns-clause-takes : goal.returns-clause-takes
 returns-clause-takes g c =
     let none = c.in-None.ensures.steps in
     λ source asked said text at is.
-    took_all source asked said text _ c.loop-input.self _ _ (ap (map input_of) (nothing_left _ (sym c.loop-input.invariant.count ∙ none.0)))
+    took_all g.T.Tells.form source asked said text _ c.loop-input.self _ _ (ap (map input_of) (nothing_left _ (sym c.loop-input.invariant.count ∙ none.0)))
     (c.loop-input.invariant.took source asked said text at is)

@@ -9,8 +9,8 @@ use Rattle.show_stream.proofs.streaming.Streaming.take_all.Given as goal
 
 abbrev pub invariant-loop-input : goal.invariant-loop-input
 invariant-loop-input g l = record {
-  took : (source : _) (asked : _) (said : _) (text : _) → IsAt source asked text l.fn.self → map input_of l.fn.inputs ≡ inputs_of said
-      → TookSome source asked said text (map input_of (into_iter_items l.input-iterator)) (g.O.Out.puts l.fn.out) (g.O.Out.puts l.out) l.self;
+  took : (source : _) (asked : _) (said : _) (text : _) → IsAt g.T.Tells.form source asked text l.fn.self → map input_of l.fn.inputs ≡ inputs_of said
+      → TookSome g.T.Tells.form source asked said text (map input_of (into_iter_items l.input-iterator)) (g.O.Out.puts l.fn.out) (g.O.Out.puts l.out) l.self;
   later : g.O.Out.faults l.fn.out ≤ g.O.Out.faults l.out;
   count : into_iter_len l.input-iterator ≡ length (into_iter_items l.input-iterator);
 }
