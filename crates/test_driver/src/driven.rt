@@ -56,7 +56,7 @@ pub trait Driven {
         limits: Limits,
     ) -> Result<Self, Fault>;
 
-    /// The same, whose counters begin at these numbers.
+    /// One that isn't built yet, with these props, whose counters begin at these numbers.
     fn new_from(
         alloc: Global,
         script: Script,
@@ -65,7 +65,7 @@ pub trait Driven {
         firsts: Firsts,
     ) -> Result<Self, Fault>;
 
-    /// The same dom, whose root wrapper provides a value of a kind.
+    /// The dom, its root wrapper providing a value of a kind.
     fn with_root_context(self, kind: u32, value: Value) -> Result<Self, Fault>;
 
     /// All scopes go, and the dom with them. The application.
@@ -85,7 +85,7 @@ pub trait Driven {
     /// Work until no scope is seen and no task is queued, into a sink.
     fn render_immediate<M: WriteMutations>(&mut self, to: &mut M) -> Result<Report, Self::Refused>;
 
-    /// The same, and its edits.
+    /// Work until no scope is seen and no task is queued, and its edits.
     fn render_immediate_to_vec(&mut self) -> Result<Mutations, Self::Refused>;
 
     /// A look, polls and a batch of effects.
@@ -149,7 +149,7 @@ pub trait Driven {
     /// A new task of a scope.
     fn spawn(&mut self, scope: ScopeId, state: TaskState) -> Result<Option<Task>, Self::Refused>;
 
-    /// The same, and suspended renders poll it too.
+    /// A new task of a scope, which suspended renders poll too.
     fn spawn_isomorphic(
         &mut self,
         scope: ScopeId,

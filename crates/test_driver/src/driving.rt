@@ -125,7 +125,7 @@ fn call_all<D: Driven>(
     Ok(())
 }
 
-/// The same, on a dom that is closed behind them.
+/// Does the calls of these lines on a dom, and closes it behind them.
 fn drive_dom<D: Driven>(
     alloc: Global,
     out: &mut String,

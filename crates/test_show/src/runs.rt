@@ -3,7 +3,7 @@
 use examples_counter::Counter;
 use examples_lines::{click, lines};
 use examples_router::Router;
-use examples_tally::Tally;
+use examples_tally::application;
 use rt_app::{App, Bodied, Input, List, Nothing, OutOfMemory, Paged, Part};
 use std::alloc::Global;
 
@@ -35,5 +35,5 @@ pub(crate) fn router(alloc: Global) -> Result<List<u8>, OutOfMemory> {
 /// The tally, raised three times.
 pub(crate) fn tally(alloc: Global) -> Result<List<u8>, OutOfMemory> {
     let inputs = clicks(alloc, Nothing, &[1, 1, 1])?;
-    lines(alloc, Bodied { bodies: Tally }, Nothing, inputs)
+    lines(alloc, application(), Nothing, inputs)
 }
