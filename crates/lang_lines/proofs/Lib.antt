@@ -6,14 +6,15 @@ pub mod Faults
 pub mod Entries
 pub mod Reports
 pub mod Items
-mod NamedViews
+pub mod NamedViews
 mod NamedWrites
-mod NamedStates
+mod NamedCuts
+pub mod NamedStates
 mod NamedRuns
-mod NamedMoves
+pub mod NamedMoves
 mod NamedSessions
 mod Answering
-mod NamedAnswers
+pub mod NamedAnswers
 mod Plainly
 mod ReadViews
-mod ReadSources
+pub mod ReadSources

@@ -1,5 +1,5 @@
 -- What moves and accepted entries leave named.
-use Rattle.std.proofs.Common.{ℕ, ◌+◌, ◌≤◌, Bool, true, false, List, [], ◌∷◌, ◌≡◌, refl, sym, ap, ◌∙◌, subst, nat_eq, arith}
+use Rattle.std.proofs.Common.{ℕ, ◌+◌, ◌≤◌, Bool, true, false, List, [], ◌∷◌, ◌++◌, ◌≡◌, refl, sym, ap, ◌∙◌, subst, nat_eq, arith}
 use Rattle.std.specs.Prelude.{Option, Some, None, if◌then◌else◌}
 use Rattle.rt_model.specs.Lists.{at}
 use Rattle.rt_model.specs.Tree.{Types, Place, VComponent, Root}
@@ -14,75 +14,77 @@ use Rattle.rt_model.specs.Replay.{Entry, Build, Taken, Heard, Rerun, Poll, Effec
 use Rattle.rt_model.specs.Causes.{Limits}
 use Rattle.rt_model.proofs.Maps.{at_here, at_there, by_test}
 use Rattle.rt_model.proofs.SideFrames.{Stay}
-use Rattle.rt_model.proofs.SideRuns.{StayO, rest_stay, mounted_stay, polled_stay, effects_stay}
+use Rattle.rt_model.proofs.SideRuns.{rest_stay, mounted_stay}
 use Rattle.rt_model.proofs.Begun.{take_next_calm}
 use Rattle.law_moves.specs.Moves.{Move, Silent, Closed, Logged, IsSettled, Leads}
 use Rattle.law_moves.proofs.Insides.{live_due, made_due, fed_due, fed_change}
 use Rattle.law_moves.proofs.Always.{take_work, heard_work}
-use Rattle.law_moves.proofs.Commanded.{Level}
-use Rattle.law_moves.proofs.Called.{mounted_level}
-use Rattle.law_moves.proofs.Everywhere.{heard_stays}
 use Rattle.law_moves.proofs.Logs.{logs_are_moves}
 use Rattle.law_moves.proofs.Limited.{some_limits}
-use Rattle.law_headline.proofs.Calm.{take_level}
-use Rattle.law_headline.proofs.Levels.{ended_level, ended_idle, polled_rests, effects_rest, heard_level}
+use Rattle.law_headline.proofs.Levels.{ended_idle, polled_rests, effects_rest}
 use Rattle.law_headline.proofs.Reports.{settled_after}
 use Rattle.lang_lines.specs.Named.{AnswersNamed}
-use Rattle.lang_lines.proofs.NamedViews.{NamedScope, NamedScopes}
-use Rattle.lang_lines.proofs.NamedStates.{NamedAt, NamedO, stay_named, level_scopes, new_named}
+use Rattle.lang_lines.proofs.NamedViews.{NamedScope}
+use Rattle.lang_lines.proofs.NamedCuts.{Stays, polled_stays, effects_stays, heard_stays}
+use Rattle.lang_lines.proofs.NamedStates.{NamedAt, NamedO, stay_named, at_rest_named, new_named}
 use Rattle.lang_lines.proofs.NamedRuns.{run_named, item_named, removed_named}
 
 module _ {K : Types} where
-  -- a machine with names: its scopes, also where a fault ended the run, and its open work
+  -- a machine with names: its state, also where a fault ended the run, and its open work
   pub record NamedMachine (m : Machine K) : Type 0 where
-    pub scopes : NamedScopes m.state
+    pub still : NamedAt m.state []
     pub alive : m.dead ≡ None → NamedAt m.state m.work
 
   ended_named : (m : Machine K) (item : Option (Item K)) (rest : List (Item K)) (o : Outcome K) → NamedO rest o → NamedMachine (ended_by m item rest o)
-  ended_named m item rest (Done v work) h = record { scopes = h.scopes; alive = λ alive. h }
-  ended_named m item rest (Cut v fault) h = record { scopes = h; alive = λ alive. let absurdity : Some fault ≡ None = alive in cc }
+  ended_named m item rest (Done v work) h = record { still = at_rest_named v (work ++ rest) h; alive = λ alive. h }
+  ended_named m item rest (Cut v fault) h = record { still = h; alive = λ alive. let absurdity : Some fault ≡ None = alive in cc }
 
-  -- where a machine has no work and shows what another one shows
-  calm_named : (m u : Machine K) → Level m.state u.state → (u.dead ≡ None → u.work ≡ []) → (u.dead ≡ None → Stay m.state u.state) → NamedAt m.state [] → NamedMachine u
-  calm_named m u level none stay h =
-      record {
-        scopes = level_scopes m.state u.state level h.scopes;
-        alive = λ alive. subst (λ (items : List (Item K)). NamedAt u.state items) (sym (none alive)) (stay_named m.state u.state [] (stay alive) h);
-      }
-
-  no_items : (w : State K) (work : List (Item K)) → NamedAt w work → NamedAt w []
-  no_items w work h = record { low = h.low; scopes = h.scopes; items = tt }
+  -- where a machine has no work and the sides that another one has
+  calm_named : (m u : Machine K) → (u.dead ≡ None → u.work ≡ []) → Stay m.state u.state → NamedAt m.state [] → NamedMachine u
+  calm_named m u none stay h =
+      let now : NamedAt u.state [] = stay_named m.state u.state [] stay h in
+      record { still = now; alive = λ alive. subst (λ (items : List (Item K)). NamedAt u.state items) (sym (none alive)) now }
 
   -- what an outcome leaves of the sides
-  ended_stay : (m : Machine K) (w : State K) (o : Outcome K) → StayO w o → (ended_by m None [] o).dead ≡ None → Stay w (ended_by m None [] o).state
-  ended_stay m w (Done v work) h alive = h
-  ended_stay m w (Cut v fault) h alive = cc
+  ended_stay : (m : Machine K) (w : State K) (o : Outcome K) → Stays w o → Stay w (ended_by m None [] o).state
+  ended_stay m w (Done v work) h = h
+  ended_stay m w (Cut v fault) h = h
 
 module _ {K : Types} (app : Application K) (lawful : IsLawful K app) (answers : AnswersNamed app) where
   rest_named : (w : State K) → NamedAt w [] → NamedAt (at_rest w) []
   rest_named w h = stay_named w (at_rest w) [] (rest_stay w) h
 
-  owed_named : (m : Machine K) (work : Option Work) (e : Entry) → m.work ≡ [] → NamedAt m.state [] → if_live m.state (due_work app m work m.inputs) ≡ Some e → NamedMachine (change_by app m [] e)
-  owed_named m (Some (RerunScope r)) e none h due_is =
-      let same : e ≡ Rerun r = (live_due app m.state (Rerun r) e due_is).0 in
-      subst (λ (x : Entry). NamedMachine (change_by app m [] x)) (sym same)
-      (ended_named (one_more_unit (rested app m)) None [] (run app (at_rest m.state) r) (run_named app lawful answers (at_rest m.state) [] r (rest_named m.state h)))
-  owed_named m (Some (PollTask r)) e none h due_is =
-      let same : e ≡ Poll r = (live_due app m.state (Poll r) e due_is).0 in
+  -- a unit that begins where nothing is at work: a rerun, or a poll
+  pub rerun_named : (m : Machine K) (r : ℕ) → NamedAt m.state [] → NamedMachine (change_by app m [] (Rerun r))
+  rerun_named m r h =
+      ended_named (one_more_unit (rested app m)) None [] (run app (at_rest m.state) r) (run_named app lawful answers (at_rest m.state) [] r (rest_named m.state h))
+
+  pub poll_named : (m : Machine K) (r : ℕ) → NamedAt m.state [] → NamedMachine (change_by app m [] (Poll r))
+  poll_named m r h =
       let w : State K = at_rest m.state in
       let o : Outcome K = polled app w r in
       let u : Machine K = ended_by (one_more_unit (rested app m)) None [] o in
-      subst (λ (x : Entry). NamedMachine (change_by app m [] x)) (sym same)
-      (calm_named (rested app m) u (ended_level (one_more_unit (rested app m)) w o (polled_rests app w r)) (λ alive. ended_idle (one_more_unit (rested app m)) w o (polled_rests app w r) alive)
-      (λ alive. ended_stay (one_more_unit (rested app m)) w o (polled_stay app lawful w r) alive) (rest_named m.state h))
-  owed_named m (Some (RunEffects r)) e none h due_is =
-      let same : e ≡ Effects r = (live_due app m.state (Effects r) e due_is).0 in
+      calm_named (rested app m) u (λ alive. ended_idle (one_more_unit (rested app m)) w o (polled_rests app w r) alive)
+      (ended_stay (one_more_unit (rested app m)) w o (polled_stays app lawful w r)) (rest_named m.state h)
+
+  effects_named : (m : Machine K) (r : ℕ) → NamedAt m.state [] → NamedMachine (change_by app m [] (Effects r))
+  effects_named m r h =
       let w : State K = at_rest m.state in
       let o : Outcome K = effects_run app w r in
       let u : Machine K = ended_by (one_more_unit (rested app m)) None [] o in
-      subst (λ (x : Entry). NamedMachine (change_by app m [] x)) (sym same)
-      (calm_named (rested app m) u (ended_level (one_more_unit (rested app m)) w o (effects_rest app w r)) (λ alive. ended_idle (one_more_unit (rested app m)) w o (effects_rest app w r) alive)
-      (λ alive. ended_stay (one_more_unit (rested app m)) w o (effects_stay app lawful w r) alive) (rest_named m.state h))
+      calm_named (rested app m) u (λ alive. ended_idle (one_more_unit (rested app m)) w o (effects_rest app w r) alive)
+      (ended_stay (one_more_unit (rested app m)) w o (effects_stays app lawful w r)) (rest_named m.state h)
+
+  owed_named : (m : Machine K) (work : Option Work) (e : Entry) → m.work ≡ [] → NamedAt m.state [] → if_live m.state (due_work app m work m.inputs) ≡ Some e → NamedMachine (change_by app m [] e)
+  owed_named m (Some (RerunScope r)) e none h due_is =
+      let same : e ≡ Rerun r = (live_due app m.state (Rerun r) e due_is).0 in
+      subst (λ (x : Entry). NamedMachine (change_by app m [] x)) (sym same) (rerun_named m r h)
+  owed_named m (Some (PollTask r)) e none h due_is =
+      let same : e ≡ Poll r = (live_due app m.state (Poll r) e due_is).0 in
+      subst (λ (x : Entry). NamedMachine (change_by app m [] x)) (sym same) (poll_named m r h)
+  owed_named m (Some (RunEffects r)) e none h due_is =
+      let same : e ≡ Effects r = (live_due app m.state (Effects r) e due_is).0 in
+      subst (λ (x : Entry). NamedMachine (change_by app m [] x)) (sym same) (effects_named m r h)
   owed_named m None e none h due_is = on m.inputs refl
     where
       on : (inputs : List (Input K)) → m.inputs ≡ inputs → NamedMachine (change_by app m [] e)
@@ -95,15 +97,14 @@ module _ {K : Types} (app : Application K) (lawful : IsLawful K app) (answers : 
           let r : Machine K = rested app m in
           let u : Machine K = take_next r r.inputs in
           subst (λ (x : Entry). NamedMachine (change_by app m [] x)) (sym same)
-          (calm_named r u (take_level r r.inputs) (λ alive. take_work r r.inputs ∙ none) (λ alive. (take_next_calm r r.inputs).stays) (rest_named m.state h))
+          (calm_named r u (λ alive. take_work r r.inputs ∙ none) (take_next_calm r r.inputs).stays (rest_named m.state h))
 
   heard_named : (m : Machine K) (ls : List (Listener K)) (e : Entry) → m.work ≡ [] → NamedAt m.state [] → waiting m ≡ ls → if_live m.state (due_heard app m ls) ≡ Some e → NamedMachine (change_by app m [] e)
   heard_named m [] e none h quiet due_is = owed_named m (next m.state) e none h due_is
   heard_named m (l ∷ ls) e none h heard due_is =
       let same : e ≡ Heard l.origin = (live_due app m.state (Heard l.origin) e due_is).0 in
       let u : Machine K = heard_event app m l ls m.event in
-      let level : Level m.state u.state = heard_level app m (l ∷ ls) in
-      let now : NamedMachine u = calm_named m u level (λ alive. heard_work app m l ls m.event ∙ none) (λ alive. heard_stays app lawful m l ls m.event alive) h in
+      let now : NamedMachine u = calm_named m u (λ alive. heard_work app m l ls m.event ∙ none) (heard_stays app lawful m l ls m.event) h in
       subst (λ (x : Entry). NamedMachine (change_by app m [] x)) (sym same)
       (subst (λ (listeners : List (Listener K)). NamedMachine (heard_first app m listeners)) (sym heard) now)
 
@@ -142,7 +143,7 @@ module _ {K : Types} (app : Application K) (lawful : IsLawful K app) (answers : 
   build_named : (m : Machine K) (work : List (Item K)) → NamedAt m.state work → NamedMachine (change_by app m work Build)
   build_named m work h =
       subst (λ (x : Machine K). NamedMachine x) (sym (is work))
-      (ended_named (record m { built = true; unit = true }) None [] (run app m.state 0) (run_named app lawful answers m.state [] 0 (no_items m.state work h)))
+      (ended_named (record m { built = true; unit = true }) None [] (run app m.state 0) (run_named app lawful answers m.state [] 0 (at_rest_named m.state work h)))
     where
       is : (items : List (Item K)) → change_by app m items Build ≡ ended_by (record m { built = true; unit = true }) None [] (run app m.state 0)
       is [] = refl
@@ -184,7 +185,7 @@ module _ {K : Types} (app : Application K) (lawful : IsLawful K app) (answers : 
       let move = leads.1 in
       let u : Machine K = record m { unit = false; state = mounted_state m.state } in
       let now : NamedMachine u = record {
-        scopes = level_scopes m.state (mounted_state m.state) (mounted_level m.state) h.scopes;
+        still = stay_named m.state (mounted_state m.state) [] (mounted_stay m.state) h.still;
         alive = λ alive. stay_named m.state (mounted_state m.state) m.work (mounted_stay m.state) (h.alive alive);
       } in
       moves_named limits leads.0 v moves leads.2 (subst (λ (x : Machine K). NamedMachine x) (sym move.gives) now)
@@ -216,6 +217,6 @@ module _ {K : Types} (app : Application K) (lawful : IsLawful K app) (answers : 
   start_named props inputs =
       let low : 1 ≤ last_number = omega arith in
       record {
-        scopes = λ s x e. first_row props inputs s x e;
+        still = record { low = low; scopes = λ s x e. first_row props inputs s x e; items = tt };
         alive = λ alive. record { low = low; scopes = λ s x e. first_row props inputs s x e; items = tt };
       }

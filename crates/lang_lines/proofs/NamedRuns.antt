@@ -3,23 +3,22 @@ use Rattle.std.proofs.Common.{ℕ, ◌+◌, Bool, true, false, List, [], ◌∷�
 use Rattle.std.specs.Prelude.{Option, Some, None, if◌then◌else◌}
 use Rattle.rt_model.specs.Lists.{at, put, without, drop_number}
 use Rattle.rt_model.specs.Tree.{Types, CapturedError, Tree, placeholder_tree, VComponent, Own, Root, Fragment, ErrorBoundary, SuspenseBoundary, Element, rendered, failed, suspended, Place, Kind, Spot, node_at, component_at, spots}
-use Rattle.rt_model.specs.World.{Scopes, Elements, Firsts, at_end, before_render_kind, CallFault, Command, World, Meaning, Nothing, Application}
+use Rattle.rt_model.specs.World.{Scopes, Elements, Firsts, at_end, before_render_kind, CallFault, Command, World, Meaning, Application}
 use Rattle.rt_model.specs.Laws.{IsNumbered, IsLawful}
-use Rattle.rt_model.specs.State.{SideName, MainSide, ChildrenSide, FallbackSide, IdsExhausted, BadNode, RowStep, PatchChildren, MadeChildren, RunFallback, ShowFallback, ShowChildren, DropFallback, Resolve, Side, Scope, State, Item, Draw, Row, Feed, Make, Drop, Outcome, Done, Cut, onward, empty_side, side_of, with_side, new_scope, change, is_held, hooks_of, world_of}
+use Rattle.rt_model.specs.State.{SideName, MainSide, ChildrenSide, FallbackSide, IdsExhausted, BadNode, RowStep, PatchChildren, MadeChildren, RunFallback, ShowFallback, ShowChildren, DropFallback, Resolve, Side, Scope, State, Item, Draw, Row, Feed, Make, Drop, Outcome, Done, Cut, onward, empty_side, side_of, with_side, new_scope, change, is_held, world_of}
 use Rattle.rt_model.specs.Commands.{commands}
 use Rattle.rt_model.specs.Run.{fault_of, child_at, with_next, called_once, called_where, is_own, answer_fits, kept_call, has_node, component_in, kept_numbers, kept_children, serves, drops_of, drop_at, is_fed, spots_of, patched, caught, body_of, call_body, start_agenda, has_output, new_output, after_answer, settled_answer, after_hooks, row_of, row_items, runs_fallback, boundary_run, run_as, hooks_called, unmarked, run}
 use Rattle.rt_model.specs.Boundary.{children_of, tree_or_placeholder, counts_render, counted_render, fallback_answered, called_back, side_scopes, drop_items, row_step}
-use Rattle.rt_model.specs.Removal.{clean_ups, stopped, cleaned, removed}
+use Rattle.rt_model.specs.Removal.{removed}
 use Rattle.rt_model.specs.Replay.{numbered, with_child, with_new_scope, fed_child, keeps, made_in, with_props, handed, outcome_of}
 use Rattle.rt_model.proofs.SideFrames.{stay_trans, stay_rest, change_stay}
-use Rattle.rt_model.proofs.SideRuns.{StayO, onward_stay, unmarked_stay, kept_stay, hooks_stay, after_hooks_stay, settled_answer_stay, counted_stay, called_back_stay, removed_stay}
+use Rattle.rt_model.proofs.SideRuns.{StayO, next_stay, unmarked_stay, kept_stay, removed_stay}
 use Rattle.rt_model.proofs.RunFrames.{body_numbered}
 use Rattle.rt_model.proofs.NumbersRun.{Idle, called_back_idle, removed_idle}
-use Rattle.law_moves.proofs.Commanded.{Level, level_trans}
-use Rattle.law_moves.proofs.Called.{onward_level, stopped_level, next_level, once_level, kept_level, hooks_level, after_hooks_level, settled_answer_level, counted_level, called_back_level}
 use Rattle.lang_lines.specs.Named.{NamedTree, NamedComponent, NamedElement, AnswersNamed}
 use Rattle.lang_lines.proofs.NamedViews.{small_drawn, one_more_small, NamedSide, NamedScope}
-use Rattle.lang_lines.proofs.NamedStates.{drawn_on, placeholder_named, error_named, root_named, AllItems, items_both, NamedO, named_if, stay_named, level_scopes, onward_named, idle_named, work_named, put_scopes, change_scopes, side_named, empty_named, new_named, joined_scopes, AllSpots, tree_spotted, kept_small, rows_named, drops_named, drop_at_named, number_low, handed_side, without_first, children_named, or_placeholder_named, children_of_named, NamedAt}
+use Rattle.lang_lines.proofs.NamedCuts.{StaysCut, onward_stays, call_stays, hooks_stays, after_hooks_stays, answer_stays, counted_stays, called_back_stays, removed_cut}
+use Rattle.lang_lines.proofs.NamedStates.{drawn_on, placeholder_named, error_named, root_named, AllItems, items_both, NamedO, named_if, stay_named, at_rest_named, cut_named, onward_named, idle_named, work_named, put_scopes, change_scopes, side_named, empty_named, new_named, joined_scopes, AllSpots, tree_spotted, kept_small, rows_named, drops_named, drop_at_named, number_low, handed_side, without_first, children_named, or_placeholder_named, children_of_named, NamedAt}
 
 module _ {K : Types} (app : Application K) (lawful : IsLawful K app) (answers : AnswersNamed app) where
   caught_named : (children : Element K) (handler : Option (K.Component × K.Props)) (w : World K) (o : Option CapturedError) → NamedElement children → NamedElement (caught app children handler w o).answer
@@ -90,8 +89,7 @@ module _ {K : Types} (app : Application K) (lawful : IsLawful K app) (answers : 
   answer_named : (w : State K) (rest : List (Item K)) (s : ℕ) (a : Element K) → NamedElement a → NamedAt w rest → NamedO rest (after_answer app w s a)
   answer_named w rest s a g h =
       onward_named w rest (onward (settled_answer app w s a) (λ v. after_hooks app v s)) (λ v. new_output app v s a)
-      (onward_level w (settled_answer app w s a) (λ v. after_hooks app v s) (settled_answer_level app w s a) (λ v. after_hooks_level app v s))
-      (onward_stay w (settled_answer app w s a) (λ v. after_hooks app v s) (settled_answer_stay app lawful w s a) (λ v. after_hooks_stay app lawful v s))
+      (onward_stays w (settled_answer app w s a) (λ v. after_hooks app v s) (answer_stays app lawful w s a) (λ v. after_hooks_stays app lawful v s))
       h (λ v k. output_named v rest s a g k)
 
   fits_named : (w : State K) (rest : List (Item K)) (s : ℕ) (world : World K) (go : State K → Element K → Outcome K) (m : Meaning K (Element K)) (b : Bool) → IsNumbered w.next m.commands m.next → NamedElement m.answer
@@ -101,7 +99,7 @@ module _ {K : Types} (app : Application K) (lawful : IsLawful K app) (answers : 
   fits_named w rest s world go m true n g each h =
       let v : State K = commands app (kept_call w s world m) s None m.commands in
       each v m.answer g (stay_named w v rest (kept_stay app lawful w s world m n) h)
-  fits_named w rest s world go m false n g each h = level_scopes w (kept_call w s world m) (kept_level w s world m) h.scopes
+  fits_named w rest s world go m false n g each h = cut_named w (kept_call w s world m) rest (call_stays app lawful w s world m n) h
 
   answered_named : (w : State K) (rest : List (Item K)) (s : ℕ) (world : World K) (go : State K → Element K → Outcome K) (m : Meaning K (Element K)) (o : Option CallFault) → IsNumbered w.next m.commands m.next → NamedElement m.answer
       → ((v : State K) (a : Element K) → NamedElement a → NamedAt v rest → NamedO rest (go v a))
@@ -110,7 +108,7 @@ module _ {K : Types} (app : Application K) (lawful : IsLawful K app) (answers : 
         | Some f ↦ Cut (with_next w m.next) (fault_of f)
         | None ↦ if answer_fits m.answer then go (commands app (kept_call w s world m) s None m.commands) m.answer else Cut (kept_call w s world m) (BadNode s)
       ])
-  answered_named w rest s world go m (Some f) n g each h = level_scopes w (with_next w m.next) (next_level w m.next) h.scopes
+  answered_named w rest s world go m (Some f) n g each h = cut_named w (with_next w m.next) rest (next_stay app lawful w m n) h
   answered_named w rest s world go m None n g each h = fits_named w rest s world go m (answer_fits m.answer) n g each h
 
   where_named : (b : Bool) (w : State K) (rest : List (Item K)) → NamedAt w rest → NamedAt (called_where b w) rest
@@ -134,7 +132,7 @@ module _ {K : Types} (app : Application K) (lawful : IsLawful K app) (answers : 
   boundary_named w rest b steps h =
       named_if rest (runs_fallback steps) (Done w (row_items b steps)) (onward (after_hooks app w b) (λ v. Done v (row_items b steps)))
       (work_named w rest (row_items b steps) (rows_named w b steps) h)
-      (onward_named w rest (after_hooks app w b) (λ v. Done v (row_items b steps)) (after_hooks_level app w b) (after_hooks_stay app lawful w b) h (λ v k. work_named v rest (row_items b steps) (rows_named v b steps) k))
+      (onward_named w rest (after_hooks app w b) (λ v. Done v (row_items b steps)) (after_hooks_stays app lawful w b) h (λ v k. work_named v rest (row_items b steps) (rows_named v b steps) k))
 
   run_as_named : (w : State K) (rest : List (Item K)) (s : ℕ) (x : Scope K) (c : VComponent K) → NamedComponent c → NamedAt w rest → NamedO rest (run_as app w s x c)
   run_as_named w rest s x (SuspenseBoundary children fallback) g h = boundary_named w rest s (row_of x.shows (is_held x)) h
@@ -149,7 +147,7 @@ module _ {K : Types} (app : Application K) (lawful : IsLawful K app) (answers : 
   run_at w rest s (Some x) e h =
       let u : State K = unmarked w s in
       onward_named u rest (hooks_called app before_render_kind u s x.hooks) (λ v. run_as app v s x x.component)
-      (hooks_level app before_render_kind u s x.hooks) (hooks_stay app lawful before_render_kind u s x.hooks) (stay_named w u rest (unmarked_stay w s) h)
+      (hooks_stays app lawful before_render_kind u s x.hooks) (stay_named w u rest (unmarked_stay w s) h)
       (λ v k. run_as_named v rest s x x.component (h.scopes s x e).component k)
 
   -- a run, before the rest of the work
@@ -159,8 +157,7 @@ module _ {K : Types} (app : Application K) (lawful : IsLawful K app) (answers : 
   fallback_named : (w : State K) (rest : List (Item K)) (b : ℕ) (c : VComponent K) (a : Element K) → NamedElement a → NamedAt w rest → NamedO rest (fallback_answered app w b c a)
   fallback_named w rest b c a g h =
       onward_named w rest (onward (counted_render app w b (counts_render c a)) (λ v. after_hooks app v b)) (λ v. start_agenda app v b FallbackSide (tree_or_placeholder a))
-      (onward_level w (counted_render app w b (counts_render c a)) (λ v. after_hooks app v b) (counted_level app w b (counts_render c a)) (λ v. after_hooks_level app v b))
-      (onward_stay w (counted_render app w b (counts_render c a)) (λ v. after_hooks app v b) (counted_stay app lawful w b (counts_render c a)) (λ v. after_hooks_stay app lawful v b))
+      (onward_stays w (counted_render app w b (counts_render c a)) (λ v. after_hooks app v b) (counted_stays app lawful w b (counts_render c a)) (λ v. after_hooks_stays app lawful v b))
       h (λ v k. agenda_named v rest b FallbackSide (tree_or_placeholder a) (or_placeholder_named a g) k)
 
   row_named : (w : State K) (rest : List (Item K)) (b : ℕ) (x : Scope K) (step : RowStep) → at w.scopes b ≡ Some x → NamedAt w rest → NamedO rest (row_step app w b x step)
@@ -187,7 +184,7 @@ module _ {K : Types} (app : Application K) (lawful : IsLawful K app) (answers : 
   row_named w rest b x Resolve e h =
       let v : State K = record w { resolved = w.resolved ++ b ∷ [] } in
       let u : State K = change v b (λ y. record y { callbacks = [] }) in
-      idle_named u rest (called_back app u x.callbacks) (called_back_level app u x.callbacks) (called_back_stay app lawful u x.callbacks) (called_back_idle app lawful u x.callbacks)
+      idle_named u rest (called_back app u x.callbacks) (called_back_stays app lawful u x.callbacks) (called_back_idle app lawful u x.callbacks)
       (stay_named w u rest (stay_trans w v u (stay_rest w v refl refl refl) (change_stay v b (λ y. record y { callbacks = [] }) (λ y. refl))) h)
 
   step_at : (w : State K) (rest : List (Item K)) (b : ℕ) (step : RowStep) (o : Option (Scope K)) → at w.scopes b ≡ o → NamedAt w rest → NamedO rest (elim o as (λ z. Outcome K) [ None ↦ Done w [] | Some x ↦ row_step app w b x step ])
@@ -198,7 +195,7 @@ module _ {K : Types} (app : Application K) (lawful : IsLawful K app) (answers : 
 
   number_named : (w : State K) (rest : List (Item K)) (s : ℕ) (side : SideName) (p : Place) (k : Kind) (b : Bool) → at_end w.next.elements ≡ b → NamedAt w rest
       → NamedO rest (if b then Cut w (IdsExhausted Elements) else Done (numbered w s side p k) [])
-  number_named w rest s side p k true e h = h.scopes
+  number_named w rest s side p k true e h = at_rest_named w rest h
   number_named w rest s side p k false e h =
       let next : Firsts = record (w.next) { elements = w.next.elements + 1 } in
       let v : State K = with_next w next in
@@ -250,7 +247,7 @@ module _ {K : Types} (app : Application K) (lawful : IsLawful K app) (answers : 
         scopes = joined_scopes v w.next_scope new (new_named c (Some s) (x.height + 1) side g) (put_scopes w s x y e held h.scopes);
         items = h.items;
       } in
-      named_if rest (at_end w.next_scope) (Cut w (IdsExhausted Scopes)) (run app u w.next_scope) h.scopes (run_named u rest w.next_scope made)
+      named_if rest (at_end w.next_scope) (Cut w (IdsExhausted Scopes)) (run app u w.next_scope) (at_rest_named w rest h) (run_named u rest w.next_scope made)
 
   -- what serves an item
   pub item_named : (w : State K) (i : Item K) (rest : List (Item K)) → NamedAt w (i ∷ rest) → NamedO rest (outcome_of app w i)
@@ -260,36 +257,12 @@ module _ {K : Types} (app : Application K) (lawful : IsLawful K app) (answers : 
   item_named w (Make s side p c) rest h = made_at w rest s side p c (at w.scopes s) refl h.items.0 (without_first w (Make s side p c) rest h)
   item_named w (Drop t s side) rest h = without_first w (Drop t s side) rest h
 
-  -- removals: where a clean-up is cut what shows is as it was
+  -- removals
 
-  abbrev LevelCut : State K → Outcome K → Type 0
-  LevelCut w (Done v work) = Unit {0}
-  LevelCut w (Cut v fault) = Level w v
-
-  from_cut : (w v : State K) (o : Outcome K) → Level w v → LevelCut v o → LevelCut w o
-  from_cut w v (Done u work) f g = tt
-  from_cut w v (Cut u fault) f g = level_trans w v u f g
-
-  cleaned_at : (s : ℕ) (es : List K.Effect) (w : State K) (waiting : List (Command K)) (m : Meaning K Nothing) (o : Option CallFault)
-      → LevelCut (with_next w m.next) (cleaned app s es (with_next w m.next) (waiting ++ m.commands))
-      → LevelCut w (elim o as (λ z. Outcome K) [ None ↦ cleaned app s es (with_next w m.next) (waiting ++ m.commands) | Some f ↦ Cut (with_next w m.next) (fault_of f) ])
-  cleaned_at s es w waiting m None h = from_cut w (with_next w m.next) (cleaned app s es (with_next w m.next) (waiting ++ m.commands)) (next_level w m.next) h
-  cleaned_at s es w waiting m (Some f) h = next_level w m.next
-
-  cleaned_cut : (s : ℕ) (es : List K.Effect) (w : State K) (waiting : List (Command K)) → LevelCut w (cleaned app s es w waiting)
-  cleaned_cut s [] w waiting = tt
-  cleaned_cut s (e ∷ es) w waiting =
-      let m : Meaning K Nothing = app.effect e (world_of w s None true) in
-      from_cut w (called_once w) (cleaned app s (e ∷ es) w waiting) (once_level w)
-      (cleaned_at s es (called_once w) waiting m m.fault (cleaned_cut s es (with_next (called_once w) m.next) (waiting ++ m.commands)))
-
-  removed_cut : (w : State K) (s : ℕ) → LevelCut w (removed app w s)
-  removed_cut w s = let v : State K = stopped w s in from_cut w v (removed app w s) (stopped_level w s) (cleaned_cut s (clean_ups (hooks_of v s) []) v [])
-
-  gone_named : (w : State K) (rest : List (Item K)) (o : Outcome K) → StayO w o → Idle o → LevelCut w o → NamedAt w rest → NamedO rest o
-  gone_named w rest (Done v work) s i l h = subst (λ (xs : List (Item K)). NamedAt v (xs ++ rest)) (sym i) (stay_named w v rest s h)
-  gone_named w rest (Cut v fault) s i l h = level_scopes w v l h.scopes
+  gone_named : (w : State K) (rest : List (Item K)) (o : Outcome K) → StayO w o → Idle o → StaysCut w o → NamedAt w rest → NamedO rest o
+  gone_named w rest (Done v work) s i c h = subst (λ (xs : List (Item K)). NamedAt v (xs ++ rest)) (sym i) (stay_named w v rest s h)
+  gone_named w rest (Cut v fault) s i c h = cut_named w v rest c h
 
   -- a removal
   pub removed_named : (w : State K) (rest : List (Item K)) (s : ℕ) → NamedAt w rest → NamedO rest (removed app w s)
-  removed_named w rest s h = gone_named w rest (removed app w s) (removed_stay app lawful w s) (removed_idle app lawful w s) (removed_cut w s) h
+  removed_named w rest s h = gone_named w rest (removed app w s) (removed_stay app lawful w s) (removed_idle app lawful w s) (removed_cut app lawful w s) h

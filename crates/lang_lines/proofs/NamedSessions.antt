@@ -28,7 +28,7 @@ module _ {K : Types} where
     pub edits : EditsPlain t.edits
 
   opened_plain : (t : Telling K) (e : Entry) (b : Bool) → TellsPlain t → TellsPlain (if b then record t { before = t.machine.state; first = e } else t)
-  opened_plain t e true h = record { settled = h.settled; named = h.named; before = (h.named).scopes; edits = h.edits }
+  opened_plain t e true h = record { settled = h.settled; named = h.named; before = h.named.still.scopes; edits = h.edits }
   opened_plain t e false h = h
 
   none_told : (told : List (Told K)) → Some [] ≡ Some told → [] ≡ told
@@ -42,7 +42,7 @@ module _ {K : Types} (app : Application K) (lawful : IsLawful K app) (answers : 
       → TellsPlain (if b then record t { machine = m; edits = t.edits ++ caused app t.before m.state t.first } else record t { machine = m })
   closed_if t m true h settled named =
       let edits : List Edit = caused app t.before m.state t.first in
-      record { settled = settled; named = named; before = h.before; edits = both_plain t.edits edits h.edits (caused_plain app t.before m.state h.before named.scopes t.first) }
+      record { settled = settled; named = named; before = h.before; edits = both_plain t.edits edits h.edits (caused_plain app t.before m.state h.before named.still.scopes t.first) }
   closed_if t m false h settled named = record { settled = settled; named = named; before = h.before; edits = h.edits }
 
   closed_plain : (t : Telling K) (at_work : Bool) (m : Machine K) (o : Option Fault) → TellsPlain t → IsSettled m → NamedMachine m
@@ -56,7 +56,7 @@ module _ {K : Types} (app : Application K) (lawful : IsLawful K app) (answers : 
   closed_plain t at_work m None h settled named = closed_if t m (at_work && not m.unit) h settled named
   closed_plain t at_work m (Some fault) h settled named =
       let edits : List Edit = caused_until app t.before m.state m.refused t.first in
-      record { settled = settled; named = named; before = h.before; edits = both_plain t.edits edits h.edits (until_plain app t.before m.state h.before named.scopes m.refused t.first) }
+      record { settled = settled; named = named; before = h.before; edits = both_plain t.edits edits h.edits (until_plain app t.before m.state h.before named.still.scopes m.refused t.first) }
 
   -- one more entry
   entry_plain : (t u : Telling K) (e : Entry) (o : Option (Machine K)) → accepts app t.machine e ≡ o → TellsPlain t
@@ -78,7 +78,7 @@ module _ {K : Types} (app : Application K) (lawful : IsLawful K app) (answers : 
       on further (Some u) is goes = further u (entry_plain t u e (accepts app t.machine e) refl h is) goes
 
   telling_plain : (m : Machine K) → IsSettled m → NamedMachine m → TellsPlain (telling m)
-  telling_plain m settled named = record { settled = settled; named = named; before = named.scopes; edits = tt }
+  telling_plain m settled named = record { settled = settled; named = named; before = named.still.scopes; edits = tt }
 
   -- reports, and the machine after them
   reports_plain : (logs : List (List Entry)) (m : Machine K) (told : List (Told K)) → IsSettled m → NamedMachine m → tell_reports app m logs ≡ Some told
@@ -97,7 +97,7 @@ module _ {K : Types} (app : Application K) (lawful : IsLawful K app) (answers : 
   depth_plain t None h = h.edits
   depth_plain t (Some fault) h =
       let edits : List Edit = caused_until app t.before t.machine.state (first_item t.machine.work) t.first in
-      both_plain t.edits edits h.edits (until_plain app t.before t.machine.state h.before (h.named).scopes (first_item t.machine.work) t.first)
+      both_plain t.edits edits h.edits (until_plain app t.before t.machine.state h.before h.named.still.scopes (first_item t.machine.work) t.first)
 
   refusal_plain : (limits : Limits) (t : Telling K) (o : Option Fault) → TellsPlain t
       → EditsPlain (elim o as (λ z. List Edit) [ None ↦ edits_at_depth app t (depth_refused limits (next_height t.machine)) | Some fault ↦ t.edits ])

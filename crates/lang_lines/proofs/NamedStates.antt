@@ -1,5 +1,5 @@
 -- States and open work with names, and small changes of them.
-use Rattle.std.proofs.Common.{ℕ, zero, suc, ◌+◌, ◌≤◌, Bool, true, false, List, [], ◌∷◌, ◌++◌, ◌≡◌, ◌⊎◌, inl, inr, refl, sym, ap, ◌∙◌, subst, nat_eq, arith}
+use Rattle.std.proofs.Common.{ℕ, zero, suc, ◌+◌, ◌≤◌, Bool, true, false, List, [], ◌∷◌, ◌++◌, ◌≡◌, ◌⊎◌, inl, inr, refl, sym, ◌∙◌, subst, nat_eq, arith}
 use Rattle.std.specs.Prelude.{Option, Some, None, if◌then◌else◌}
 use Rattle.std.specs.List.{AllByRecursion}
 use Rattle.rt_model.specs.Lists.{Text, at, put}
@@ -10,13 +10,10 @@ use Rattle.rt_model.specs.Run.{error_tree, root_tree, children_tree, has_node, k
 use Rattle.rt_model.specs.Boundary.{children_of, tree_or_placeholder, drop_items}
 use Rattle.rt_model.proofs.Maps.{by_test, at_here, at_there, at_put_here, at_put_other}
 use Rattle.rt_model.proofs.SideFrames.{Stay, Alike, alike}
-use Rattle.rt_model.proofs.SideRuns.{StayO}
 use Rattle.rt_model.proofs.NumbersRun.{Idle}
-use Rattle.law_moves.specs.Frames.{Shown, shown}
-use Rattle.law_moves.proofs.Commanded.{Level}
-use Rattle.law_moves.proofs.Called.{LevelO}
 use Rattle.lang_lines.specs.Named.{NamedTree, NamedSlots, NamedSlot, NamedTrees, NamedComponent, NamedElement}
 use Rattle.lang_lines.proofs.NamedViews.{AllSmall, NamedSide, NamedScope, NamedScopes}
+use Rattle.lang_lines.proofs.NamedCuts.{Stays}
 
 -- after a number that is drawn comes one that may be drawn, or the last one
 pub drawn_on : (n : ℕ) → n ≤ last_number → at_end n ≡ false → n + 1 ≤ last_number
@@ -32,9 +29,9 @@ placeholder_named K = (tt, tt, (tt, tt))
 
 pub error_named : (K : Types) (text : Text) → NamedTree (error_tree {K = K} text)
 error_named K text = (
-  (tt, (refl, (refl, (refl, tt))), (((refl, (refl, (refl, (refl, (refl, tt))))), (refl, (refl, (refl, (refl, (refl, tt)))))), tt), tt, tt),
+  (tt, refl, ((refl, refl), tt), tt, tt),
   tt,
-  ((((tt, (refl, (refl, (refl, tt))), tt, tt, tt), tt, (tt, tt)), tt), tt),
+  ((((tt, refl, tt, tt, tt), tt, (tt, tt)), tt), tt),
 )
 
 pub root_named : (K : Types) (component : K.Component) (props : K.Props) → NamedTree (root_tree {K = K} component props)
@@ -62,10 +59,10 @@ module _ {K : Types} where
     pub scopes : NamedScopes w
     pub items : AllItems work
 
-  -- so it is after a change; where it was cut, with the scopes
+  -- so it is after a change; where it was cut, without work
   abbrev pub NamedO : List (Item K) → Outcome K → Type 0
   NamedO rest (Done v work) = NamedAt v (work ++ rest)
-  NamedO rest (Cut v fault) = NamedScopes v
+  NamedO rest (Cut v fault) = NamedAt v []
 
   pub named_if : (rest : List (Item K)) (b : Bool) (x y : Outcome K) → NamedO rest x → NamedO rest y → NamedO rest (if b then x else y)
   named_if rest true x y h k = h
@@ -89,37 +86,22 @@ module _ {K : Types} where
   stay_named w v rest f h =
       record { low = subst (λ (n : ℕ). n ≤ last_number) (sym f.elements) h.low; scopes = stay_scopes w v f h.scopes; items = h.items }
 
-  abbrev component_shown : VComponent K → Option (Shown K) → VComponent K
-  component_shown c None = c
-  component_shown c (Some f) = f.0
+  -- without work
+  pub at_rest_named : (w : State K) (work : List (Item K)) → NamedAt w work → NamedAt w []
+  at_rest_named w work h = record { low = h.low; scopes = h.scopes; items = tt }
 
-  abbrev side_shown : Side K → SideName → Option (Shown K) → Side K
-  side_shown e a None = e
-  side_shown e MainSide (Some f) = f.5
-  side_shown e ChildrenSide (Some f) = f.6
-  side_shown e FallbackSide (Some f) = f.7
+  -- a change that was cut
+  pub cut_named : (w v : State K) (rest : List (Item K)) → Stay w v → NamedAt w rest → NamedAt v []
+  cut_named w v rest s h = at_rest_named v rest (stay_named w v rest s h)
 
-  sides_shown : (y x : Scope K) → shown (Some x) ≡ shown (Some y) → (a : SideName) → side_of y a ≡ side_of x a
-  sides_shown y x h MainSide = sym (ap (λ o. side_shown x.main_side MainSide o) h)
-  sides_shown y x h ChildrenSide = sym (ap (λ o. side_shown x.main_side ChildrenSide o) h)
-  sides_shown y x h FallbackSide = sym (ap (λ o. side_shown x.main_side FallbackSide o) h)
-
-  shown_named : (w : State K) (s : ℕ) (x : Scope K) (o : Option (Scope K)) → at w.scopes s ≡ o → shown (Some x) ≡ shown o → NamedScopes w → NamedScope x
-  shown_named w s x None e h g = cc
-  shown_named w s x (Some y) e h g = named_by y x (sym (ap (λ o. component_shown x.component o) h)) (sides_shown y x h) (g s y e)
-
-  pub level_scopes : (w v : State K) → Level w v → NamedScopes w → NamedScopes v
-  level_scopes w v f h = λ s x e.
-      shown_named w s x (at w.scopes s) refl (ap (λ (o : Option (Scope K)). shown o) (sym e) ∙ f.shows s) h
-
-  pub onward_named : (w : State K) (rest : List (Item K)) (o : Outcome K) (f : State K → Outcome K) → LevelO w o → StayO w o → NamedAt w rest → ((v : State K) → NamedAt v rest → NamedO rest (f v)) → NamedO rest (onward o f)
-  onward_named w rest (Done v work) f l s h g = g v (stay_named w v rest s h)
-  onward_named w rest (Cut v fault) f l s h g = level_scopes w v l h.scopes
+  pub onward_named : (w : State K) (rest : List (Item K)) (o : Outcome K) (f : State K → Outcome K) → Stays w o → NamedAt w rest → ((v : State K) → NamedAt v rest → NamedO rest (f v)) → NamedO rest (onward o f)
+  onward_named w rest (Done v work) f s h g = g v (stay_named w v rest s h)
+  onward_named w rest (Cut v fault) f s h g = cut_named w v rest s h
 
   -- a change that leads to no work
-  pub idle_named : (w : State K) (rest : List (Item K)) (o : Outcome K) → LevelO w o → StayO w o → Idle o → NamedAt w rest → NamedO rest o
-  idle_named w rest (Done v work) l s i h = subst (λ (xs : List (Item K)). NamedAt v (xs ++ rest)) (sym i) (stay_named w v rest s h)
-  idle_named w rest (Cut v fault) l s i h = level_scopes w v l h.scopes
+  pub idle_named : (w : State K) (rest : List (Item K)) (o : Outcome K) → Stays w o → Idle o → NamedAt w rest → NamedO rest o
+  idle_named w rest (Done v work) s i h = subst (λ (xs : List (Item K)). NamedAt v (xs ++ rest)) (sym i) (stay_named w v rest s h)
+  idle_named w rest (Cut v fault) s i h = cut_named w v rest s h
 
   -- more work
   pub work_named : (w : State K) (rest work : List (Item K)) → AllItems work → NamedAt w rest → NamedAt w (work ++ rest)

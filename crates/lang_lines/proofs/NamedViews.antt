@@ -10,8 +10,9 @@ use Rattle.rt_model.specs.Run.{child_at}
 use Rattle.rt_model.specs.Document.{DocAttribute, DocText, DocPlaceholder, Forest, Empty, Node, join_rows, leaf, same_key, earlier_key, with_attribute, with_listener}
 use Rattle.rt_model.specs.Heard.{number_at}
 use Rattle.rt_model.specs.View.{child_view, one_attribute, one_listener, given_attributes, given_listeners, element_attributes, element_listeners, nodes_view, tree_view, slots_view, slot_view, items_view, side_view, scope_view, view_within, nodes_of}
-use Rattle.lang_lines.specs.Plain.{IsName, IsPlainAttribute, IsPlainForest}
+use Rattle.lang_lines.specs.Plain.{AreNameBytes, IsPlainAttribute, IsPlainForest}
 use Rattle.lang_lines.specs.Named.{NamedFixed, NamedNodes, NamedGiven, AllGiven, AllSlotsGiven, NamedTree, NamedSlots, NamedSlot, NamedTrees, NamedComponent}
+use Rattle.lang_lines.proofs.Names.{name_bytes, space_bytes}
 
 -- a number of at most 64 bits
 abbrev pub Small : ℕ → Type 0
@@ -57,7 +58,7 @@ abbrev pub AllPlain : List DocAttribute → Type 0
 AllPlain all = AllByRecursion (λ (a : DocAttribute). IsPlainAttribute a) all
 
 abbrev pub AllNames : List Text → Type 0
-AllNames all = AllByRecursion (λ (n : Text). IsName n) all
+AllNames all = AllByRecursion (λ (n : Text). AreNameBytes n) all
 
 pub with_attribute_plain : (all : List DocAttribute) (a : DocAttribute) → AllPlain all → IsPlainAttribute a → AllPlain (with_attribute all a)
 with_attribute_plain [] a h k = (k, tt)
@@ -68,7 +69,7 @@ with_attribute_plain (b ∷ rest) a h k = by_key (same_key b a.name a.namespace)
     by_key false true later = (k, h)
     by_key false false later = (h.0, later)
 
-with_listener_named : (all : List Text) (n : Text) → AllNames all → IsName n → AllNames (with_listener all n)
+with_listener_named : (all : List Text) (n : Text) → AllNames all → AreNameBytes n → AllNames (with_listener all n)
 with_listener_named [] n h k = (k, tt)
 with_listener_named (m ∷ ms) n h k = by_order (same_numbers m n) (earlier_text n m) (with_listener_named ms n h.1 k)
   where
@@ -79,12 +80,13 @@ with_listener_named (m ∷ ms) n h k = by_order (same_numbers m n) (earlier_text
 
 module _ {K : Types} where
   one_attribute_plain : (all : List DocAttribute) (a : Attribute K) (v : AttributeValue K) → AllPlain all → NamedGiven a → AllPlain (one_attribute all a v)
-  one_attribute_plain all a (text_value text) h k = with_attribute_plain all (record { name = a.name; namespace = a.namespace; value = text }) h k
+  one_attribute_plain all a (text_value text) h k =
+      with_attribute_plain all (record { name = a.name; namespace = a.namespace; value = text }) h (space_bytes a.namespace k.0, name_bytes a.name k.1)
   one_attribute_plain all a no_value h k = h
   one_attribute_plain all a (listener origin handler) h k = h
 
   one_listener_named : (all : List Text) (a : Attribute K) (v : AttributeValue K) → AllNames all → NamedGiven a → AllNames (one_listener all a v)
-  one_listener_named all a (listener origin handler) h k = with_listener_named all a.name h k.1
+  one_listener_named all a (listener origin handler) h k = with_listener_named all a.name h (name_bytes a.name k.1)
   one_listener_named all a (text_value text) h k = h
   one_listener_named all a no_value h k = h
 
@@ -106,7 +108,7 @@ module _ {K : Types} where
   element_plain given all [] g h k = h
   element_plain given all (fixed name namespace value ∷ rest) g h k =
       element_plain given (with_attribute all (record { name = name; namespace = namespace; value = value })) rest g
-      (with_attribute_plain all (record { name = name; namespace = namespace; value = value }) h k.0) k.1
+      (with_attribute_plain all (record { name = name; namespace = namespace; value = value }) h (space_bytes namespace k.0.0, name_bytes name k.0.1)) k.1
   element_plain given all (from_slot n ∷ rest) g h k =
       element_plain given (given_attributes all (attributes_in given n)) rest g (given_plain all (attributes_in given n) h (slot_given given n g)) k.1
 
@@ -122,7 +124,7 @@ module _ {K : Types} where
   nodes_plain numbers whole above given slot up i no_nodes small g each h = tt
   nodes_plain numbers whole above given slot up i (element_node tag namespace attributes children rest) small g each h = (
     number_small numbers (place_in whole above up i) an_element small,
-    (h.0, h.1, element_plain given [] attributes g tt h.2, element_named given [] attributes g tt),
+    (space_bytes namespace h.0, name_bytes tag h.1, element_plain given [] attributes g tt h.2, element_named given [] attributes g tt),
     tt,
     nodes_plain numbers whole above given slot (up ++ i ∷ []) 0 children small g each h.3,
     nodes_plain numbers whole above given slot up (i + 1) rest small g each h.4,

@@ -15,6 +15,7 @@ use Rattle.rt_model.specs.View.{tree_view, slot_view, items_view, nodes_of}
 use Rattle.rt_model.specs.Caused.{Written, writes, halts, then_on, is_around, is_place, built_whole, removals, replaced_by, last_of, slot_pass, element_pass, attribute_pass, text_under, listens_under, one_left, left, one_come, come, attributes_written, Both, Way, stop_on, way_to, any_around, child_written, slot_replaced, tree_written, slots_written, slot_written, items_written, outputs_written, side_written, sides_written, scope_written, written_within, caused, caused_until}
 use Rattle.lang_lines.specs.Plain.{IsPlainForest, IsPlainEdit}
 use Rattle.lang_lines.specs.Named.{NamedGiven, AllGiven, AllSlotsGiven, NamedTree, NamedSlots, NamedSlot, NamedTrees}
+use Rattle.lang_lines.proofs.Names.{name_bytes, space_bytes}
 use Rattle.lang_lines.proofs.NamedViews.{Small, zero_small, AllSmall, number_small, slot_given, tree_plain, slot_plain, items_plain, NamedOutput, NamedScope, NamedScopes, shown_plain}
 
 -- these edits are plain
@@ -84,10 +85,10 @@ attribute_pass_plain of number up i (slot_node k rest) each small = attribute_pa
 module _ {K : Types} where
   one_left_plain : (number : ℕ) (new : List (Attribute K)) (a : Attribute K) (v : AttributeValue K) → Small number → NamedGiven a → EditsPlain (one_left number new a v)
   one_left_plain number new a (text_value text) small h =
-      plain_if (is_some (text_under a new)) [] (SetAttribute number a.name a.namespace None ∷ []) tt ((small, h.0, h.1), tt)
+      plain_if (is_some (text_under a new)) [] (SetAttribute number a.name a.namespace None ∷ []) tt ((small, space_bytes a.namespace h.0, name_bytes a.name h.1), tt)
   one_left_plain number new a no_value small h = tt
   one_left_plain number new a (listener origin handler) small h =
-      plain_if (listens_under a new) [] (RemoveEventListener number a.name ∷ []) tt ((small, h.1), tt)
+      plain_if (listens_under a new) [] (RemoveEventListener number a.name ∷ []) tt ((small, name_bytes a.name h.1), tt)
 
   left_plain : (old new : List (Attribute K)) (number : ℕ) → Small number → AllGiven old → EditsPlain (left old new number)
   left_plain [] new number small h = tt
@@ -96,10 +97,10 @@ module _ {K : Types} where
 
   one_come_plain : (number : ℕ) (old : List (Attribute K)) (a : Attribute K) (v : AttributeValue K) → Small number → NamedGiven a → EditsPlain (one_come number old a v)
   one_come_plain number old a (text_value text) small h =
-      plain_if (same_option same_numbers (text_under a old) (Some text)) [] (SetAttribute number a.name a.namespace (Some text) ∷ []) tt ((small, h.0, h.1), tt)
+      plain_if (same_option same_numbers (text_under a old) (Some text)) [] (SetAttribute number a.name a.namespace (Some text) ∷ []) tt ((small, space_bytes a.namespace h.0, name_bytes a.name h.1), tt)
   one_come_plain number old a no_value small h = tt
   one_come_plain number old a (listener origin handler) small h =
-      plain_if (listens_under a old) [] (CreateEventListener number a.name ∷ []) tt ((small, h.1), tt)
+      plain_if (listens_under a old) [] (CreateEventListener number a.name ∷ []) tt ((small, name_bytes a.name h.1), tt)
 
   come_plain : (new old : List (Attribute K)) (number : ℕ) → Small number → AllGiven new → EditsPlain (come new old number)
   come_plain [] old number small h = tt

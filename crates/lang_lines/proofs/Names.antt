@@ -1,8 +1,8 @@
 -- Names, numbers and quoted texts are told apart from what comes after them.
-use Rattle.std.proofs.Common.{arith, ◌≡◌, ◌∙◌, ℕ, ◌^◌, ◌<◌, ◌≤◌, Bool, true, false, List, [], ◌∷◌, ◌++◌, Option, Some, None, drop, refl, ap, sym, append_assoc}
+use Rattle.std.proofs.Common.{arith, ◌≡◌, ◌∙◌, ℕ, ◌^◌, ◌<◌, ◌≤◌, Bool, true, false, not, length, List, [], ◌∷◌, ◌++◌, Option, Some, None, drop, refl, ap, sym, append_assoc}
 use Rattle.std.proofs.lemmas.List.{append_cancel_left}
-use Rattle.std.specs.Prelude.{decimal, codes}
-use Rattle.std.specs.List.{AllByRecursion}
+use Rattle.std.specs.Prelude.{◌==◌, decimal, codes}
+use Rattle.std.specs.List.{AllByRecursion, list_all}
 use Rattle.std.specs.Str.Parse.{AllDigits, digits_value}
 use Rattle.std.proofs.lemmas.Str.Parse.{digit_from_value}
 use Rattle.std.proofs.lemmas.Fmt.{decimal_is_IsNumeral}
@@ -10,9 +10,24 @@ use Rattle.json.specs.Print.{escape, quoted}
 use Rattle.json.specs.Text.{content, plain}
 use Rattle.json.proofs.Printed.Strings.{content-escape}
 use Rattle.rt_model.specs.Lists.{Text}
+use Rattle.rt_model.proofs.Conjunctions.{and-left, and-right}
 use Rattle.rt_language.specs.Lines.{qualified}
 use Rattle.rt_values.specs.Naming.{is_name_byte}
-use Rattle.lang_lines.specs.Plain.{IsName, IsNamespace}
+use Rattle.lang_lines.specs.Plain.{AreNameBytes, AreSpaceBytes}
+use Rattle.lang_lines.specs.Named.{IsName, IsNamespace}
+
+all_bytes : (text : Text) → list_all is_name_byte text ≡ true → AreNameBytes text
+all_bytes [] h = tt
+all_bytes (byte ∷ text) h =
+    (and-left (is_name_byte byte) (list_all is_name_byte text) h, all_bytes text (and-right (is_name_byte byte) (list_all is_name_byte text) h))
+
+-- a name has the bytes of names alone, and so has a namespace
+pub name_bytes : (text : Text) → IsName text → AreNameBytes text
+name_bytes text h = all_bytes text (and-right (not (length text == 0)) (list_all is_name_byte text) h)
+
+pub space_bytes : (namespace : Option Text) → IsNamespace namespace → AreSpaceBytes namespace
+space_bytes None h = tt
+space_bytes (Some namespace) h = name_bytes namespace h
 
 module _ (P : ℕ → Bool) where
   -- it ends, or goes on with a byte that isn't of this sort
@@ -43,13 +58,13 @@ abbrev pub Ends : List ℕ → Type 0
 Ends r = Leaves is_name_byte r
 
 -- names and what follows them are told apart
-pub names_parted : (t u r s : List ℕ) → IsName t → IsName u → Ends r → Ends s → t ++ r ≡ u ++ s → (t ≡ u) × (r ≡ s)
+pub names_parted : (t u r s : List ℕ) → AreNameBytes t → AreNameBytes u → Ends r → Ends s → t ++ r ≡ u ++ s → (t ≡ u) × (r ≡ s)
 names_parted t u r s named other stop stops same = split is_name_byte t u r s named other stop stops same
 
 digit_named : (c : ℕ) → 48 ≤ c → c ≤ 57 → is_name_byte c ≡ true
 digit_named c from to = grind arith
 
-pub digits_named : (ds : List ℕ) → AllDigits 10 ds → IsName ds
+pub digits_named : (ds : List ℕ) → AllDigits 10 ds → AreNameBytes ds
 digits_named [] all = tt
 digits_named (d ∷ ds) all =
     let range = digit_from_value d all.0 in
@@ -83,7 +98,7 @@ spaced_name : (n t r : List ℕ) → (n ++ codes ":" ++ t) ++ r ≡ n ++ (58 ∷
 spaced_name n t r = append_assoc (n ++ codes ":") t r ∙ append_assoc n (codes ":") (t ++ r)
 
 -- names with or without a namespace, and what follows them, are told apart
-pub qualified_parted : (n m : Option Text) (t u r s : List ℕ) → IsNamespace n → IsNamespace m → IsName t → IsName u → EndsWhole r
+pub qualified_parted : (n m : Option Text) (t u r s : List ℕ) → AreSpaceBytes n → AreSpaceBytes m → AreNameBytes t → AreNameBytes u → EndsWhole r
     → EndsWhole s → qualified n t ++ r ≡ qualified m u ++ s → (n ≡ m) × (t ≡ u) × (r ≡ s)
 qualified_parted None None t u r s spaced other named names stop stops same =
     let both = names_parted t u r s named names (whole_ends r stop) (whole_ends s stops) same in

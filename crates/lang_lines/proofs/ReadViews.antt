@@ -1,15 +1,14 @@
 -- Views that are read of JSON have names.
-use Rattle.std.proofs.Common.{ℕ, zero, suc, Bool, true, false, ◌&&◌, ◌||◌, not, List, [], ◌∷◌, ◌++◌, ◌≡◌, refl, sym, subst, map, length, rules}
-use Rattle.std.specs.Prelude.{Option, Some, None, ◌==◌, option_map, option_and_then, if◌then◌else◌, is_some, bytes_eq, codes}
-use Rattle.std.specs.List.{AllByRecursion, list_all}
+use Rattle.std.proofs.Common.{ℕ, zero, suc, Bool, true, false, ◌&&◌, ◌||◌, not, List, [], ◌∷◌, ◌++◌, ◌≡◌, refl, sym, subst, map, rules}
+use Rattle.std.specs.Prelude.{Option, Some, None, option_map, option_and_then, if◌then◌else◌, is_some, bytes_eq, codes}
+use Rattle.std.specs.List.{AllByRecursion}
 use Rattle.std.proofs.lemmas.Option.{none-some, same_Some, option_and_then_some}
 use Rattle.serde_json.specs.Data.{Data, Items, no_items, item, Members, no_members, member}
 use Rattle.serde_json.specs.Find.{get, at, as_str, as_array, as_object}
-use Rattle.rt_model.proofs.Conjunctions.{and-left, and-right}
 use Rattle.lang_expressions.specs.Keys.{is_object_of}
 use Rattle.lang_expressions.specs.Fields.{text_at, list_at, list_or_empty, is_zero_at}
 use Rattle.lang_expressions.specs.Lists.{in_front, read_each, read_members, each_member}
-use Rattle.rt_values.specs.Naming.{is_name_byte, is_name}
+use Rattle.rt_values.specs.Naming.{is_name}
 use Rattle.lang_expressions.specs.declared.signatures.Names.{Names}
 use Rattle.lang_expressions.specs.Expressions.{expression_in}
 use Rattle.lang_expressions.specs.Calls.{expression_at, call_at}
@@ -34,8 +33,7 @@ use Rattle.lang_expressions.specs.ViewForms.{form_in}
 use Rattle.lang_expressions.specs.Attributes.{static_or, attribute_in, listener_in, attributes_at, listeners_at, all_in}
 use Rattle.lang_expressions.specs.Parts.{component_use, use_at, leaf_of, named, name_or_none, namespace_in}
 use Rattle.lang_expressions.specs.Views.{views_of, kids_of, element_with, element_of, list_of, view_at, picked, pick_of, fragment_of, boundary_with, boundary_of, formed, text_or, node_of, view_in}
-use Rattle.lang_lines.specs.Plain.{IsName, IsNamespace}
-use Rattle.lang_lines.specs.Named.{NamedAttribute, NamedView, NamedViewSlot}
+use Rattle.lang_lines.specs.Named.{IsName, IsNamespace, NamedAttribute, NamedView, NamedViewSlot}
 
 -- ---- what was read, from what it was read of
 
@@ -88,18 +86,10 @@ module _ {A : Type 0} (P : A → Type 0) where
 
 -- ---- names
 
-bytes_named : (text : List ℕ) → list_all is_name_byte text ≡ true → IsName text
-bytes_named [] h = tt
-bytes_named (byte ∷ text) h =
-    (and-left (is_name_byte byte) (list_all is_name_byte text) h, bytes_named text (and-right (is_name_byte byte) (list_all is_name_byte text) h))
-
-text_named : (text : List ℕ) → is_name text ≡ true → IsName text
-text_named text h = bytes_named text (and-right (not (length text == 0)) (list_all is_name_byte text) h)
-
 maybe_named : (o : Option (List ℕ)) (namespace : Option (List ℕ)) → named o ≡ Some namespace → IsNamespace namespace
 maybe_named None namespace e = absurd (none-some namespace e)
 maybe_named (Some text) namespace e =
-    held (is_name text) (Some (Some text)) namespace e (λ is gives. subst (λ (n : Option (List ℕ)). IsNamespace n) (same_Some (Some text) namespace gives) (text_named text is))
+    held (is_name text) (Some (Some text)) namespace e (λ is gives. subst (λ (n : Option (List ℕ)). IsNamespace n) (same_Some (Some text) namespace gives) is)
 
 there_named : (o : Option Data) (namespace : Option (List ℕ)) → name_or_none o ≡ Some namespace → IsNamespace namespace
 there_named None namespace e = subst (λ (n : Option (List ℕ)). IsNamespace n) (same_Some None namespace e) tt
@@ -118,7 +108,7 @@ static_named name None value a h e = mapped (Slot name) value a e (λ v was give
 attribute_named : (names : Names) (variables : List (List ℕ)) (name : List ℕ) (d : Data) (a : ViewAttribute) → attribute_in names variables name d ≡ Some a → AttributeNamed a
 attribute_named names variables name d a e =
     held (is_name name) (static_or name (as_str d) (expression_in names variables d)) a e
-    (λ is gives. static_named name (as_str d) (expression_in names variables d) a (text_named name is) gives)
+    (λ is gives. static_named name (as_str d) (expression_in names variables d) a is gives)
 
 named_first : (named other : Bool) → not named || other ≡ false → named ≡ true
 named_first true other h = refl
@@ -130,7 +120,7 @@ listener_named names variables name d a e =
     let listens : (ℕ × List Expression) → ViewAttribute = λ call. Listener name call.0 call.1 in
     let call : Option (ℕ × List Expression) = call_at names variables names.actions (codes "do") d in
     unheld (not (is_name name) || other) (option_map listens call) a e
-    (λ known gives. mapped listens call a gives (λ c was is. subst (λ (x : ViewAttribute). AttributeNamed x) is (text_named name (named_first (is_name name) other known))))
+    (λ known gives. mapped listens call a gives (λ c was is. subst (λ (x : ViewAttribute). AttributeNamed x) is (named_first (is_name name) other known)))
 
 in_language : (attributes : List ViewAttribute) → AllByRecursion AttributeNamed attributes → AllByRecursion NamedAttribute (map attribute_of attributes)
 in_language [] h = tt
@@ -257,7 +247,7 @@ module _ (views : List (List ℕ) → Items → Option (List ViewNode)) (read : 
       held (is_object_of (codes "el" ∷ codes "ns" ∷ codes "attrs" ∷ codes "on" ∷ codes "kids" ∷ []) d) (option_and_then of_tag (text_at (codes "el") d)) node e
       (λ keyed on. option_and_then_some of_tag (text_at (codes "el") d) node on
       (λ tag was further. held (is_name tag) (element_with views names variables d tag) node further
-      (λ is gives. with_named names variables d tag node (text_named tag is) gives)))
+      (λ is gives. with_named names variables d tag node is gives)))
 
   items_named : (names : Names) (variables : List (List ℕ)) (d : Data) (slot : ViewSlot) → list_of views names variables d ≡ Some slot → SlotNamed slot
   items_named names variables d slot e =

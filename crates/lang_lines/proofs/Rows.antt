@@ -7,7 +7,7 @@ use Rattle.rt_model.specs.Lists.{Text}
 use Rattle.rt_model.specs.Document.{DocAttribute}
 use Rattle.rt_language.specs.Lines.{spaced, qualified, attribute_text, listener_text}
 use Rattle.rt_values.specs.Naming.{is_name_byte}
-use Rattle.lang_lines.specs.Plain.{IsName, IsNamespace, IsPlainAttribute}
+use Rattle.lang_lines.specs.Plain.{AreNameBytes, AreSpaceBytes, IsPlainAttribute}
 use Rattle.lang_lines.proofs.Names.{Ends, names_parted, numbers_told, qualified_parted, quoted_parted}
 
 -- the first byte after the bytes of a name
@@ -24,7 +24,7 @@ one_skipped : (b : Bool) (m c : ℕ) → b ≡ true → (if b then m else c) ≡
 one_skipped true m c is = refl
 one_skipped false m c is = absurd (cc is)
 
-name_skipped : (t r : List ℕ) → IsName t → mark (t ++ r) ≡ mark r
+name_skipped : (t r : List ℕ) → AreNameBytes t → mark (t ++ r) ≡ mark r
 unfolding mark
 name_skipped [] r named = refl
 name_skipped (c ∷ cs) r named = one_skipped (is_name_byte c) (mark (cs ++ r)) c named.0 ∙ name_skipped cs r named.1
@@ -86,7 +86,7 @@ attributes_parted a b r s plain other stop stops same =
     let fields : a ≡ b = λ i. record { name = names.1 i; namespace = names.0 i; value = values.0 i } in
     (fields, values.1)
 
-qualified_mark : (n : Option Text) (t r : List ℕ) → IsNamespace n → IsName t → is_attribute (32 ∷ (qualified n t ++ (61 ∷ r))) ≡ true
+qualified_mark : (n : Option Text) (t r : List ℕ) → AreSpaceBytes n → AreNameBytes t → is_attribute (32 ∷ (qualified n t ++ (61 ∷ r))) ≡ true
 unfolding is_attribute kind mark
 qualified_mark None t r spaced named = rw (name_skipped t (61 ∷ r) named) refl
 qualified_mark (Some n) t r spaced named =
@@ -99,11 +99,11 @@ attribute_here a r plain stop =
 
 -- listeners
 
-listeners_parted : (a b : Text) (r s : List ℕ) → IsName a → IsName b → Ends r → Ends s → listener_text a ++ r ≡ listener_text b ++ s
+listeners_parted : (a b : Text) (r s : List ℕ) → AreNameBytes a → AreNameBytes b → Ends r → Ends s → listener_text a ++ r ≡ listener_text b ++ s
     → (a ≡ b) × (r ≡ s)
 listeners_parted a b r s plain other stop stops same = names_parted a b r s plain other stop stops (ap (λ t. drop 1 t) same)
 
-listener_here : (a : Text) (r : List ℕ) → IsName a → Ends r → is_listener (32 ∷ (listener_text a ++ r)) ≡ true
+listener_here : (a : Text) (r : List ℕ) → AreNameBytes a → Ends r → is_listener (32 ∷ (listener_text a ++ r)) ≡ true
 unfolding is_listener kind mark
 listener_here a r plain stop = refl
 
@@ -140,9 +140,9 @@ no_attribute (a ∷ names) r lacks = refl
 
 pub opened_parted : (n m : Option Text) (t u : Text) (i j : ℕ) (attributes others : List DocAttribute) (listeners names : List Text)
     (r s : List ℕ)
-    → IsNamespace n → IsNamespace m → IsName t → IsName u → i < 2 ^ 64 → j < 2 ^ 64
+    → AreSpaceBytes n → AreSpaceBytes m → AreNameBytes t → AreNameBytes u → i < 2 ^ 64 → j < 2 ^ 64
     → AllByRecursion IsPlainAttribute attributes → AllByRecursion IsPlainAttribute others
-    → AllByRecursion IsName listeners → AllByRecursion IsName names
+    → AllByRecursion AreNameBytes listeners → AllByRecursion AreNameBytes names
     → Ends r → Ends s → is_attribute r ≡ false → is_attribute s ≡ false → is_listener r ≡ false → is_listener s ≡ false
     → opened n t i attributes listeners r ≡ opened m u j others names s
     → SameOpened n m t u i j attributes others listeners names r s
@@ -161,7 +161,7 @@ opened_parted n m t u i j attributes others listeners names r s space spaces tag
     (ap (λ x. drop 1 x) name.2) in
     let all = rows_parted attribute_text IsPlainAttribute is_attribute attributes_parted attribute_here attributes others behind behinds
     plain plains end ends (no_attribute listeners r lacks) (no_attribute names s lack) number.1 in
-    let listened = rows_parted listener_text IsName is_listener listeners_parted listener_here listeners names r s heard hears stop stops
+    let listened = rows_parted listener_text AreNameBytes is_listener listeners_parted listener_here listeners names r s heard hears stop stops
     misses miss all.1 in
     record {
       namespace = name.0;

@@ -1,7 +1,7 @@
--- Trees and sources with names: tags, namespaces, and names of attributes and listeners have the form that is printed plainly.
-use Rattle.std.specs.Prelude.{List, Some, ◌≡◌}
+-- Trees and sources with names: tags, namespaces, and names of attributes and listeners are names, and so they are printed plainly.
+use Rattle.std.specs.Prelude.{true, Option, Some, None, List, ◌≡◌}
 use Rattle.std.specs.List.{AllByRecursion}
-use Rattle.rt_model.specs.Lists.{joined}
+use Rattle.rt_model.specs.Lists.{Text, joined}
 use Rattle.rt_model.specs.Tree.{Types, TemplateAttribute, fixed, from_slot, TemplateNodes, no_nodes, element_node, text_node, slot_node, Attribute, Tree, block, Slots, no_slots, more_slots, Slot, text_slot, placeholder_slot, component_slot, fragment_slot, Trees, no_trees, more_trees, VComponent, Own, Root, Fragment, ErrorBoundary, SuspenseBoundary, Element, rendered, failed, suspended}
 use Rattle.rt_model.specs.World.{World, Application}
 use Rattle.rt_model.specs.Replay.{Entry, Input, start}
@@ -12,7 +12,17 @@ use Rattle.rt_model.specs.Headline.{last_machine}
 use Rattle.rt_language.specs.Syntax.{ViewAttribute, StaticAttribute, SlotAttribute, ListenerAttribute, View, NoViews, TextView, ElementView, SlotView, ViewSlot, TextOf, UseOf, ListOf, PickOf, FragmentOf, ErrorBoundaryOf, SuspenseBoundaryOf, Hole, ComponentSource, Source}
 use Rattle.rt_language.specs.Expressions.{SourceTypes}
 use Rattle.rt_language.specs.Meaning.{meaning_of, props_of}
-use Rattle.lang_lines.specs.Plain.{IsName, IsNamespace, IsPlainEdit}
+use Rattle.rt_values.specs.Naming.{is_name}
+use Rattle.lang_lines.specs.Plain.{IsPlainEdit}
+
+-- what a name is, as everywhere
+abbrev pub IsName : Text → Type 0
+IsName text = is_name text ≡ true
+
+-- a namespace, where there is one, is a name
+abbrev pub IsNamespace : Option Text → Type 0
+IsNamespace None = Unit {0}
+IsNamespace (Some namespace) = IsName namespace
 
 -- an attribute that stands in a template
 abbrev pub NamedFixed : TemplateAttribute → Type 0

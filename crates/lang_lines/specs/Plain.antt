@@ -1,4 +1,4 @@
--- What is printed plainly: numbers have at most 64 bits, and names have the form that sources give them.
+-- What is printed plainly: numbers have at most 64 bits, and the bytes of a name are such as no other part of a line begins with.
 use Rattle.std.specs.Prelude.{◌^◌, ◌<◌, ◌≡◌, true, Option, Some, None}
 use Rattle.std.specs.List.{AllByRecursion}
 use Rattle.rt_model.specs.Lists.{Text}
@@ -7,23 +7,23 @@ use Rattle.rt_model.specs.State.{Fault, OutOfTurns, TooDeep, IdsExhausted, HookC
 use Rattle.rt_model.specs.Replay.{Post, MarkScope, WakeTask, AllDirty, Message}
 use Rattle.rt_values.specs.Naming.{is_name_byte}
 
--- ASCII letters and digits, `-` and `_` alone
-abbrev pub IsName : Text → Type 0
-IsName text = AllByRecursion (λ byte. is_name_byte byte ≡ true) text
+-- the bytes that names are made of, if any: ASCII letters and digits, `-` and `_`
+abbrev pub AreNameBytes : Text → Type 0
+AreNameBytes text = AllByRecursion (λ byte. is_name_byte byte ≡ true) text
 
--- a namespace, where there is one, is a name
-abbrev pub IsNamespace : Option Text → Type 0
-IsNamespace None = Unit {0}
-IsNamespace (Some namespace) = IsName namespace
+-- a namespace, where there is one, has such bytes alone
+abbrev pub AreSpaceBytes : Option Text → Type 0
+AreSpaceBytes None = Unit {0}
+AreSpaceBytes (Some namespace) = AreNameBytes namespace
 
--- an attribute with names; its value is any text
+-- an attribute whose name and namespace are such; its value is any text
 abbrev pub IsPlainAttribute : DocAttribute → Type 0
-IsPlainAttribute a = IsNamespace a.namespace × IsName a.name
+IsPlainAttribute a = AreSpaceBytes a.namespace × AreNameBytes a.name
 
--- an element with names; a text is any text
+-- an element whose names are such; a text is any text
 abbrev pub IsPlainContent : Content → Type 0
 IsPlainContent (DocElement tag namespace attributes listeners) =
-    IsNamespace namespace × IsName tag × AllByRecursion IsPlainAttribute attributes × AllByRecursion IsName listeners
+    AreSpaceBytes namespace × AreNameBytes tag × AllByRecursion IsPlainAttribute attributes × AllByRecursion AreNameBytes listeners
 IsPlainContent (DocText text) = Unit {0}
 IsPlainContent DocPlaceholder = Unit {0}
 
@@ -46,9 +46,9 @@ IsPlainEdit (ReplaceNodeWith id nodes) = (id < 2 ^ 64) × IsPlainForest nodes
 IsPlainEdit (InsertNodesAfter id nodes) = (id < 2 ^ 64) × IsPlainForest nodes
 IsPlainEdit (RemoveNode id) = id < 2 ^ 64
 IsPlainEdit (SetNodeText id text) = id < 2 ^ 64
-IsPlainEdit (SetAttribute id name namespace value) = (id < 2 ^ 64) × IsNamespace namespace × IsName name
-IsPlainEdit (CreateEventListener id name) = (id < 2 ^ 64) × IsName name
-IsPlainEdit (RemoveEventListener id name) = (id < 2 ^ 64) × IsName name
+IsPlainEdit (SetAttribute id name namespace value) = (id < 2 ^ 64) × AreSpaceBytes namespace × AreNameBytes name
+IsPlainEdit (CreateEventListener id name) = (id < 2 ^ 64) × AreNameBytes name
+IsPlainEdit (RemoveEventListener id name) = (id < 2 ^ 64) × AreNameBytes name
 
 -- a fault with such numbers
 abbrev pub IsSmallFault : Fault → Type 0
