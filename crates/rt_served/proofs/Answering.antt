@@ -14,6 +14,7 @@ use Rattle.run_reports.specs.Seen.{limits_of}
 use Rattle.run_reports.specs.declared.limits.Limits.{Limits}
 use Rattle.run_state.specs.Mirror.{Unkept}
 use Rattle.show_streams.specs.Writes.{Puts, grown}
+use Rattle.tree_edits.specs.Documents.{edit_of}
 use Rattle.rt_values.specs.declared.names.ScopeId.{ScopeId}
 use Rattle.rt_values.specs.declared.names.Task.{Task}
 use Rattle.rt_vdom.specs.Calls.{Does, Keeps}
@@ -122,6 +123,8 @@ module _ {P C Q V H T E L : Type 0} (meaning : P → Application (types C Q V H 
               log = r.log;
               last = (r.went).last;
               goes = (r.went).goes;
+              edits = map edit_of r.wrote;
+              stepped = (r.went).stepped;
               done = (r.went).done;
               told = r.answers_as ∙ ap (λ (y : model.State (types C Q V H T E L)). resolved_by_height y) (sym (r.went).rest);
               left = ap (λ (y : model.State (types C Q V H T E L)). nothing_resolved y) (sym (r.went).rest);

@@ -15,6 +15,7 @@ use Rattle.rt_model.specs.Told.{Telling}
 use Rattle.rt_model.specs.Tree.{Types}
 use Rattle.rt_model.specs.View.{nodes_of}
 use Rattle.rt_model.specs.World.{Application}
+use Rattle.run_rounds.specs.Steps.{Stepped}
 use Rattle.show_streams.specs.Writes.{AddsFront, Puts, grown}
 use Rattle.rt_served.specs.Faults.{PartBy}
 use Rattle.rt_served.specs.declared.refusal.ServeFault.{ServeFault}
@@ -48,6 +49,9 @@ module _ {K : Types} (app : Application K) (limits : Limits) where
     pub log : List Entry
     pub last : Machine K
     pub goes : renders_within app limits (Some (resting w)) log ≡ Some last
+    -- unit by unit, with their edits: no fault cut it
+    pub edits : List Edit
+    pub stepped : Stepped app limits w log edits last.state
     -- it may take nothing more, and what is left is passed over
     pub done : rendering_due app last ≡ None
     pub told : turned ≡ resolved_by_height (rendering_rest last.state)
