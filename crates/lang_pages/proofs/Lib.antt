@@ -1,0 +1,4 @@
+mod Ascending
+mod Shown
+mod Rendered
+mod Put
