@@ -17,6 +17,8 @@ pub mod Wraps
 pub mod Around
 pub mod RootRuns
 pub mod RootStays
+pub mod Built
+pub mod Wrapping
 pub mod Alike
 pub mod Folded
 pub mod Shown

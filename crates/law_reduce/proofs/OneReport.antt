@@ -67,11 +67,13 @@ module _ {K : Types} where
   pub settled_alive : (m : Machine K) → is_settled m ≡ true → m.dead ≡ None
   settled_alive m h = none_of m.dead (and-left (not (is_some m.dead)) (no_work m.work) (quiet_front m h))
 
+  pub settled_idle : (m : Machine K) → is_settled m ≡ true → m.work ≡ []
+  settled_idle m h = no_items m.work (and-right (not (is_some m.dead)) (no_work m.work) (quiet_front m h))
+
   pub settled_ready : (m : Machine K) → m.built ≡ true → IsSettled m → is_settled m ≡ true → Ready m
   settled_ready m built still h =
-      let front : not (is_some m.dead) && no_work m.work ≡ true = quiet_front m h in
       let alive : m.dead ≡ None = settled_alive m h in
-      let idle : m.work ≡ [] = no_items m.work (and-right (not (is_some m.dead)) (no_work m.work) front) in
+      let idle : m.work ≡ [] = settled_idle m h in
       record {
         rests =
             record {

@@ -139,7 +139,7 @@ module _ {K : Types} (app : Application K) (lawful : IsLawful K app) (c : K.Comp
     fit,
   )
 
-  step_of : (Q : Outcome K → Type 0) (w : State K) (b : ℕ) (x : Scope K) (step : RowStep) → at w.scopes b ≡ Some x → Q (row_step app w b x step) → Q (boundary_step app w b step)
+  pub step_of : (Q : Outcome K → Type 0) (w : State K) (b : ℕ) (x : Scope K) (step : RowStep) → at w.scopes b ≡ Some x → Q (row_step app w b x step) → Q (boundary_step app w b step)
   step_of Q w b x step there h = subst (λ (o : Option (Scope K)). Q (elim o as (λ z. Outcome K) [ None ↦ Done w [] | Some y ↦ row_step app w b y step ])) (sym there) h
 
   pub top_step : (w : State K) (x : Scope K) (step : RowStep) → at w.scopes 0 ≡ Some x → Top (shape x) → SeenO 0 (λ f. Top f) (boundary_step app w 0 step)

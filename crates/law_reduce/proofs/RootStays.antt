@@ -54,7 +54,7 @@ module _ {K : Types} (app : Application K) (lawful : IsLawful K app) (c : K.Comp
       (λ z. seen_by c p s t s (λ f. Inner f) (outcome_of app w item) v work e (inner z))
       (both_fit around work rest (subst (λ (o : Outcome K). WorkO c p s t o) e fit) h.items.1)
 
-  numbered_seen : (w : State K) (n : ℕ) (R : Shown K → Type 0) (a : SideName) (q : Place) (k : Kind) (x : Scope K) → at w.scopes n ≡ Some x
+  pub numbered_seen : (w : State K) (n : ℕ) (R : Shown K → Type 0) (a : SideName) (q : Place) (k : Kind) (x : Scope K) → at w.scopes n ≡ Some x
       → R (shape (with_side x a (record (side_of x a) { numbers = (side_of x a).numbers ++ (q, k, w.next.elements) ∷ [] })))
       → SeenO n R (draw_number w n a q k)
   numbered_seen w n R a q k x there fine = by (at_end w.next.elements)
@@ -69,7 +69,7 @@ module _ {K : Types} (app : Application K) (lawful : IsLawful K app) (c : K.Comp
             fine = fine;
           }
 
-  numbered_fit : (w : State K) (n : ℕ) (a : SideName) (q : Place) (k : Kind) → WorkO c p s t (draw_number w n a q k)
+  pub numbered_fit : (w : State K) (n : ℕ) (a : SideName) (q : Place) (k : Kind) → WorkO c p s t (draw_number w n a q k)
   numbered_fit w n a q k = by (at_end w.next.elements)
     where
       by : (b : Bool) → WorkO c p s t (if b then Cut w (IdsExhausted Elements) else Done (numbered w n a q k) [])
@@ -112,10 +112,10 @@ module _ {K : Types} (app : Application K) (lawful : IsLawful K app) (c : K.Comp
   one_row : (w : State K) (b n : ℕ) (x y : Scope K) → b ≡ n → at w.scopes b ≡ Some x → at w.scopes n ≡ Some y → y ≡ x
   one_row w b n x y e f g = let both : Some y ≡ Some x = sym g ∙ ap (λ (m : ℕ). at w.scopes m) (sym e) ∙ f in cc
 
-  two_apart : (b n m : ℕ) → nat_eq b m ≡ false → nat_eq n m ≡ false → has (b ∷ n ∷ []) m ≡ false
+  pub two_apart : (b n m : ℕ) → nat_eq b m ≡ false → nat_eq n m ≡ false → has (b ∷ n ∷ []) m ≡ false
   two_apart b n m f g = ap (λ (z : Bool). z || has (n ∷ []) m) f ∙ apart_has n m g
 
-  made_fit : (w : State K) (b : ℕ) (a : SideName) (q : Place) (d : VComponent K) (x : Scope K) → at w.scopes b ≡ Some x → nat_eq w.next_scope 0 ≡ false → WorkO c p s t (outcome_of app w (Make b a q d))
+  pub made_fit : (w : State K) (b : ℕ) (a : SideName) (q : Place) (d : VComponent K) (x : Scope K) → at w.scopes b ≡ Some x → nat_eq w.next_scope 0 ≡ false → WorkO c p s t (outcome_of app w (Make b a q d))
   made_fit w b a q d x there new =
       subst (λ (o : Option (Scope K)). WorkO c p s t (elim o as (λ z. Outcome K) [ None ↦ Done w [] | Some y ↦ made_in app w b a q d y ])) (sym there)
       (by (at_end w.next_scope))
@@ -188,17 +188,17 @@ module _ {K : Types} (app : Application K) (lawful : IsLawful K app) (c : K.Comp
           let r : RowOf s (λ f. Inner f) u = row_seen s (λ f. Inner f) u (record { now = shape y; is = here; fine = again }) in
           around_run app lawful c p s t u r.row r.there r.fine
 
-  handed_fit : (w : State K) (n : ℕ) (d : VComponent K) → nat_eq n 0 ≡ false → WorkO c p s t (handed app w n d)
+  pub handed_fit : (w : State K) (n : ℕ) (d : VComponent K) → nat_eq n 0 ≡ false → WorkO c p s t (handed app w n d)
   handed_fit w n d other = by (keeps app w n d)
     where
       by : (b : Bool) → WorkO c p s t (if b then Done (with_props app w n d) [] else run app (with_props app w n d) n)
       by true = tt
       by false = run_fit around app lawful (with_props app w n d) n other
 
-  fed_of : (Q : Outcome K → Type 0) (w : State K) (b : ℕ) (a : SideName) (q : Place) (d : VComponent K) (n : ℕ) → fed_child w b a q ≡ Some n → Q (handed app w n d) → Q (outcome_of app w (Feed b a q d))
+  pub fed_of : (Q : Outcome K → Type 0) (w : State K) (b : ℕ) (a : SideName) (q : Place) (d : VComponent K) (n : ℕ) → fed_child w b a q ≡ Some n → Q (handed app w n d) → Q (outcome_of app w (Feed b a q d))
   fed_of Q w b a q d n fed h = subst (λ (o : Option ℕ). Q (elim o as (λ z. Outcome K) [ None ↦ Done w [] | Some m ↦ handed app w m d ])) (sym fed) h
 
-  fed_kid : (w : State K) (b : ℕ) (a : SideName) (q : Place) (n : ℕ) (x : Scope K) → at w.scopes b ≡ Some x → fed_child w b a q ≡ Some n → child_at (side_of x a).children q ≡ Some n
+  pub fed_kid : (w : State K) (b : ℕ) (a : SideName) (q : Place) (n : ℕ) (x : Scope K) → at w.scopes b ≡ Some x → fed_child w b a q ≡ Some n → child_at (side_of x a).children q ≡ Some n
   fed_kid w b a q n x there fed = sym (ap (λ (o : Option (Scope K)). elim o as (λ z. Option ℕ) [ None ↦ None | Some y ↦ child_at (side_of y a).children q ]) there) ∙ fed
 
   served_feed : (w v : State K) (b : ℕ) (a : SideName) (q : Place) (d : VComponent K) (rest work : List (Item K)) (n : ℕ) → Ready w (Feed b a q d ∷ rest) → Wraps c p s t w (Feed b a q d ∷ rest)

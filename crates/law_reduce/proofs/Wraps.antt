@@ -23,7 +23,7 @@ not_zero : {P : Type 0} (n : ℕ) → nat_eq n 0 ≡ false → n ≡ 0 → P
 not_zero n h e = clash (ap (λ (m : ℕ). nat_eq m 0) e) h
 
 module _ {K : Types} where
-  some_shown : (f g : Shown K) → Some f ≡ Some g → f ≡ g
+  pub some_shown : (f g : Shown K) → Some f ≡ Some g → f ≡ g
   some_shown f g h = cc
 
   -- what shows of a scope's record

@@ -1,5 +1,6 @@
 -- What stands round the application's root: the root wrapper, a suspense boundary and an error boundary.
 use Rattle.std.specs.Prelude.{ℕ, true, List, [], Option, Some, None, ◌≡◌}
+use Rattle.std.specs.List.{AllByRecursion}
 use Rattle.rt_model.specs.Lists.{at}
 use Rattle.rt_model.specs.Tree.{Types, Tree, VComponent, Own, Root, ErrorBoundary, SuspenseBoundary, rendered, component_slot, one_slot, slot_template, Place, place_in}
 use Rattle.rt_model.specs.World.{Application}
@@ -8,6 +9,11 @@ use Rattle.rt_model.specs.State.{MainSide, Scope, State, is_live}
 use Rattle.rt_model.specs.Run.{child_at, root_tree}
 use Rattle.rt_model.specs.Replay.{Input, Machine}
 use Rattle.rt_model.specs.Causes.{Limits}
+use Rattle.rt_model.specs.Current.{AllCurrent}
+use Rattle.rt_model.specs.Document.{Edit}
+use Rattle.rt_model.specs.Told.{Told}
+use Rattle.rt_model.specs.Reports.{Report}
+use Rattle.rt_model.specs.Headline.{Headline}
 use Rattle.law_moves.specs.Moves.{Move, Leads}
 use Rattle.law_moves.specs.Reached.{Reached}
 use Rattle.law_moves.specs.Sorts.{ComponentSort}
@@ -75,3 +81,22 @@ module _ {K : Types} (app : Application K) where
       → SortStays app limits error MainSide place sort m v moves leads
       → child_on m.state error MainSide place ≡ Some root
       → (child_on v.state error MainSide place ≡ Some root) × (is_live v.state root ≡ true)
+
+  -- where no work is open and all is current, so once the build is done, they are there
+  abbrev pub CurrentWrapped : Type 0
+  CurrentWrapped =
+      IsLawful K app
+      → (limits : Limits) (props : K.Props) (inputs : List (Input K)) (m : Machine K)
+      → Reached app limits props inputs m
+      → m.dead ≡ None
+      → m.work ≡ []
+      → AllCurrent app m.state
+      → (boundary : ℕ) × (error : ℕ) × Wrapped app.root props m.state boundary error
+
+  -- so of a session whose headline holds they are there, the same ones, after each report
+  abbrev pub ReportsWrapped : Type 0
+  ReportsWrapped =
+      IsLawful K app
+      → (props : K.Props) (inputs : List (Input K)) (limits : Limits) (taken : Option (List Edit)) (reports : List Report)
+      → (h : Headline app props inputs limits taken reports)
+      → (boundary : ℕ) × (error : ℕ) × AllByRecursion (λ (r : Told K). Wrapped app.root props r.machine.state boundary error) h.told

@@ -4,7 +4,7 @@ ghost use Rattle.law_reduce.specs.Kept.{CellsAreKept};
 ghost use Rattle.law_reduce.specs.Later.{CallsComeLater};
 ghost use Rattle.law_reduce.specs.Live.{LiveNeverRemoved, LiveUnremoved};
 ghost use Rattle.law_reduce.specs.Reads.{UnrunReadsStay};
-ghost use Rattle.law_reduce.specs.RootStays.{RootStays, WrappersStay};
+ghost use Rattle.law_reduce.specs.RootStays.{CurrentWrapped, ReportsWrapped, RootStays, WrappersStay};
 ghost use Rattle.law_reduce.specs.Runs.{RunsAreGiven};
 ghost use Rattle.rt_model.specs.OneLog.{types};
 ghost use Rattle.rt_model.specs.World.{Application};
@@ -70,3 +70,14 @@ pub fn root_stays<C, P, V, H, T, E, L>()
     // A child stays at its place in the tree of a scope that nothing removes.
     children_stay::<C, P, V, H, T, E, L>();
 }
+
+/// Where no work is open and all is current, the root wrapper has its suspense boundary and that its
+/// error boundary.
+pub fn current_wrapped<C, P, V, H, T, E, L>()
+    ensures { (app : Application (types C P V H T E L)) → CurrentWrapped app }
+{}
+
+/// So it is of a session whose headline holds after each report, with the same scopes.
+pub fn reports_wrapped<C, P, V, H, T, E, L>()
+    ensures { (app : Application (types C P V H T E L)) → ReportsWrapped app }
+{}

@@ -11,8 +11,8 @@ mod showing;
 
 pub use folding::{own_cells_fold, pages_reduce};
 pub use keeping::{
-    calls_come_later, cells_are_kept, live_never_removed, live_unremoved, root_stays,
-    runs_are_given, unrun_reads_stay, wrappers_stay,
+    calls_come_later, cells_are_kept, current_wrapped, live_never_removed, live_unremoved,
+    reports_wrapped, root_stays, runs_are_given, unrun_reads_stay, wrappers_stay,
 };
 pub use reducing::{one_hears, reports_reduce};
 pub use showing::{
