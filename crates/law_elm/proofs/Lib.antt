@@ -1,0 +1,10 @@
+mod Unthrown
+mod Works
+mod Each
+mod Looking
+mod Touring
+mod Running
+mod Serving
+mod Sessions
+mod Staying
+mod Ending

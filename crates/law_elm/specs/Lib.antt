@@ -1,0 +1,5 @@
+pub mod ErrorsStayAway
+pub mod Safe
+pub mod NoErrors
+pub mod Roots
+pub mod RootShows
