@@ -6,7 +6,7 @@ use rt_values::OutOfMemory;
 use run_records::CxFault;
 
 /// The answer of a call that is refused for want of memory alone.
-pub fn remembered<T: Drop>(answer: Result<T, CxFault>) -> Result<T, OutOfMemory>
+pub fn or_out_of_memory<T: Drop>(answer: Result<T, CxFault>) -> Result<T, OutOfMemory>
     ensures value { IfOk result (λ value. answer ≡ Ok value) }
 {
     match answer {

@@ -11,7 +11,7 @@ ghost use Rattle.author_programs.specs.Pages as programs;
 ghost use Rattle.author_programs.proofs.Lawful.{pages_are_lawful};
 
 use crate::cells::{KeepsCells, own_cell};
-use crate::nothing::Nothing;
+use crate::no_data::NoData;
 use crate::pages::Pages;
 use crate::rows::{read_all, write_all};
 use author_calls::{App, BodyCx, BodyTurn, Cx, TaskStep, Turn};
@@ -34,9 +34,9 @@ impl<S: Parts> Parts for Paged<S> {
 
     type Handler = S::Handler;
 
-    type TaskState = Nothing;
+    type TaskState = NoData;
 
-    type Effect = Nothing;
+    type Effect = NoData;
 
     type Payload = S::Payload;
 }
@@ -151,9 +151,9 @@ impl<S: Pages> App for Paged<S> {
     fn poll(
         &self,
         _alloc: Global,
-        state: Nothing,
+        state: NoData,
         cx: Cx<'_, Paged<S>>,
-    ) -> Result<Turn<Paged<S>, TaskStep<Nothing>>, OutOfMemory>
+    ) -> Result<Turn<Paged<S>, TaskStep<NoData>>, OutOfMemory>
         requires fresh { cx ≡ begun false cx.world }
         ensures shows { IfOk result (λ turn. turn.world ≡ cx.entry.world) }
         ensures means { IfOk result (λ turn. HadMemory turn.meaning →
@@ -166,7 +166,7 @@ impl<S: Pages> App for Paged<S> {
     fn run_effect(
         &self,
         _alloc: Global,
-        effect: &Nothing,
+        effect: &NoData,
         cx: Cx<'_, Paged<S>>,
     ) -> Result<Turn<Paged<S>, ()>, OutOfMemory>
         requires fresh { cx ≡ begun false cx.world }

@@ -16,11 +16,11 @@ pub trait Pages: KeepsCells {
     ghost use Rattle.rt_model.specs.OneLog.{types};
     ghost use Rattle.author_programs.specs.Means.{AllDecide};
     ghost use Rattle.author_programs.specs.Pages.{Pages as Answers};
-    ghost use Rattle.author_bodies.specs.declared.nothing.Nothing.{Nothing};
+    ghost use Rattle.author_bodies.specs.declared.no_data.NoData.{NoData};
 
     /// What its components and listeners are.
     ghost answers: { Self → Answers
-        (types Self.Component Self.Props Self.Value Self.Handler Nothing Nothing Self.Payload) };
+        (types Self.Component Self.Props Self.Value Self.Handler NoData NoData Self.Payload) };
 
     /// The root component's props where none are handed in.
     ghost props_of_none: { Self → Self.Props };
@@ -93,6 +93,6 @@ pub trait Pages: KeepsCells {
 
     /// The tests decide.
     ghost decide: { (pages : Self) → AllDecide
-        (types Self.Component Self.Props Self.Value Self.Handler Nothing Nothing Self.Payload)
+        (types Self.Component Self.Props Self.Value Self.Handler NoData NoData Self.Payload)
         (answers pages) };
 }

@@ -4,7 +4,7 @@ ghost use Rattle.rt_model.specs.World.{nothing};
 ghost use Rattle.author_programs.specs.Cells as programs;
 ghost use Rattle.author_bodies.specs.Comes.{Comes};
 
-use crate::answers::remembered;
+use crate::answers::or_out_of_memory;
 use author_calls::Cx;
 use rt_values::{List, OutOfMemory, Part};
 use std::alloc::Global;
@@ -23,7 +23,7 @@ pub fn read_all<P: Parts, K>(
 {
     let mut values = List::new(alloc);
     for cell in cells {
-        let value = remembered(cx.read(alloc, *cell))?;
+        let value = or_out_of_memory(cx.read(alloc, *cell))?;
         values.push(value)?;
     }
     Ok(values)
@@ -41,7 +41,7 @@ pub fn write_all<P: Parts, K>(
 {
     for write in writes {
         let value = write.1.copy(alloc)?;
-        remembered(cx.write(write.0, value))?;
+        or_out_of_memory(cx.write(write.0, value))?;
     }
     Ok(())
 }

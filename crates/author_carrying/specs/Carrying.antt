@@ -1,6 +1,6 @@
 -- How an application carries what a library is made of, and what the library's calls come to in it.
 use Rattle.std.specs.Prelude.{ℕ, Option, Some, option_and_then, ◌≡◌}
-use Rattle.author_bodies.specs.declared.nothing.Nothing.{Nothing as Absent}
+use Rattle.author_bodies.specs.declared.no_data.NoData.{NoData}
 use Rattle.author_pieces.specs.Markup.{child}
 use Rattle.author_pieces.specs.declared.pieces.Piece.{Piece}
 use Rattle.rt_model.specs.OneLog.{types}
@@ -22,7 +22,7 @@ pub record Carrying (Library Application : Types) : Type 0 where
   pub payload : Application.Payload → Option Library.Payload
 
 -- those of the pages of an application, which have no tasks and no effects
-abbrev pub in_pages : {C Q V H T E L : Type 0} {Library : Types} → Carrying Library (types C Q V H T E L) → Carrying Library (types C Q V H Absent Absent L)
+abbrev pub in_pages : {C Q V H T E L : Type 0} {Library : Types} → Carrying Library (types C Q V H T E L) → Carrying Library (types C Q V H NoData NoData L)
 in_pages k =
     record {
       component = k.component;

@@ -6,7 +6,7 @@ ghost use Rattle.rt_model.specs.World.{nothing};
 ghost use Rattle.author_carrying.specs.Carrying as carrying;
 
 use crate::carries::Carries;
-use author_bodies::remembered;
+use author_bodies::or_out_of_memory;
 use author_calls::Cx;
 use author_pieces::{Piece, child};
 use rt_values::OutOfMemory;
@@ -37,7 +37,7 @@ pub fn read_held<L: Parts, P: Carries<L>, K>(
     ensures fault { OnOk result (cx.new.fault ≡ cx.old.fault) }
     ensures world { cx.new.world ≡ cx.old.world }
 {
-    match remembered(cx.read(alloc, cell))? {
+    match or_out_of_memory(cx.read(alloc, cell))? {
         Some(value) => Ok(P::held_in(value)),
         None => Ok(None),
     }
@@ -55,5 +55,5 @@ pub fn write_held<L: Parts, P: Carries<L>, K>(
     ensures fault { OnOk result (cx.new.fault ≡ cx.old.fault) }
     ensures world { cx.new.world ≡ cx.old.world }
 {
-    remembered(cx.write(cell, P::value_of(value)))
+    or_out_of_memory(cx.write(cell, P::value_of(value)))
 }

@@ -10,7 +10,7 @@ use Rattle.author_programs.specs.Sequence.{go_on}
 use Rattle.author_formulas.specs.Formulas.{Formulas, wait}
 use Rattle.author_formulas.specs.Memos as memos
 use Rattle.author_formulas.specs.Memos.{own_memo, memo_polled}
-use Rattle.author_bodies.specs.declared.nothing.Nothing.{Nothing}
+use Rattle.author_bodies.specs.declared.no_data.NoData.{NoData}
 use Rattle.author_deriving.specs.Task.{as_task, task_of}
 use Rattle.author_deriving.specs.declared.task.MemoTask.{MemoTask}
 
@@ -67,7 +67,7 @@ module _ {K : Types} {F : Type 0} where
 
 -- the types of such an application: each of its tasks keeps a derived cell, and it has no effects
 abbrev pub derived_types : (C Q V H F L : Type 0) → Types
-derived_types C Q V H F L = types C Q V H (MemoTask V F) Nothing L
+derived_types C Q V H F L = types C Q V H (MemoTask V F) NoData L
 
 module _ {C Q V H F L : Type 0} where
   -- a poll of the task of a derived cell, which goes on from where that leaves it

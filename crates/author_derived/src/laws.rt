@@ -2,7 +2,7 @@
 ghost use Rattle.rt_model.specs.OneLog.{types};
 ghost use Rattle.author_derived.specs.DerivedShow.{CurrentDerivedShow, KeptAreDerived, ReportsShowDerived};
 
-use author_bodies::Nothing;
+use author_bodies::NoData;
 use author_deriving::MemoTask;
 use law_minding::sessions_keep_memos;
 
@@ -23,5 +23,5 @@ pub fn kept_are_derived<C, Q, V, H, T, E, L, F>()
 pub fn reports_show_derived<C, Q, V, H, F, L>()
     ensures { ReportsShowDerived C Q V H F L }
 {
-    sessions_keep_memos::<C, Q, V, H, MemoTask<V, F>, Nothing, L, F>();
+    sessions_keep_memos::<C, Q, V, H, MemoTask<V, F>, NoData, L, F>();
 }

@@ -8,7 +8,7 @@ ghost use Rattle.author_derived.specs.Decides.{derivations_decide, formulas_look
 
 use crate::gathering::{derived_behind, own_cells};
 use crate::pages::DerivedPages;
-use author_bodies::{Bodied, Bodies, KeepsCells, Nothing, read_all, write_all};
+use author_bodies::{Bodied, Bodies, KeepsCells, NoData, read_all, write_all};
 use author_calls::{BodyCx, Cx, TaskStep};
 use author_deriving::{HasMemo, Load, MemoBodies, MemoTask, step_memo};
 use rt_values::{List, OutOfMemory};
@@ -32,7 +32,7 @@ impl<S: Parts> Parts for DerivedPaged<S> {
 
     type TaskState = MemoTask<S::Value, S::TaskState>;
 
-    type Effect = Nothing;
+    type Effect = NoData;
 
     type Payload = S::Payload;
 }
@@ -190,7 +190,7 @@ impl<S: DerivedPages> Bodies for DerivedPaged<S> {
     fn effect(
         &self,
         _alloc: Global,
-        _effect: &Nothing,
+        _effect: &NoData,
         _cx: &mut Cx<'_, Bodied<DerivedPaged<S>>>,
     ) -> Result<(), OutOfMemory> {
         Ok(())

@@ -11,7 +11,7 @@ ghost use Rattle.author_deriving.specs.Task.{task_of, context_number};
 use crate::formulas::HasMemo;
 use crate::settled::settle;
 use crate::task::MemoTask;
-use author_bodies::{KeepsCells, remembered, unless_refused};
+use author_bodies::{KeepsCells, or_out_of_memory, unless_refused};
 use author_calls::{Cx, TaskStep};
 use rt_cells::{ReactiveContext, Target};
 use rt_values::{OutOfMemory, Task};
@@ -133,8 +133,8 @@ fn computed_in<P: KeepsCells, S: HasMemo<P>>(
         (memos.computed_in (S.formulas app.now) context.0 formula.now) value) }
     ensures world { cx.new.world ≡ cx.old.world }
 {
-    remembered(cx.reset_and_run_in(context))?;
+    or_out_of_memory(cx.reset_and_run_in(context))?;
     let value = app.compute(alloc, formula, cx)?;
-    remembered(cx.leave())?;
+    or_out_of_memory(cx.leave())?;
     Ok(value)
 }

@@ -7,7 +7,7 @@ ghost use Rattle.author_deriving.specs.Task.{task_of};
 
 use crate::formulas::HasMemo;
 use crate::task::{Load, MemoTask};
-use author_bodies::{KeepsCells, remembered};
+use author_bodies::{KeepsCells, or_out_of_memory};
 use author_calls::Cx;
 use rt_cells::ReactiveContext;
 use rt_values::{OutOfMemory, Part};
@@ -109,12 +109,12 @@ fn set_to<P: KeepsCells, S: HasMemo<P>>(
         (memos.set_to (S.formulas app.now).same cell value) nothing) }
     ensures world { cx.new.world ≡ cx.old.world }
 {
-    if let Some(present) = remembered(cx.read(alloc, cell))? {
+    if let Some(present) = or_out_of_memory(cx.read(alloc, cell))? {
         if is_same(app, &present, &value) {
             return Ok(());
         }
     }
-    remembered(cx.write(cell, value))
+    or_out_of_memory(cx.write(cell, value))
 }
 
 /// The cell of a memo is set to the value of its formula.
@@ -238,7 +238,7 @@ fn load_on<P: KeepsCells, S: HasMemo<P>>(
             done: false,
         }),
         Load::Done(value) => {
-            remembered(cx.write(cell, value))?;
+            or_out_of_memory(cx.write(cell, value))?;
             Ok(MemoTask::Resource {
                 cell,
                 context,

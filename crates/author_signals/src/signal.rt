@@ -4,7 +4,7 @@ ghost use Rattle.author_bodies.specs.Comes.{Comes, ComesIfRemembered, Knows};
 ghost use Rattle.rt_model.specs.World.{nothing};
 ghost use Rattle.author_signals.specs.Signals as signals;
 
-use author_bodies::{KeepsCells, own_cell, remembered, unless_refused};
+use author_bodies::{KeepsCells, or_out_of_memory, own_cell, unless_refused};
 use author_calls::{BodyCx, Cx};
 use rt_cells::{ReactiveContext, Target};
 use rt_values::OutOfMemory;
@@ -36,7 +36,7 @@ impl Signal {
         ensures fault { OnOk result (cx.new.fault ≡ cx.old.fault) }
         ensures world { cx.new.world ≡ cx.old.world }
     {
-        remembered(cx.read(alloc, self.0))
+        or_out_of_memory(cx.read(alloc, self.0))
     }
 
     /// Gives it a value, once the call at work has returned.
@@ -50,7 +50,7 @@ impl Signal {
         ensures fault { OnOk result (cx.new.fault ≡ cx.old.fault) }
         ensures world { cx.new.world ≡ cx.old.world }
     {
-        remembered(cx.write(self.0, value))
+        or_out_of_memory(cx.write(self.0, value))
     }
 
     /// Gives it a value, unless that is the one that it has.
@@ -86,9 +86,9 @@ impl Signal {
         ensures fault { OnOk result (cx.new.fault ≡ cx.old.fault) }
         ensures world { cx.new.world ≡ cx.old.world }
     {
-        remembered(cx.reset_and_run_in(context))?;
-        let value = remembered(cx.read(alloc, self.0))?;
-        remembered(cx.leave())?;
+        or_out_of_memory(cx.reset_and_run_in(context))?;
+        let value = or_out_of_memory(cx.read(alloc, self.0))?;
+        or_out_of_memory(cx.leave())?;
         Ok(value)
     }
 

@@ -1,3 +1,4 @@
 pub mod Values
+pub mod Counting
 pub mod Meaning
 pub mod Sentences

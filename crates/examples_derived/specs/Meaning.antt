@@ -2,7 +2,7 @@
 use Rattle.std.proofs.Common.{◌≡◌, refl, ap, zero, suc}
 use Rattle.std.specs.Prelude.{ℕ, ◌++◌, Bool, true, false, codes, nat_eq, nat_lt, List, Option, Some, None, if◌then◌else◌}
 use Rattle.rt_author.specs.Memos as memos
-use Rattle.rt_author.specs.Words.{Bodied, Element, Formulas, FormulasLook, Keeping, Load, MemoTask, Nothing, Program, Programs, ProgramsDecide, TaskStep, Types, VNode}
+use Rattle.rt_author.specs.Words.{Bodied, Element, Formulas, FormulasLook, Keeping, Load, MemoTask, NoData, Program, Programs, ProgramsDecide, TaskStep, Types, VNode}
 use Rattle.rt_author.specs.Words.{as_task, coded_tests, done, loaded, memo_polled, nothing, own_cell, own_memo, pending, placeholder_tree, plain_tests, rendered, shown, task_of, tree_of, types, view, wait}
 use Rattle.rt_author.specs.Looking.{Looks}
 use Rattle.rt_author.specs.Sequence.{go_on}
@@ -22,12 +22,12 @@ abbrev pub Tasks : Type 0
 Tasks = MemoTask Value Formula
 
 abbrev pub DerivedTypes : Types
-DerivedTypes = types Component Nothing Value Nothing Tasks Nothing Nothing
+DerivedTypes = types Component NoData Value NoData Tasks NoData NoData
 
 -- a tree of the application, and a body that answers one
 abbrev pub DerivedTree : Type 0
 DerivedTree =
-    VNode (Bodied Derived Component Nothing Value Nothing Tasks Nothing Nothing) Component Nothing Value Nothing Tasks Nothing Nothing
+    VNode (Bodied Derived Component NoData Value NoData Tasks NoData NoData) Component NoData Value NoData Tasks NoData NoData
 
 abbrev pub Body : Type 0
 Body = Program DerivedTypes (Element DerivedTypes)
@@ -156,7 +156,7 @@ back components.Chosen = refl
 back components.Loaded = refl
 
 -- the props
-abbrev pub none : Nothing
+abbrev pub none : NoData
 none = record {}
 
 -- a poll

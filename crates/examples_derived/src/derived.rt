@@ -6,7 +6,7 @@ ghost use Rattle.examples_derived.specs.Meaning as meaning;
 use crate::parts::{Value, no_words, or_empty};
 use rt_author::{
     Bodied, Bodies, BodyCx, Cx, Element, Event, HasMemo, KeepsCells, Load, MemoBodies, MemoTask,
-    Nothing, OutOfMemory, Part, Parts, Signal, TaskStep, Text, VNode, own_cell, shown, step_memo,
+    NoData, OutOfMemory, Part, Parts, Signal, TaskStep, Text, VNode, own_cell, shown, step_memo,
     use_memo, use_resource, view,
 };
 use std::alloc::Global;
@@ -274,17 +274,17 @@ impl MemoBodies for Derived {
 impl Parts for Derived {
     type Component = Component;
 
-    type Props = Nothing;
+    type Props = NoData;
 
     type Value = Value;
 
-    type Handler = Nothing;
+    type Handler = NoData;
 
     type TaskState = MemoTask<Value, Formula>;
 
-    type Effect = Nothing;
+    type Effect = NoData;
 
-    type Payload = Nothing;
+    type Payload = NoData;
 }
 
 impl KeepsCells for Derived {
@@ -317,15 +317,15 @@ impl Bodies for Derived {
         Ok(self.root)
     }
 
-    fn empty_props(&self, _alloc: Global) -> Result<Nothing, OutOfMemory> {
-        Ok(Nothing)
+    fn empty_props(&self, _alloc: Global) -> Result<NoData, OutOfMemory> {
+        Ok(NoData)
     }
 
     fn body(
         &self,
         alloc: Global,
         component: &Component,
-        _props: &Nothing,
+        _props: &NoData,
         cx: &mut BodyCx<'_, Deriving>,
     ) -> Result<Element<Deriving>, OutOfMemory> {
         match component {
@@ -347,7 +347,7 @@ impl Bodies for Derived {
     fn effect(
         &self,
         _alloc: Global,
-        _effect: &Nothing,
+        _effect: &NoData,
         _cx: &mut Cx<'_, Deriving>,
     ) -> Result<(), OutOfMemory> {
         Ok(())
@@ -357,8 +357,8 @@ impl Bodies for Derived {
     fn hear(
         &self,
         _alloc: Global,
-        _handler: &Nothing,
-        _event: &mut Event<Nothing>,
+        _handler: &NoData,
+        _event: &mut Event<NoData>,
         _cx: &mut Cx<'_, Deriving>,
     ) -> Result<(), OutOfMemory> {
         Ok(())

@@ -4,7 +4,7 @@ ghost use Rattle.examples_derived.specs.Sentences.{DerivedAreKept};
 
 use crate::derived::{Component, Formula};
 use crate::parts::Value;
-use rt_author::{MemoTask, Nothing, memoized_are_lawful, sessions_keep_memos};
+use rt_author::{MemoTask, NoData, memoized_are_lawful, sessions_keep_memos};
 
 /// A session keeps the memo and the resource that nobody else touches.
 pub fn derived_are_kept()
@@ -12,21 +12,21 @@ pub fn derived_are_kept()
 {
     memoized_are_lawful::<
         Component,
-        Nothing,
+        NoData,
         Value,
-        Nothing,
+        NoData,
         MemoTask<Value, Formula>,
-        Nothing,
-        Nothing,
+        NoData,
+        NoData,
     >();
     sessions_keep_memos::<
         Component,
-        Nothing,
+        NoData,
         Value,
-        Nothing,
+        NoData,
         MemoTask<Value, Formula>,
-        Nothing,
-        Nothing,
+        NoData,
+        NoData,
         Formula,
     >();
 }

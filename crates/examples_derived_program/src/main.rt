@@ -5,7 +5,7 @@
 use examples_derived::{Component, Derived, Deriving, Value};
 use examples_lines::{lines_of, print_lines};
 use rt_app::{
-    Bodied, Input, Limits, List, Mutations, Nothing, OutOfMemory, Task, Text, memo_session,
+    Bodied, Input, Limits, List, Mutations, NoData, OutOfMemory, Task, Text, memo_session,
 };
 use std::alloc::Global;
 
@@ -19,7 +19,7 @@ fn lines(
         bodies: Derived { root },
     };
     let mut sink = Mutations::default_list(alloc);
-    let ended = memo_session(alloc, app, Nothing, inputs, &mut sink, Limits::usual());
+    let ended = memo_session(alloc, app, NoData, inputs, &mut sink, Limits::usual());
     lines_of(alloc, &sink, ended)
 }
 

@@ -2,7 +2,7 @@
 use Rattle.std.proofs.Common.{refl}
 use Rattle.std.specs.Prelude.{ℕ, nat_eq, Bool, true, false, ◌&&◌, List, [], ◌∷◌, codes, map, Option, Some, None}
 use Rattle.std.specs.List.{slice_get}
-use Rattle.rt_author.specs.Words.{Carrying, Element, Event, Nothing, Page, Program, Reply, Types, VNode}
+use Rattle.rt_author.specs.Words.{Carrying, Element, Event, NoData, Page, Program, Reply, Types, VNode}
 use Rattle.rt_author.specs.Words.{attrs, child, current_scope, done, element, empty_attrs, empty_piece, go_on, listens}
 use Rattle.rt_author.specs.Words.{coded_tests, pair_tests, placeholder_tree, plain_tests, rendered, row, says, several, shown}
 use Rattle.rt_author.specs.Words.{tree_of, types, view, when}
@@ -18,7 +18,7 @@ use Rattle.examples_library.specs.declared.parts.Typed.{Typed}
 
 -- the library, by its types
 abbrev pub Library : Types
-Library = types Nothing FieldProps (List ℕ) Typed Nothing Nothing (List ℕ)
+Library = types NoData FieldProps (List ℕ) Typed NoData NoData (List ℕ)
 
 -- what a field is given, as a pair, and back
 abbrev pub field_code : FieldProps → ℕ × (List ℕ × List ℕ)

@@ -4,7 +4,7 @@ ghost use Rattle.examples_library.specs.Meaning as meaning;
 
 use crate::parts::{FieldProps, Library, Typed};
 use rt_author::{
-    Carries, Nothing, OutOfMemory, Part, Parts, Piece, ScopeId, Text, VNode, attrs, carried,
+    Carries, NoData, OutOfMemory, Part, Parts, Piece, ScopeId, Text, VNode, attrs, carried,
     element, empty_attrs, empty_piece, listens, row, says, shown, view, when,
 };
 use std::alloc::Global;
@@ -16,7 +16,7 @@ pub fn field_at<P: Carries<Library>>(
 ) -> Result<Piece<P>, OutOfMemory>
     ensures piece { IfOk result (λ piece. piece ≡ meaning.field_at P.carrying props) }
 {
-    carried::<Library, P>(alloc, Nothing, props)
+    carried::<Library, P>(alloc, NoData, props)
 }
 
 /// What is said of a text: a refusal while there is none.

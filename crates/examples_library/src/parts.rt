@@ -1,6 +1,6 @@
 //! What the library is made of: its types, what a field is given, and what its listener does.
 
-use rt_author::{Nothing, OutOfMemory, Part, Parts, Text};
+use rt_author::{NoData, OutOfMemory, Part, Parts, Text};
 use std::alloc::Global;
 
 /// The library, by its types. Its one component is the field.
@@ -8,7 +8,7 @@ use std::alloc::Global;
 pub struct Library;
 
 impl Parts for Library {
-    type Component = Nothing;
+    type Component = NoData;
 
     type Props = FieldProps;
 
@@ -17,9 +17,9 @@ impl Parts for Library {
 
     type Handler = Typed;
 
-    type TaskState = Nothing;
+    type TaskState = NoData;
 
-    type Effect = Nothing;
+    type Effect = NoData;
 
     /// What is typed.
     type Payload = Text;

@@ -3,7 +3,7 @@ use Rattle.std.proofs.Common.{refl, inl, inr, zero, suc}
 use Rattle.std.specs.Prelude.{ℕ, ◌+◌, Bool, ◌&&◌, ◌⊎◌, ◌≡◌, nat_eq, nat_le, List, [], ◌∷◌, ◌++◌, length, remove, codes}
 use Rattle.std.specs.Prelude.{Option, Some, None, if◌then◌else◌}
 use Rattle.std.specs.List.{slice_get}
-use Rattle.rt_author.specs.Words.{AllDecide, Carrying, Event, Keeping, Nothing, Page, Paged, Pages, Reply, Types, VNode}
+use Rattle.rt_author.specs.Words.{AllDecide, Carrying, Event, Keeping, NoData, Page, Paged, Pages, Reply, Types, VNode}
 use Rattle.rt_author.specs.Words.{coded_tests, either_tests, element, empty_attrs, listens, pair_tests, placeholder_tree, plain_tests}
 use Rattle.rt_author.specs.Words.{row, same_either, several, shown, text, tree_of, types, view}
 use Rattle.rt_author.specs.Lists.{same_list, same_numbers}
@@ -21,18 +21,18 @@ use Rattle.examples_list.specs.declared.parts.Change.TheVariants as changes
 use Rattle.examples_list.specs.declared.listed.Shopping.{Shopping}
 
 abbrev pub ListTypes : Types
-ListTypes = types Component FieldProps Value Change Nothing Nothing (List ℕ)
+ListTypes = types Component FieldProps Value Change NoData NoData (List ℕ)
 
 -- the application
 abbrev pub App : Type 0
-App = Paged Shopping Component FieldProps Value Change Nothing Nothing (List ℕ)
+App = Paged Shopping Component FieldProps Value Change NoData NoData (List ℕ)
 
 -- a tree of it, and a piece of one
 abbrev pub ListTree : Type 0
-ListTree = VNode App Component FieldProps Value Change Nothing Nothing (List ℕ)
+ListTree = VNode App Component FieldProps Value Change NoData NoData (List ℕ)
 
 abbrev pub ListPiece : Type 0
-ListPiece = Piece App Component FieldProps Value Change Nothing Nothing (List ℕ)
+ListPiece = Piece App Component FieldProps Value Change NoData NoData (List ℕ)
 
 -- what was typed, where a value is that
 abbrev pub words_of : Value → Option (List ℕ)

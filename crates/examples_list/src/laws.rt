@@ -5,7 +5,7 @@ ghost use Rattle.examples_list.specs.Sentences.{AddShowsOneMore, HeardInTurn, Li
 use crate::parts::{Change, Component, Value};
 use examples_library::FieldProps;
 use rt_author::{
-    Nothing, Text, current_pages_show, events_update, heard_entries_update, pages_are_lawful,
+    NoData, Text, events_update, heard_entries_update, one_page_shows, pages_are_lawful,
     pages_keep_cells, pages_reduce, pages_show_values,
 };
 
@@ -13,7 +13,7 @@ use rt_author::{
 pub fn lists_show()
     ensures { ListsShow }
 {
-    current_pages_show::<Component, FieldProps, Value, Change, Nothing, Nothing, Text>();
+    one_page_shows::<Component, FieldProps, Value, Change, NoData, NoData, Text>();
 }
 
 /// After "Add" the list shows one item more: that of the words that were typed.
@@ -21,8 +21,8 @@ pub fn add_shows_one_more()
     ensures { AddShowsOneMore }
 {
     lists_show();
-    heard_entries_update::<Component, FieldProps, Value, Change, Nothing, Nothing, Text>();
-    pages_keep_cells::<Component, FieldProps, Value, Change, Nothing, Nothing, Text>();
+    heard_entries_update::<Component, FieldProps, Value, Change, NoData, NoData, Text>();
+    pages_keep_cells::<Component, FieldProps, Value, Change, NoData, NoData, Text>();
 }
 
 /// A log from where listeners wait begins with their entries, after which the values are what they
@@ -30,7 +30,7 @@ pub fn add_shows_one_more()
 pub fn heard_in_turn()
     ensures { HeardInTurn }
 {
-    events_update::<Component, FieldProps, Value, Change, Nothing, Nothing, Text>();
+    events_update::<Component, FieldProps, Value, Change, NoData, NoData, Text>();
 }
 
 /// Where no cell comes or goes after the build, the values after the last report are the fold of
@@ -38,13 +38,13 @@ pub fn heard_in_turn()
 pub fn lists_fold()
     ensures { ListsFold }
 {
-    pages_reduce::<Component, FieldProps, Value, Change, Nothing, Nothing, Text>();
+    pages_reduce::<Component, FieldProps, Value, Change, NoData, NoData, Text>();
 }
 
 /// From its scope's first run on the list shows its page's function of the present values.
 pub fn lists_show_values()
     ensures { ListsShowValues }
 {
-    pages_show_values::<Component, FieldProps, Value, Change, Nothing, Nothing, Text>();
-    pages_are_lawful::<Component, FieldProps, Value, Change, Nothing, Nothing, Text>();
+    pages_show_values::<Component, FieldProps, Value, Change, NoData, NoData, Text>();
+    pages_are_lawful::<Component, FieldProps, Value, Change, NoData, NoData, Text>();
 }

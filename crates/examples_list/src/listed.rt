@@ -9,7 +9,7 @@ use crate::parts::{Change, Component, Value};
 use crate::writing::{added, items_in, removed, words_in};
 use examples_library::{FieldProps, Library, Typed, field_reads, field_shows, typed_writes};
 use rt_author::{
-    Carries, Event, KeepsCells, List, Nothing, OutOfMemory, Paged, Pages, Part, Parts, ScopeId,
+    Carries, Event, KeepsCells, List, NoData, OutOfMemory, Paged, Pages, Part, Parts, ScopeId,
     Text, VNode, one, two,
 };
 use std::alloc::Global;
@@ -38,9 +38,9 @@ impl Parts for Shopping {
 
     type Handler = Change;
 
-    type TaskState = Nothing;
+    type TaskState = NoData;
 
-    type Effect = Nothing;
+    type Effect = NoData;
 
     /// What is typed.
     type Payload = Text;
@@ -64,7 +64,7 @@ impl KeepsCells for Shopping {
 impl Carries<Library> for Shopping {
     ghost carrying = { meaning.carrying };
 
-    fn component_of(_component: Nothing) -> Component { Component::Field }
+    fn component_of(_component: NoData) -> Component { Component::Field }
     fn props_of(props: FieldProps) -> FieldProps { props }
     fn handler_of(typed: Typed) -> Change { Change::Field(typed) }
     fn value_of(text: Text) -> Value { Value::Words(text) }

@@ -1,7 +1,7 @@
 -- What the router shows, what its calls are, and that its tests decide.
 use Rattle.std.proofs.Common.{zero, suc, refl}
 use Rattle.std.specs.Prelude.{ℕ, false, List, [], ◌∷◌, codes, nat_eq, ◌≡◌, Option, Some, None, if◌then◌else◌}
-use Rattle.rt_author.specs.Words.{Bodied, Element, Event, Keeping, Nothing, Program, Programs, ProgramsDecide, Types, VNode}
+use Rattle.rt_author.specs.Words.{Bodied, Element, Event, Keeping, NoData, Program, Programs, ProgramsDecide, Types, VNode}
 use Rattle.rt_author.specs.Words.{child, coded_tests, consume_context, current_scope, done, element, empty_attrs, go_on, listens}
 use Rattle.rt_author.specs.Words.{nothing, own_cell, placeholder_tree, plain_tests, provide, read, ready, rendered, row, shown}
 use Rattle.rt_author.specs.Words.{tree_of, types, view, write}
@@ -10,7 +10,7 @@ use Rattle.examples_router.specs.declared.router.Component.TheVariants.{Top, Lin
 use Rattle.examples_router.specs.declared.router.Router.{Router}
 
 abbrev pub RouterTypes : Types
-RouterTypes = types Component ℕ ℕ ℕ Nothing Nothing Nothing
+RouterTypes = types Component ℕ ℕ ℕ NoData NoData NoData
 
 -- hooks keep the numbers of cells as they are
 abbrev pub keeping : Keeping ℕ
@@ -18,7 +18,7 @@ keeping = record { kind = 0; keeps = λ n. n; kept = λ n. Some n }
 
 -- a tree of the application
 abbrev pub RouterTree : Type 0
-RouterTree = VNode (Bodied Router Component ℕ ℕ ℕ Nothing Nothing Nothing) Component ℕ ℕ ℕ Nothing Nothing Nothing
+RouterTree = VNode (Bodied Router Component ℕ ℕ ℕ NoData NoData NoData) Component ℕ ℕ ℕ NoData NoData NoData
 
 -- the name of a route
 abbrev pub name_of : ℕ → List ℕ → List ℕ

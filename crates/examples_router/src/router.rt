@@ -6,9 +6,9 @@ ghost use Rattle.examples_router.specs.Meaning.{body, programs, decides};
 ghost use Rattle.examples_router.specs.declared.router.Component.TheVariants as components;
 
 use rt_author::{
-    Bodied, Bodies, BodyCx, Cx, Element, Event, KeepsCells, Nothing, OutOfMemory, Part, Parts,
-    ScopeId, TaskStep, Text, VNode, child, element, empty_attrs, listens, own_cell, remembered,
-    row, shown, view,
+    Bodied, Bodies, BodyCx, Cx, Element, Event, KeepsCells, NoData, OutOfMemory, Part, Parts,
+    ScopeId, TaskStep, Text, VNode, child, element, empty_attrs, listens, or_out_of_memory,
+    own_cell, row, shown, view,
 };
 use std::alloc::Global;
 
@@ -95,7 +95,7 @@ fn top(alloc: Global, cx: &mut BodyCx<'_, Routed>) -> Result<Element<Routed>, Ou
     let Some(cell) = own_cell(alloc, cx, 0)? else {
         return Ok(VNode::empty(alloc)?);
     };
-    remembered(cx.provide_context(PATH, cell))?;
+    or_out_of_memory(cx.provide_context(PATH, cell))?;
     Ok(Ok(all(alloc)?))
 }
 
@@ -106,10 +106,10 @@ fn page(alloc: Global, cx: &mut BodyCx<'_, Routed>) -> Result<Element<Routed>, O
         ComesIfRemembered cx.old cx.new (body components.Page 0) (element_of answer)) }
     ensures world { cx.new.world ≡ cx.old.world }
 {
-    let Some(cell) = remembered(cx.try_consume_context(alloc, PATH))? else {
+    let Some(cell) = or_out_of_memory(cx.try_consume_context(alloc, PATH))? else {
         return Ok(VNode::empty(alloc)?);
     };
-    match remembered(cx.read(alloc, cell))? {
+    match or_out_of_memory(cx.read(alloc, cell))? {
         Some(route) => Ok(Ok(heading(alloc, route)?)),
         None => Ok(VNode::empty(alloc)?),
     }
@@ -127,11 +127,11 @@ impl Parts for Router {
     /// The route that a link leads to.
     type Handler = u64;
 
-    type TaskState = Nothing;
+    type TaskState = NoData;
 
-    type Effect = Nothing;
+    type Effect = NoData;
 
-    type Payload = Nothing;
+    type Payload = NoData;
 }
 
 impl KeepsCells for Router {
@@ -187,9 +187,9 @@ impl Bodies for Router {
     fn step(
         &self,
         _alloc: Global,
-        _state: Nothing,
+        _state: NoData,
         _cx: &mut Cx<'_, Routed>,
-    ) -> Result<TaskStep<Nothing>, OutOfMemory> {
+    ) -> Result<TaskStep<NoData>, OutOfMemory> {
         Ok(TaskStep::Ready)
     }
 
@@ -197,7 +197,7 @@ impl Bodies for Router {
     fn effect(
         &self,
         _alloc: Global,
-        _effect: &Nothing,
+        _effect: &NoData,
         _cx: &mut Cx<'_, Routed>,
     ) -> Result<(), OutOfMemory> {
         Ok(())
@@ -208,11 +208,11 @@ impl Bodies for Router {
         &self,
         alloc: Global,
         handler: &u64,
-        _event: &mut Event<Nothing>,
+        _event: &mut Event<NoData>,
         cx: &mut Cx<'_, Routed>,
     ) -> Result<(), OutOfMemory> {
-        match remembered(cx.try_consume_context(alloc, PATH))? {
-            Some(cell) => remembered(cx.write(cell, *handler)),
+        match or_out_of_memory(cx.try_consume_context(alloc, PATH))? {
+            Some(cell) => or_out_of_memory(cx.write(cell, *handler)),
             None => Ok(()),
         }
     }

@@ -17,13 +17,13 @@ use Rattle.rt_author.specs.TemplateNode.TheVariants as nodes
 use Rattle.rt_author.specs.TemplateParts.{TemplateParts}
 use Rattle.rt_author.specs.Tree as model
 use Rattle.rt_author.specs.Tree.{Attribute, Slot, TemplateNodes, Tree, block, element_node, from_slot, listener, more_slots, no_nodes, no_slots, slot_node, text_slot}
-use Rattle.rt_author.specs.Words.{Nothing, Paged, Pages, placeholder_tree, tree_of}
+use Rattle.rt_author.specs.Words.{NoData, Paged, Pages, placeholder_tree, tree_of}
 use Rattle.examples_template.specs.Meaning.{OwnTree, OwnTypes, answers, button, page, present}
 use Rattle.examples_template.specs.declared.application.Application.{Application}
 
 -- the application's trees are of this type's
 abbrev Here : Type 0
-Here = Paged Application Nothing Nothing ℕ ℕ Nothing Nothing Nothing
+Here = Paged Application NoData NoData ℕ ℕ NoData NoData NoData
 
 -- the template of the button
 abbrev made : TemplateParts
@@ -89,7 +89,7 @@ abbrev pub present_here : ℕ → Option ℕ → Option (Option ℕ) → Tree Ow
 present_here scope (Some cell) (Some (Some number)) = button_here scope cell number
 present_here scope _ _ = model.placeholder_tree
 
-present_tree : (scope : ℕ) (cell : Option ℕ) (value : Option (Option ℕ)) → tree_of (present scope cell value) ≡ present_here scope cell value
+pub present_tree : (scope : ℕ) (cell : Option ℕ) (value : Option (Option ℕ)) → tree_of (present scope cell value) ≡ present_here scope cell value
 present_tree scope (Some cell) (Some (Some number)) = button_tree scope cell number
 present_tree scope (Some cell) (Some None) = none
 present_tree scope (Some cell) None = none

@@ -2,15 +2,15 @@
 use Rattle.std.proofs.Common.{refl}
 use Rattle.std.specs.Prelude.{ℕ, ◌+◌, true, codes, decimal, min, nat_eq, List, [], ◌∷◌, Option, Some, None}
 use Rattle.std.specs.List.{slice_get}
-use Rattle.rt_author.specs.Words.{AllDecide, Event, Keeping, Nothing, Page, Paged, Pages, Reply, Types, VNode}
+use Rattle.rt_author.specs.Words.{AllDecide, Event, Keeping, NoData, Page, Paged, Pages, Reply, Types, VNode}
 use Rattle.rt_author.specs.Words.{element, listens, last_number, placeholder_tree, plain_tests, shown, tree_of, types, view}
 use Rattle.examples_template.specs.declared.application.Application.{Application}
 
 abbrev pub OwnTypes : Types
-OwnTypes = types Nothing Nothing ℕ ℕ Nothing Nothing Nothing
+OwnTypes = types NoData NoData ℕ ℕ NoData NoData NoData
 
 -- the one component, and its props
-abbrev pub nothing : Nothing
+abbrev pub nothing : NoData
 nothing = record {}
 
 -- hooks keep the numbers of cells as they are
@@ -19,7 +19,7 @@ keeping = record { kind = 0; keeps = λ n. n; kept = λ n. Some n }
 
 -- a tree of the application
 abbrev pub OwnTree : Type 0
-OwnTree = VNode (Paged Application Nothing Nothing ℕ ℕ Nothing Nothing Nothing) Nothing Nothing ℕ ℕ Nothing Nothing Nothing
+OwnTree = VNode (Paged Application NoData NoData ℕ ℕ NoData NoData NoData) NoData NoData ℕ ℕ NoData NoData NoData
 
 -- a button of a scope that shows a number and raises its cell
 abbrev pub button : ℕ → ℕ → ℕ → OwnTree

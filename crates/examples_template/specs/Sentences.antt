@@ -14,6 +14,7 @@ use Rattle.rt_author.specs.Ran.{Ran}
 use Rattle.rt_author.specs.Reduces.{hearers, reduced}
 use Rattle.rt_author.specs.Replay.{Build, Entry, EventAt, Heard, Input, Made, Rerun, Taken}
 use Rattle.rt_author.specs.Reports.{Report}
+use Rattle.rt_author.specs.Roots.{RootStands}
 use Rattle.rt_author.specs.ShowsValues.{HasRun}
 use Rattle.rt_author.specs.State.{CellRow, State}
 use Rattle.rt_author.specs.Told.{Told}
@@ -68,6 +69,20 @@ ButtonShowsFold =
     → AllRead answers (run.first.given.given.next.cells ∷ []) first.machine.state inputs rest
     → Owned first.machine.state run.first.given.given.next.cells s
     → NeverRemoved s reports
+    → ShowsModel answers s nothing (run.first.given.given.next.cells ∷ []) (last_state first.machine.state rest)
+    (folded answers first.machine.state inputs rest (model_of first.machine.state))
+
+-- the button's scope is that of the application's root, and nothing fails in its page: so no log removes it, and it shows that
+abbrev pub RootShows : Type 0
+RootShows =
+    (inputs : List (Input OwnTypes)) (limits : Limits) (taken : Option (List Edit)) (build : Report) (reports : List Report)
+    → (first : Told OwnTypes) (rest : List (Told OwnTypes)) (s : ℕ)
+    → (h : Headline app nothing inputs limits taken (build ∷ reports))
+    → h.told ≡ first ∷ rest
+    → RootStands nothing nothing first.machine.state s
+    → (run : HasRun keeping answers s nothing nothing first.machine.state)
+    → AllRead answers (run.first.given.given.next.cells ∷ []) first.machine.state inputs rest
+    → Owned first.machine.state run.first.given.given.next.cells s
     → ShowsModel answers s nothing (run.first.given.given.next.cells ∷ []) (last_state first.machine.state rest)
     (folded answers first.machine.state inputs rest (model_of first.machine.state))
 

@@ -4,7 +4,7 @@ ghost use Rattle.std.specs.Option.{option_copied};
 ghost use Rattle.examples_template.specs.Meaning as meaning;
 
 use rt_author::{
-    Event, KeepsCells, List, Nothing, OutOfMemory, Paged, Pages, Parts, ScopeId, Text, VNode,
+    Event, KeepsCells, List, NoData, OutOfMemory, Paged, Pages, Parts, ScopeId, Text, VNode,
     element, listens, shown, view,
 };
 use std::alloc::Global;
@@ -15,20 +15,20 @@ pub struct Application;
 
 impl Parts for Application {
     /// There is one component.
-    type Component = Nothing;
+    type Component = NoData;
 
-    type Props = Nothing;
+    type Props = NoData;
 
     type Value = u64;
 
     /// The cell that is raised.
     type Handler = u64;
 
-    type TaskState = Nothing;
+    type TaskState = NoData;
 
-    type Effect = Nothing;
+    type Effect = NoData;
 
-    type Payload = Nothing;
+    type Payload = NoData;
 }
 
 impl KeepsCells for Application {
@@ -54,19 +54,19 @@ impl Pages for Application {
 
     ghost decide = { λ _. meaning.decides };
 
-    fn root(&self, _alloc: Global) -> Result<Nothing, OutOfMemory> {
-        Ok(Nothing)
+    fn root(&self, _alloc: Global) -> Result<NoData, OutOfMemory> {
+        Ok(NoData)
     }
 
-    fn empty_props(&self, _alloc: Global) -> Result<Nothing, OutOfMemory> {
-        Ok(Nothing)
+    fn empty_props(&self, _alloc: Global) -> Result<NoData, OutOfMemory> {
+        Ok(NoData)
     }
 
     fn cells(
         &self,
         alloc: Global,
-        _component: &Nothing,
-        _props: &Nothing,
+        _component: &NoData,
+        _props: &NoData,
     ) -> Result<List<u64>, OutOfMemory> {
         List::from_slice(alloc, &[0])
     }
@@ -74,8 +74,8 @@ impl Pages for Application {
     fn reads(
         &self,
         alloc: Global,
-        _component: &Nothing,
-        _props: &Nothing,
+        _component: &NoData,
+        _props: &NoData,
         own: &[u64],
     ) -> Result<List<u64>, OutOfMemory> {
         List::from_slice(alloc, own)
@@ -84,8 +84,8 @@ impl Pages for Application {
     fn shows(
         &self,
         alloc: Global,
-        _component: &Nothing,
-        _props: &Nothing,
+        _component: &NoData,
+        _props: &NoData,
         scope: ScopeId,
         own: &[u64],
         values: &[Option<u64>],
@@ -97,7 +97,7 @@ impl Pages for Application {
         &self,
         alloc: Global,
         handler: &u64,
-        _event: &Event<Nothing>,
+        _event: &Event<NoData>,
     ) -> Result<List<u64>, OutOfMemory> {
         List::from_slice(alloc, &[*handler])
     }
@@ -106,7 +106,7 @@ impl Pages for Application {
         &self,
         alloc: Global,
         handler: &u64,
-        _event: &mut Event<Nothing>,
+        _event: &mut Event<NoData>,
         values: &[Option<u64>],
     ) -> Result<List<(u64, u64)>, OutOfMemory> {
         raised(alloc, *handler, values.get(0))

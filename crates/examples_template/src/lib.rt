@@ -6,4 +6,4 @@ mod application;
 mod laws;
 
 pub use application::Application;
-pub use laws::{button_shows_fold, click_raises, one_click, report_raises};
+pub use laws::{button_shows_fold, click_raises, one_click, report_raises, root_shows};

@@ -4,14 +4,14 @@
 
 use examples_lines::{click, lines, print_lines};
 use examples_template::Application;
-use rt_app::{List, Nothing, OutOfMemory, Paged};
+use rt_app::{List, NoData, OutOfMemory, Paged};
 use std::alloc::Global;
 
 /// The lines of a session with one click at the button.
 fn printed(alloc: Global) -> Result<List<u8>, OutOfMemory> {
     let mut inputs = List::new(alloc);
-    inputs.push(click(alloc, Nothing, 1)?)?;
-    lines(alloc, Paged { pages: Application }, Nothing, inputs)
+    inputs.push(click(alloc, NoData, 1)?)?;
+    lines(alloc, Paged { pages: Application }, NoData, inputs)
 }
 
 fn main(rt: HostRuntime) {

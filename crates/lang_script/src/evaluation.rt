@@ -14,7 +14,7 @@ ghost use Rattle.lang_script.specs.Seen.{caller_of, SeesRenders, ScriptCall};
 
 use crate::caller::{Caller, Frame, held_by, held_cell};
 use crate::script::Script;
-use author_bodies::remembered;
+use author_bodies::or_out_of_memory;
 use author_calls::Cx;
 use lang_syntax::{Expression, Literal};
 use lang_views::{
@@ -203,7 +203,7 @@ fn read<K>(
 {
     match held_cell(held, variable) {
         Some(cell) => {
-            let found = remembered(cx.read(alloc, cell))?;
+            let found = or_out_of_memory(cx.read(alloc, cell))?;
             Ok(or_none(found))
         }
         None => Ok(Value::none()),
@@ -221,7 +221,7 @@ fn look_up<K>(alloc: Global, cx: &mut Cx<'_, Script, K>, kind: u64) -> Result<Va
     let Ok(kind) = u32::try_from(kind) else {
         return Err(OutOfMemory);
     };
-    let found = remembered(cx.try_consume_context(alloc, kind))?;
+    let found = or_out_of_memory(cx.try_consume_context(alloc, kind))?;
     Ok(or_none(found))
 }
 
@@ -232,7 +232,7 @@ fn nearest_error<K>(alloc: Global, cx: &mut Cx<'_, Script, K>) -> Result<Value, 
         (error (λ found. done (meanings.error_text found))) value) }
     ensures world { cx.new.world ≡ cx.old.world }
 {
-    let error = remembered(cx.error(alloc))?;
+    let error = or_out_of_memory(cx.error(alloc))?;
     Ok(error_text(error))
 }
 

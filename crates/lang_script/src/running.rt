@@ -20,7 +20,7 @@ use crate::caller::{Frame, Outcome, held_cell, held_task, scope_in};
 use crate::evaluation::{evaluate, evaluate_all};
 use crate::script::Script;
 use crate::state::TaskState;
-use author_bodies::{remembered, unless_refused};
+use author_bodies::{or_out_of_memory, unless_refused};
 use author_calls::Cx;
 use lang_syntax::{Expression, Simple, SpawnKind, Statement, TaskAct};
 use lang_views::{Doing, Standing, Value, text_of};
@@ -209,7 +209,7 @@ pub(crate) fn throw<K>(
     let text = text_of(alloc, &value)?;
     match unless_refused(cx.captured(text))? {
         Some(error) => {
-            remembered(cx.throw_error(error))?;
+            or_out_of_memory(cx.throw_error(error))?;
             Ok(Outcome::WentOn)
         }
         None => Ok(Outcome::Refused),
@@ -238,19 +238,19 @@ pub(crate) fn ask<K>(
         }
         Simple::EffectOf { action, arguments } => {
             let arguments = evaluate_all(alloc, cx, frame, arguments.as_slice())?;
-            remembered(cx.queue_effect(Doing::new(*action, arguments)))?;
+            or_out_of_memory(cx.queue_effect(Doing::new(*action, arguments)))?;
         }
         Simple::OnResolved { action, arguments } => {
             let arguments = evaluate_all(alloc, cx, frame, arguments.as_slice())?;
-            remembered(cx.after_suspense_resolved(Doing::new(*action, arguments)))?;
+            or_out_of_memory(cx.after_suspense_resolved(Doing::new(*action, arguments)))?;
         }
-        Simple::FreezeBoundary => remembered(cx.freeze())?,
+        Simple::FreezeBoundary => or_out_of_memory(cx.freeze())?,
         Simple::ProvideAs { kind, value } => provide(alloc, cx, frame, *kind, value)?,
         Simple::WriteTo { variable, value } => write_held(alloc, cx, frame, *variable, value)?,
         Simple::Forget(variable) => forget_held(cx, frame, *variable)?,
         Simple::ActOn { act, variable } => act_held(cx, frame, *act, *variable)?,
         Simple::MarkScopeOf(scope) => mark(alloc, cx, frame, scope)?,
-        Simple::ClearError => remembered(cx.clear_errors())?,
+        Simple::ClearError => or_out_of_memory(cx.clear_errors())?,
         Simple::Stop => frame.stopped = true,
         Simple::Prevent => frame.prevented = true,
         Simple::Stay => frame.stays = true,
@@ -279,7 +279,7 @@ fn provide<K>(
     let Ok(kind) = u32::try_from(kind) else {
         return Err(OutOfMemory);
     };
-    remembered(cx.provide_context(kind, value))?;
+    or_out_of_memory(cx.provide_context(kind, value))?;
     Ok(())
 }
 
@@ -301,7 +301,7 @@ fn write_held<K>(
 {
     let value = evaluate(alloc, cx, frame, value)?;
     if let Some(cell) = held_cell(frame.held.as_slice(), variable) {
-        remembered(cx.write(cell, value))?;
+        or_out_of_memory(cx.write(cell, value))?;
     }
     Ok(())
 }
@@ -323,7 +323,7 @@ fn mark<K>(
 {
     let value = evaluate(alloc, cx, frame, scope)?;
     if let Some(scope) = scope_in(&value) {
-        remembered(cx.needs_update_any(scope))?;
+        or_out_of_memory(cx.needs_update_any(scope))?;
     }
     Ok(())
 }
@@ -341,7 +341,7 @@ fn forget_held<K>(
     ensures world { cx.new.world ≡ cx.old.world }
 {
     if let Some(cell) = held_cell(frame.held.as_slice(), variable) {
-        remembered(cx.drop_cell(cell))?;
+        or_out_of_memory(cx.drop_cell(cell))?;
     }
     Ok(())
 }
@@ -373,10 +373,10 @@ fn act_on<K>(cx: &mut Cx<'_, Script, K>, act: TaskAct, task: Task) -> Result<(),
     ensures world { cx.new.world ≡ cx.old.world }
 {
     match act {
-        TaskAct::WakeUp => remembered(cx.wake(task))?,
-        TaskAct::Cancel => remembered(cx.remove_future(task))?,
-        TaskAct::Pause => remembered(cx.set_active(task, false))?,
-        TaskAct::Resume => remembered(cx.set_active(task, true))?,
+        TaskAct::WakeUp => or_out_of_memory(cx.wake(task))?,
+        TaskAct::Cancel => or_out_of_memory(cx.remove_future(task))?,
+        TaskAct::Pause => or_out_of_memory(cx.set_active(task, false))?,
+        TaskAct::Resume => or_out_of_memory(cx.set_active(task, true))?,
     }
     Ok(())
 }

@@ -2,7 +2,7 @@ pub use Rattle.rt_author.specs.Words
 pub use Rattle.rt_author.specs.Comes
 pub use Rattle.rt_author.specs.Bodies
 pub use Rattle.rt_author.specs.Bodied
-pub use Rattle.rt_author.specs.Nothing
+pub use Rattle.rt_author.specs.NoData
 pub use Rattle.rt_author.specs.Paged
 pub use Rattle.rt_author.specs.Derived
 pub use Rattle.rt_author.specs.DerivedShow
@@ -81,6 +81,11 @@ pub use Rattle.rt_author.specs.RootStays
 pub use Rattle.rt_author.specs.RunsGiven
 pub use Rattle.rt_author.specs.ShowsValues
 pub use Rattle.rt_author.specs.Elm
+pub use Rattle.rt_author.specs.ErrorsStayAway
+pub use Rattle.rt_author.specs.NoErrors
+pub use Rattle.rt_author.specs.RootShows
+pub use Rattle.rt_author.specs.Roots
+pub use Rattle.rt_author.specs.Safe
 pub use Rattle.rt_author.specs.BodiesShow
 pub use Rattle.rt_author.specs.Along
 pub use Rattle.rt_author.specs.Moves

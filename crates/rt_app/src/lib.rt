@@ -6,8 +6,8 @@ pub mod dom;
 
 // Bodies, pages and signals.
 pub use rt_author::{
-    App, Bodied, Bodies, BodyCx, BodyTurn, Cx, CxFault, KeepsCells, Nothing, Paged, Pages, Pair,
-    Signal, TaskStep, Turn, one, own_cell, own_pair, read_all, remembered, spawn_once,
+    App, Bodied, Bodies, BodyCx, BodyTurn, Cx, CxFault, KeepsCells, NoData, Paged, Pages, Pair,
+    Signal, TaskStep, Turn, one, or_out_of_memory, own_cell, own_pair, read_all, spawn_once,
     still_waking, two, unless_refused, waking, write_all,
 };
 
@@ -40,16 +40,17 @@ pub use rt_author::{
 pub use rt_author::{
     bodies_show, calls_come_later, cells_are_drawn, cells_are_kept, cells_last, cells_stay,
     children_last, children_stay, coded_tests, commands_keep_others, commands_within,
-    components_last, current_derived_show, current_pages_show, either_tests, events_update,
-    first_pages_show, folds_show, given_tests, heard_entries_update, heard_entries_write,
+    components_last, current_derived_show, current_wrapped, either_tests, elm_folds, elm_shows,
+    events_update, folds_show, given_tests, heard_entries_update, heard_entries_write,
     heard_from_below, kept_are_derived, kept_pages_ask_nothing, kinds_apart, kinds_go_on,
     listeners_update, live_never_removed, live_unremoved, logged_cells_last, logged_children_last,
-    logged_components_last, logged_numbers_last, memoized_are_lawful, numbers_last, one_finish,
-    one_hears, one_page_shows, one_read_shows, other_kinds_stay, own_cells_fold, own_pages_show,
-    pages_are_lawful, pages_keep_cells, pages_reduce, pages_show_present_values, pages_show_values,
-    pair_tests, plain_tests, polls_are_done, programs_come_to_their_meaning, programs_go_on,
-    programs_keep_others, reports_reduce, reports_show_bodies, reports_show_derived,
-    reports_show_pages, reports_show_reduced, root_stays, rows_are_sessions, runs_are_given,
+    logged_components_last, logged_numbers_last, memoized_are_lawful, no_error_comes, numbers_last,
+    one_finish, one_hears, one_page_shows, one_read_shows, other_kinds_stay, own_cells_fold,
+    own_pages_show, pages_are_lawful, pages_keep_cells, pages_keep_no_error, pages_reduce,
+    pages_show_present_values, pages_show_values, pair_tests, plain_tests, polls_are_done,
+    programs_come_to_their_meaning, programs_go_on, programs_keep_others, replies_read,
+    reports_reduce, reports_show_bodies, reports_show_derived, reports_show_reduced,
+    reports_wrapped, root_stays, roots_last, rows_are_sessions, runs_are_given,
     sessions_keep_memos, unread_runs_nothing, unrun_reads_stay, wrappers_stay,
 };
 

@@ -2,7 +2,7 @@ pub mod Words
 pub use Rattle.author_bodies.specs.Comes
 pub use Rattle.author_bodies.specs.Bodies
 pub use Rattle.author_bodies.specs.declared.bodied.Bodied
-pub use Rattle.author_bodies.specs.declared.nothing.Nothing
+pub use Rattle.author_bodies.specs.declared.no_data.NoData
 pub use Rattle.author_bodies.specs.declared.paged.Paged
 pub use Rattle.author_carrying.specs.Carrying
 pub use Rattle.author_given.specs.Same
@@ -54,6 +54,11 @@ pub use Rattle.author_programs.specs.Present
 pub use Rattle.author_programs.specs.Reads
 pub use Rattle.author_programs.specs.Sequence
 pub use Rattle.author_programs.specs.Shows
+pub use Rattle.law_elm.specs.ErrorsStayAway
+pub use Rattle.law_elm.specs.NoErrors
+pub use Rattle.law_elm.specs.RootShows
+pub use Rattle.law_elm.specs.Roots
+pub use Rattle.law_elm.specs.Safe
 pub use Rattle.law_kinds.specs.OtherKinds
 pub use Rattle.law_lasting.specs.CellsLast
 pub use Rattle.law_lasting.specs.ChildrenLast

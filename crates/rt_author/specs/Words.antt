@@ -1,6 +1,6 @@
 -- The words that an author's definitions are written with, from one place.
 pub use Rattle.author_bodies.specs.Comes.{Comes, ComesIfRemembered, Knows}
-pub use Rattle.author_bodies.specs.declared.nothing.Nothing.{Nothing}
+pub use Rattle.author_bodies.specs.declared.no_data.NoData.{NoData}
 pub use Rattle.author_signals.specs.declared.signal.Pair.{Pair}
 pub use Rattle.author_calls.specs.Answers.{event_of, step_of}
 pub use Rattle.author_calls.specs.Calls.{call_of}

@@ -5,8 +5,8 @@
 mod macros;
 
 pub use author_bodies::{
-    Bodied, Bodies, KeepsCells, Nothing, Paged, Pages, one, own_cell, read_all, remembered, two,
-    unless_refused, write_all,
+    Bodied, Bodies, KeepsCells, NoData, Paged, Pages, one, or_out_of_memory, own_cell, read_all,
+    two, unless_refused, write_all,
 };
 pub use author_calls::{App, BodyCx, BodyTurn, Cx, TaskStep, Turn};
 pub use author_carrying::{Carries, carried, read_held, write_held};
@@ -18,10 +18,9 @@ pub use author_deriving::{
 };
 pub use author_given::{Given, Inside, given_tests};
 pub use author_programs::{
-    coded_tests, commands_within, current_pages_show, either_tests, first_pages_show,
-    heard_from_below, kinds_apart, kinds_go_on, memoized_are_lawful, other_kinds_stay,
-    pages_are_lawful, pages_show_present_values, pair_tests, plain_tests,
-    programs_come_to_their_meaning, programs_go_on, reports_show_pages, unread_runs_nothing,
+    coded_tests, commands_within, either_tests, heard_from_below, kinds_apart, kinds_go_on,
+    memoized_are_lawful, other_kinds_stay, pages_are_lawful, pages_show_present_values, pair_tests,
+    plain_tests, programs_come_to_their_meaning, programs_go_on, unread_runs_nothing,
 };
 pub use author_signals::{Pair, Signal, own_pair, spawn_once, still_waking, waking};
 pub use rt_cells::{ReactiveContext, Source, Target};
@@ -43,6 +42,9 @@ pub use tree_nodes::{
 };
 
 // Laws of sessions, of pages and bodies, of contexts, and of memos.
+pub use law_elm::{
+    elm_folds, elm_shows, no_error_comes, pages_keep_no_error, replies_read, roots_last,
+};
 pub use law_kinds::{commands_keep_others, programs_keep_others};
 pub use law_lasting::{
     cells_last, cells_stay, children_last, children_stay, components_last, logged_cells_last,
@@ -55,8 +57,8 @@ pub use law_pages::{
     listeners_update, one_page_shows, one_read_shows, pages_keep_cells,
 };
 pub use law_reduce::{
-    bodies_show, calls_come_later, cells_are_kept, folds_show, live_never_removed, live_unremoved,
-    one_hears, own_cells_fold, own_pages_show, pages_reduce, pages_show_values, reports_reduce,
-    reports_show_bodies, reports_show_reduced, root_stays, runs_are_given, unrun_reads_stay,
-    wrappers_stay,
+    bodies_show, calls_come_later, cells_are_kept, current_wrapped, folds_show, live_never_removed,
+    live_unremoved, one_hears, own_cells_fold, own_pages_show, pages_reduce, pages_show_values,
+    reports_reduce, reports_show_bodies, reports_show_reduced, reports_wrapped, root_stays,
+    runs_are_given, unrun_reads_stay, wrappers_stay,
 };

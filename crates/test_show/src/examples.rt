@@ -1,7 +1,8 @@
 //! What rows name that isn't the program: each example, a runtime that is kept, and a memo in one.
 
-use crate::runs::{counter, router, tally};
-use examples_kept::{kept, woken};
+use crate::keeping::kept;
+use crate::memos::woken;
+use crate::runs::{board, router, tally, template};
 use rt_values::{List, OutOfMemory};
 use std::alloc::Global;
 use test_rows::Twins;
@@ -12,8 +13,9 @@ pub(crate) struct Examples;
 impl Twins for Examples {
     fn lines_of(alloc: Global, name: &str) -> Result<List<u8>, OutOfMemory> {
         match name {
-            "counter" => counter(alloc),
+            "template" => template(alloc),
             "router" => router(alloc),
+            "board" => board(alloc),
             _ => tally(alloc),
         }
     }

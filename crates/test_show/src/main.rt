@@ -3,6 +3,8 @@
 #![tactic(auto)]
 
 mod examples;
+mod keeping;
+mod memos;
 mod runs;
 
 use examples::Examples;

@@ -1,10 +1,11 @@
-//! A session of each example, with clicks.
+//! A session of each example.
 
-use examples_counter::Counter;
+use examples_board::{Board, standing};
+use examples_derived::application;
 use examples_lines::{click, lines};
 use examples_router::Router;
-use examples_tally::application;
-use rt_app::{App, Bodied, Input, List, Nothing, OutOfMemory, Paged, Part};
+use examples_template::Application;
+use rt_app::{App, Bodied, Input, List, NoData, OutOfMemory, Paged, Part, Task};
 use std::alloc::Global;
 
 /// Clicks at elements, one after another.
@@ -20,20 +21,27 @@ fn clicks<A: App>(
     Ok(inputs)
 }
 
-/// The counter, raised twice.
-pub(crate) fn counter(alloc: Global) -> Result<List<u8>, OutOfMemory> {
-    let inputs = clicks(alloc, Nothing, &[1, 1])?;
-    lines(alloc, Paged { pages: Counter }, 0, inputs)
+/// The application to start from, raised twice.
+pub(crate) fn template(alloc: Global) -> Result<List<u8>, OutOfMemory> {
+    let inputs = clicks(alloc, NoData, &[1, 1])?;
+    lines(alloc, Paged { pages: Application }, NoData, inputs)
 }
 
 /// The router, with clicks at two links, at the page's heading and at the first link.
 pub(crate) fn router(alloc: Global) -> Result<List<u8>, OutOfMemory> {
-    let inputs = clicks(alloc, Nothing, &[3, 5, 7, 1])?;
+    let inputs = clicks(alloc, NoData, &[3, 5, 7, 1])?;
     lines(alloc, Bodied { bodies: Router }, 0, inputs)
 }
 
 /// The tally, raised three times.
 pub(crate) fn tally(alloc: Global) -> Result<List<u8>, OutOfMemory> {
-    let inputs = clicks(alloc, Nothing, &[1, 1, 1])?;
-    lines(alloc, application(), Nothing, inputs)
+    let inputs = clicks(alloc, NoData, &[1, 1, 1])?;
+    lines(alloc, application(), NoData, inputs)
+}
+
+/// The board: a click at the button that tries again, and a wake of the task.
+pub(crate) fn board(alloc: Global) -> Result<List<u8>, OutOfMemory> {
+    let mut inputs = clicks(alloc, NoData, &[11])?;
+    inputs.push(Input::Wake(Task(1)))?;
+    lines(alloc, Bodied { bodies: Board }, standing(alloc)?, inputs)
 }

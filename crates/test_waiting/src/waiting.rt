@@ -12,7 +12,7 @@ ghost use Rattle.test_waiting.specs.Meaning.{body, done_effect, meaning};
 ghost use Rattle.test_waiting.specs.Lawful.{lawful};
 
 use crate::held::Kinds;
-use author_bodies::{KeepsCells, own_cell, remembered};
+use author_bodies::{KeepsCells, or_out_of_memory, own_cell};
 use author_calls::{App, BodyCx, BodyTurn, Cx, TaskStep, Turn};
 use rt_values::{OutOfMemory, Shared};
 use std::alloc::Global;
@@ -108,7 +108,7 @@ fn shown(alloc: Global, cx: &mut BodyCx<'_, Waiting>) -> Result<Element<Waiting>
 {
     match own_cell(alloc, cx, 0)? {
         Some(cell) => {
-            let value = remembered(cx.read(alloc, cell))?;
+            let value = or_out_of_memory(cx.read(alloc, cell))?;
             Ok(picked(alloc, cell, value)?)
         }
         None => Ok(VNode::empty(alloc)?),
@@ -121,7 +121,7 @@ fn keep(cx: &mut BodyCx<'_, Waiting>) -> Result<(), OutOfMemory>
     ensures came { OnOk result (Comes cx.old cx.new waiting.keeps nothing) }
     ensures world { cx.new.world ≡ cx.old.world }
 {
-    remembered(cx.use_drop(CLEAN_UP))?;
+    or_out_of_memory(cx.use_drop(CLEAN_UP))?;
     Ok(())
 }
 
@@ -131,7 +131,7 @@ fn spawn(cx: &mut BodyCx<'_, Waiting>) -> Result<(), OutOfMemory>
     ensures came { OnOk result (Comes cx.old cx.new waiting.spawns nothing) }
     ensures world { cx.new.world ≡ cx.old.world }
 {
-    remembered(cx.spawn(0))?;
+    or_out_of_memory(cx.spawn(0))?;
     Ok(())
 }
 
@@ -141,7 +141,7 @@ fn queue(cx: &mut BodyCx<'_, Waiting>, cell: u64) -> Result<(), OutOfMemory>
     ensures came { OnOk result (Comes cx.old cx.new (waiting.queues cell) nothing) }
     ensures world { cx.new.world ≡ cx.old.world }
 {
-    remembered(cx.queue_effect(cell))?;
+    or_out_of_memory(cx.queue_effect(cell))?;
     Ok(())
 }
 
@@ -188,7 +188,7 @@ fn act(cx: &mut Cx<'_, Waiting>, effect: u64) -> Result<(), OutOfMemory>
     if effect == CLEAN_UP {
         return Ok(());
     }
-    remembered(cx.write(effect, 1))?;
+    or_out_of_memory(cx.write(effect, 1))?;
     Ok(())
 }
 
