@@ -1,0 +1,6 @@
+//! Builds and patches by examples.
+
+mod cases;
+mod printing;
+mod serving;
+mod trees;

@@ -1,0 +1,5 @@
+//! Tests of what takes no memory.
+#![tactic(auto)]
+
+#[cfg(test)]
+mod marks;

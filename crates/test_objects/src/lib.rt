@@ -1,0 +1,5 @@
+//! Tests of what is told as objects of JSON, as tables.
+#![tactic(auto)]
+
+#[cfg(test)]
+mod tests;

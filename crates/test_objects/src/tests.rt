@@ -1,0 +1,4 @@
+//! What the objects of edits, reports and faults say.
+
+mod edits;
+mod reports;
