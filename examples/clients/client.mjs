@@ -1,11 +1,12 @@
 #!/usr/bin/env node
-// Drives an application from node: client.mjs SOURCE.json, then inputs on standard input, one a line.
+// Drives an application: client.mjs SOURCE.json, then inputs on standard input, one a line.
 // It prints what the program answers: of each input its edits and its report, or `refused`.
 import { spawn } from "node:child_process";
 import { readFileSync } from "node:fs";
 import { createInterface } from "node:readline";
+import { fileURLToPath } from "node:url";
 
-const show = new URL("../../show", import.meta.url).pathname;
+const show = fileURLToPath(new URL("../../show", import.meta.url));
 const app = spawn(show, ["--stream"], { stdio: ["pipe", "pipe", "inherit"] });
 app.stdin.on("error", () => {});
 const lines = createInterface({ input: app.stdout })[Symbol.asyncIterator]();
@@ -21,9 +22,9 @@ async function ask(line, answers = 1) {
   return false;
 }
 
-const source = JSON.parse(readFileSync(process.argv[2]));
+const source = readFileSync(process.argv[2], "utf8").replaceAll("\n", " ");
 // The build has an answer, and so has each input that stands in the source.
-let goesOn = await ask(JSON.stringify(source), 1 + (source.inputs ?? []).length);
+let goesOn = await ask(source, 1 + (JSON.parse(source).inputs ?? []).length);
 for await (const line of createInterface({ input: process.stdin })) goesOn &&= await ask(line);
 app.stdin.end();
 app.on("close", (status) => (process.exitCode = status));

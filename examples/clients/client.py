@@ -1,7 +1,7 @@
 #!/usr/bin/env python3
 """Drives an application: client.py SOURCE.json, then inputs on standard input, one a line.
-
 It prints what the program answers: of each input its edits and its report, or `refused`."""
+import contextlib
 import json
 import pathlib
 import subprocess
@@ -10,21 +10,21 @@ import sys
 SHOW = pathlib.Path(__file__).resolve().parents[2] / "show"
 
 
-def ask(process, value, answers=1):
-    """Writes a value on a line, and gives the lines that answer it."""
-    process.stdin.write(json.dumps(value) + "\n")
-    process.stdin.flush()
-    for line in process.stdout:
-        yield line
-        answers -= line.startswith(("report ", "refused"))
-        if answers == 0 or line.startswith("fault "):
+def ask(process, line, answers=1):
+    """Writes a line, and gives those that answer it."""
+    print(line, file=process.stdin, flush=True)
+    for answer in process.stdout:
+        yield answer
+        answers -= answer.startswith(("report ", "refused"))
+        if answers == 0 or answer.startswith("fault "):
             return
 
 
 source = json.loads(pathlib.Path(sys.argv[1]).read_bytes())
-with subprocess.Popen([SHOW, "--stream"], stdin=-1, stdout=-1, encoding="utf-8") as app:
+app = subprocess.Popen([SHOW, "--stream"], stdin=-1, stdout=-1, encoding="utf-8")
+with contextlib.suppress(BrokenPipeError), app:
     # The build has an answer, and so has each input that stands in the source.
-    sys.stdout.writelines(ask(app, source, 1 + len(source.get("inputs", []))))
+    sys.stdout.writelines(ask(app, json.dumps(source), 1 + len(source.get("inputs", []))))
     for given in sys.stdin:
-        sys.stdout.writelines(ask(app, json.loads(given)))
+        sys.stdout.writelines(ask(app, given.rstrip("\n")))
 sys.exit(app.returncode)

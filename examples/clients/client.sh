@@ -1,5 +1,5 @@
 #!/bin/bash
-# Drives an application from a shell: client.sh SOURCE.json, then inputs on standard input, one a line.
+# Drives an application: client.sh SOURCE.json, then inputs on standard input, one a line.
 # It prints what the program answers: of each input its edits and its report, or `refused`.
 show=$(dirname "$(readlink -f "$0")")/../../show
 coproc app { exec "$show" --stream; }
@@ -9,7 +9,7 @@ number=$app_PID
 ask() {
     left=$2
     { printf '%s\n' "$1" >&"${app[1]}"; } 2>/dev/null
-    while [ "$left" -gt 0 ] && IFS= read -r line <&"${app[0]}"; do
+    while [ "$left" -gt 0 ] && { IFS= read -r line <&"${app[0]}"; } 2>/dev/null; do
         printf '%s\n' "$line"
         case $line in
             "fault "*) left=0 ;;
@@ -18,7 +18,7 @@ ask() {
     done
 }
 
-# No line of JSON has a newline in a text, so that one may be a space. The build has an answer, and so
+# No text of JSON has a newline in it, so that one may be a space. The build has an answer, and so
 # has each input that stands in the source.
 ask "$(tr '\n' ' ' <"$1")" $((1 + $(jq '.inputs // [] | length' "$1")))
 while IFS= read -r given; do ask "$given" 1; done
