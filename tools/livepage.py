@@ -114,7 +114,7 @@ class Page:
         """The programs that wait for inputs."""
         all_of_them = list(running.processes())
         servers = {it.number for it in all_of_them if f"live {self.file} " in f"{it.words} "}
-        return [it for it in all_of_them if it.parent in servers and "--stream" in it.words]
+        return [it for it in all_of_them if it.parent in servers]
 
     def comes(self, expression):
         """Whether an expression becomes true in some seconds."""

@@ -111,7 +111,7 @@ class Visit:
         try:
             lines = self.stream.ask(streaming.flat(text))
         except streaming.Passed as passed:
-            self.stream.goes_on, self.told = False, f"The program was ended: {passed}."
+            self.told = f"The program was ended: {passed}."
             return False
         if lines == ["refused"] or not lines:
             return False

@@ -14,7 +14,7 @@ READ = 1 << 20
 
 
 class Passed(Exception):
-    """A bound that a program has passed, in words."""
+    """A bound that a program has passed and was ended for, in words."""
 
 
 class Stream:
@@ -37,28 +37,33 @@ class Stream:
         self.end()
 
     def more(self, begun: float, count: int) -> bytes:
-        """Some bytes that the program writes, none at its end; within the bounds, if it has any."""
-        out = self.process.stdout
-        while self.bounds and not select.select([out], [], [], bounded.SECONDS)[0]:
+        """Some bytes that the program writes, none at its end. Past a bound, if it has any, it is
+        ended."""
+        out, is_there = self.process.stdout, not self.bounds
+        while not is_there:
+            is_there = select.select([out], [], [], bounded.SECONDS)[0]
             passed = self.bounds.passed_by(self.process, begun, count)
             if passed:
+                self.goes_on = False
+                self.kill()
                 raise Passed(passed)
         return os.read(out.fileno(), READ)
 
     def lines(self) -> Iterator[str]:
         """The lines that the program writes, as they come."""
-        begun, count = time.monotonic(), 0
+        begun, count, pieces = time.monotonic(), 0, []
         while True:
-            line, newline, rest = self.rest.partition(b"\n")
+            piece, newline, rest = self.rest.partition(b"\n")
+            pieces.append(piece)
             if newline:
                 self.rest = rest
-                yield line.decode()
+                yield b"".join(pieces).decode()
+                pieces = []
                 continue
-            read = self.more(begun, count)
-            if not read:
+            self.rest = self.more(begun, count)
+            if not self.rest:
                 return
-            count += len(read)
-            self.rest += read
+            count += len(self.rest)
 
     def answer(self, answers: int) -> list[str]:
         """The lines up to so many reports or refusals, or to a fault."""
