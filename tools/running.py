@@ -1,8 +1,9 @@
 """The processes of this machine, and what a run of the kit's command rt does in each of them.
 
-    python3 tools/running.py NUMBER
+    python3 tools/running.py NUMBER [WORD]
 
-prints the processor time, in seconds, that a process and all below it have used."""
+prints the processor time, in seconds, that a process and all below it have used; with a word, the
+numbers of those whose command has it."""
 import dataclasses
 import os
 import pathlib
@@ -80,5 +81,14 @@ def below(top: int) -> list[Process]:
     return [found[number] for number in numbers if number in found]
 
 
+def main():
+    top, *words = sys.argv[1:]
+    found = below(int(top))
+    if words:
+        print(*(it.number for it in found if words[0] in it.words), sep="\n")
+    else:
+        print(round(sum(it.used + it.ended for it in found)))
+
+
 if __name__ == "__main__":
-    print(round(sum(it.used + it.ended for it in below(int(sys.argv[1])))))
+    main()
