@@ -116,9 +116,9 @@ class Page:
         servers = {it.number for it in all_of_them if f"live {self.file} " in f"{it.words} "}
         return [it for it in all_of_them if it.parent in servers]
 
-    def comes(self, expression):
-        """Whether an expression becomes true in some seconds."""
-        until = time.monotonic() + SECONDS
+    def comes(self, expression, seconds=SECONDS):
+        """Whether an expression becomes true in so many seconds."""
+        until = time.monotonic() + seconds
         while time.monotonic() < until:
             if self.value(expression):
                 return True

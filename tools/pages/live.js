@@ -142,23 +142,39 @@ class Live {
     this.list.replaceChildren();
   }
 
-  // What is answered to a question to tools/live, or nothing where it is refused.
-  async ask(path, inputs) {
+  // Puts a question to tools/live.
+  post(path, question) {
     const headers = { "Content-Type": "application/json" };
-    const answer = await fetch(path, { method: "POST", headers, body: JSON.stringify(inputs) });
+    return fetch(path, { method: "POST", headers, body: JSON.stringify(question) });
+  }
+
+  // What is answered to a question, or nothing where it is refused.
+  async ask(path, inputs) {
+    const answer = await this.post(path, inputs);
     if (answer.ok) return answer;
     this.complain(await answer.text());
     return undefined;
   }
 
-  // What the program answers of these inputs, or nothing where it refuses them.
-  async run(inputs) {
+  // What the program answers to a further input alone, where it waits behind those so far and the
+  // page is as it told; else nothing.
+  async further(input) {
+    if (!this.name || this.isBroken || !this.shown) return undefined;
+    const answer = await this.post("next", [this.name, this.inputs.length, input]);
+    const told = answer.ok ? await answer.json() : undefined;
+    return told?.tag === this.tag ? told : undefined;
+  }
+
+  // What the program answers of these inputs, or nothing where it refuses them. Where all but the
+  // last one are answered already, that one is given behind them.
+  async run(inputs, last) {
     try {
-      const answer = await (await this.ask("run", inputs))?.json();
+      const more = last && (await this.further(last));
+      const answer = more ?? (await (await this.ask("run", inputs))?.json());
       if (!answer) return undefined;
       this.complain(answer.complaint);
       const isNew = this.tag !== answer.tag;
-      this.tag = answer.tag;
+      [this.tag, this.name] = [answer.tag, answer.name];
       return answer.lines && { ...answer, isNew };
     } catch (error) {
       this.complain(`tools/live does not answer (${error.message}); start it again`);
@@ -168,15 +184,15 @@ class Live {
 
   // Makes the edits that are new, and lists the steps that they belong to. Where the source was
   // edited, or an edit failed, all of them are new.
-  take(inputs, { lines, isNew, style }) {
+  take(inputs, { lines, from = 0, isNew, style }) {
     if (isNew || this.isBroken || !this.shown) this.begin();
     this.root.getRootNode().getElementById("style").textContent = style;
     const all = steps(lines);
-    const from = this.list.children.length;
+    const count = this.list.children.length;
     const touched = [];
-    for (const [k, step] of all.slice(from).entries()) {
+    for (const [k, step] of all.slice(count - from).entries()) {
       for (const edit of step.edits) touched.push(this.shown.apply(edit));
-      this.list.append(rowOf(inputs[from + k - 1], step));
+      this.list.append(rowOf(inputs[count + k - 1], step));
     }
     this.inputs = inputs;
     this.fault = all.find((step) => step.isFault)?.report;
@@ -236,7 +252,7 @@ class Live {
         return;
       }
       const inputs = [...this.inputs, next.input];
-      const answer = await this.run(inputs);
+      const answer = await this.run(inputs, next.input);
       if (answer) this.take(inputs, answer);
       else this.shown?.putBack();
     });
