@@ -82,14 +82,14 @@ module _ (scope : ScopeId) where
   convex x y from less by = convex_at x.0 y.0 x.1 y.1 from less by
 
   -- what ties with a source is of the scope where the source is
-  of_alike : (source other : Source) → (is_context_of scope other && is_eq (source_cmp source other)) ≡ (is_eq (source_cmp source other) && is_context_of scope source)
+  pub of_alike : (source other : Source) → (is_context_of scope other && is_eq (source_cmp source other)) ≡ (is_eq (source_cmp source other) && is_context_of scope source)
   of_alike source other =
       elim (is_eq (source_cmp source other)) as (λ b. is_eq (source_cmp source other) ≡ b → (is_context_of scope other && b) ≡ (b && is_context_of scope source)) [
         | true ↦ λ tie. and_turned (is_context_of scope other) true ∙ ap (is_context_of scope) (sym (source_exact source other ((Equal-is (source_cmp source other)).0 tie)))
         | false ↦ λ _. and_turned (is_context_of scope other) false
       ] refl
 
-  any-flat_map : (t : Source → Bool) (reads : List (Reader × List Source)) → list_any t (flat_map (λ read. read.1) reads) ≡ list_any (λ read. list_any t read.1) reads
+  pub any-flat_map : (t : Source → Bool) (reads : List (Reader × List Source)) → list_any t (flat_map (λ read. read.1) reads) ≡ list_any (λ read. list_any t read.1) reads
   any-flat_map t [] = refl
   any-flat_map t (read ∷ reads) = list_any-append t read.1 (flat_map (λ read. read.1) reads) ∙ ap (λ b. list_any t read.1 || b) (any-flat_map t reads)
 

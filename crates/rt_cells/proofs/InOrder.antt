@@ -51,7 +51,7 @@ module _ {K : Type 0} {R : K → K → Ordering} (o : IsTotalOrder R) where
   sorted_in_order (x ∷ xs) = sorted_inserted (in_order R xs) x (sorted_in_order xs)
 
   module _ (exact : (x y : K) → R x y ≡ Equal → x ≡ y) where
-    any_inserted : (q : K) (xs : List K) (k : K) → list_any (eq_by_cmp R q) (insert_key R xs k) ≡ (eq_by_cmp R q k || list_any (eq_by_cmp R q) xs)
+    pub any_inserted : (q : K) (xs : List K) (k : K) → list_any (eq_by_cmp R q) (insert_key R xs k) ≡ (eq_by_cmp R q k || list_any (eq_by_cmp R q) xs)
     any_inserted q [] k = refl
     any_inserted q (x ∷ xs) k =
         elim (R k x) as (λ r. R k x ≡ r → list_any (eq_by_cmp R q) (match_ordering r (k ∷ x ∷ xs) (x ∷ xs) (x ∷ insert_key R xs k)) ≡ (eq_by_cmp R q k || (eq_by_cmp R q x || list_any (eq_by_cmp R q) xs))) [

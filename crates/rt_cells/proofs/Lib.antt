@@ -10,8 +10,11 @@ pub mod LinkSteps
 pub mod Linked
 pub mod InOrder
 pub mod ReadersOf
-pub mod NextReader
+pub mod MetReaders
+pub mod Again
 pub mod ContextsOf
+pub mod ContextsRead
+pub mod HeldOnce
 pub mod DroppedContexts
 pub mod Members
 pub mod Lasting

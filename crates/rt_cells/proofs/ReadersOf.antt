@@ -1,6 +1,7 @@
 -- The readers that stand at a source's place are those that have the source.
-use Rattle.std.proofs.Common.{◌≡◌, List, map, Bool, true, refl, ap, ◌∙◌}
+use Rattle.std.proofs.Common.{◌≡◌, List, [], map, Bool, true, Option, None, Some, refl, ap, ◌∙◌}
 use Rattle.std.specs.declared.ops.Bound.TheVariants.{Included, Unbounded}
+use Rattle.std.specs.Option.{unwrap_or}
 use Rattle.std.specs.Ordering.{is_eq, is_le, on}
 use Rattle.std.specs.List.{filter, take_while}
 use Rattle.std.specs.List.Sorted.{IsStrictlySortedBy}
@@ -13,11 +14,14 @@ use Rattle.rt_cells.specs.declared.places.Place.{Place}
 use Rattle.rt_cells.specs.contracts.places.PlaceOrd.TheImpl.Laws as place_laws
 use Rattle.rt_cells.specs.Orders.{place_cmp, reader_cmp, same_place}
 use Rattle.rt_cells.specs.Places.{place_of}
-use Rattle.rt_cells.specs.Reads.{has, readers_of}
+use Rattle.std.specs.List.{list_any}
+use Rattle.std.specs.BTreeMap.{is_at}
+use Rattle.rt_cells.specs.Reads.{has, reads_of, readers_of, sources_at}
+use Rattle.rt_cells.specs.Index.{passes}
 use Rattle.rt_cells.specs.Links.{link_cmp, stands_at, IsLinked}
 use Rattle.rt_cells.proofs.Exact.{place_total, reader_total, reader_exact}
 use Rattle.rt_cells.proofs.NumbersOf.{zero_least}
-use Rattle.rt_cells.proofs.Pairs.{scan_first, seconds_are, sorted_kept, sorted_entries}
+use Rattle.rt_cells.proofs.Pairs.{any-map, any-filter, entry_passes, scan_first, seconds_are, sorted_kept, sorted_entries}
 use Rattle.rt_cells.proofs.Linked.{stands-has}
 
 -- the first of all readers
@@ -49,3 +53,17 @@ readers_found reads links source linked sorted =
 pub readers_ascend : (source : Source) (reads : List (Reader × List Source)) → IsStrictlySortedBy reader_cmp (keys_of reads) → IsStrictlySortedBy reader_cmp (readers_of source reads)
 readers_ascend source reads ascending =
     sorted_kept (on (λ read. read.0) reader_cmp) reader_cmp (λ read. has source read.1) (λ read. read.0) (λ x y _ _ less. less) reads (sorted_entries reader_cmp reads ascending)
+
+-- whether what was found has the source
+pub found_has : (source : Source) (found : Option (List Source)) → passes (has source) found ≡ has source (unwrap_or found [])
+found_has source None = refl
+found_has source (Some sources) = refl
+
+-- a reader is among a source's readers where it has the source
+pub readers_have : (source : Source) (reads : List (Reader × List Source)) → IsStrictlySortedBy reader_cmp (keys_of reads) → (reader : Reader)
+    → list_any (is_at (reader_cmp reader)) (readers_of source reads) ≡ has source (reads_of reader reads)
+readers_have source reads ascending reader =
+    any-map (is_at (reader_cmp reader)) (λ read. read.0) (filter (λ read. has source read.1) reads)
+    ∙ any-filter (λ read. is_at (reader_cmp reader) read.0) (λ read. has source read.1) reads
+    ∙ entry_passes reader_cmp reader_total (has source) reader reads ascending
+    ∙ found_has source (sources_at reader reads)

@@ -81,6 +81,14 @@ module _ {V : Type 0} where
     reads = without_reader (reader.Context state.next_context) state.reads;
   }
 
+  -- A new context of the scope, after the others, under a number that is no lower than the next one, and without sources.
+  abbrev pub context_entered : ScopeId → ℕ → Target → State V → State V
+  context_entered owner number target state = record state {
+    contexts = state.contexts ++ (number, record { owner = owner; value = target }) ∷ [];
+    next_context = number + 1;
+    reads = without_reader (reader.Context number) state.reads;
+  }
+
   -- A change that is made where the reactive context is live, and else nothing.
   abbrev pub where_live : ℕ → (State V → State V) → State V → State V
   where_live context change state =

@@ -1,7 +1,5 @@
 -- How the readers that stand by the places of sources are tied to each reader's sources.
-use Rattle.std.specs.Prelude.{◌≡◌, ℕ, Bool, not, ◌&&◌, cond, List, [], ◌∷◌, Option, None, Some}
-use Rattle.std.specs.declared.ops.Bound.{Bound}
-use Rattle.std.specs.declared.ops.Bound.TheVariants.{Included, Excluded}
+use Rattle.std.specs.Prelude.{◌≡◌, Bool, not, ◌&&◌, List, [], Option}
 use Rattle.std.specs.declared.cmp.Ordering.{Ordering}
 use Rattle.std.specs.Option.{IfSome}
 use Rattle.std.specs.Ordering.{is_eq, then_cmp, on}
@@ -13,7 +11,7 @@ use Rattle.rt_cells.specs.declared.sources.Source.{Source}
 use Rattle.rt_cells.specs.declared.sources.Reader.{Reader}
 use Rattle.rt_cells.specs.declared.sources.Reader.TheVariants as reader
 use Rattle.rt_cells.specs.declared.places.Place.{Place}
-use Rattle.rt_cells.specs.Orders.{source_cmp, reader_cmp, place_cmp, same_place}
+use Rattle.rt_cells.specs.Orders.{source_cmp, reader_cmp, place_cmp}
 use Rattle.rt_cells.specs.Places.{place_of}
 use Rattle.rt_cells.specs.Index.{passes}
 use Rattle.rt_cells.specs.Reads.{has, sources_at}
@@ -35,21 +33,6 @@ is_linked reader sources link =
 abbrev pub is_let_go : Reader → List Source → List Source → Place × Reader → Bool
 is_let_go reader kept sources link = list_any
     (λ source. not (has source kept) && is_at (link_cmp (place_of source, reader)) link) sources
-
--- Where a search for the readers at a place begins: past a scope, or at the first of all readers.
-abbrev pub start_at : Place → Option ℕ → Bound (Place × Reader)
-start_at place None = Included (place, reader.Scope (record { 0 = 0 }))
-start_at place (Some scope) = Excluded (place, reader.Scope (record { 0 = scope }))
-
--- The scope that a reader is.
-abbrev pub scope_number : Reader → Option ℕ
-scope_number (reader.Scope scope) = Some scope.0
-scope_number (reader.Context number) = None
-
--- The scope of the first link, where that is one of the place.
-abbrev pub scope_first : Place → List (Place × Reader) → Option ℕ
-scope_first place [] = None
-scope_first place (link ∷ links) = cond (same_place place link.0) (scope_number link.1) None
 
 -- The pairs are each reader with its sources' places; readers ascend, and the sources of each.
 pub record IsLinked (reads : List (Reader × List Source)) (links : List (Place × Reader)) : Type 0

@@ -1,5 +1,5 @@
 -- Who reads what: each reader with its sources, and the readers of a source.
-use Rattle.std.specs.Prelude.{◌≡◌, ℕ, ◌<◌, Bool, true, false, List, [], ◌∷◌, map, nat_lt, Option, None, Some}
+use Rattle.std.specs.Prelude.{ℕ, Bool, true, false, List, [], ◌∷◌, map, nat_lt, Option, None, Some}
 use Rattle.std.specs.declared.cmp.Ordering.{Ordering}
 use Rattle.std.specs.Option.{unwrap_or}
 use Rattle.std.specs.Ordering.{is_eq}
@@ -43,12 +43,6 @@ comes_after (Some former) number = nat_lt former number
 -- A scope reads the source.
 abbrev pub is_read_by : ℕ → Source → List (Reader × List Source) → Bool
 is_read_by scope source reads = has source (reads_of (reader.Scope (record { 0 = scope })) reads)
-
--- A scope reads the source and comes after the other, and no lower one does.
-pub record IsNextReader (source : Source) (after : Option ℕ) (reads : List (Reader × List Source)) (scope : ℕ) : Type 0 where
-  pub past : comes_after after scope ≡ true
-  pub read : is_read_by scope source reads ≡ true
-  pub first : (other : ℕ) → comes_after after other ≡ true → other < scope → is_read_by other source reads ≡ false
 
 -- The reader has no sources.
 abbrev pub without_reader : Reader → List (Reader × List Source) → List (Reader × List Source)

@@ -1,19 +1,22 @@
 //! Tracked cells with their readers: what a body reads, and whom a write tells.
 //! A cell, a reader and a reactive context are known by number; a number is never used again.
-ghost use Rattle.std.specs.Prelude.{◌≡◌, ◌↔◌, ◌⊎◌, ◌-◌, ◌^◌, ◌<◌, ◌++◌, ◌∷◌, ℕ, [], IfOk, OnOk, OnErr, IfNone, cond, is_some, not, nat_eq, true, false};
-ghost use Rattle.std.specs.Option.{IfSome, option_copied};
-ghost use Rattle.std.specs.List.{filter};
+ghost use Rattle.std.specs.Prelude.{◌≡◌, ◌↔◌, ◌⊎◌, ◌-◌, ◌^◌, ◌<◌, ◌++◌, ◌∷◌, ℕ, [], IfOk, OnOk, OnErr, cond, is_some, not, nat_eq, true};
+ghost use Rattle.std.specs.Option.{option_copied};
+ghost use Rattle.std.specs.List.{filter, list_any};
 ghost use Rattle.std.specs.List.Sorted.{IsStrictlySortedBy};
 ghost use Rattle.std.specs.Ordering.{nat_cmp};
 ghost use Rattle.std.specs.BTreeMap.{is_at};
+ghost use Rattle.std.specs.Map.{keys_of};
+ghost use Rattle.rt_values.specs.declared.names.ScopeId.{ScopeId};
 ghost use Rattle.rt_cells.specs.declared.sources.Reader.{Reader};
 ghost use Rattle.rt_cells.specs.Orders.{reader_cmp, source_cmp};
 ghost use Rattle.rt_cells.specs.Held.{held_at, owner_at, value_at, numbers_of};
-ghost use Rattle.rt_cells.specs.Reads.{in_order, reads_of, readers_of, context_sources, comes_after, is_read_by, IsNextReader};
-ghost use Rattle.rt_cells.specs.Cells.{started, cell_made, cell_entered, cell_written, cell_dropped, cells_of_dropped, reads_set, read_added, reader_dropped, context_made, contexts_dropped};
+ghost use Rattle.rt_cells.specs.Reads.{has, in_order, reads_of, readers_of, context_sources};
+ghost use Rattle.rt_cells.specs.Cells.{started, cell_made, cell_entered, cell_written, cell_dropped, cells_of_dropped, reads_set, read_added, reader_dropped, context_made, context_entered, contexts_dropped};
 
 use crate::faults::CellsFault;
 use crate::numbered::Numbered;
+use crate::readers::Readers;
 use crate::reads::Reads;
 use crate::sources::{Reader, Source, Target};
 use rt_values::{List, OutOfMemory, ScopeId};
@@ -97,6 +100,10 @@ impl<V> Cells<V> {
         ensures ok { OnOk result (self.new ≡ read_added reader source self.old) }
         ensures added { OnOk result (reads_of reader self.new.reads
             ≡ in_order source_cmp (reads_of reader self.old.reads ++ source ∷ [])) }
+        ensures each { OnOk result ((other : Reader) → reads_of other self.new.reads
+            ≡ cond (is_at (reader_cmp reader) other)
+            (in_order source_cmp (reads_of reader self.old.reads ++ source ∷ []))
+            (reads_of other self.old.reads)) }
         ensures err { OnErr result (self.new ≡ self.old) }
     {
         self.reads.add(alloc, reader, source)
@@ -118,14 +125,16 @@ impl<V> Cells<V> {
         self.reads.readers_of(alloc, source)
     }
 
-    /// The first scope that reads the source, by number, or the first one after another scope. None
-    /// where no other does. It takes no memory.
-    pub fn next_reader(&self, source: Source, after: Option<u64>) -> Option<u64>
-        ensures next { IfSome result (IsNextReader source after self.now.reads) }
-        ensures none { IfNone result ((scope : ℕ) → comes_after after scope ≡ true
-            → is_read_by scope source self.now.reads ≡ false) }
+    /// Who reads the source, ascending, to be met one by one from one search on. It takes no memory.
+    pub fn readers(&self, source: Source) -> Readers<'_>
+        ensures readers { result ≡ readers_of source self.now.reads }
+        ensures ascending { IsStrictlySortedBy reader_cmp result }
+        ensures members { (reader : Reader) → list_any (is_at (reader_cmp reader)) result
+            ≡ has source (reads_of reader self.now.reads) }
+        ensures contexts { IsStrictlySortedBy nat_cmp (keys_of self.now.contexts) }
     {
-        self.reads.next_reader(source, after)
+        self.contexts.ascends();
+        self.reads.readers(source)
     }
 
     /// The contexts of the scope that some reader has looked up, of whatever kind, ascending.
@@ -136,6 +145,12 @@ impl<V> Cells<V> {
     ) -> Result<List<Source>, OutOfMemory>
         ensures sources { IfOk result (λ sources. sources ≡ context_sources scope self.now.reads) }
         ensures ascending { IfOk result (IsStrictlySortedBy source_cmp) }
+        ensures read { IfOk result (λ sources. (reader : Reader) (kind : ℕ)
+            → has (Source.Context kind scope) (reads_of reader self.now.reads) ≡ true
+            → has (Source.Context kind scope) sources ≡ true) }
+        ensures only { IfOk result (λ sources. (kind : ℕ)
+            → has (Source.Context kind scope) sources ≡ true → (reader : Reader)
+            × (has (Source.Context kind scope) (reads_of reader self.now.reads) ≡ true)) }
     {
         self.reads.contexts_of(alloc, scope)
     }
@@ -150,9 +165,40 @@ impl<V> Cells<V> {
         self.reads.drop_reader(reader);
     }
 
+    /// Enters a reactive context of the scope, without sources, under a number that was drawn elsewhere.
+    /// A number below the next one is refused as one that is used up.
+    pub fn enter_context(
+        &mut self,
+        owner: ScopeId,
+        number: u64,
+        target: Target,
+    ) -> Result<(), CellsFault>
+        ensures ok { OnOk result (self.new ≡ context_entered owner number target self.old) }
+        ensures each { OnOk result ((other : Reader) → reads_of other self.new.reads
+            ≡ cond (is_at (reader_cmp (Reader.Context number)) other) []
+            (reads_of other self.old.reads)) }
+        ensures ascending { OnOk result (IsStrictlySortedBy nat_cmp (keys_of self.new.contexts)) }
+        ensures used { (result ≡ Err CellsFault.IdsExhausted)
+            ↔ ((number < self.old.next_context) ⊎ (number ≡ 2 ^ 64 - 1)) }
+        ensures err { OnErr result (self.new ≡ self.old) }
+    {
+        self.contexts.enter(owner, number, target)?;
+        self.contexts.ascends();
+        self.reads.drop_reader(Reader::Context(number));
+        Ok(())
+    }
+
     /// Removes the reactive contexts that were made for the scope, with their sources.
     pub fn drop_contexts(&mut self, owner: ScopeId)
         ensures dropped { self.new ≡ contexts_dropped owner self.old }
+        ensures scopes { (scope : ScopeId) → reads_of (Reader.Scope scope) self.new.reads
+            ≡ reads_of (Reader.Scope scope) self.old.reads }
+        ensures each { (number : ℕ) → reads_of (Reader.Context number) self.new.reads
+            ≡ cond (list_any (nat_eq number) (numbers_of owner self.old.contexts)) []
+            (reads_of (Reader.Context number) self.old.reads) }
+        ensures left { (number : ℕ) → held_at number self.new.contexts
+            ≡ cond (list_any (nat_eq number) (numbers_of owner self.old.contexts)) None
+            (held_at number self.old.contexts) }
     {
         while let Some(number) = self.contexts.first_of(owner) {
             let _target = self.contexts.remove(number);
@@ -190,7 +236,9 @@ impl<V> Cells<V> {
     /// Whom a live reactive context tells.
     pub(crate) fn context_target(&self, number: u64) -> Option<Target>
         ensures target { result ≡ value_at number self.now.contexts }
+        ensures ascending { IsStrictlySortedBy nat_cmp (keys_of self.now.contexts) }
     {
+        self.contexts.ascends();
         self.contexts.get(number).copied()
     }
 }

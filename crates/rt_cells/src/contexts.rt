@@ -2,6 +2,9 @@
 //! one of these changes.
 //! A context that was removed with its scope stays a name that does nothing.
 ghost use Rattle.std.specs.Prelude.{◌≡◌, ◌↔◌, ◌-◌, ◌^◌, [], IfOk, OnOk, OnErr};
+ghost use Rattle.std.specs.List.Sorted.{IsStrictlySortedBy};
+ghost use Rattle.std.specs.Map.{keys_of};
+ghost use Rattle.std.specs.Ordering.{nat_cmp};
 ghost use Rattle.rt_cells.specs.declared.sources.Reader.TheVariants as reader;
 ghost use Rattle.rt_cells.specs.Held.{held_at, owner_at, value_at};
 ghost use Rattle.rt_cells.specs.Reads.{reads_of};
@@ -100,6 +103,7 @@ impl ReactiveContext {
     /// Whom the context tells, or `None` of a removed context.
     pub fn target<V>(&self, cells: &Cells<V>) -> Option<Target>
         ensures target { result ≡ value_at self.now.0 cells.now.contexts }
+        ensures ascending { IsStrictlySortedBy nat_cmp (keys_of cells.now.contexts) }
     {
         cells.context_target(self.0)
     }

@@ -9,6 +9,7 @@ mod faults;
 mod links;
 mod numbered;
 mod places;
+mod readers;
 mod reads;
 mod sources;
 mod subscribers;
@@ -17,6 +18,7 @@ pub use cells::Cells;
 pub use compared::{readers_compare, sources_compare};
 pub use contexts::ReactiveContext;
 pub use faults::CellsFault;
+pub use readers::Readers;
 pub use rt_values::{
     Boxed, List, OutOfMemory, Part, ScopeId, Serials, Task, Text, copy_slice, same_slice,
 };

@@ -10,17 +10,16 @@ ghost use Rattle.rt_cells.specs.declared.places.Place.TheVariants as place;
 ghost use Rattle.rt_cells.specs.Orders.{source_cmp, same_place};
 ghost use Rattle.rt_cells.specs.Places.{place_of, source_at};
 ghost use Rattle.rt_cells.specs.Reads.{has, is_context_of};
-ghost use Rattle.rt_cells.specs.Links.{link_cmp, is_linked, is_let_go, start_at, scope_first, scope_number};
+ghost use Rattle.rt_cells.specs.Links.{link_cmp, is_linked, is_let_go};
 
 use crate::places::{Place, place_of, source_at};
 use crate::sources::{Reader, Source};
 use rt_values::{OutOfMemory, ScopeId};
 use std::alloc::Global;
 use std::collections::BTreeSet;
-use std::ops::Bound;
 
 /// The first of all readers.
-const FIRST_READER: Reader = Reader::Scope(ScopeId(0));
+pub const FIRST_READER: Reader = Reader::Scope(ScopeId(0));
 
 /// Whether a source is among others.
 pub fn is_among(sources: &[Source], source: Source) -> bool
@@ -86,42 +85,6 @@ pub fn readers_at(
         .map(|link| link.1)
         .collect(alloc)?;
     Ok(readers)
-}
-
-/// Where a search for the readers at a place begins: past a scope, or at the first of all readers.
-fn start_at(place: Place, after: Option<u64>) -> Bound<(Place, Reader)>
-    ensures start { result ≡ start_at place after }
-{
-    match after {
-        Some(scope) => Bound::Excluded((place, Reader::Scope(ScopeId(scope)))),
-        None => Bound::Included((place, FIRST_READER)),
-    }
-}
-
-/// The first reader that stands at a place, or there past a scope, where that is a scope.
-pub fn scope_at(links: &BTreeSet<(Place, Reader)>, place: Place, after: Option<u64>) -> Option<u64>
-    ensures first { result ≡ scope_first place
-        (keys_between link_cmp (start_at place after) Unbounded links.now) }
-    ensures ordered { IsStrictlySortedBy link_cmp links.now.keys }
-{
-    let link = links
-        .range((start_at(place, after), Bound::Unbounded))
-        .next()?;
-    if place == link.0 {
-        scope_of(link.1)
-    } else {
-        None
-    }
-}
-
-/// The scope that a reader is.
-fn scope_of(reader: Reader) -> Option<u64>
-    ensures scope { result ≡ scope_number reader }
-{
-    match reader {
-        Reader::Scope(scope) => Some(scope.0),
-        Reader::Context(_) => None,
-    }
 }
 
 /// Whether the place is that of what the scope provides of some kind.

@@ -71,6 +71,14 @@ impl<T> Numbered<T> {
         self.held.get(&number).map(|thing| thing.owner)
     }
 
+    /// Numbers ascend.
+    #[inline(always)]
+    pub fn ascends(&self)
+        ensures ascending { IsStrictlySortedBy nat_cmp (keys_of self.now.held) }
+    {
+        let _things = &self.held;
+    }
+
     /// What is kept under a number.
     pub fn get(&self, number: u64) -> Option<&T>
         ensures value { option_copied result ≡ value_at number self.now.held }

@@ -1,16 +1,18 @@
 //! Each reader with its sources, and from each source back to its readers.
-ghost use Rattle.std.specs.Prelude.{◌≡◌, ℕ, ◌++◌, ◌∷◌, [], List, IfOk, OnOk, OnErr, IfNone, cond, true, false};
-ghost use Rattle.std.specs.Option.{IfSome};
+ghost use Rattle.std.specs.Prelude.{◌≡◌, ℕ, ◌++◌, ◌∷◌, [], List, IfOk, OnOk, OnErr, cond, true};
+ghost use Rattle.std.specs.List.{list_any};
 ghost use Rattle.std.specs.List.Sorted.{IsStrictlySortedBy};
 ghost use Rattle.std.specs.BTreeMap.{insert_entry, is_at};
+ghost use Rattle.std.specs.Map.{keys_of};
 ghost use Rattle.rt_cells.specs.declared.sources.Reader.{Reader};
 ghost use Rattle.rt_cells.specs.Orders.{source_cmp, reader_cmp};
-ghost use Rattle.rt_cells.specs.Reads.{in_order, sources_at, reads_of, readers_of, with_reads, without_reader, context_sources, comes_after, is_read_by, IsNextReader};
+ghost use Rattle.rt_cells.specs.Reads.{has, in_order, reads_of, readers_of, with_reads, without_reader, context_sources};
 
-use crate::links::{contexts_at, enter, leave, readers_at, scope_at};
+use crate::links::{contexts_at, enter, is_among, leave, readers_at};
 use crate::places::{Place, place_of};
+use crate::readers::{Readers, readers_from};
 use crate::sources::{Reader, Source};
-use rt_values::{List, OutOfMemory, ScopeId};
+use rt_values::{List, OutOfMemory, ScopeId, same_slice};
 use std::alloc::Global;
 use std::collections::{BTreeMap, BTreeSet};
 use std::marker::Model;
@@ -71,6 +73,7 @@ impl Reads {
     pub fn of(&self, reader: Reader) -> &[Source]
         ensures sources { result.now ≡ reads_of reader self.now }
         ensures ascending { IsStrictlySortedBy source_cmp result.now }
+        ensures readers { IsStrictlySortedBy reader_cmp (keys_of self.now) }
     {
         kept_of(&self.sources, reader)
     }
@@ -126,7 +129,8 @@ impl Reads {
         }
     }
 
-    /// The reader has just the sources that are named, however often each is.
+    /// The reader has just the sources that are named, however often each is. Where it had just these,
+    /// no link is looked for.
     pub fn set(
         &mut self,
         alloc: Global,
@@ -146,6 +150,9 @@ impl Reads {
             self.drop_reader(reader);
             return Ok(());
         }
+        if same_slice(self.of(reader), sources.as_slice()) {
+            return Ok(());
+        }
         self.put(reader, sources)
     }
 
@@ -158,23 +165,32 @@ impl Reads {
         Ok(List::from_vec(readers))
     }
 
-    /// The first scope that reads a source, by number, or the first one after another scope.
-    pub fn next_reader(&self, source: Source, after: Option<u64>) -> Option<u64>
-        ensures next { IfSome result (IsNextReader source after self.now) }
-        ensures none { IfNone result ((scope : ℕ) → comes_after after scope ≡ true
-            → is_read_by scope source self.now ≡ false) }
+    /// The readers of a source, ascending, to be met one by one.
+    pub fn readers(&self, source: Source) -> Readers<'_>
+        ensures readers { result ≡ readers_of source self.now }
+        ensures ascending { IsStrictlySortedBy reader_cmp result }
+        ensures members { (reader : Reader) → list_any (is_at (reader_cmp reader)) result
+            ≡ has source (reads_of reader self.now) }
     {
-        scope_at(&self.links, place_of(source), after)
+        readers_from(&self.links, place_of(source))
     }
 
-    /// The reader has one more source, or as many as before where it has that one.
+    /// The reader has one more source, or as many as before where it has that one. Then it takes no
+    /// memory.
     pub fn add(&mut self, alloc: Global, reader: Reader, source: Source) -> Result<(), OutOfMemory>
         ensures ok { OnOk result (self.new ≡ with_reads reader
             (in_order source_cmp (reads_of reader self.old ++ source ∷ [])) self.old) }
         ensures added { OnOk result (reads_of reader self.new
             ≡ in_order source_cmp (reads_of reader self.old ++ source ∷ [])) }
+        ensures each { OnOk result ((other : Reader) → reads_of other self.new
+            ≡ cond (is_at (reader_cmp reader) other)
+            (in_order source_cmp (reads_of reader self.old ++ source ∷ []))
+            (reads_of other self.old)) }
         ensures err { OnErr result (self.new ≡ self.old) }
     {
+        if is_among(self.of(reader), source) {
+            return Ok(());
+        }
         let mut sources = Vec::from_slice(alloc, self.of(reader))?;
         sources.push(source)?;
         self.set(alloc, reader, sources.as_slice())
@@ -184,6 +200,12 @@ impl Reads {
     pub fn contexts_of(&self, alloc: Global, scope: ScopeId) -> Result<List<Source>, OutOfMemory>
         ensures sources { IfOk result (λ sources. sources ≡ context_sources scope self.now) }
         ensures ascending { IfOk result (IsStrictlySortedBy source_cmp) }
+        ensures read { IfOk result (λ sources. (reader : Reader) (kind : ℕ)
+            → has (Source.Context kind scope) (reads_of reader self.now) ≡ true
+            → has (Source.Context kind scope) sources ≡ true) }
+        ensures only { IfOk result (λ sources. (kind : ℕ)
+            → has (Source.Context kind scope) sources ≡ true → (reader : Reader)
+            × (has (Source.Context kind scope) (reads_of reader self.now) ≡ true)) }
     {
         let sources = contexts_at(alloc, &self.links, scope)?;
         in_order(alloc, sources.as_slice())

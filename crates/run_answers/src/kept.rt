@@ -6,7 +6,7 @@ ghost use Rattle.rt_model.specs.Lists.{at};
 ghost use Rattle.rt_model.specs.Removal.{numbers_of};
 ghost use Rattle.run_state.specs.Mirror.{scopes_of, state_of};
 
-use rt_cells::Target;
+use rt_cells::{ReactiveContext, Target};
 use rt_values::{List, OutOfMemory, ScopeId};
 use run_records::Scope;
 use run_state::State;
@@ -28,10 +28,7 @@ pub fn context_target<P: Parts>(state: &State<P>, context: u64) -> Option<Target
     ensures { (g : _) → option_map target_of result
         ≡ option_map (λ x. x.target) (at (state_of g state.now).contexts context) }
 {
-    match state.contexts.get(context) {
-        Some(row) => Some(row.target),
-        None => None,
-    }
+    ReactiveContext(context).target(&state.cells)
 }
 
 /// The value of a cell.

@@ -1,12 +1,16 @@
 -- What the rows hold under a scope's number.
 use Rattle.std.proofs.Common.{ℕ, suc, ◌+◌, ◌<◌, ◌≤◌, arith, length, drop, get_or, Bool, true, false, ◌||◌, ◌&&◌, List, [], ◌∷◌, ◌≡◌, refl, sym, ap, ◌∙◌, cond, nat_eq}
 use Rattle.std.specs.Prelude.{Option, Some, None, option_map}
+use Rattle.std.proofs.lemmas.Bool.{eqb-true}
 use Rattle.std.proofs.lemmas.List.{drop_more}
 use Rattle.std.proofs.lemmas.Grind.{common_steps}
 use Rattle.rt_model.specs.Lists.{at, put, without, has}
 use Rattle.rt_model.specs.Program.{parent_in}
 use Rattle.rt_model.specs.Tree.{is_error_boundary}
 use Rattle.tree_mirror.specs.Sealed.{component_of}
+use Rattle.run_table.specs.Found.{Ascends}
+use Rattle.run_table.proofs.Rows.{first-end}
+use Rattle.run_table.proofs.Search.{first-before}
 use Rattle.run_records.specs.Records.{number_of, parents_of}
 use Rattle.run_records.specs.World.{rows_in, boundaries_in}
 use Rattle.run_records.specs.declared.rest.Scope.{Scope}
@@ -106,6 +110,45 @@ module _ {P C Q V H T E L : Type 0} where
   -- past the last one
   pub bound-end : (scopes : List (ℕ × Scope P C Q V H T E L)) (n i : ℕ) → length scopes ≤ i → false ≡ has (boundaries_in (drop i scopes)) n
   bound-end scopes n i end = ap (λ rest. has (boundaries_in rest) n) (sym (drop-all scopes i end))
+
+or-none : (b c : Bool) → c ≡ false → ((true && b) || c) ≡ b
+or-none true c none = refl
+or-none false c none = none
+
+module _ {P C Q V H T E L : Type 0} where
+  -- what was found is a boundary
+  abbrev pub bound_found : Option (Scope P C Q V H T E L) → Bool
+  bound_found None = false
+  bound_found (Some x) = is_error_boundary (component_of (x.rest).component)
+
+  -- where no scope has the number no boundary has
+  bound-none : (scopes : List (ℕ × Scope P C Q V H T E L)) (n : ℕ) → at scopes n ≡ None → has (boundaries_in scopes) n ≡ false
+  bound-none [] n none = refl
+  bound-none (e ∷ scopes) n none =
+      bound-either (is_error_boundary (component_of (e.1.rest).component)) e.0 n (boundaries_in scopes)
+      ∙ by (nat_eq e.0 n) none (λ rest. bound-none scopes n rest)
+    where
+      by : (b : Bool) → cond b (Some e.1) (at scopes n) ≡ None → (at scopes n ≡ None → has (boundaries_in scopes) n ≡ false)
+          → ((b && is_error_boundary (component_of (e.1.rest).component)) || has (boundaries_in scopes) n) ≡ false
+      by true some rest = absurd (cc some)
+      by false absent rest = rest absent
+
+  -- where numbers rise, the scope that is found tells it
+  pub bound-at : (scopes : List (ℕ × Scope P C Q V H T E L)) (n : ℕ) → Ascends scopes → has (boundaries_in scopes) n ≡ bound_found (at scopes n)
+  bound-at [] n up = refl
+  bound-at (e ∷ scopes) n up =
+      bound-either (is_error_boundary (component_of (e.1.rest).component)) e.0 n (boundaries_in scopes)
+      ∙ by (nat_eq e.0 n) refl (bound-at scopes n (λ i j d low high. up (suc i) (suc j) d (omega (arith, low)) (omega (arith, high))))
+    where
+      others : e.0 ≡ n → at scopes n ≡ None
+      others same =
+          first-end scopes n (length scopes) (omega arith)
+          (first-before scopes n (length scopes) (omega arith) (λ k d low here. let above : e.0 < (get_or scopes k d).0 = up 0 (suc k) d (omega arith) (omega (arith, low)) in omega (arith, above, same, here)))
+
+      by : (b : Bool) → nat_eq e.0 n ≡ b → has (boundaries_in scopes) n ≡ bound_found (at scopes n)
+          → ((b && is_error_boundary (component_of (e.1.rest).component)) || has (boundaries_in scopes) n) ≡ bound_found (cond b (Some e.1) (at scopes n))
+      by true own rest = or-none (is_error_boundary (component_of (e.1.rest).component)) (has (boundaries_in scopes) n) (bound-none scopes n (others (eqb-true e.0 n own)))
+      by false other rest = rest
 
 -- what is found in the rows
 pub ruleset found = (row-found, row-put, row-without, parent-found, length-parents)

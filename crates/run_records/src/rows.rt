@@ -114,11 +114,17 @@ impl<P: Parts> Rows<P> {
         }
     }
 
-    /// Whether a scope is an error boundary.
+    /// Whether a scope is an error boundary. Only where the numbers didn't rise is each scope looked at.
     pub fn is_boundary(&self, id: ScopeId) -> bool
         ensures { result ≡ has (boundaries_in self.now.table) id.0 }
     {
-        is_boundary_in(self.table.as_slice(), id.0)
+        if !self.table.rises() {
+            return is_boundary_in(self.table.as_slice(), id.0);
+        }
+        match self.table.get(id.0) {
+            Some(found) => is_error_boundary(&found.rest.component),
+            None => false,
+        }
     }
 
     /// The error that an error boundary keeps.

@@ -1,6 +1,6 @@
 -- The cells that code keeps, as the model's list.
 use Rattle.std.proofs.Common.{◌≡◌, ℕ, inl, inr, Bool, true, false, List, [], ◌∷◌, ◌++◌, refl, ap, sym, ◌∙◌, cond, arith, nat_eq}
-use Rattle.std.specs.Prelude.{not, Option, Some, None, option_map, is_some, Result, OnOk, if◌then◌else◌}
+use Rattle.std.specs.Prelude.{not, Option, Some, None, option_map, is_some, if◌then◌else◌}
 use Rattle.std.specs.List.{filter}
 use Rattle.std.specs.Map.{lookup, set_value}
 use Rattle.std.specs.BTreeMap.{is_at}
@@ -9,6 +9,7 @@ use Rattle.std.proofs.lemmas.Bool.Decides.{nat_tests, eqb_tells}
 use Rattle.std.proofs.lemmas.Grind.{common_steps}
 use Rattle.rt_values.specs.declared.names.ScopeId.{ScopeId}
 use Rattle.rt_cells.specs.declared.numbered.Held.{Held}
+use Rattle.rt_cells.specs.declared.sources.Target.{Target}
 use Rattle.rt_cells.specs.Held.{held_at, value_at, written}
 use Rattle.rt_cells.specs.Cells as tracked
 use Rattle.rt_model.specs.Lists.{at, put, without}
@@ -18,10 +19,9 @@ use Rattle.rt_model.specs.World as world
 use Rattle.rt_model.specs.State as model
 use Rattle.rt_model.specs.Commands.{tell, written_at, write_cell, drop_cell_row, command}
 use Rattle.run_records.specs.Kept.{each}
-use Rattle.run_state.specs.Mirror.{Unkept, cell_of, state_of}
+use Rattle.run_state.specs.Mirror.{Unkept, cell_of, contexts_of, state_of}
 use Rattle.run_state.specs.declared.state.State.{State}
 use Rattle.run_state.proofs.Each.{at-each, put-each, without-each, append-each, found-each, some-mapped}
-use Rattle.run_state.proofs.Changed.{on_ok}
 
 tie : (a b : ℕ) → is_eq (nat_cmp a b) ≡ nat_eq b a
 tie a b = grind (arith, nat_tests)
@@ -100,6 +100,19 @@ module _ {K : Types} where
   with_cells w cs = record w { cells = cs }
 
 module _ {P C Q V H T E L : Type 0} where
+  -- cells with the same contexts are other cells alone
+  pub cells_alone : (g : Unkept (types C Q V H T E L)) (d : State P C Q V H T E L) (new : tracked.State V) → new.contexts ≡ (d.cells).contexts
+      → record (state_of g d) { cells = each cell_of new.cells; contexts = contexts_of d.read_order new.contexts } ≡ with_cells (state_of g d) (each cell_of new.cells)
+  cells_alone g d new same =
+      ap (λ (es : List (ℕ × Held Target)). let w : model.State (types C Q V H T E L) = record (state_of g d) { cells = each cell_of new.cells; contexts = contexts_of d.read_order es } in w) same
+
+  -- and where the cells are the same, too, nothing is other
+  pub reads_alone : (g : Unkept (types C Q V H T E L)) (d : State P C Q V H T E L) (es : List (ℕ × model.Scope (types C Q V H T E L))) (new : tracked.State V)
+      → new.cells ≡ (d.cells).cells → new.contexts ≡ (d.cells).contexts
+      → record (state_of g d) { scopes = es; cells = each cell_of new.cells; contexts = contexts_of d.read_order new.contexts } ≡ record (state_of g d) { scopes = es }
+  reads_alone g d es new same_cells same_contexts =
+      λ i. record (state_of g d) { scopes = es; cells = each cell_of (same_cells i); contexts = contexts_of d.read_order (same_contexts i) }
+
   -- a cell is made, where its scope is live
   pub cell_made : (d : State P C Q V H T E L) (s n : ℕ) (v : V) (new : tracked.State V) → ((g : Unkept (types C Q V H T E L)) → model.is_live (state_of g d) s ≡ true)
       → new ≡ tracked.cell_entered (record { 0 = s }) n v d.cells

@@ -6,12 +6,10 @@ use Rattle.rt_model.specs.OneLog.{types}
 use Rattle.rt_model.specs.Tree as tree
 use Rattle.rt_model.specs.State as model
 use Rattle.rt_model.specs.State.{change, changed_scope}
-use Rattle.rt_model.specs.Commands.{change_context}
 use Rattle.run_records.specs.Kept.{each, scope_of}
 use Rattle.run_records.specs.declared.rest.Scope.{Scope}
-use Rattle.run_state.specs.Mirror.{Unkept, context_of, task_of, changed_task, change_task, state_of}
+use Rattle.run_state.specs.Mirror.{Unkept, task_of, changed_task, change_task, state_of}
 use Rattle.run_state.specs.declared.state.TaskRow.{TaskRow}
-use Rattle.run_state.specs.declared.state.ContextRow.{ContextRow}
 use Rattle.run_state.specs.declared.state.State.{State}
 use Rattle.run_state.proofs.Each.{at-each, put-each}
 
@@ -94,11 +92,6 @@ module _ {K : tree.Types} where
   change_is w s h None = refl
   change_is w s h (Some x) = refl
 
-  context_is : (w : model.State K) (n : ℕ) (h : model.ContextRow K → model.ContextRow K) (found : Option (model.ContextRow K))
-      → record w { contexts = changed_in w.contexts n h found } ≡ elim found [ None ↦ w | Some x ↦ record w { contexts = put w.contexts n (h x) } ]
-  context_is w n h None = refl
-  context_is w n h (Some x) = refl
-
   task_is : (w : model.State K) (t : ℕ) (h : model.TaskRow K → model.TaskRow K) (found : Option (model.TaskRow K))
       → record w { tasks = changed_in w.tasks t h found } ≡ changed_task w t h found
   task_is w t h None = refl
@@ -148,18 +141,3 @@ module _ {P C Q V H T E L U X : Type 0} where
       let w : model.State (types C Q V H T E L) = state_of g d in
       ap (λ (es : List (ℕ × model.Scope (types C Q V H T E L))). let v : model.State (types C Q V H T E L) = record w { scopes = es } in v) is
       ∙ change_is w s h (at w.scopes s))
-
-  -- a change of a reactive context
-  pub context_changed : (r : Result U X) (R : ContextRow → ContextRow → Type 0) (d : State P C Q V H T E L) (new : List (ℕ × ContextRow)) (n : ℕ)
-      (k : ContextRow → ContextRow) (h : model.ContextRow (types C Q V H T E L) → model.ContextRow (types C Q V H T E L))
-      → (at d.contexts n ≡ None → new ≡ d.contexts)
-      → ((x : ContextRow) → at d.contexts n ≡ Some x → (y : ContextRow) × R x y × (new ≡ put d.contexts n y))
-      → ((x y : ContextRow) → R x y → OnOk r (y ≡ k x))
-      → ((x : ContextRow) → context_of (k x) ≡ h (context_of x))
-      → OnOk r ((g : Unkept (types C Q V H T E L)) → state_of g (record d { contexts = new }) ≡ change_context (state_of g d) n h)
-  context_changed r R d new n k h absent changed step law =
-      on_ok r (table_changed r R context_of k h d.contexts new n absent changed step law)
-      (λ is g.
-      let w : model.State (types C Q V H T E L) = state_of g d in
-      ap (λ (es : List (ℕ × model.ContextRow (types C Q V H T E L))). let v : model.State (types C Q V H T E L) = record w { contexts = es } in v) is
-      ∙ context_is w n h (at w.contexts n))

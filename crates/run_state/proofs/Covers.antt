@@ -1,13 +1,16 @@
 -- What is fresh or hidden, among more and fewer.
-use Rattle.std.proofs.Common.{◌≡◌, ◌&&◌, ℕ, zero, suc, ◌+◌, ◌<◌, Bool, true, false, List, [], ◌∷◌, ◌++◌, length, get_or, nat_eq, refl, sym, ap, ◌∙◌}
-use Rattle.std.proofs.lemmas.Bool.{eqb-true}
+use Rattle.std.proofs.Common.{◌≡◌, ◌≢◌, ◌&&◌, ℕ, zero, suc, ◌+◌, ◌<◌, ◌≤◌, Bool, true, false, List, [], ◌∷◌, ◌++◌, length, get_or, drop, nat_eq, refl, sym, ap, ◌∙◌, arith}
+use Rattle.std.proofs.lemmas.List.{drop_more}
+use Rattle.std.proofs.lemmas.List.Edits.{length-remove}
+use Rattle.std.proofs.lemmas.Bool.{eqb-true, ne_eqb}
 use Rattle.std.specs.List.{list_any}
-use Rattle.std.specs.Prelude.{not, Option, Some, None, remove, if◌then◌else◌}
+use Rattle.std.specs.Prelude.{not, ◌||◌, Option, Some, None, remove, if◌then◌else◌}
 use Rattle.rt_model.specs.Lists.{at, has}
 use Rattle.rt_model.proofs.Maps.{eq_same}
 use Rattle.rt_model.proofs.Members.{by_either, clash, or_left, or_right}
 use Rattle.run_state.specs.Holders.{others}
 use Rattle.run_state.specs.Mounts.{Way, covers, hides}
+use Rattle.run_state.proofs.Each.{drop-all}
 use Rattle.run_state.proofs.Ways.{any_kept, any_never, both_first, both_from, both_second}
 
 -- fresh and hidden ones that are among others
@@ -125,3 +128,37 @@ uncovered_at fresh more hidden fewer seen i d view within joined taken ways heig
 -- what stands under a number is one thing
 pub one_found : {A : Type 0} (o : Option A) (x y : A) → o ≡ Some x → o ≡ Some y → x ≡ y
 one_found {A = A} o x y p q = ap (λ (r : Option A). elim r as (λ _. A) [ None ↦ x | Some z ↦ z ]) (sym p ∙ q)
+
+-- past the last of the hidden ones none is hidden by a number
+pub none_behind_all : (hidden : List (ℕ × ℕ)) (above n : ℕ) → length hidden ≤ n → list_any (λ e. nat_eq e.1 above) (drop n hidden) ≡ false
+none_behind_all hidden above n end = ap (λ es. list_any (λ e. nat_eq e.1 above) es) (drop-all hidden n end)
+
+-- where one goes, those from there on are those that stood behind it
+drop_removed : (es : List (ℕ × ℕ)) (i : ℕ) → i < length es → drop i (remove es i) ≡ drop (suc i) es
+drop_removed [] i within = absurd (omega (arith, within))
+drop_removed (e ∷ es) zero within = refl
+drop_removed (e ∷ es) (suc i) within = drop_removed es i (omega (arith, within))
+
+pub none_behind_removed : (hidden fewer : List (ℕ × ℕ)) (i above : ℕ) → i < length hidden → fewer ≡ remove hidden i
+    → list_any (λ e. nat_eq e.1 above) (drop (i + 1) hidden) ≡ false → list_any (λ e. nat_eq e.1 above) (drop i fewer) ≡ false
+none_behind_removed hidden fewer i above within is none =
+    let one : suc i ≡ i + 1 = omega arith in
+    ap (λ es. list_any (λ e. nat_eq e.1 above) (drop i es)) is
+    ∙ ap (λ es. list_any (λ e. nat_eq e.1 above) es) (drop_removed hidden i within ∙ ap (λ n. drop n hidden) one)
+    ∙ none
+
+-- one that another hides changes nothing of that
+pub none_behind_kept : (hidden seen : List (ℕ × ℕ)) (i above : ℕ) → i < length hidden → seen ≡ hidden → (get_or seen i (0, 0)).1 ≢ above
+    → list_any (λ e. nat_eq e.1 above) (drop (i + 1) hidden) ≡ false → list_any (λ e. nat_eq e.1 above) (drop i hidden) ≡ false
+none_behind_kept hidden seen i above within is other none =
+    let apart : (get_or hidden i (0, 0)).1 ≢ above = λ same. other (ap (λ (es : List (ℕ × ℕ)). (get_or es i (0, 0)).1) is ∙ same) in
+    let differ : nat_eq (get_or hidden i (0, 0)).1 above ≡ false = ne_eqb (get_or hidden i (0, 0)).1 above apart in
+    ap (λ es. list_any (λ e. nat_eq e.1 above) es) (drop_more hidden i (0, 0) within)
+    ∙ ap (λ b. b || list_any (λ e. nat_eq e.1 above) (drop (i + 1) hidden)) differ
+    ∙ none
+
+pub shorter_removed : (hidden fewer : List (ℕ × ℕ)) (i : ℕ) → i < length hidden → fewer ≡ remove hidden i → i ≤ length fewer
+shorter_removed hidden fewer i within is =
+    let long = length-remove hidden i within in
+    let same : length fewer ≡ length (remove hidden i) = ap (λ (es : List (ℕ × ℕ)). length es) is in
+    omega (arith, long, same, within)

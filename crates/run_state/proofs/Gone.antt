@@ -9,7 +9,7 @@ use Rattle.rt_cells.specs.Cells as tracked
 use Rattle.run_records.specs.Kept.{each, scope_of}
 use Rattle.run_records.specs.declared.rest.Scope.{Scope}
 use Rattle.run_owed.specs.Rooms.{Owing}
-use Rattle.run_state.specs.Mirror.{Unkept, cell_of, scopes_of, state_of}
+use Rattle.run_state.specs.Mirror.{Unkept, cell_of, contexts_of, scopes_of, state_of}
 use Rattle.run_state.specs.declared.state.State.{State}
 use Rattle.run_state.proofs.Each.{without-each}
 use Rattle.run_state.proofs.Posts.{with_all}
@@ -29,8 +29,8 @@ module _ {K : Types} where
 
 module _ {P C Q V H T E L : Type 0} where
   pub scopes_less : (g : Unkept (types C Q V H T E L)) (d : State P C Q V H T E L) (o : Owing) (cells : tracked.State V) (new : List (ℕ × Scope P C Q V H T E L)) (s : ℕ)
-      → o ≡ record d.owed { scopes = without (d.owed).scopes s } → cells.cells ≡ (d.cells).cells → new ≡ without (d.rows).table s
-      → record (with_all (state_of g d) o) { scopes = scopes_of new; cells = each cell_of cells.cells } ≡ record (state_of g d) { scopes = without (state_of g d).scopes s }
-  scopes_less g d o cells new s left same less =
-      (λ i. record (with_all (state_of g d) (left i)) { scopes = scopes_of (less i); cells = each cell_of (same i) })
+      → o ≡ record d.owed { scopes = without (d.owed).scopes s } → cells.cells ≡ (d.cells).cells → cells.contexts ≡ (d.cells).contexts → new ≡ without (d.rows).table s
+      → record (with_all (state_of g d) o) { scopes = scopes_of new; cells = each cell_of cells.cells; contexts = contexts_of d.read_order cells.contexts } ≡ record (state_of g d) { scopes = without (state_of g d).scopes s }
+  scopes_less g d o cells new s left same heard less =
+      (λ i. record (with_all (state_of g d) (left i)) { scopes = scopes_of (less i); cells = each cell_of (same i); contexts = contexts_of d.read_order (heard i) })
       ∙ ap (λ (es : List (ℕ × model.Scope (types C Q V H T E L))). let w : model.State (types C Q V H T E L) = record (state_of g d) { scopes = es } in w) (without-each scope_of (d.rows).table s)

@@ -325,7 +325,7 @@ module _ {K : Types} where
           (λ q. sym (ap (λ (o : Option (model.Scope K)). holds_found t o) (pick_false (Some e.1) (at es s) q)) ∙ free s)
 
   -- once a task's boundaries are let go its pairs go
-  pub pairs_gone : (es : List (ℕ × model.Scope K)) (effects : List ℕ) (held fewer : List (ℕ × ℕ)) (t : ℕ) → fewer ≡ others held t → ((s : ℕ) → holds_at es s t ≡ false)
+  pub pairs_gone : (es : List (ℕ × model.Scope K)) (effects held fewer : List (ℕ × ℕ)) (t : ℕ) → fewer ≡ others held t → ((s : ℕ) → holds_at es s t ≡ false)
       → AreListed es effects held → AreListed es effects fewer
   pairs_gone es effects held fewer t is free h =
       subst (λ (ps : List (ℕ × ℕ)). AreListed es effects ps) (sym is)
@@ -350,7 +350,7 @@ pair_keeps (q ∷ qs) p t s there =
     (λ r. or_right (is_pair q t s) (has_pair (qs ++ p ∷ []) t s) (pair_keeps qs p t s r))
 
 module _ {K : Types} where
-  pub pairs_more : (es : List (ℕ × model.Scope K)) (effects : List ℕ) (held more : List (ℕ × ℕ)) (p : ℕ × ℕ) → more ≡ held ++ p ∷ [] → AreListed es effects held → AreListed es effects more
+  pub pairs_more : (es : List (ℕ × model.Scope K)) (effects held more : List (ℕ × ℕ)) (p : ℕ × ℕ) → more ≡ held ++ p ∷ [] → AreListed es effects held → AreListed es effects more
   pairs_more es effects held more p is h =
       subst (λ (ps : List (ℕ × ℕ)). AreListed es effects ps) (sym is) (record { each = h.each; pairs = λ s t q. pair_keeps held p t s (h.pairs s t q) })
 

@@ -32,14 +32,14 @@ holds_fewer [] task t q = q
 holds_fewer (h ∷ hs) task t q = fewer_by h hs (others hs task) t (nat_eq h.0 task) (λ r. holds_fewer hs task t r) q
 
 module _ {P C Q V H T E L : Type 0} where
-  pub fewer_holders : (effects : List ℕ) (held : List (ℕ × ℕ)) (s task : ℕ) (x y : Scope P C Q V H T E L) → y ≡ record x { rest = record (x.rest) { holders = others (x.rest).holders task } }
+  pub fewer_holders : (effects held : List (ℕ × ℕ)) (s task : ℕ) (x y : Scope P C Q V H T E L) → y ≡ record x { rest = record (x.rest) { holders = others (x.rest).holders task } }
       → IsListed effects held s (scope_of x) → IsListed effects held s (scope_of y)
   fewer_holders effects held s task x y is h =
       subst (λ (z : Scope P C Q V H T E L). IsListed effects held s (scope_of z)) (sym is)
       (record { queues = h.queues; holders = λ t q. h.holders t (holds_fewer (x.rest).holders task t q) })
 
 module _ {P C Q V H T E L U X : Type 0} where
-  pub one_more_holder : (done : Result U X) (effects : List ℕ) (held : List (ℕ × ℕ)) (s task origin : ℕ) (x y : Scope P C Q V H T E L)
+  pub one_more_holder : (done : Result U X) (effects held : List (ℕ × ℕ)) (s task origin : ℕ) (x y : Scope P C Q V H T E L)
       → OnOk done (y ≡ record x { rest = record (x.rest) { holders = (x.rest).holders ++ (task, origin) ∷ [] } }) → OnErr done (y ≡ x) → has_pair held task s ≡ true
       → IsListed effects held s (scope_of x) → IsListed effects held s (scope_of y)
   one_more_holder (Err e) effects held s task origin x y ok same paired h = subst (λ (z : Scope P C Q V H T E L). IsListed effects held s (scope_of z)) (sym same) h

@@ -1,22 +1,18 @@
 -- A number takes its place in an ascending list, and the kinds that readers have.
-use Rattle.std.proofs.Common.{◌≡◌, ℕ, zero, suc, ◌+◌, ◌<◌, ◌≤◌, Bool, true, false, List, [], ◌∷◌, ◌++◌, length, get_or, take, drop, map, refl, ap, sym, ◌∙◌, arith}
+use Rattle.std.proofs.Common.{◌≡◌, ℕ, zero, suc, ◌+◌, ◌<◌, ◌≤◌, true, false, List, [], ◌∷◌, ◌++◌, length, get_or, take, drop, map, refl, ap, sym, ◌∙◌, arith}
 use Rattle.std.specs.Prelude.{nat_eq, nat_le, nat_lt, Option, Some, None, if◌then◌else◌}
 use Rattle.std.specs.List.{slice_get, insert}
 use Rattle.std.proofs.lemmas.List.{drop_more, take_more, take-append-drop, append_assoc}
 use Rattle.std.proofs.lemmas.Bool.Decides.{nat_tests}
 use Rattle.std.proofs.lemmas.Grind.{common_steps}
 use Rattle.rt_model.specs.Lists.{insert_number}
-use Rattle.rt_model.specs.OneLog.{types}
 use Rattle.rt_model.specs.World as world
-use Rattle.rt_model.specs.State as model
-use Rattle.rt_model.specs.Removal.{kinds_in, kinds_of_scopes, kinds_of_contexts}
+use Rattle.rt_model.specs.Removal.{kinds_in, kinds_of_scopes}
 use Rattle.rt_cells.specs.declared.sources.Source.{Source}
 use Rattle.run_records.specs.Records.{source_of}
-use Rattle.run_records.specs.Kept.{each}
 use Rattle.run_records.specs.declared.rest.Scope.{Scope}
-use Rattle.run_state.specs.Mirror.{context_of, scopes_of}
-use Rattle.run_state.specs.declared.state.ContextRow.{ContextRow}
-use Rattle.run_state.specs.Kinds.{stands_at, is_number, kinds_in_contexts}
+use Rattle.run_state.specs.Mirror.{scopes_of}
+use Rattle.run_state.specs.Kinds.{stands_at, is_number}
 use Rattle.run_state.proofs.Each.{drop-all}
 
 -- a number goes past a lower one
@@ -125,20 +121,3 @@ module _ {P C Q V H T E L : Type 0} where
 
   pub scopes_end : (s : ℕ) (es : List (ℕ × Scope P C Q V H T E L)) (i : ℕ) (now all : List ℕ) → length es ≤ i → kinds_of_scopes s (scopes_of (drop i es)) now ≡ all → now ≡ all
   scopes_end s es i now all end is = ap (λ ys. kinds_of_scopes s (scopes_of ys) now) (sym (drop-all es i end)) ∙ is
-
-pub contexts_step : (s : ℕ) (es : List (ℕ × ContextRow)) (i : ℕ) (e : ℕ × ContextRow) (sources : List Source) (old new : List ℕ)
-    → i < length es → e ≡ get_or es i e → sources ≡ (e.1).sources → new ≡ kinds_in s (map source_of sources) old
-    → kinds_in_contexts s (drop (i + 1) es) new ≡ kinds_in_contexts s (drop i es) old
-contexts_step s es i e sources old new within is read made =
-    ap (kinds_in_contexts s (drop (i + 1) es)) (made ∙ ap (λ rs. kinds_in s (map source_of rs) old) read)
-    ∙ ap (λ (d : ℕ × ContextRow). kinds_in_contexts s (d ∷ drop (i + 1) es) old) is
-    ∙ ap (λ ys. kinds_in_contexts s ys old) (sym (drop_more es i e within))
-
-pub contexts_end : (s : ℕ) (es : List (ℕ × ContextRow)) (i : ℕ) (now all : List ℕ) → length es ≤ i → kinds_in_contexts s (drop i es) now ≡ all → now ≡ all
-contexts_end s es i now all end is = ap (λ ys. kinds_in_contexts s ys now) (sym (drop-all es i end)) ∙ is
-
-module _ (C Q V H T E L : Type 0) where
-  -- those of the code's reactive contexts are those of the definitions'
-  pub contexts_are : (s : ℕ) (es : List (ℕ × ContextRow)) (kinds : List ℕ) → kinds_in_contexts s es kinds ≡ kinds_of_contexts {K = types C Q V H T E L} s (each context_of es) kinds
-  contexts_are s [] kinds = refl
-  contexts_are s (e ∷ es) kinds = contexts_are s es (kinds_in s (map source_of (e.1).sources) kinds)

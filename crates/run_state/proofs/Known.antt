@@ -37,7 +37,7 @@ ties_back : (a b : ℕ) → is_eq (nat_cmp a b) ≡ nat_eq b a
 ties_back a b = grind (arith, nat_tests)
 
 -- sources tie where they are the same
-same_is : (x y : Source) → is_eq (source_cmp x y) ≡ same_source (source_of y) (source_of x)
+pub same_is : (x y : Source) → is_eq (source_cmp x y) ≡ same_source (source_of y) (source_of x)
 same_is (sources.Cell a) (sources.Cell b) = ties_back a b
 same_is (sources.Cell a) (sources.Error t) = refl
 same_is (sources.Cell a) (sources.Context k t) = refl
@@ -65,6 +65,11 @@ module _ {K : tree.Types} where
   -- scopes that have read the same
   pub known_same : (old new : List (ℕ × model.Scope K)) (reads : List (Reader × List Source)) → ((t : ℕ) → read_by new t ≡ read_by old t) → AreKnown old reads → AreKnown new reads
   known_same old new reads same h = record { each = λ t x. h.each t x ∙ ap (λ (ys : List world.Source). names_source ys (source_of x)) (sym (same t)) }
+
+  -- cells that know the same of each scope
+  pub known_reads : (scopes : List (ℕ × model.Scope K)) (before after : List (Reader × List Source))
+      → ((s : ℕ) → reads_of (reader.Scope (record { 0 = s })) after ≡ reads_of (reader.Scope (record { 0 = s })) before) → AreKnown scopes before → AreKnown scopes after
+  known_reads scopes before after same h = record { each = λ s x. ap (λ (ys : List Source). has x ys) (same s) ∙ h.each s x }
 
   -- one of them has read these
   pub known_written : (old new : List (ℕ × model.Scope K)) (before after : List (Reader × List Source)) (s : ℕ) (xs : List Source)

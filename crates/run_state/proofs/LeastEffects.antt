@@ -1,8 +1,11 @@
--- The least scope with effects is the least of those that are listed and have some.
-use Rattle.std.proofs.Common.{◌≡◌, ◌||◌, ◌&&◌, ◌⊎◌, inl, inr, ℕ, ◌<◌, ◌≤◌, ◌+◌, Bool, true, false, List, [], ◌∷◌, length, get_or, drop, nat_eq, nat_lt, refl, sym, ap, ◌∙◌, arith}
+-- The least scope with effects is the first of those that are listed by height and have some.
+use Rattle.std.proofs.Common.{◌≡◌, ◌||◌, ◌&&◌, ◌⊎◌, inl, inr, ℕ, ◌<◌, ◌≤◌, Bool, true, false, List, [], ◌∷◌, length, nat_eq, nat_lt, refl, sym, ap, subst, ◌∙◌, arith}
 use Rattle.std.specs.Prelude.{Option, Some, None, if◌then◌else◌}
 use Rattle.std.proofs.lemmas.Bool.{eqb-true}
-use Rattle.std.proofs.lemmas.List.{drop_more}
+use Rattle.std.proofs.lemmas.Map.Keys.{sorted_head}
+use Rattle.std.specs.BTreeMap.{is_at}
+use Rattle.std.specs.List.Sorted.{IsStrictlySortedBy}
+use Rattle.std.specs.Cmp.{Equal-is}
 use Rattle.rt_model.specs.Lists.{at, has}
 use Rattle.rt_model.specs.Tree.{Types}
 use Rattle.rt_model.specs.State as model
@@ -11,9 +14,8 @@ use Rattle.rt_model.specs.Next.{is_before, least, least_from, with_effects}
 use Rattle.rt_model.proofs.Maps.{by_test, eq_same, pick_false, pick_true}
 use Rattle.rt_model.proofs.Members.{by_either, or_left, or_right}
 use Rattle.run_owed.specs.Lists.{EachOnce, numbers_of}
-use Rattle.run_state.specs.Effects.{AreListed, effects_at, has_effects, or_lesser, queues_some}
-use Rattle.run_state.proofs.Each.{drop-all}
-use Rattle.run_state.proofs.Leasts.{least_with, with_one}
+use Rattle.run_state.specs.Effects.{AreListed, comes_up, effects_at, has_effects, has_rank, queues_some, rank_cmp}
+use Rattle.run_state.proofs.Ranked.{behind_first, rank_exact, rank_less}
 
 lt_false : (a b : ℕ) → nat_lt a b ≡ false → b ≤ a
 lt_false a b h = grind (arith, h)
@@ -136,68 +138,57 @@ module _ {K : Types} (scopes : List (ℕ × model.Scope K)) where
           (λ r. low (or_right (nat_eq s m) (has ts m) r))
           )
 
-  -- lists of the same numbers have the same least one
-  least_alike : (xs ys : List ℕ) → ((m : ℕ) → has xs m ≡ has ys m) → least before xs ≡ least before ys
-  least_alike [] [] same = refl
-  least_alike [] (y ∷ ys) same = absurd (cc (same y ∙ or_left (nat_eq y y) (has ys y) (eq_same y)))
-  least_alike (x ∷ xs) [] same = absurd (cc (sym (same x) ∙ or_left (nat_eq x x) (has xs x) (eq_same x)))
-  least_alike (x ∷ xs) (y ∷ ys) same =
-      ap Some
+  -- one of a list that none is before is the least one
+  least_is : (xs : List ℕ) (s : ℕ) → has xs s ≡ true → ((t : ℕ) → has xs t ≡ true → before t s ≡ false) → Some s ≡ least before xs
+  least_is [] s own low = absurd (cc own)
+  least_is (x ∷ xs) s own low =
+      ap Some (one_of s (least_from before x xs) (least_low x xs s own) (low (least_from before x xs) (least_there x xs)))
+
+  -- where none is in a list there is none
+  least_none : (xs : List ℕ) → ((t : ℕ) → has xs t ≡ false) → None ≡ least before xs
+  least_none [] none = refl
+  least_none (x ∷ xs) none = absurd (cc (sym (none x) ∙ or_left (nat_eq x x) (has xs x) (eq_same x)))
+
+  -- those that have effects to do are among pairs, with their heights
+  abbrev pub AllThere : List (ℕ × ℕ) → Type 0
+  AllThere ranks = (t : ℕ) → effects_at scopes t ≡ true → has_rank ranks (height_of scopes t) t ≡ true
+
+  -- one that doesn't come up is passed over
+  pub there_behind : (ranks rest : List (ℕ × ℕ)) (rank : ℕ × ℕ) → ranks ≡ rank ∷ rest → comes_up scopes rank.0 rank.1 ≡ false → AllThere ranks → AllThere rest
+  there_behind ranks rest rank is passed all t q =
+      by_either (is_at (rank_cmp (height_of scopes t, t)) rank) (has_rank rest (height_of scopes t) t) (ap (λ (es : List (ℕ × ℕ)). has_rank es (height_of scopes t) t) (sym is) ∙ all t q)
       (
-      one_of (least_from before x xs) (least_from before y ys)
-      (least_low y ys (least_from before x xs) (sym (same (least_from before x xs)) ∙ least_there x xs))
-      (least_low x xs (least_from before y ys) (same (least_from before y ys) ∙ least_there y ys))
+      λ own.
+      let same : (height_of scopes t, t) ≡ rank = rank_exact (height_of scopes t, t) rank ((Equal-is (rank_cmp (height_of scopes t, t) rank)).0 own) in
+      absurd (cc (sym passed ∙ ap (λ (r : ℕ × ℕ). comes_up scopes r.0 r.1) (sym same) ∙ (λ i. eq_same (height_of scopes t) i && q i)))
+      )
+      (λ r. r)
+
+  -- where the first one comes up, none of the others is before it
+  none_before : (ranks rest : List (ℕ × ℕ)) (rank : ℕ × ℕ) → ranks ≡ rank ∷ rest → IsStrictlySortedBy rank_cmp ranks → rank.0 ≡ height_of scopes rank.1 → AllThere ranks
+      → (t : ℕ) → effects_at scopes t ≡ true → before t rank.1 ≡ false
+  none_before ranks rest rank is sorted level all t q =
+      by_either (is_at (rank_cmp (height_of scopes t, t)) rank) (has_rank rest (height_of scopes t) t) (ap (λ (es : List (ℕ × ℕ)). has_rank es (height_of scopes t) t) (sym is) ∙ all t q)
+      (
+      λ own.
+      let same : (height_of scopes t, t) ≡ rank = rank_exact (height_of scopes t, t) rank ((Equal-is (rank_cmp (height_of scopes t, t) rank)).0 own) in
+      ap (λ (r : ℕ × ℕ). before t r.1) (sym same) ∙ not_itself t
+      )
+      (
+      λ there.
+      let after = rank_less rank (height_of scopes t, t) (behind_first rank rest (height_of scopes t) t (sorted_head rank_cmp rank rest (subst (IsStrictlySortedBy rank_cmp) is sorted)) there) in
+      ap (λ (h : ℕ). by_two (height_of scopes t) h t rank.1) (sym level) ∙ false_two (height_of scopes t) rank.0 t rank.1 after
       )
 
-  -- those of a list that have effects to do
-  abbrev pub with_listed : List ℕ → List ℕ
-  with_listed [] = []
-  with_listed (s ∷ ss) = if effects_at scopes s then s ∷ with_listed ss else with_listed ss
-
-  listed_has : (listed : List ℕ) (m : ℕ) → has (with_listed listed) m ≡ (has listed m && effects_at scopes m)
-  listed_has [] m = refl
-  listed_has (s ∷ ss) m =
-      by_test (nat_eq s m)
-      (λ q. own (eqb-true s m q) q (listed_has ss m))
-      (λ q. other q (listed_has ss m))
-    where
-      own : s ≡ m → nat_eq s m ≡ true → has (with_listed ss) m ≡ (has ss m && effects_at scopes m)
-          → has (if effects_at scopes s then s ∷ with_listed ss else with_listed ss) m ≡ ((nat_eq s m || has ss m) && effects_at scopes m)
-      own same q rest =
-          by (effects_at scopes m) refl
-        where
-          by : (b : Bool) → effects_at scopes m ≡ b → has (if effects_at scopes s then s ∷ with_listed ss else with_listed ss) m ≡ ((nat_eq s m || has ss m) && effects_at scopes m)
-          by true e =
-              ap (λ (ns : List ℕ). has ns m) (pick_true (s ∷ with_listed ss) (with_listed ss) (ap (λ (n : ℕ). effects_at scopes n) same ∙ e))
-              ∙ or_left (nat_eq s m) (has (with_listed ss) m) q
-              ∙ sym (λ i. or_left (nat_eq s m) (has ss m) q i && e i)
-          by false e =
-              ap (λ (ns : List ℕ). has ns m) (pick_false (s ∷ with_listed ss) (with_listed ss) (ap (λ (n : ℕ). effects_at scopes n) same ∙ e))
-              ∙ rest
-              ∙ ap (λ (b : Bool). has ss m && b) e
-              ∙ both_false (has ss m)
-              ∙ sym (both_false (nat_eq s m || has ss m))
-              ∙ sym (ap (λ (b : Bool). (nat_eq s m || has ss m) && b) e)
-
-      other : nat_eq s m ≡ false → has (with_listed ss) m ≡ (has ss m && effects_at scopes m)
-          → has (if effects_at scopes s then s ∷ with_listed ss else with_listed ss) m ≡ ((nat_eq s m || has ss m) && effects_at scopes m)
-      other q rest =
-          by (effects_at scopes s)
-          ∙ rest
-          ∙ ap (λ (b : Bool). (b || has ss m) && effects_at scopes m) (sym q)
-        where
-          by : (b : Bool) → has (if b then s ∷ with_listed ss else with_listed ss) m ≡ has (with_listed ss) m
-          by true = ap (λ (b : Bool). b || has (with_listed ss) m) q
-          by false = refl
-
--- a scope with effects to do has queued some
-to_do_queued : {K : Types} (o : Option (model.Scope K)) → elim o as (λ _. Bool) [ None ↦ false | Some x ↦ has_effects x ] ≡ true → elim o as (λ _. Bool) [ None ↦ false | Some x ↦ queues_some x ] ≡ true
+-- a scope with effects to do has queued some at its height
+to_do_queued : {K : Types} (o : Option (model.Scope K)) → elim o as (λ _. Bool) [ None ↦ false | Some x ↦ has_effects x ] ≡ true
+    → elim o as (λ _. Bool) [ None ↦ false | Some x ↦ queues_some x (elim o as (λ _. ℕ) [ None ↦ 0 | Some y ↦ y.height ]) ] ≡ true
 to_do_queued None q = q
 to_do_queued {K = K} (Some x) q = by x.effects q
   where
-    by : (es : List K.Effect) → elim es as (λ _. Bool) [ [] ↦ false | f ∷ fs ↦ x.mounted ] ≡ true → elim es as (λ _. Bool) [ [] ↦ false | f ∷ fs ↦ true ] ≡ true
+    by : (es : List K.Effect) → elim es as (λ _. Bool) [ [] ↦ false | f ∷ fs ↦ x.mounted ] ≡ true → elim es as (λ _. Bool) [ [] ↦ false | f ∷ fs ↦ nat_eq x.height x.height ] ≡ true
     by [] p = p
-    by (f ∷ fs) p = refl
+    by (f ∷ fs) p = eq_same x.height
 
 module _ {K : Types} where
   -- a row with effects to do comes first among those
@@ -253,38 +244,41 @@ module _ {K : Types} where
       there q true = ap (λ (b : Bool). b || has (with_effects es) m) q
       there q false = refl
 
-  -- the least of those that are listed is the least of all
-  pub least_listed : (scopes : List (ℕ × model.Scope K)) (listed : List ℕ) (held : List (ℕ × ℕ)) → EachOnce (numbers_of scopes) → AreListed scopes listed held
-      → least (λ s t. is_before scopes s t) (with_listed scopes listed) ≡ least (λ s t. is_before scopes s t) (with_effects scopes)
-  least_listed scopes listed held once h = least_alike scopes (with_listed scopes listed) (with_effects scopes) (λ m. listed_has scopes listed m ∙ all m ∙ sym (effects_has scopes m once))
-    where
-      by : (b c : Bool) → (b ≡ true → c ≡ true) → (c && b) ≡ b
-      by true c all = ap (λ (d : Bool). d && true) (all refl)
-      by false true all = refl
-      by false false all = refl
+  -- all that have effects to do are listed
+  pub all_there : (scopes : List (ℕ × model.Scope K)) (effects held : List (ℕ × ℕ)) → AreListed scopes effects held → AllThere scopes effects
+  all_there scopes effects held h t q = h.each t (height_of scopes t) (to_do_queued (at scopes t) q)
 
-      all : (m : ℕ) → (has listed m && effects_at scopes m) ≡ effects_at scopes m
-      all m = by (effects_at scopes m) (has listed m) (λ q. h.each m (to_do_queued (at scopes m) q))
-
-  -- one more of the list
-  pub listed_step : (scopes : List (ℕ × model.Scope K)) (listed : List ℕ) (i d : ℕ) (s : ℕ) (found new : Option ℕ) → i < length listed → s ≡ get_or listed i d
-      → new ≡ or_lesser (λ s t. is_before scopes s t) found s (effects_at scopes s)
-      → least_with (λ s t. is_before scopes s t) new (with_listed scopes (drop (i + 1) listed)) ≡ least_with (λ s t. is_before scopes s t) found (with_listed scopes (drop i listed))
-  listed_step scopes listed i d s found new within is made =
-      ap (λ o. least_with (λ s t. is_before scopes s t) o (with_listed scopes (drop (i + 1) listed))) made
-      ∙ by (effects_at scopes s)
-      ∙ ap (λ (n : ℕ). least_with (λ s t. is_before scopes s t) found (with_listed scopes (n ∷ drop (i + 1) listed))) is
-      ∙ ap (λ (ns : List ℕ). least_with (λ s t. is_before scopes s t) found (with_listed scopes ns)) (sym (drop_more listed i d within))
+  -- the first one that comes up is the least of all
+  pub first_up : (scopes : List (ℕ × model.Scope K)) (ranks rest : List (ℕ × ℕ)) (rank : ℕ × ℕ) → EachOnce (numbers_of scopes) → ranks ≡ rank ∷ rest → IsStrictlySortedBy rank_cmp ranks
+      → comes_up scopes rank.0 rank.1 ≡ true → AllThere scopes ranks → Some rank.1 ≡ least (λ s t. is_before scopes s t) (with_effects scopes)
+  first_up scopes ranks rest rank once is sorted up all =
+      least_is scopes (with_effects scopes) rank.1
+      (effects_has scopes rank.1 once ∙ second (nat_eq rank.0 (height_of scopes rank.1)) (effects_at scopes rank.1) up)
+      (
+      λ t q.
+      none_before scopes ranks rest rank is sorted (eqb-true rank.0 (height_of scopes rank.1) (first (nat_eq rank.0 (height_of scopes rank.1)) (effects_at scopes rank.1) up)) all t
+      (sym (effects_has scopes t once) ∙ q)
+      )
     where
-      by : (b : Bool) → least_with (λ s t. is_before scopes s t) (or_lesser (λ s t. is_before scopes s t) found s b) (with_listed scopes (drop (i + 1) listed))
-          ≡ least_with (λ s t. is_before scopes s t) found (if b then s ∷ with_listed scopes (drop (i + 1) listed) else with_listed scopes (drop (i + 1) listed))
-      by true = with_one (λ s t. is_before scopes s t) found s (with_listed scopes (drop (i + 1) listed))
-      by false = refl
+      first : (a b : Bool) → (a && b) ≡ true → a ≡ true
+      first true b q = refl
+      first false b q = q
 
-  pub listed_end : (scopes : List (ℕ × model.Scope K)) (listed : List ℕ) (i : ℕ) (found v : Option ℕ) → length listed ≤ i
-      → least_with (λ s t. is_before scopes s t) found (with_listed scopes (drop i listed)) ≡ v → found ≡ v
-  listed_end scopes listed i found v end is = alone found ∙ ap (λ (ns : List ℕ). least_with (λ s t. is_before scopes s t) found (with_listed scopes ns)) (sym (drop-all listed i end)) ∙ is
-    where
-      alone : (o : Option ℕ) → o ≡ least_with (λ s t. is_before scopes s t) o []
-      alone None = refl
-      alone (Some s) = refl
+      second : (a b : Bool) → (a && b) ≡ true → b ≡ true
+      second true b q = q
+      second false b q = absurd (cc q)
+
+  -- where none is left none has effects to do
+  pub none_up : (scopes : List (ℕ × model.Scope K)) (ranks : List (ℕ × ℕ)) → EachOnce (numbers_of scopes) → ranks ≡ [] → AllThere scopes ranks
+      → None ≡ least (λ s t. is_before scopes s t) (with_effects scopes)
+  none_up scopes ranks once is all =
+      least_none scopes (with_effects scopes)
+      (
+      λ t.
+      effects_has scopes t once
+      ∙ by_test (effects_at scopes t) (λ q. absurd (cc (sym (ap (λ (es : List (ℕ × ℕ)). has_rank es (height_of scopes t) t) (sym is) ∙ all t q)))) (λ q. q)
+      )
+
+-- one fewer is left
+pub fewer_ranks : (ranks rest : List (ℕ × ℕ)) (rank : ℕ × ℕ) → ranks ≡ rank ∷ rest → length rest < length ranks
+fewer_ranks ranks rest rank is = omega (arith, ap length is)

@@ -1,24 +1,14 @@
 -- The first of the least ones, one by one.
-use Rattle.std.proofs.Common.{◌≡◌, ℕ, Bool, true, false, List, ◌∷◌, refl, ap, sym, ◌∙◌}
+use Rattle.std.proofs.Common.{◌≡◌, ℕ, Bool, true, false, refl, ap, sym, ◌∙◌}
 use Rattle.std.specs.Prelude.{Option, Some, None, option_map, if◌then◌else◌}
-use Rattle.rt_model.specs.Next.{least, least_from, with_effects, first_task, first_seen, chosen, found, is_before, or_effects, Work, RunEffects}
+use Rattle.rt_model.specs.Next.{least, with_effects, first_task, first_seen, chosen, found, is_before, or_effects, Work, RunEffects}
 use Rattle.rt_model.specs.Tree.{Types}
 use Rattle.rt_model.specs.State.{State}
-use Rattle.run_state.specs.Effects.{or_lesser}
 
 -- what was taken by a test is what the test takes
 pub taken-as : {A : Type 0} (earlier : ℕ → ℕ → Bool) (a b : A) {r d : Bool} {m n x y : ℕ} → r ≡ d → r ≡ earlier m n → m ≡ x → n ≡ y → (if d then a else b) ≡ (if earlier x y then a else b)
 taken-as earlier a b {n = n} {x = x} test is first second =
     ap (λ t. if t then a else b) (sym test ∙ is ∙ ap (λ k. earlier k n) first ∙ ap (λ k. earlier x k) second)
-
--- the least of one that was found and others
-abbrev pub least_with : (ℕ → ℕ → Bool) → Option ℕ → List ℕ → Option ℕ
-least_with earlier None xs = least earlier xs
-least_with earlier (Some s) xs = Some (least_from earlier s xs)
-
-pub with_one : (earlier : ℕ → ℕ → Bool) (found : Option ℕ) (s : ℕ) (xs : List ℕ) → least_with earlier (or_lesser earlier found s true) xs ≡ least_with earlier found (s ∷ xs)
-with_one earlier None s xs = refl
-with_one earlier (Some t) s xs = refl
 
 -- a choice under a constructor
 pub some-if : {A : Type 0} (b : Bool) (x y : A) → Some (if b then x else y) ≡ (if b then Some x else Some y)

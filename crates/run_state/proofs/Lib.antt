@@ -3,8 +3,10 @@ pub mod Components
 pub mod Changed
 pub mod Stays
 pub mod Known
+pub mod Ranked
 pub mod Listing
 pub mod Rereads
+pub mod ReadAnew
 pub mod Marks
 pub mod HeldPairs
 pub mod HolderLists
@@ -33,6 +35,8 @@ pub mod Owned
 pub mod SeenWorld
 pub mod FoundScopes
 pub mod Contexts
+pub mod Heard
+pub mod Told
 pub mod OneMore
 pub mod Starts
 pub mod Fronts
@@ -43,6 +47,7 @@ pub mod Waiting
 pub mod Mounts
 pub mod Polls
 pub mod KindsInPlace
+pub mod KindsRead
 pub mod Gone
 pub mod Removed
 pub mod Outputs

@@ -3,26 +3,15 @@ use Rattle.std.proofs.Common.{◌≡◌, ℕ, suc, ◌<◌, ◌≤◌, Bool, tru
 use Rattle.std.specs.Prelude.{⊤, nat_lt, Option, Some, None, is_some, if◌then◌else◌}
 use Rattle.std.proofs.lemmas.Bool.{eqb-true, lt-ltb, ltb-true, ltb-false}
 use Rattle.std.proofs.lemmas.Bool.Decides.{nat_tests}
-use Rattle.rt_cells.specs.declared.sources.Source.{Source}
-use Rattle.rt_cells.specs.declared.sources.Reader.{Reader}
-use Rattle.rt_cells.specs.Reads.{comes_after, is_read_by, IsNextReader}
-use Rattle.rt_model.specs.Lists.{at, has}
+use Rattle.rt_cells.specs.Reads.{comes_after}
+use Rattle.rt_model.specs.Lists.{at}
 use Rattle.rt_model.specs.Tree.{Types}
-use Rattle.rt_model.specs.World as world
 use Rattle.rt_model.specs.State as model
-use Rattle.rt_model.specs.Commands.{names_source, readers}
+use Rattle.rt_model.specs.Commands.{readers}
 use Rattle.rt_model.proofs.Maps.{by_test, eq_same, pick_false, pick_true}
-use Rattle.run_records.specs.Records.{source_of}
-use Rattle.run_records.specs.Kept.{each, scope_of}
-use Rattle.run_records.specs.declared.rest.Scope.{Scope}
-use Rattle.run_owed.specs.Lists.{numbers_of}
-use Rattle.run_owed.proofs.Tables.{numbers_has}
+use Rattle.run_records.specs.Kept.{each}
 use Rattle.run_table.specs.Found.{Ascends}
-use Rattle.run_state.specs.Mirror.{scopes_of}
-use Rattle.run_state.specs.Readers.{AreKnown, read_by}
-use Rattle.run_state.proofs.Each.{live-each}
 use Rattle.run_state.proofs.Posts.{append_none}
-use Rattle.run_state.proofs.Known.{reads_found}
 
 -- all numbers of a table are above one
 abbrev pub Above : {A : Type 0} → ℕ → List (ℕ × A) → Type 0
@@ -168,47 +157,6 @@ module _ {K : Types} (test : model.Scope K → Bool) where
       there : (o : Option (model.Scope K)) → passes_found o ≡ true → is_some o ≡ true
       there None q = absurd (cc q)
       there (Some y) q = refl
-
-module _ {K : Types} where
-  -- a scope that has read a source
-  abbrev pub reads_it : world.Source → model.Scope K → Bool
-  reads_it x y = names_source y.reads x
-
-  -- all marks of a source's readers
-  pub all_marks : (x : world.Source) (es : List (ℕ × model.Scope K)) → marks_after (reads_it x) None es ≡ readers x es
-  all_marks x [] = refl
-  all_marks x (e ∷ es) = ap (λ (ms : List model.Posted). if names_source (e.1).reads x then model.Mark e.0 ∷ ms else ms) (all_marks x es)
-
-  read_passes : (x : world.Source) (es : List (ℕ × model.Scope K)) (s : ℕ) → names_source (read_by es s) x ≡ passes (reads_it x) es s
-  read_passes x es s = by (at es s)
-    where
-      by : (o : Option (model.Scope K)) → names_source (reads_found o) x ≡ elim o as (λ _. Bool) [ None ↦ false | Some y ↦ reads_it x y ]
-      by None = refl
-      by (Some y) = refl
-
-module _ {P C Q V H T E L : Type 0} (rows : List (ℕ × Scope P C Q V H T E L)) (reads : List (Reader × List Source)) (known : AreKnown (scopes_of rows) reads) (up : Ascends rows) (source : Source) (after : Option ℕ) where
-  of_known : (s : ℕ) → is_read_by s source reads ≡ passes (reads_it (source_of source)) (scopes_of rows) s
-  of_known s = known.each s source ∙ read_passes (source_of source) (scopes_of rows) s
-
-  -- the next reader that the cells name has the next mark
-  pub next_marked : (s : ℕ) → IsNextReader source after reads s
-      → marks_after (reads_it (source_of source)) after (scopes_of rows) ≡ model.Mark s ∷ marks_after (reads_it (source_of source)) (Some s) (scopes_of rows)
-  next_marked s next =
-      next_mark (reads_it (source_of source)) after s (scopes_of rows) (rises_each scope_of rows (rises rows up)) next.past (sym (of_known s) ∙ next.read)
-      (λ m p l. sym (of_known m) ∙ next.first m p l)
-
-  -- and is entered
-  pub next_entered : (entered : List ℕ) (s : ℕ) → numbers_of rows ≡ entered → IsNextReader source after reads s → has entered s ≡ true
-  next_entered entered s are next =
-      ap (λ (ns : List ℕ). has ns s) (sym are)
-      ∙ numbers_has rows s
-      ∙ sym (live-each scope_of rows s)
-      ∙ passing_there (reads_it (source_of source)) (scopes_of rows) s (sym (of_known s) ∙ next.read)
-
-  -- where they name none no mark is left
-  pub none_marked : ((s : ℕ) → comes_after after s ≡ true → is_read_by s source reads ≡ false) → marks_after (reads_it (source_of source)) after (scopes_of rows) ≡ []
-  none_marked none =
-      no_mark (reads_it (source_of source)) after (scopes_of rows) (rises_each scope_of rows (rises rows up)) (λ m p. sym (of_known m) ∙ none m p)
 
 -- one more mark is posted
 pub mark_step : (posted new left rest all : List model.Posted) (s : ℕ) → new ≡ posted ++ model.Mark s ∷ [] → left ≡ model.Mark s ∷ rest → posted ++ left ≡ all → new ++ rest ≡ all

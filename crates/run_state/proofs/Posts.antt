@@ -4,20 +4,16 @@ use Rattle.std.specs.Prelude.{is_some, if◌then◌else◌}
 use Rattle.std.proofs.lemmas.List.{drop_more}
 use Rattle.std.proofs.lemmas.Grind.{common_steps}
 use Rattle.rt_model.specs.Lists.{at, drop_number}
-use Rattle.rt_model.specs.OneLog.{types}
 use Rattle.rt_model.specs.Tree.{Types}
 use Rattle.rt_model.specs.World as world
 use Rattle.rt_model.specs.State as model
-use Rattle.rt_model.specs.Commands.{drop_posted, post, post_target, names_source, readers, tell, tell_contexts, unqueued}
+use Rattle.rt_model.specs.Commands.{drop_posted, post, names_source, readers, unqueued}
 use Rattle.rt_model.specs.Run.{unmarked}
-use Rattle.run_records.specs.Records.{source_of, target_of}
-use Rattle.run_records.specs.Kept.{each}
+use Rattle.run_records.specs.Records.{source_of}
 use Rattle.run_records.specs.declared.rest.Scope.{Scope}
 use Rattle.rt_cells.specs.declared.sources.Source.{Source}
 use Rattle.run_owed.specs.Rooms.{Owing}
-use Rattle.run_state.specs.Mirror.{Unkept, context_of, scopes_of, state_of}
-use Rattle.run_state.specs.declared.state.ContextRow.{ContextRow}
-use Rattle.run_state.specs.declared.state.State.{State}
+use Rattle.run_state.specs.Mirror.{scopes_of}
 use Rattle.run_state.proofs.Each.{drop-all}
 
 pub append_none : (a : List model.Posted) → a ++ [] ≡ a
@@ -86,20 +82,6 @@ module _ {P C Q V H T E L : Type 0} where
 
   pub reader_end : (es : List (ℕ × Scope P C Q V H T E L)) (i : ℕ) (x : world.Source) (a b : List model.Posted) → length es ≤ i → a ++ readers x (scopes_of (drop i es)) ≡ b → a ≡ b
   reader_end es i x a b end is = sym (append_none a) ∙ ap (λ ys. a ++ readers x (scopes_of ys)) (sym (drop-all es i end)) ∙ is
-
-  pub told_first : (g : Unkept (types C Q V H T E L)) (d : State P C Q V H T E L) (x : world.Source) (new : List model.Posted) → new ≡ (d.owed).posted ++ readers x (scopes_of (d.rows).table)
-      → tell_contexts x (each context_of d.contexts) (with_posts (state_of g d) new) ≡ tell (state_of g d) x
-  told_first g d x new is = ap (λ (ps : List model.Posted). tell_contexts x (each context_of d.contexts) (with_posts (state_of g d) ps)) is
-
-module _ {C Q V H T E L : Type 0} where
-  pub told_step : (cs : List (ℕ × ContextRow)) (i : ℕ) (e : ℕ × ContextRow) (x : world.Source) (old new : model.State (types C Q V H T E L)) → i < length cs
-      → new ≡ (if names_source (map source_of (get_or cs i e).1.sources) x then post_target old (target_of (get_or cs i e).1.target) else old)
-      → tell_contexts x (each context_of (drop (i + 1) cs)) new ≡ tell_contexts x (each context_of (drop i cs)) old
-  told_step cs i e x old new inside is =
-      ap (λ v. tell_contexts x (each context_of (drop (i + 1) cs)) v) is ∙ ap (λ ys. tell_contexts x (each context_of ys) old) (sym (drop_more cs i e inside))
-
-  pub told_end : (cs : List (ℕ × ContextRow)) (i : ℕ) (x : world.Source) (w v : model.State (types C Q V H T E L)) → length cs ≤ i → tell_contexts x (each context_of (drop i cs)) w ≡ v → w ≡ v
-  told_end cs i x w v end is = ap (λ ys. tell_contexts x (each context_of ys) w) (sym (drop-all cs i end)) ∙ is
 
 module _ {K : Types} where
   -- marks go, in what is owed and in the model

@@ -7,6 +7,7 @@ use Rattle.std.proofs.lemmas.List.{drop_more, reverse-append}
 use Rattle.std.proofs.lemmas.Bool.Decides.{nat_tests}
 use Rattle.rt_values.specs.declared.names.ScopeId.{ScopeId}
 use Rattle.rt_cells.specs.declared.numbered.Held.{Held}
+use Rattle.rt_cells.specs.declared.sources.Target.{Target}
 use Rattle.rt_cells.specs.Held.{is_of, numbers_of, without_scope as others_held}
 use Rattle.rt_cells.specs.Cells as tracked
 use Rattle.rt_model.specs.Lists.{without, kept_by, drop_number}
@@ -18,8 +19,8 @@ use Rattle.rt_model.specs.Commands.{tell}
 use Rattle.rt_model.specs.Removal.{tell_all, cell_sources, context_sources, cells_in, kinds_of_scopes, kinds_of_contexts, without_scope, told_of_sources, gone, clean_ups}
 use Rattle.run_records.specs.Kept.{each}
 use Rattle.run_state.specs.CleanUps.{own_clean_up}
-use Rattle.run_state.specs.Mirror.{Unkept, forgets, cell_of, context_of, scopes_of, state_of}
-use Rattle.run_state.specs.declared.state.ContextRow.{ContextRow}
+use Rattle.run_state.specs.Mirror.{Unkept, forgets, cell_of, context_of, contexts_of, scopes_of, state_of}
+use Rattle.run_state.specs.declared.read_order.Reading.{Reading}
 use Rattle.run_state.specs.declared.state.State.{State}
 use Rattle.run_state.proofs.Each.{drop-all}
 
@@ -118,17 +119,20 @@ module _ (C Q V H T E L : Type 0) where
       step rest true false is = absurd (cc is)
       step rest false true is = absurd (cc is)
 
-  contexts_left : (s : ℕ) (es : List (ℕ × ContextRow))
-      → each (context_of {C = C} {Q = Q} {V = V} {H = H} {T = T} {E = E} {L = L}) (kept_by (λ e. not (nat_eq (e.1).scope s)) es) ≡ kept_by (λ e. not (nat_eq (e.1).scope s)) (each context_of es)
-  contexts_left s [] = refl
-  contexts_left s (e ∷ es) = step (contexts_left s es) (nat_eq (e.1).scope s)
+  contexts_left : (s : ℕ) (order : List Reading) (es : List (ℕ × Held Target))
+      → contexts_of {C = C} {Q = Q} {V = V} {H = H} {T = T} {E = E} {L = L} order (others_held (record { 0 = s }) es) ≡ kept_by (λ e. not (nat_eq (e.1).scope s)) (contexts_of order es)
+  contexts_left s order [] = refl
+  contexts_left s order (e ∷ es) =
+      step (contexts_left s order es) (is_of (record { 0 = s }) e) (nat_eq ((e.1).owner).0 s) (own_is s e)
     where
-      step : each (context_of {C = C} {Q = Q} {V = V} {H = H} {T = T} {E = E} {L = L}) (kept_by (λ e. not (nat_eq (e.1).scope s)) es) ≡ kept_by (λ e. not (nat_eq (e.1).scope s)) (each context_of es)
-          → (b : Bool)
-          → each (context_of {C = C} {Q = Q} {V = V} {H = H} {T = T} {E = E} {L = L}) (if not b then e ∷ kept_by (λ e. not (nat_eq (e.1).scope s)) es else kept_by (λ e. not (nat_eq (e.1).scope s)) es)
-          ≡ (if not b then (e.0, context_of e.1) ∷ kept_by (λ e. not (nat_eq (e.1).scope s)) (each context_of es) else kept_by (λ e. not (nat_eq (e.1).scope s)) (each context_of es))
-      step rest true = rest
-      step rest false = ap (λ xs. (e.0, context_of e.1) ∷ xs) rest
+      step : contexts_of {C = C} {Q = Q} {V = V} {H = H} {T = T} {E = E} {L = L} order (others_held (record { 0 = s }) es) ≡ kept_by (λ e. not (nat_eq (e.1).scope s)) (contexts_of order es)
+          → (a b : Bool) → a ≡ b
+          → contexts_of {C = C} {Q = Q} {V = V} {H = H} {T = T} {E = E} {L = L} order (if not a then e ∷ others_held (record { 0 = s }) es else others_held (record { 0 = s }) es)
+          ≡ (if not b then (e.0, context_of order e.0 e.1) ∷ kept_by (λ e. not (nat_eq (e.1).scope s)) (contexts_of order es) else kept_by (λ e. not (nat_eq (e.1).scope s)) (contexts_of order es))
+      step rest true true is = rest
+      step rest false false is = ap (λ xs. (e.0, context_of order e.0 e.1) ∷ xs) rest
+      step rest true false is = absurd (cc is)
+      step rest false true is = absurd (cc is)
 
 module _ {P C Q V H T E L : Type 0} where
   -- the cells of a scope
@@ -136,17 +140,19 @@ module _ {P C Q V H T E L : Type 0} where
   cells_found g d s ns is = is ∙ cells_own C Q V H T E L s (d.cells).cells
 
   -- all that goes with the record
-  pub scope_dropped : (g : Unkept (types C Q V H T E L)) (d : State P C Q V H T E L) (s : ℕ) (cells : tracked.State V) (contexts : List (ℕ × ContextRow)) (resolved skipped : List ℕ)
-      → cells ≡ tracked.cells_of_dropped (record { 0 = s }) d.cells
-      → contexts ≡ kept_by (λ e. not (nat_eq (e.1).scope s)) d.contexts
+  pub scope_dropped : (g : Unkept (types C Q V H T E L)) (d : State P C Q V H T E L) (s : ℕ) (first cells : tracked.State V) (resolved skipped : List ℕ)
+      → first ≡ tracked.cells_of_dropped (record { 0 = s }) d.cells
+      → cells ≡ tracked.contexts_dropped (record { 0 = s }) first
       → resolved ≡ drop_number d.resolved s
       → skipped ≡ drop_number d.skipped s
-      → record (state_of (forgets g s) d) { scopes = without (scopes_of (d.rows).table) s; cells = each cell_of cells.cells; contexts = each context_of contexts; resolved = resolved; skipped = skipped } ≡ without_scope (state_of g d) s
-  scope_dropped g d s cells contexts resolved skipped cells_is contexts_is resolved_is skipped_is =
+      → record (state_of (forgets g s) d) { scopes = without (scopes_of (d.rows).table) s; cells = each cell_of cells.cells; contexts = contexts_of d.read_order cells.contexts; resolved = resolved; skipped = skipped } ≡ without_scope (state_of g d) s
+  scope_dropped g d s first cells resolved skipped first_is cells_is resolved_is skipped_is =
       λ i. record (state_of (forgets g s) d) {
         scopes = without (scopes_of (d.rows).table) s;
-        cells = (ap (λ (t : tracked.State V). each cell_of t.cells) cells_is ∙ cells_left C Q V H T E L s (d.cells).cells) i;
-        contexts = (ap (each context_of) contexts_is ∙ contexts_left C Q V H T E L s d.contexts) i;
+        cells = (ap (λ (t : tracked.State V). each cell_of t.cells) cells_is ∙ ap (λ (t : tracked.State V). each cell_of t.cells) first_is ∙ cells_left C Q V H T E L s (d.cells).cells) i;
+        contexts = (ap (λ (t : tracked.State V). contexts_of d.read_order t.contexts) cells_is
+            ∙ ap (λ (t : tracked.State V). contexts_of d.read_order (others_held (record { 0 = s }) t.contexts)) first_is
+            ∙ contexts_left C Q V H T E L s d.read_order (d.cells).contexts) i;
         resolved = resolved_is i;
         skipped = skipped_is i;
       }

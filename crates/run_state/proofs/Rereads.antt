@@ -17,7 +17,7 @@ use Rattle.run_state.proofs.Each.{found-each}
 use Rattle.run_state.proofs.Unchanged.{put-same}
 
 -- a value is put in the place of one that was put there
-put_over : {A : Type 0} (es : List (ℕ × A)) (n : ℕ) (a b : A) → put (put es n a) n b ≡ put es n b
+pub put_over : {A : Type 0} (es : List (ℕ × A)) (n : ℕ) (a b : A) → put (put es n a) n b ≡ put es n b
 put_over [] n a b = pick_true ((n, b) ∷ []) ((n, a) ∷ put [] n b) (eq_same n)
 put_over {A = A} (e ∷ es) n a b = by (nat_eq e.0 n) refl (put_over es n a b)
   where

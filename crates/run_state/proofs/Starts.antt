@@ -14,7 +14,7 @@ use Rattle.run_records.specs.Records.{firsts_of}
 use Rattle.run_records.specs.Kept.{each}
 use Rattle.run_records.specs.declared.rest.Scope.{Scope}
 use Rattle.run_records.specs.declared.world.Firsts.{Firsts}
-use Rattle.run_state.specs.Mirror.{Unkept, at_first, cell_of, context_of, task_of, scopes_of, state_of}
+use Rattle.run_state.specs.Mirror.{Unkept, at_first, cell_of, contexts_of, task_of, scopes_of, state_of}
 use Rattle.run_state.specs.Sides.{more_child}
 use Rattle.run_state.specs.Starts.{IsEmpty}
 use Rattle.run_state.specs.declared.state.State.{State}
@@ -49,7 +49,7 @@ module _ {P C Q V H T E L : Type 0} where
       ∙ (λ i. record w {
         scopes = one i;
         cells = ap (each cell_of) empty.cells i;
-        contexts = ap (each context_of) empty.contexts i;
+        contexts = ap (λ es. contexts_of d.read_order es) empty.contexts i;
         tasks = ap (each task_of) empty.tasks i;
         posted = empty.posted i;
         seen = empty.seen i;

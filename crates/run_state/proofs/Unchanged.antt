@@ -4,15 +4,18 @@ use Rattle.std.specs.Coded.{Coded-set, coded×, coded_bool, coded_list, coded_�
 use Rattle.std.specs.Prelude.{Option, Some, None, Result, Ok, Err, IfSome, IfNone, IsOk, OnErr, if◌then◌else◌}
 use Rattle.std.proofs.lemmas.Bool.{eqb-true}
 use Rattle.std.proofs.Math.Logic.{∥∥₁_prop}
-use Rattle.rt_model.specs.Lists.{at, has, put, or_else}
+use Rattle.rt_model.specs.Lists.{at, put, or_else}
 use Rattle.rt_model.specs.OneLog.{types}
 use Rattle.rt_model.specs.Tree.{Types}
 use Rattle.rt_model.specs.State as model
 use Rattle.rt_model.specs.State.{change}
 use Rattle.rt_model.specs.Commands.{names_source}
 use Rattle.rt_cells.specs.declared.sources.Source.{Source}
+use Rattle.rt_cells.specs.declared.numbered.Held.{Held}
+use Rattle.rt_cells.specs.declared.sources.Target.{Target}
 use Rattle.rt_cells.specs.declared.sources.Reader.{Reader}
-use Rattle.rt_cells.specs.Reads.{is_read_by}
+use Rattle.rt_cells.specs.declared.sources.Reader.TheVariants.{Context}
+use Rattle.rt_cells.specs.Reads.{is_read_by, has as has_source, reads_of}
 use Rattle.run_records.specs.Records.{source_of}
 use Rattle.run_records.specs.Kept.{each, scope_of}
 use Rattle.run_records.specs.declared.rest.Scope.{Scope}
@@ -22,8 +25,9 @@ use Rattle.run_owed.proofs.Tables.{values_put}
 use Rattle.run_named.specs.Standings.{IsPlaced}
 use Rattle.run_state.specs.Heights.{heights_of, task_scopes}
 use Rattle.run_state.specs.Mounts.{IsWaiting, ways_of}
-use Rattle.run_state.specs.Effects.{AreListed, has_pair}
-use Rattle.run_state.specs.Readers.{AreKnown, read_by}
+use Rattle.run_state.specs.Effects.{AreListed, has_pair, has_rank}
+use Rattle.run_state.specs.Readers.{AreHeard, AreKnown, read_by, read_in}
+use Rattle.run_state.specs.declared.read_order.Reading.{Reading}
 use Rattle.run_state.specs.Mirror.{Unkept, task_of, change_task, state_of}
 use Rattle.run_state.specs.declared.state.TaskRow.{TaskRow}
 use Rattle.run_state.specs.declared.state.State.{State}
@@ -72,12 +76,17 @@ one_proof xs ys p q = Coded-set (coded_list (coded× coded_ℕ coded_ℕ)) xs ys
 pub one_known : {K : Types} (scopes : List (ℕ × model.Scope K)) (reads : List (Reader × List Source)) (p q : AreKnown scopes reads) → p ≡ q
 one_known scopes reads p q = λ i. record { each = λ s x. Coded-set coded_bool (is_read_by s x reads) (names_source (read_by scopes s) (source_of x)) (p.each s x) (q.each s x) i }
 
+-- and what is known of reactive contexts
+pub one_heard : (kept : List (ℕ × Held Target)) (order : List Reading) (reads : List (Reader × List Source)) (p q : AreHeard kept order reads) → p ≡ q
+one_heard kept order reads p q =
+    λ i. record { each = λ n x. Coded-set coded_bool (has_source x (reads_of (Context n) reads)) (names_source (read_in kept order n) (source_of x)) (p.each n x) (q.each n x) i }
+
 -- so has what is listed
-pub one_listed : {K : Types} (scopes : List (ℕ × model.Scope K)) (effects : List ℕ) (held : List (ℕ × ℕ)) (p q : AreListed scopes effects held) → p ≡ q
+pub one_listed : {K : Types} (scopes : List (ℕ × model.Scope K)) (effects held : List (ℕ × ℕ)) (p q : AreListed scopes effects held) → p ≡ q
 one_listed scopes effects held p q =
     λ i.
     record {
-      each = λ s h. Coded-set coded_bool (has effects s) true (p.each s h) (q.each s h) i;
+      each = λ s h r. Coded-set coded_bool (has_rank effects h s) true (p.each s h r) (q.each s h r) i;
       pairs = λ s t h. Coded-set coded_bool (has_pair held t s) true (p.pairs s t h) (q.pairs s t h) i;
     }
 
@@ -85,45 +94,45 @@ module _ {P C Q V H T E L : Type 0} where
   -- the state with other scopes, whose numbers are those that are entered
   abbrev with_table : (d : State P C Q V H T E L) (es : List (ℕ × Scope P C Q V H T E L)) → heights_of es ≡ (d.owed).scopes → task_scopes d.tasks ≡ (d.owed).tasks
       → ∥ IsWaiting (ways_of es) d.fresh d.hidden d.next_scope ∥₁ → ∥ IsPlaced (each scope_of es) d.places ∥₁ → AreKnown (each scope_of es) (d.cells).reads
-      → AreListed (each scope_of es) d.effects d.held → State P C Q V H T E L
-  with_table d es h k w p r z = record d { rows = record { table = es }; entered = h; known = k; waiting = w; placed = p; readers = r; listed = z }
+      → AreHeard (d.cells).contexts d.read_order (d.cells).reads → AreListed (each scope_of es) d.effects d.held → State P C Q V H T E L
+  with_table d es h k w p r e z = record d { rows = record { table = es }; entered = h; known = k; waiting = w; placed = p; readers = r; heard = e; listed = z }
 
   -- scopes as they were are the state as it was
   pub rows_same : (d : State P C Q V H T E L) (es : List (ℕ × Scope P C Q V H T E L)) (h : heights_of es ≡ (d.owed).scopes) (k : task_scopes d.tasks ≡ (d.owed).tasks)
       (w : ∥ IsWaiting (ways_of es) d.fresh d.hidden d.next_scope ∥₁) (p : ∥ IsPlaced (each scope_of es) d.places ∥₁) (r : AreKnown (each scope_of es) (d.cells).reads)
-      (z : AreListed (each scope_of es) d.effects d.held) → es ≡ (d.rows).table → with_table d es h k w p r z ≡ d
-  rows_same d es h k w p r z is =
+      (e : AreHeard (d.cells).contexts d.read_order (d.cells).reads) (z : AreListed (each scope_of es) d.effects d.held) → es ≡ (d.rows).table → with_table d es h k w p r e z ≡ d
+  rows_same d es h k w p r e z is =
       subst
       (
       λ (fs : List (ℕ × Scope P C Q V H T E L)). (m : heights_of fs ≡ (d.owed).scopes) (l : ∥ IsWaiting (ways_of fs) d.fresh d.hidden d.next_scope ∥₁) (n : ∥ IsPlaced (each scope_of fs) d.places ∥₁)
-      (o : AreKnown (each scope_of fs) (d.cells).reads) (z : AreListed (each scope_of fs) d.effects d.held) → with_table d fs m k l n o z ≡ d
+      (o : AreKnown (each scope_of fs) (d.cells).reads) (z : AreListed (each scope_of fs) d.effects d.held) → with_table d fs m k l n o e z ≡ d
       )
       (sym is)
       (
       λ m l n o z i.
       with_table d (d.rows).table (one_proof (heights_of (d.rows).table) (d.owed).scopes m d.entered i) (one_proof (task_scopes d.tasks) (d.owed).tasks k d.known i)
-      (∥∥₁_prop l d.waiting i) (∥∥₁_prop n d.placed i) (one_known (each scope_of (d.rows).table) (d.cells).reads o d.readers i) (one_listed (each scope_of (d.rows).table) d.effects d.held z d.listed i)
+      (∥∥₁_prop l d.waiting i) (∥∥₁_prop n d.placed i) (one_known (each scope_of (d.rows).table) (d.cells).reads o d.readers i) (one_heard (d.cells).contexts d.read_order (d.cells).reads e d.heard i) (one_listed (each scope_of (d.rows).table) d.effects d.held z d.listed i)
       )
       h w p r z
 
   -- the state with other tasks and owed things
   abbrev with_tasks : (d : State P C Q V H T E L) (o : Owing) (ts : List (ℕ × TaskRow P C Q V H T E L)) → heights_of (d.rows).table ≡ o.scopes → task_scopes ts ≡ o.tasks
       → ∥ IsWaiting (ways_of (d.rows).table) d.fresh d.hidden d.next_scope ∥₁ → ∥ IsPlaced (each scope_of (d.rows).table) d.places ∥₁ → AreKnown (each scope_of (d.rows).table) (d.cells).reads
-      → AreListed (each scope_of (d.rows).table) d.effects d.held → State P C Q V H T E L
-  with_tasks d o ts h k w p r z = record d { owed = o; tasks = ts; entered = h; known = k; waiting = w; placed = p; readers = r; listed = z }
+      → AreHeard (d.cells).contexts d.read_order (d.cells).reads → AreListed (each scope_of (d.rows).table) d.effects d.held → State P C Q V H T E L
+  with_tasks d o ts h k w p r e z = record d { owed = o; tasks = ts; entered = h; known = k; waiting = w; placed = p; readers = r; heard = e; listed = z }
 
   pub tasks_same : (d : State P C Q V H T E L) (o : Owing) (ts : List (ℕ × TaskRow P C Q V H T E L)) (h : heights_of (d.rows).table ≡ o.scopes) (k : task_scopes ts ≡ o.tasks)
       (w : ∥ IsWaiting (ways_of (d.rows).table) d.fresh d.hidden d.next_scope ∥₁) (p : ∥ IsPlaced (each scope_of (d.rows).table) d.places ∥₁) (r : AreKnown (each scope_of (d.rows).table) (d.cells).reads)
-      (z : AreListed (each scope_of (d.rows).table) d.effects d.held) → o ≡ d.owed → ts ≡ d.tasks → with_tasks d o ts h k w p r z ≡ d
-  tasks_same d o ts h k w p r z owed tasks =
-      subst (λ (a : Owing). (h : heights_of (d.rows).table ≡ a.scopes) (k : task_scopes ts ≡ a.tasks) → with_tasks d a ts h k w p r z ≡ d) (sym owed)
+      (e : AreHeard (d.cells).contexts d.read_order (d.cells).reads) (z : AreListed (each scope_of (d.rows).table) d.effects d.held) → o ≡ d.owed → ts ≡ d.tasks → with_tasks d o ts h k w p r e z ≡ d
+  tasks_same d o ts h k w p r e z owed tasks =
+      subst (λ (a : Owing). (h : heights_of (d.rows).table ≡ a.scopes) (k : task_scopes ts ≡ a.tasks) → with_tasks d a ts h k w p r e z ≡ d) (sym owed)
       (
       λ h k.
-      subst (λ (us : List (ℕ × TaskRow P C Q V H T E L)). (k : task_scopes us ≡ (d.owed).tasks) → with_tasks d d.owed us h k w p r z ≡ d) (sym tasks)
+      subst (λ (us : List (ℕ × TaskRow P C Q V H T E L)). (k : task_scopes us ≡ (d.owed).tasks) → with_tasks d d.owed us h k w p r e z ≡ d) (sym tasks)
       (
       λ k i.
       with_tasks d d.owed d.tasks (one_proof (heights_of (d.rows).table) (d.owed).scopes h d.entered i) (one_proof (task_scopes d.tasks) (d.owed).tasks k d.known i)
-      (∥∥₁_prop w d.waiting i) (∥∥₁_prop p d.placed i) (one_known (each scope_of (d.rows).table) (d.cells).reads r d.readers i) (one_listed (each scope_of (d.rows).table) d.effects d.held z d.listed i)
+      (∥∥₁_prop w d.waiting i) (∥∥₁_prop p d.placed i) (one_known (each scope_of (d.rows).table) (d.cells).reads r d.readers i) (one_heard (d.cells).contexts d.read_order (d.cells).reads e d.heard i) (one_listed (each scope_of (d.rows).table) d.effects d.held z d.listed i)
       )
       k
       )
@@ -133,19 +142,19 @@ module _ {P C Q V H T E L U X : Type 0} where
   -- tasks that were refused
   pub tasks_stay : (r : Result U X) (d : State P C Q V H T E L) (o : Owing) (ts : List (ℕ × TaskRow P C Q V H T E L)) (h : heights_of (d.rows).table ≡ o.scopes) (k : task_scopes ts ≡ o.tasks)
       (w : ∥ IsWaiting (ways_of (d.rows).table) d.fresh d.hidden d.next_scope ∥₁) (p : ∥ IsPlaced (each scope_of (d.rows).table) d.places ∥₁) (a : AreKnown (each scope_of (d.rows).table) (d.cells).reads)
-      (z : AreListed (each scope_of (d.rows).table) d.effects d.held) → o ≡ d.owed → ts ≡ d.tasks → OnErr r (with_tasks d o ts h k w p a z ≡ d)
-  tasks_stay (Ok u) d o ts h k w p a z owed tasks = tt
-  tasks_stay (Err e) d o ts h k w p a z owed tasks = tasks_same d o ts h k w p a z owed tasks
+      (e : AreHeard (d.cells).contexts d.read_order (d.cells).reads) (z : AreListed (each scope_of (d.rows).table) d.effects d.held) → o ≡ d.owed → ts ≡ d.tasks → OnErr r (with_tasks d o ts h k w p a e z ≡ d)
+  tasks_stay (Ok u) d o ts h k w p a e z owed tasks = tt
+  tasks_stay (Err x) d o ts h k w p a e z owed tasks = tasks_same d o ts h k w p a e z owed tasks
 
   -- scopes whose change was refused
   pub scope_stays : (r : Result U X) (R : Scope P C Q V H T E L → Scope P C Q V H T E L → Type 0) (d : State P C Q V H T E L) (new : List (ℕ × Scope P C Q V H T E L)) (h : heights_of new ≡ (d.owed).scopes) (k : task_scopes d.tasks ≡ (d.owed).tasks)
-      (w : ∥ IsWaiting (ways_of new) d.fresh d.hidden d.next_scope ∥₁) (p : ∥ IsPlaced (each scope_of new) d.places ∥₁) (a : AreKnown (each scope_of new) (d.cells).reads) (z : AreListed (each scope_of new) d.effects d.held) (s : ℕ)
+      (w : ∥ IsWaiting (ways_of new) d.fresh d.hidden d.next_scope ∥₁) (p : ∥ IsPlaced (each scope_of new) d.places ∥₁) (a : AreKnown (each scope_of new) (d.cells).reads) (e : AreHeard (d.cells).contexts d.read_order (d.cells).reads) (z : AreListed (each scope_of new) d.effects d.held) (s : ℕ)
       → (at (d.rows).table s ≡ None → new ≡ (d.rows).table)
       → ((x : Scope P C Q V H T E L) → at (d.rows).table s ≡ Some x → (y : Scope P C Q V H T E L) × R x y × (new ≡ put (d.rows).table s y))
       → ((x y : Scope P C Q V H T E L) → R x y → OnErr r (y ≡ x))
-      → OnErr r (with_table d new h k w p a z ≡ d)
-  scope_stays r R d new h k w p a z s absent changed step =
-      on_err r (table_stays r R (d.rows).table new s (at (d.rows).table s) refl absent changed step) (λ is. rows_same d new h k w p a z is)
+      → OnErr r (with_table d new h k w p a e z ≡ d)
+  scope_stays r R d new h k w p a e z s absent changed step =
+      on_err r (table_stays r R (d.rows).table new s (at (d.rows).table s) refl absent changed step) (λ is. rows_same d new h k w p a e z is)
 
 module _ {A : Type 0} (value : A → ℕ) where
   -- a change of one row that keeps its value leaves the values of a table

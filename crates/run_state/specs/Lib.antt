@@ -2,7 +2,9 @@ pub mod Names
 pub mod Mirror
 pub mod Climbs
 pub mod Sources
+pub mod Anew
 pub mod Readers
+pub mod Posts
 pub mod Looks
 pub mod Provided
 pub mod Effects

@@ -1,6 +1,7 @@
 -- The state of code as that of the model.
-use Rattle.std.specs.Prelude.{◌≡◌, ℕ, ◌+◌, List, [], map, Option, Some, None}
+use Rattle.std.specs.Prelude.{◌≡◌, ℕ, ◌+◌, List, [], ◌∷◌, map, Option, Some, None}
 use Rattle.rt_cells.specs.declared.numbered.Held.{Held}
+use Rattle.rt_cells.specs.declared.sources.Target.{Target}
 use Rattle.rt_model.specs.OneLog.{types}
 use Rattle.rt_model.specs.Tree as tree
 use Rattle.rt_model.specs.Lists.{at, put, without, or_else}
@@ -9,7 +10,8 @@ use Rattle.run_records.specs.Records.{source_of, target_of, firsts_of}
 use Rattle.run_records.specs.Kept.{each, scope_of}
 use Rattle.run_records.specs.declared.rest.Scope.{Scope}
 use Rattle.run_state.specs.Names.{task_kind_of}
-use Rattle.run_state.specs.declared.state.ContextRow.{ContextRow}
+use Rattle.run_state.specs.Sources.{read_into}
+use Rattle.run_state.specs.declared.read_order.Reading.{Reading}
 use Rattle.run_state.specs.declared.state.TaskRow.{TaskRow}
 use Rattle.run_state.specs.declared.state.State.{State}
 
@@ -40,9 +42,14 @@ module _ {C Q V H T E L : Type 0} where
   abbrev pub cell_of : Held V → state.CellRow (types C Q V H T E L)
   cell_of c = record { owner = (c.owner).0; value = c.value }
 
-  -- a reactive context
-  abbrev pub context_of : ContextRow → state.ContextRow (types C Q V H T E L)
-  context_of x = record { scope = x.scope; target = target_of x.target; sources = map source_of x.sources }
+  -- a reactive context, with what was read into it
+  abbrev pub context_of : List Reading → ℕ → Held Target → state.ContextRow (types C Q V H T E L)
+  context_of order n x = record { scope = (x.owner).0; target = target_of x.value; sources = map source_of (read_into order n) }
+
+  -- the reactive contexts that the cells keep
+  abbrev pub contexts_of : List Reading → List (ℕ × Held Target) → List (ℕ × state.ContextRow (types C Q V H T E L))
+  contexts_of order [] = []
+  contexts_of order (e ∷ es) = (e.0, context_of order e.0 e.1) ∷ contexts_of order es
 
 module _ {P C Q V H T E L : Type 0} where
   -- a task; while it is polled, its state is the one that it is polled with
@@ -71,7 +78,7 @@ module _ {P C Q V H T E L : Type 0} where
         scopes = scopes_of (d.rows).table;
         last_calls = g.last_calls;
         cells = each cell_of (d.cells).cells;
-        contexts = each context_of d.contexts;
+        contexts = contexts_of d.read_order (d.cells).contexts;
         tasks = each task_of d.tasks;
         posted = (d.owed).posted;
         seen = (d.owed).seen;

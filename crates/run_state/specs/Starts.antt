@@ -8,7 +8,7 @@ module _ {P C Q V H T E L : Type 0} where
   pub record IsEmpty (firsts : Firsts) (d : State P C Q V H T E L) : Type 0 where
     pub rows : (d.rows).table ≡ []
     pub cells : (d.cells).cells ≡ []
-    pub contexts : d.contexts ≡ []
+    pub contexts : (d.cells).contexts ≡ []
     pub tasks : d.tasks ≡ []
     pub posted : (d.owed).posted ≡ []
     pub seen : (d.owed).seen ≡ []

@@ -1,15 +1,13 @@
 //! Cells: made, written and dropped, with their readers told.
-ghost use Rattle.std.specs.Prelude.{◌≡◌, [], OnOk};
+ghost use Rattle.std.specs.Prelude.{◌≡◌, OnOk};
 ghost use Rattle.rt_model.specs.World as model;
 ghost use Rattle.rt_model.specs.Commands.{command, write_cell, drop_cell_row};
 ghost use Rattle.run_records.specs.Records.{source_of, target_of};
 ghost use Rattle.run_state.specs.Mirror.{state_of};
-ghost use Rattle.run_state.specs.Sources.{joined};
 
-use crate::sources::join_source;
-use crate::state::{ContextRow, State};
-use rt_cells::{Source, Target};
-use rt_values::{List, OutOfMemory, ScopeId};
+use crate::state::State;
+use rt_cells::{ReactiveContext, Reader, Source, Target};
+use rt_values::{OutOfMemory, ScopeId};
 use std::alloc::Global;
 use tree_nodes::Parts;
 
@@ -52,10 +50,10 @@ impl<P: Parts> State<P> {
         }
     }
 
-    /// Makes a reactive context of a live scope, without sources.
+    /// Makes a reactive context of a live scope, without sources, under the number that a call drew. A
+    /// number that was used up before is refused as memory is; no call draws one.
     pub fn new_context(
         &mut self,
-        alloc: Global,
         scope: u64,
         context: u64,
         target: Target,
@@ -67,45 +65,45 @@ impl<P: Parts> State<P> {
         if !self.is_live(scope) {
             return Ok(());
         }
-        self.contexts.push(
-            context,
-            ContextRow {
-                scope,
-                target,
-                sources: List::new(alloc),
-            },
-        )
+        match self.cells.enter_context(ScopeId(scope), context, target) {
+            Ok(()) => {
+                self.read_order.begin(context);
+                Ok(())
+            }
+            Err(_fault) => Err(OutOfMemory),
+        }
     }
 
-    /// Leaves a reactive context without sources, where it stands.
-    pub fn reset_context(&mut self, alloc: Global, context: u64) -> Result<(), OutOfMemory>
+    /// Leaves a reactive context without sources, where it stands. It takes no memory.
+    pub fn reset_context(&mut self, context: u64) -> Result<(), OutOfMemory>
         ensures { OnOk result ((g : _) (app : _) (scope : _) (polled : _) → state_of g self.new
             ≡ command app (state_of g self.old) scope polled (model.Reset context)) }
     {
-        self.contexts.change(
-            context,
-            |row: &mut ContextRow| -> Result<(), OutOfMemory>
-                ensures { OnOk result (row.new ≡ record row.old { sources = [] }) }
-            {
-                row.sources = List::new(alloc);
-                Ok(())
-            },
-        )
+        let Some(_target) = ReactiveContext(context).target(&self.cells) else {
+            return Ok(());
+        };
+        self.cells.drop_reader(Reader::Context(context));
+        self.read_order.begin(context);
+        Ok(())
     }
 
     /// Gives a reactive context one more source, where it stands.
-    pub fn read_into(&mut self, context: u64, source: Source) -> Result<(), OutOfMemory>
+    pub fn read_into(
+        &mut self,
+        alloc: Global,
+        context: u64,
+        source: Source,
+    ) -> Result<(), OutOfMemory>
         ensures { OnOk result ((g : _) (app : _) (scope : _) (polled : _) → state_of g self.new
             ≡ command app (state_of g self.old) scope polled
             (model.ReadInto context (source_of source))) }
     {
-        self.contexts.change(
-            context,
-            |row: &mut ContextRow| -> Result<(), OutOfMemory>
-                ensures { OnOk result (row.new ≡ record row.old {
-                  sources = joined row.old.sources source;
-                }) }
-            { join_source(&mut row.sources, source) },
-        )
+        let Some(_target) = ReactiveContext(context).target(&self.cells) else {
+            return Ok(());
+        };
+        self.cells
+            .add_read(alloc, Reader::Context(context), source)?;
+        self.read_order.read(context, source);
+        Ok(())
     }
 }

@@ -9,13 +9,15 @@ ghost use Rattle.run_state.specs.Mirror.{state_of};
 
 use crate::names::Posted;
 use crate::state::State;
+use rt_cells::Source;
 use rt_values::{List, OutOfMemory};
 use run_records::Command;
 use std::alloc::Global;
 use tree_nodes::Parts;
 
 impl<P: Parts> State<P> {
-    /// The commands of a call in a scope, in order; `polled` is the task that was polled.
+    /// The commands of a call in a scope, in order; `polled` is the task that was polled. What is read
+    /// into a reactive context after its reset is done as one list.
     pub fn do_commands(
         &mut self,
         alloc: Global,
@@ -27,10 +29,12 @@ impl<P: Parts> State<P> {
             → Tests P.Value app.same_value → OnOk result ((g : _) → state_of g self.new
             ≡ done_by_all app (state_of g self.old) scope polled (map command_of commands)) }
     {
+        let mut left: Option<(u64, List<Source>)> = None;
         for command in commands.into_vec() {
-            self.command(alloc, scope, polled, command)?;
+            let later = self.command_after(alloc, scope, polled, left, command)?;
+            left = later;
         }
-        Ok(())
+        self.reread(alloc, left)
     }
 
     /// One command of a call in a scope.
@@ -50,11 +54,9 @@ impl<P: Parts> State<P> {
             Command::NewCell { cell, value } => self.new_cell(scope, cell, value),
             Command::Write { cell, value } => self.write_cell(cell, value),
             Command::DropCell { cell } => self.drop_cell(cell),
-            Command::NewContext { context, target } => {
-                self.new_context(alloc, scope, context.0, target)
-            }
-            Command::Reset { context } => self.reset_context(alloc, context.0),
-            Command::ReadInto { context, source } => self.read_into(context.0, source),
+            Command::NewContext { context, target } => self.new_context(scope, context.0, target),
+            Command::Reset { context } => self.reset_context(context.0),
+            Command::ReadInto { context, source } => self.read_into(alloc, context.0, source),
             Command::Spawn {
                 task,
                 state,

@@ -1,15 +1,14 @@
 //! Errors, and what waits for a suspense boundary.
 ghost use Rattle.std.specs.Prelude.{◌≡◌, ◌++◌, ◌∷◌, [], OnOk, OnErr, Some, None, option_map, true};
-ghost use Rattle.rt_model.specs.Lists.{has};
-ghost use Rattle.rt_model.specs.State.{change};
+ghost use Rattle.rt_model.specs.State.{change, height_of};
 ghost use Rattle.rt_model.specs.Commands.{throw_error, clear_error, registered, frozen_at};
 ghost use Rattle.rt_model.specs.State.{suspense_context};
 ghost use Rattle.tree_mirror.specs.Mirror.{error_of};
 ghost use Rattle.run_records.specs.Records.{hook_of};
 ghost use Rattle.run_state.specs.Drawn.{beside_lists, kept_for};
-ghost use Rattle.run_state.specs.Mirror.{state_of};
+ghost use Rattle.run_state.specs.Effects.{has_rank};
+ghost use Rattle.run_state.specs.Mirror.{scopes_of, state_of};
 
-use crate::numbers::join;
 use crate::state::State;
 use rt_cells::Source;
 use rt_values::{OutOfMemory, ScopeId};
@@ -96,13 +95,15 @@ impl<P: Parts> State<P> {
             state_of g self.new ≡ change (state_of g self.old) scope
             (λ x. record x { effects = x.effects ++ effect ∷ [] })) }
     {
-        join(&mut self.effects, scope)?;
+        let height = self.height_of(scope);
+        self.effects.insert(height, scope)?;
         self.add_effect(scope, effect)
     }
 
-    /// The same of a scope that is listed as one with queued effects.
+    /// The same of a scope that is listed as one with queued effects, with its height.
     fn add_effect(&mut self, scope: u64, effect: P::Effect) -> Result<(), OutOfMemory>
-        requires listed { has self.old.effects scope ≡ true }
+        requires listed { has_rank self.old.effects
+            (height_of (scopes_of self.old.rows.table) scope) scope ≡ true }
         ensures { OnOk result ((g : _) →
             state_of g self.new ≡ change (state_of g self.old) scope
             (λ x. record x { effects = x.effects ++ effect ∷ [] })) }

@@ -1,5 +1,5 @@
 //! Scopes that become mounted.
-ghost use Rattle.std.specs.Prelude.{◌≡◌, ◌<◌, ◌∷◌, [], ℕ, List, Some, true, false, nat_eq, length, get_or, take, map, remove, OnOk, IfNone, IfSome};
+ghost use Rattle.std.specs.Prelude.{◌≡◌, ◌<◌, ◌≤◌, ◌+◌, ◌∷◌, [], ℕ, List, Some, true, false, nat_eq, length, get_or, take, drop, map, remove, OnOk};
 ghost use Rattle.std.specs.List.{list_any};
 ghost use Rattle.rt_model.specs.Replay.{mounted_state};
 ghost use Rattle.run_state.specs.Mounts.{Way, covers, hides, mounts_in, shown_in, ways_of};
@@ -88,19 +88,6 @@ impl<P: Parts> State<P> {
     }
 }
 
-/// Where a scope stands first that is hidden by the one with this number.
-fn hidden_by(hidden: &[(u64, u64)], above: u64) -> Option<usize>
-    ensures within { IfSome result (λ index. index < length hidden.now) }
-    ensures none { IfNone result (list_any (λ e. nat_eq e.1 above) hidden.now ≡ false) }
-{
-    for index in 0..hidden.len() {
-        if hidden[index].1 == above {
-            return Some(index);
-        }
-    }
-    None
-}
-
 /// The scope at an index of the hidden ones is fresh.
 fn uncover_at(
     fresh: &mut List<u64>,
@@ -118,7 +105,31 @@ fn uncover_at(
     Ok(())
 }
 
-/// What is hidden by the scope with this number is fresh.
+/// The same, where the one with this number hides it. If none behind it is hidden by that one, none is
+/// from there on.
+fn uncover_one(
+    fresh: &mut List<u64>,
+    hidden: &mut List<(u64, u64)>,
+    index: usize,
+    above: u64,
+) -> Result<(), OutOfMemory>
+    requires within { index < length hidden.old }
+    ensures covered { (ways : List (ℕ × Way)) (height s : ℕ) → covers ways fresh.old hidden.old height s ≡ true
+        → covers ways fresh.new hidden.new height s ≡ true }
+    ensures long { OnOk result (index ≤ length hidden.new) }
+    ensures none { OnOk result (list_any (λ e. nat_eq e.1 above) (drop (index + 1) hidden.old) ≡ false
+        → list_any (λ e. nat_eq e.1 above) (drop index hidden.new) ≡ false) }
+{
+    let by = hidden.as_slice()[index].1;
+    if by != above {
+        return Ok(());
+    }
+    uncover_at(fresh, hidden, index)?;
+    Ok(())
+}
+
+/// What is hidden by the scope with this number is fresh. The hidden ones are gone through once, the
+/// last first.
 pub(crate) fn uncover(
     fresh: &mut List<u64>,
     hidden: &mut List<(u64, u64)>,
@@ -128,8 +139,9 @@ pub(crate) fn uncover(
         → covers ways fresh.new hidden.new height s ≡ true }
     ensures none { OnOk result (list_any (λ e. nat_eq e.1 above) hidden.new ≡ false) }
 {
-    while let Some(index) = hidden_by(hidden.as_slice(), above) {
-        uncover_at(fresh, hidden, index)?;
+    let count = hidden.len();
+    for back in 0..count {
+        uncover_one(fresh, hidden, count - 1 - back, above)?;
     }
     Ok(())
 }

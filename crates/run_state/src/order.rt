@@ -1,9 +1,9 @@
 //! The order in which scopes and tasks come up.
-ghost use Rattle.std.specs.Prelude.{◌≡◌, option_map, if◌then◌else◌};
+ghost use Rattle.std.specs.Prelude.{◌≡◌, nat_eq, option_map, if◌then◌else◌};
 ghost use Rattle.rt_model.specs.Next.{is_before, scope_of_task, is_active, first_task, first_seen, found, next_at_rest, least, with_effects};
 ghost use Rattle.rt_model.specs.Next as model;
 ghost use Rattle.run_records.specs.Kept.{scope_of};
-ghost use Rattle.run_state.specs.Effects.{effects_at, has_effects, or_lesser};
+ghost use Rattle.run_state.specs.Effects.{comes_up, effects_at, has_effects};
 ghost use Rattle.run_state.specs.Names.{work_of};
 ghost use Rattle.run_state.specs.Mirror.{scopes_of, state_of};
 
@@ -40,18 +40,6 @@ impl<P: Parts> State<P> {
         match self.tasks.get(task) {
             Some(row) => row.active,
             None => false,
-        }
-    }
-
-    /// The scope that comes first of two, the former on equal order.
-    fn lesser_scope(&self, scope: u64, other: u64) -> u64
-        ensures { result
-            ≡ (if is_before (scopes_of self.now.rows.table) other scope then other else scope) }
-    {
-        if self.is_before(other, scope) {
-            other
-        } else {
-            scope
         }
     }
 
@@ -95,31 +83,26 @@ impl<P: Parts> State<P> {
         }
     }
 
-    /// The mounted scope of the least order that has queued effects.
+    /// The mounted scope of the least order that has queued effects. Those that have some are met in their
+    /// order, up to the first that is mounted.
     pub fn first_with_effects(&self) -> Option<u64>
         ensures { result ≡ least (λ s t. is_before (scopes_of self.now.rows.table) s t)
             (with_effects (scopes_of self.now.rows.table)) }
     {
-        let mut first = None;
-        for scope in self.effects.as_slice() {
-            first = self.or_lesser(first, *scope);
+        let mut left = self.effects.iter();
+        while let Some(rank) = left.next() {
+            if self.comes_up(rank.0, rank.1) {
+                return Some(rank.1);
+            }
         }
-        first
+        None
     }
 
-    /// The scope that comes first of one that was found, if any was, and another that counts only where
-    /// it is live, mounted and has queued effects.
-    fn or_lesser(&self, found: Option<u64>, scope: u64) -> Option<u64>
-        ensures { result ≡ or_lesser (λ s t. is_before (scopes_of self.now.rows.table) s t) found
-            scope (effects_at (scopes_of self.now.rows.table) scope) }
+    /// Whether a scope of a height is live and mounted and has queued effects.
+    fn comes_up(&self, height: u64, scope: u64) -> bool
+        ensures { result ≡ comes_up (scopes_of self.now.rows.table) height scope }
     {
-        if !self.effects_at(scope) {
-            return found;
-        }
-        match found {
-            Some(former) => Some(self.lesser_scope(former, scope)),
-            None => Some(scope),
-        }
+        is_level(height, self.height_of(scope)) && self.effects_at(scope)
     }
 
     /// Whether a scope is live, mounted and has queued effects.
@@ -165,4 +148,11 @@ fn has_effects<P: Parts>(scope: &Scope<P>) -> bool
         Some(_effect) => scope.rest.mounted,
         None => false,
     }
+}
+
+/// Whether two heights are the same.
+fn is_level(height: u64, other: u64) -> bool
+    ensures { result ≡ nat_eq height other }
+{
+    height == other
 }

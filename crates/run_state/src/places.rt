@@ -18,7 +18,7 @@ use crate::state::State;
 use rt_values::OutOfMemory;
 use run_places::{NodeAt, Side, SideName};
 use run_records::Scope;
-use run_table::Table;
+use run_table::{Shelf, Table};
 use tree_nodes::{Parts, Place};
 
 impl<P: Parts> State<P> {
@@ -64,7 +64,7 @@ impl<P: Parts> State<P> {
 /// Takes out the rows of a scope, with the places of what is drawn for them.
 pub(crate) fn remove_rows<P: Parts>(
     rows: &mut Table<Scope<P>>,
-    places: &mut Table<Place>,
+    places: &mut Shelf<Place>,
     scope: u64,
 )
     ensures rows { rows.new ≡ without rows.old scope }
@@ -80,7 +80,7 @@ pub(crate) fn remove_rows<P: Parts>(
 
 /// Takes the places of what is drawn for a side out, but for those that stay, which are some of them in
 /// the same order.
-fn forget<P: Parts>(places: &mut Table<Place>, side: &Side<P>, stay: &[(u64, u64)])
+fn forget<P: Parts>(places: &mut Shelf<Place>, side: &Side<P>, stay: &[(u64, u64)])
     ensures { places.new ≡ without_all places.old
         (went (numbers_at side.now.nodes side.now.numbers) (numbers_in stay.now)) }
 {
@@ -91,7 +91,7 @@ fn forget<P: Parts>(places: &mut Table<Place>, side: &Side<P>, stay: &[(u64, u64
 
 /// The same of what is drawn for these nodes.
 fn forget_drawn(
-    places: &mut Table<Place>,
+    places: &mut Shelf<Place>,
     nodes: &[NodeAt],
     drawn: &[(u64, u64)],
     stay: &[(u64, u64)],
@@ -106,8 +106,8 @@ fn forget_drawn(
     forget_but(places, nodes, drawn, stay);
 }
 
-/// The same where none stays. The last goes first: few places stand behind it, which move up.
-fn forget_all(places: &mut Table<Place>, nodes: &[NodeAt], drawn: &[(u64, u64)])
+/// The same where none stays, the last first.
+fn forget_all(places: &mut Shelf<Place>, nodes: &[NodeAt], drawn: &[(u64, u64)])
     ensures { places.new ≡ without_all places.old (numbers_at nodes.now drawn.now) }
 {
     for back in 0..drawn.len() {
@@ -117,7 +117,7 @@ fn forget_all(places: &mut Table<Place>, nodes: &[NodeAt], drawn: &[(u64, u64)])
 }
 
 /// Takes the place of one of them out.
-fn forget_one(places: &mut Table<Place>, nodes: &[NodeAt], pair: &(u64, u64))
+fn forget_one(places: &mut Shelf<Place>, nodes: &[NodeAt], pair: &(u64, u64))
     ensures { places.new ≡ without_all places.old (numbers_at nodes.now (pair.now ∷ [])) }
 {
     if !is_known(nodes, pair.0) {
@@ -128,7 +128,7 @@ fn forget_one(places: &mut Table<Place>, nodes: &[NodeAt], pair: &(u64, u64))
 
 /// The same where some stay.
 fn forget_but(
-    places: &mut Table<Place>,
+    places: &mut Shelf<Place>,
     nodes: &[NodeAt],
     drawn: &[(u64, u64)],
     stay: &[(u64, u64)],
@@ -145,7 +145,7 @@ fn forget_but(
 /// Takes the place of one of them out, but where it is the next one that stays. The answer is which one
 /// that is after it.
 fn forget_pair(
-    places: &mut Table<Place>,
+    places: &mut Shelf<Place>,
     nodes: &[NodeAt],
     pair: &(u64, u64),
     stay: &[(u64, u64)],

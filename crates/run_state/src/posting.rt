@@ -1,5 +1,13 @@
 //! Marks and wakes.
 ghost use Rattle.std.specs.Prelude.{◌≡◌, ℕ, ◌<◌, ◌++◌, ◌∷◌, [], length, get_or, map, OnOk, OnErr, IsOk, true, if◌then◌else◌};
+ghost use Rattle.std.specs.List.{list_any};
+ghost use Rattle.std.specs.List.Sorted.{IsStrictlySortedBy};
+ghost use Rattle.std.specs.Map.{keys_of};
+ghost use Rattle.std.specs.BTreeMap.{is_at};
+ghost use Rattle.std.specs.Ordering.{nat_cmp};
+ghost use Rattle.rt_cells.specs.declared.sources.Reader.{Reader};
+ghost use Rattle.rt_cells.specs.Orders.{reader_cmp};
+ghost use Rattle.rt_cells.specs.Reads.{has as has_source, reads_of, readers_of};
 ghost use Rattle.rt_model.specs.Lists.{has};
 ghost use Rattle.rt_model.specs.State.{Mark as MarkOf, Woken as WokenOf};
 ghost use Rattle.run_owed.specs.Lists.{numbers_of};
@@ -8,13 +16,15 @@ ghost use Rattle.rt_model.specs.Removal.{tell_all};
 ghost use Rattle.rt_model.specs.Replay.{post_all};
 ghost use Rattle.run_records.specs.Records.{source_of, target_of};
 ghost use Rattle.run_state.specs.Names.{posted_of};
-ghost use Rattle.run_state.specs.Readers.{AreKnown};
+ghost use Rattle.run_state.specs.Posts.{mark_of, posts_of, posts_of_all, posts_of_found, posts_of_target, stands_in, targets_in, told_targets, wake_of};
+ghost use Rattle.run_state.specs.Readers.{AreHeard, AreKnown};
 ghost use Rattle.run_state.specs.Mirror.{scopes_of, state_of};
 
 use crate::names::Posted;
+use crate::read_order::ReadOrder;
 use crate::sources::names_source;
-use crate::state::{ContextRow, State};
-use rt_cells::{Cells, Source, Target};
+use crate::state::{State, TaskRow};
+use rt_cells::{Cells, ReactiveContext, Reader, Source, Target};
 use rt_values::OutOfMemory;
 use run_owed::Owed;
 use run_records::Scope;
@@ -28,7 +38,6 @@ impl<P: Parts> State<P> {
         ensures posted { OnOk result ((g : _) →
             state_of g self.new ≡ post (state_of g self.old) (posted_of posted)) }
         ensures rows { self.new.rows ≡ self.old.rows }
-        ensures contexts { self.new.contexts ≡ self.old.contexts }
         ensures err { OnErr result (self.new ≡ self.old) }
     {
         match posted {
@@ -47,7 +56,6 @@ impl<P: Parts> State<P> {
     fn post_mark(&mut self, scope: u64)
         ensures posted { (g : _) → state_of g self.new ≡ post (state_of g self.old) (MarkOf scope) }
         ensures rows { self.new.rows ≡ self.old.rows }
-        ensures contexts { self.new.contexts ≡ self.old.contexts }
     {
         if !self.is_live(scope) {
             return;
@@ -59,7 +67,6 @@ impl<P: Parts> State<P> {
     fn post_wake(&mut self, task: u64)
         ensures posted { (g : _) → state_of g self.new ≡ post (state_of g self.old) (WokenOf task) }
         ensures rows { self.new.rows ≡ self.old.rows }
-        ensures contexts { self.new.contexts ≡ self.old.contexts }
     {
         if !self.has_task(task) {
             return;
@@ -73,7 +80,6 @@ impl<P: Parts> State<P> {
         ensures posted { OnOk result ((g : _) →
             state_of g self.new ≡ post_target (state_of g self.old) (target_of target)) }
         ensures rows { self.new.rows ≡ self.old.rows }
-        ensures contexts { self.new.contexts ≡ self.old.contexts }
         ensures err { OnErr result (self.new ≡ self.old) }
     {
         match target {
@@ -83,37 +89,21 @@ impl<P: Parts> State<P> {
     }
 
     /// Marks each scope that read a source, and then posts the target of each reactive context whose
-    /// sources name it.
+    /// sources name it. It takes no memory, and goes through no other scope or context.
     pub fn tell(&mut self, source: Source) -> Result<(), OutOfMemory>
         ensures ok { IsOk result }
         ensures told { OnOk result ((g : _) →
             state_of g self.new ≡ tell (state_of g self.old) (source_of source)) }
     {
-        add_marks(&self.rows.table, &self.cells, source, &mut self.owed);
-        let count = self.contexts.as_slice().len();
-        for index in 0..count {
-            self.tell_context(index, source)?;
-        }
+        post_readers(
+            &self.rows.table,
+            &self.tasks,
+            &self.cells,
+            &self.read_order,
+            source,
+            &mut self.owed,
+        );
         Ok(())
-    }
-
-    /// Posts the target of a reactive context, where the source was read in it.
-    fn tell_context(&mut self, index: usize, source: Source) -> Result<(), OutOfMemory>
-        requires within { index < length self.old.contexts }
-        ensures ok { IsOk result }
-        ensures told { OnOk result ((g : _) (row : ℕ × ContextRow) → state_of g self.new ≡
-            (if names_source (map source_of (get_or self.old.contexts index row).1.sources) (source_of source)
-            then post_target (state_of g self.old) (target_of (get_or self.old.contexts index row).1.target)
-            else state_of g self.old)) }
-        ensures contexts { self.new.contexts ≡ self.old.contexts }
-    {
-        let row = &self.contexts.as_slice()[index].1;
-        if names_source(row.sources.as_slice(), source) {
-            let target = row.target;
-            self.post_target(target)
-        } else {
-            Ok(())
-        }
     }
 
     /// Posts the readers of these sources, source by source.
@@ -160,28 +150,160 @@ impl<P: Parts> State<P> {
     }
 }
 
-/// Posts the marks of the scopes that read a source, which are entered. The cells know them, by number,
-/// which is the order of the table; only where its numbers didn't rise is each scope looked at.
-fn add_marks<P: Parts>(
+/// Posts the readers of a source as the cells know them: scopes by number, which is the order of the
+/// table, and then the targets of reactive contexts. Only where the table's numbers didn't rise is
+/// each scope looked at. The order of reading is for contracts alone.
+fn post_readers<P: Parts>(
     rows: &Table<Scope<P>>,
+    tasks: &Table<TaskRow<P>>,
     cells: &Cells<P::Value>,
+    order: &ReadOrder,
     source: Source,
     owed: &mut Owed,
 )
     requires known { AreKnown (scopes_of rows.now) cells.now.reads }
+    requires heard { AreHeard cells.now.contexts order.now cells.now.reads }
     requires entered { numbers_of rows.now ≡ numbers_of owed.old.scopes }
+    requires woken { numbers_of tasks.now ≡ numbers_of owed.old.tasks }
     ensures posted { owed.new ≡ record owed.old {
-      posted = owed.old.posted ++ readers (source_of source) (scopes_of rows.now);
+      posted = owed.old.posted ++ (readers (source_of source) (scopes_of rows.now)
+          ++ told_targets (stands_in rows.now) (stands_in tasks.now) (source_of source) order.now
+          cells.now.contexts);
     } }
 {
     if !rows.rises() {
         add_readers(rows.as_slice(), source, owed);
+        post_each(rows, tasks, cells, source, false, owed);
         return;
     }
-    let mut after = None;
-    while let Some(scope) = cells.next_reader(source, after) {
-        owed.post_mark(scope);
-        after = Some(scope);
+    post_each(rows, tasks, cells, source, true, owed);
+}
+
+/// Posts each reader of a source as it is met, but no scope where these are posted already.
+fn post_each<P: Parts>(
+    rows: &Table<Scope<P>>,
+    tasks: &Table<TaskRow<P>>,
+    cells: &Cells<P::Value>,
+    source: Source,
+    rises: bool,
+    owed: &mut Owed,
+)
+    requires entered { numbers_of rows.now ≡ numbers_of owed.old.scopes }
+    requires woken { numbers_of tasks.now ≡ numbers_of owed.old.tasks }
+    ensures posted { owed.new ≡ record owed.old {
+      posted = owed.old.posted ++ posts_of_all rises (stands_in rows.now) (stands_in tasks.now)
+          (targets_in cells.now.contexts) (readers_of source cells.now.reads);
+    } }
+    ensures ascending { IsStrictlySortedBy reader_cmp (readers_of source cells.now.reads) }
+    ensures members { (reader : Reader) → list_any (is_at (reader_cmp reader))
+        (readers_of source cells.now.reads) ≡ has_source source (reads_of reader cells.now.reads) }
+    ensures contexts { IsStrictlySortedBy nat_cmp (keys_of cells.now.contexts) }
+{
+    let mut left = cells.readers(source);
+    while let Some(reader) = left.next() {
+        post_reader(rows, tasks, cells, reader, rises, owed);
+    }
+}
+
+/// Posts one reader.
+fn post_reader<P: Parts>(
+    rows: &Table<Scope<P>>,
+    tasks: &Table<TaskRow<P>>,
+    cells: &Cells<P::Value>,
+    reader: Reader,
+    rises: bool,
+    owed: &mut Owed,
+)
+    requires entered { numbers_of rows.now ≡ numbers_of owed.old.scopes }
+    requires woken { numbers_of tasks.now ≡ numbers_of owed.old.tasks }
+    ensures posted { owed.new ≡ record owed.old {
+      posted = owed.old.posted ++ posts_of rises (stands_in rows.now) (stands_in tasks.now)
+          (targets_in cells.now.contexts) reader;
+    } }
+{
+    match reader {
+        Reader::Scope(scope) => post_scope(rows, scope.0, rises, owed),
+        Reader::Context(context) => post_context(rows, tasks, cells, context, owed),
+    }
+}
+
+/// Posts the mark of a scope, where it is live and scopes aren't posted already.
+fn post_scope<P: Parts>(rows: &Table<Scope<P>>, scope: u64, rises: bool, owed: &mut Owed)
+    requires entered { numbers_of rows.now ≡ numbers_of owed.old.scopes }
+    ensures posted { owed.new ≡ record owed.old {
+      posted = owed.old.posted ++ (if rises then mark_of (stands_in rows.now) scope else []);
+    } }
+{
+    if !rises {
+        return;
+    }
+    mark_live(rows, scope, owed);
+}
+
+/// Posts the target of a reactive context, where it stands.
+fn post_context<P: Parts>(
+    rows: &Table<Scope<P>>,
+    tasks: &Table<TaskRow<P>>,
+    cells: &Cells<P::Value>,
+    context: u64,
+    owed: &mut Owed,
+)
+    requires entered { numbers_of rows.now ≡ numbers_of owed.old.scopes }
+    requires woken { numbers_of tasks.now ≡ numbers_of owed.old.tasks }
+    ensures posted { owed.new ≡ record owed.old {
+      posted = owed.old.posted ++ posts_of_found (stands_in rows.now) (stands_in tasks.now)
+          (targets_in cells.now.contexts context);
+    } }
+{
+    match ReactiveContext(context).target(cells) {
+        Some(target) => post_live(rows, tasks, target, owed),
+        None => {}
+    }
+}
+
+/// Posts a target, where it is live.
+fn post_live<P: Parts>(
+    rows: &Table<Scope<P>>,
+    tasks: &Table<TaskRow<P>>,
+    target: Target,
+    owed: &mut Owed,
+)
+    requires entered { numbers_of rows.now ≡ numbers_of owed.old.scopes }
+    requires woken { numbers_of tasks.now ≡ numbers_of owed.old.tasks }
+    ensures posted { owed.new ≡ record owed.old {
+      posted = owed.old.posted
+          ++ posts_of_target (stands_in rows.now) (stands_in tasks.now) target;
+    } }
+{
+    match target {
+        Target::Scope(scope) => mark_live(rows, scope.0, owed),
+        Target::Task(task) => wake_live(tasks, task.0, owed),
+    }
+}
+
+/// Posts the mark of a scope, where it is live.
+fn mark_live<P: Parts>(rows: &Table<Scope<P>>, scope: u64, owed: &mut Owed)
+    requires entered { numbers_of rows.now ≡ numbers_of owed.old.scopes }
+    ensures posted { owed.new ≡ record owed.old {
+      posted = owed.old.posted ++ mark_of (stands_in rows.now) scope;
+    } }
+{
+    match rows.get(scope) {
+        Some(_row) => owed.post_mark(scope),
+        None => {}
+    }
+}
+
+/// Posts the wake of a task, where it hasn't ended.
+fn wake_live<P: Parts>(tasks: &Table<TaskRow<P>>, task: u64, owed: &mut Owed)
+    requires woken { numbers_of tasks.now ≡ numbers_of owed.old.tasks }
+    ensures posted { owed.new ≡ record owed.old {
+      posted = owed.old.posted ++ wake_of (stands_in tasks.now) task;
+    } }
+{
+    match tasks.get(task) {
+        Some(_row) => owed.post_wake(task),
+        None => {}
     }
 }
 

@@ -1,22 +1,20 @@
 //! What a removal takes: children first, and of each scope all that it owns.
-ghost use Rattle.std.specs.Prelude.{◌≡◌, ◌<◌, ◌++◌, ◌∷◌, [], ℕ, nat_eq, not, length, get_or, map, OnOk, IfOk, IfSome, IfNone, true, false, if◌then◌else◌};
-ghost use Rattle.std.specs.List.{list_any};
+ghost use Rattle.std.specs.Prelude.{◌≡◌, ◌++◌, ◌∷◌, [], nat_eq, map, OnOk, IfOk, if◌then◌else◌};
 ghost use Rattle.rt_model.specs.World.{clean_up_kind};
-ghost use Rattle.rt_model.specs.Lists.{kept_by, without};
+ghost use Rattle.rt_model.specs.Lists.{without};
 ghost use Rattle.rt_model.specs.Removal.{stopped, gone, without_scope, told_of_sources, tell_all, cell_sources, context_sources, kinds_in, kinds_of_scopes, kinds_of_contexts, clean_ups as clean_ups_of};
 ghost use Rattle.run_records.specs.Records.{source_of, hook_of};
+ghost use Rattle.run_table.specs.Found.{Ascends};
 ghost use Rattle.run_state.specs.CleanUps.{own_clean_up};
-ghost use Rattle.run_state.specs.Kinds.{kinds_in_contexts};
 ghost use Rattle.run_state.specs.Mirror.{forgets, scopes_of, state_of};
 
 use crate::holding::{drop_holder, drop_paired};
 use crate::numbers::{drop_number, insert_number};
 use crate::places::remove_rows;
-use crate::state::{ContextRow, State};
+use crate::state::State;
 use rt_cells::{Reader, Source};
 use rt_values::{List, OutOfMemory, Part, ScopeId};
 use run_records::{CLEAN_UP, Hook, Scope};
-use run_table::Table;
 use std::alloc::Global;
 use tree_nodes::Parts;
 
@@ -79,21 +77,6 @@ fn add_scope_kinds<P: Parts>(
     Ok(())
 }
 
-/// Puts the kinds of a scope's contexts that were read in reactive contexts in their places.
-fn add_context_kinds(
-    scope: u64,
-    contexts: &[(u64, ContextRow)],
-    kinds: &mut Vec<u32>,
-) -> Result<(), OutOfMemory>
-    ensures { OnOk result (kinds.new.items
-        ≡ kinds_in_contexts scope contexts.now kinds.old.items) }
-{
-    for entry in contexts {
-        add_kinds(scope, entry.1.sources.as_slice(), kinds)?;
-    }
-    Ok(())
-}
-
 /// Puts the kinds of a scope's contexts that these sources name in their places.
 fn add_kinds(scope: u64, sources: &[Source], kinds: &mut Vec<u32>) -> Result<(), OutOfMemory>
     ensures { OnOk result (kinds.new.items
@@ -119,31 +102,6 @@ fn add_kind(scope: u64, source: Source, kinds: &mut Vec<u32>) -> Result<(), OutO
         }
         Source::Cell(_) => Ok(()),
         Source::Error(_) => Ok(()),
-    }
-}
-
-/// Where a reactive context of a scope stands first.
-fn context_in(contexts: &[(u64, ContextRow)], scope: u64) -> Option<usize>
-    ensures within { IfSome result (λ index. index < length contexts.now) }
-    ensures own { IfSome result (λ index. (d : ℕ × ContextRow) →
-        nat_eq (get_or contexts.now index d).1.scope scope ≡ true) }
-    ensures none { IfNone result
-        (list_any (λ e. nat_eq e.1.scope scope) contexts.now ≡ false) }
-{
-    for index in 0..contexts.len() {
-        if contexts[index].1.scope == scope {
-            return Some(index);
-        }
-    }
-    None
-}
-
-/// Takes out the reactive contexts of a scope.
-fn drop_owned(contexts: &mut Table<ContextRow>, scope: u64)
-    ensures { contexts.new ≡ kept_by (λ e. not (nat_eq e.1.scope scope)) contexts.old }
-{
-    while let Some(index) = context_in(contexts.as_slice(), scope) {
-        contexts.remove_at(index);
     }
 }
 
@@ -177,7 +135,7 @@ impl<P: Parts> State<P> {
             state_of (forgets g scope) self.new ≡ without_scope (state_of g self.old) scope }
     {
         self.cells.drop_cells(ScopeId(scope));
-        drop_owned(&mut self.contexts, scope);
+        self.cells.drop_contexts(ScopeId(scope));
         drop_number(&mut self.resolved, scope);
         drop_number(&mut self.skipped, scope);
         self.remove_scope(scope);
@@ -233,15 +191,46 @@ impl<P: Parts> State<P> {
         self.tell_kinds(scope, kinds.as_slice())
     }
 
-    /// Of what a scope provides, the kinds that some reader has, ascending.
+    /// Of what a scope provides, the kinds that some reader has, ascending: as the cells know it. Only
+    /// where the scopes' numbers didn't rise is each scope looked at besides.
     fn read_kinds(&self, alloc: Global, scope: u64) -> Result<Vec<u32>, OutOfMemory>
+        ensures { IfOk result (λ kinds. (g : _) →
+            kinds.items ≡ kinds_of_contexts scope (state_of g self.now).contexts
+            (kinds_of_scopes scope (state_of g self.now).scopes [])) }
+    {
+        if !self.rows.table.rises() {
+            return self.kinds_of_each(alloc, scope);
+        }
+        let mut kinds = Vec::new(alloc);
+        self.add_listed(alloc, scope, &mut kinds)?;
+        Ok(kinds)
+    }
+
+    /// The same, with each scope looked at.
+    fn kinds_of_each(&self, alloc: Global, scope: u64) -> Result<Vec<u32>, OutOfMemory>
         ensures { IfOk result (λ kinds. (g : _) →
             kinds.items ≡ kinds_of_contexts scope (state_of g self.now).contexts
             (kinds_of_scopes scope (state_of g self.now).scopes [])) }
     {
         let mut kinds = Vec::new(alloc);
         add_scope_kinds(scope, self.rows.table.as_slice(), &mut kinds)?;
-        add_context_kinds(scope, self.contexts.as_slice(), &mut kinds)?;
+        self.add_listed(alloc, scope, &mut kinds)?;
         Ok(kinds)
+    }
+
+    /// Puts the kinds in their places that the cells know of. With these, all are there, where none was
+    /// and the scopes' numbers rise, or where those of each scope were.
+    fn add_listed(&self, alloc: Global, scope: u64, kinds: &mut Vec<u32>) -> Result<(), OutOfMemory>
+        ensures rising { OnOk result ((g : _) → Ascends self.now.rows.table
+            → kinds.old.items ≡ [] → kinds.new.items
+            ≡ kinds_of_contexts scope (state_of g self.now).contexts
+            (kinds_of_scopes scope (state_of g self.now).scopes [])) }
+        ensures each { OnOk result ((g : _)
+            → kinds.old.items ≡ kinds_of_scopes scope (scopes_of self.now.rows.table) []
+            → kinds.new.items ≡ kinds_of_contexts scope (state_of g self.now).contexts
+            (kinds_of_scopes scope (state_of g self.now).scopes [])) }
+    {
+        let sources = self.cells.context_sources(alloc, ScopeId(scope))?;
+        add_kinds(scope, sources.as_slice(), kinds)
     }
 }

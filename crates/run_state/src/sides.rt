@@ -1,12 +1,12 @@
 //! What changes on the sides of scopes: numbers, children, the side that shows.
 ghost use Rattle.std.specs.Prelude.{◌≡◌, ℕ, true, ◌++◌, ◌∷◌, [], OnOk, IfOk, IfErr, Ok, Err, Some, None};
-ghost use Rattle.rt_model.specs.Lists.{at, drop_number as drop_from, has};
+ghost use Rattle.rt_model.specs.Lists.{at, drop_number as drop_from};
 ghost use Rattle.rt_model.specs.World.{Scopes, at_end};
 ghost use Rattle.rt_model.specs.State as model;
-ghost use Rattle.rt_model.specs.State.{change, effects_of};
+ghost use Rattle.rt_model.specs.State.{change, effects_of, height_of};
 ghost use Rattle.rt_model.specs.State.{Done, Cut, IdsExhausted};
 ghost use Rattle.rt_model.specs.Replay.{draw_number};
-ghost use Rattle.run_state.specs.Effects.{callbacks_of};
+ghost use Rattle.run_state.specs.Effects.{callbacks_of, has_rank};
 ghost use Rattle.run_state.specs.Names.{fault_of};
 ghost use Rattle.run_state.specs.Sides.{more_child, more_number};
 ghost use Rattle.tree_mirror.specs.Sealed.{component_of};
@@ -14,21 +14,20 @@ ghost use Rattle.run_records.specs.Kept.{scope_of};
 ghost use Rattle.run_places.specs.Places.{kind_of, place_of, side_name_of};
 ghost use Rattle.run_state.specs.Made.{IsMade};
 ghost use Rattle.run_state.specs.Drawn.{beside_lists, kept_for, turned_for};
-ghost use Rattle.run_state.specs.Mirror.{state_of};
+ghost use Rattle.run_state.specs.Mirror.{scopes_of, state_of};
 
 use crate::entering::Coming;
 use crate::held::next_number;
 use crate::joining::{push_child, put_number};
 use crate::names::{Fault, Stop};
-use crate::numbers::{drop_number, has_number};
+use crate::numbers::drop_number;
 use crate::state::State;
 use rt_values::{List, OutOfMemory, Part};
 use run_named::name_place;
 use run_places::{Kind, Place, SideName};
 use run_records::{Counter, Scope};
-use run_table::Table;
 use std::alloc::Global;
-use tree_nodes::{Parts, Place as Named, VComponent};
+use tree_nodes::{Parts, VComponent};
 
 impl<P: Parts> State<P> {
     /// A number of the document for a place of a scope's side.
@@ -79,7 +78,7 @@ impl<P: Parts> State<P> {
         if self.places.get(number).is_some() {
             return Err(OutOfMemory);
         }
-        let named = name_place(alloc, scope, side, place, last_place(&self.places))?;
+        let named = name_place(alloc, scope, side, place, self.places.last())?;
         self.places.push(number, named)?;
         match put_number(&mut self.rows.table, scope, side, place, kind, number) {
             Ok(()) => Ok(()),
@@ -292,17 +291,19 @@ impl<P: Parts> State<P> {
         ensures { OnOk result ((g : _) → state_of g self.new
             ≡ change (state_of g self.old) scope (λ x. record x { effects = [] })) }
     {
-        if !has_number(self.effects.as_slice(), scope) {
+        let height = self.height_of(scope);
+        if !self.effects.has(height, scope) {
             return Ok(());
         }
         self.clear_effects(alloc, scope)?;
-        drop_number(&mut self.effects, scope);
+        self.effects.remove(height, scope);
         Ok(())
     }
 
-    /// The same of a scope that is listed as one with queued effects, and stays so.
+    /// The same of a scope that is listed with its height as one with queued effects, and stays so.
     fn clear_effects(&mut self, alloc: Global, scope: u64) -> Result<(), OutOfMemory>
-        requires listed { has self.old.effects scope ≡ true }
+        requires listed { has_rank self.old.effects
+            (height_of (scopes_of self.old.rows.table) scope) scope ≡ true }
         ensures cleared { OnOk result ((g : _) → state_of g self.new
             ≡ change (state_of g self.old) scope (λ x. record x { effects = [] })) }
         ensures effects { self.new.effects ≡ self.old.effects }
@@ -320,14 +321,6 @@ impl<P: Parts> State<P> {
                 Ok(())
             },
         )
-    }
-}
-
-/// The place that stands last, if there is one.
-fn last_place(places: &Table<Named>) -> Option<&Named> {
-    match places.as_slice().last() {
-        Some(row) => Some(&row.1),
-        None => None,
     }
 }
 

@@ -1,12 +1,11 @@
 //! Sources among those that were read.
-ghost use Rattle.std.specs.Prelude.{◌≡◌, map, OnOk};
+ghost use Rattle.std.specs.Prelude.{◌≡◌, map};
 ghost use Rattle.rt_model.specs.World.{same_source};
 ghost use Rattle.rt_model.specs.Commands.{names_source};
 ghost use Rattle.run_records.specs.Records.{source_of, newest_first};
-ghost use Rattle.run_state.specs.Sources.{joined};
 
 use rt_cells::Source;
-use rt_values::{List, OutOfMemory};
+use rt_values::List;
 
 /// Whether two are the same source.
 pub fn is_same_source(left: Source, right: Source) -> bool
@@ -32,16 +31,6 @@ pub fn names_source(sources: &[Source], source: Source) -> bool
         }
     }
     false
-}
-
-/// Puts a source after the others, once.
-pub(crate) fn join_source(sources: &mut List<Source>, source: Source) -> Result<(), OutOfMemory>
-    ensures { OnOk result (sources.new ≡ joined sources.old source) }
-{
-    if names_source(sources.as_slice(), source) {
-        return Ok(());
-    }
-    sources.push(source)
 }
 
 /// What was read, the newest first.

@@ -1,8 +1,8 @@
 //! The state of a runtime.
-ghost use Rattle.std.specs.Prelude.{◌≡◌, ◌+◌, ◌++◌, ◌∷◌, [], true, OnOk, is_some, option_map};
+ghost use Rattle.std.specs.Prelude.{◌≡◌, ◌+◌, ◌++◌, ◌∷◌, [], Some, true, OnOk, is_some, option_map};
 ghost use Rattle.run_state.specs.Heights.{heights_of, task_scopes};
 ghost use Rattle.run_state.specs.Effects.{AreListed, IsListed};
-ghost use Rattle.run_state.specs.Readers.{AreKnown};
+ghost use Rattle.run_state.specs.Readers.{AreHeard, AreKnown};
 ghost use Rattle.run_state.specs.Mounts.{IsWaiting, is_above, ways_of};
 ghost use Rattle.std.specs.Option.{option_copied};
 ghost use Rattle.std.specs.Fn.{FnOnceReturnsAtMut};
@@ -22,24 +22,17 @@ use crate::entering::{Coming, enter_row};
 use crate::held::next_number;
 use crate::mounting::uncover;
 use crate::names::TaskKind;
-use rt_cells::{Cells, Source, Target};
+use crate::ranks::Ranks;
+use crate::read_order::ReadOrder;
+use rt_cells::Cells;
 use rt_values::{List, OutOfMemory, Task};
 use run_owed::Owed;
 use run_places::SideName;
 use run_records::{Firsts, Rows, Scope, World};
-use run_table::Table;
+use run_table::{Shelf, Table};
 use std::alloc::Global;
 use std::snapshot::Snapshot;
 use tree_nodes::{Parts, Place, RootProps, VComponent};
-
-/// A reactive context: what it marks, and what was read in it.
-#[derive(Drop)]
-pub struct ContextRow {
-    pub scope: u64,
-    pub target: Target,
-    /// In order of reading, each once.
-    pub sources: List<Source>,
-}
 
 /// A task that hasn't ended.
 #[derive(Drop)]
@@ -61,8 +54,10 @@ pub struct TaskRow<P: Parts> {
 #[derive(Drop)]
 pub struct State<P: Parts> {
     pub rows: Rows<P>,
+    /// The cells, the reactive contexts, and what each scope and each of these reads.
     pub cells: Cells<P::Value>,
-    pub contexts: Table<ContextRow>,
+    /// In which order it was read into reactive contexts. Contracts alone read it.
+    pub read_order: ReadOrder,
     pub tasks: Table<TaskRow<P>>,
     /// Marks and wakes that aren't looked at yet, the marked scopes and the woken tasks as the last
     /// look left them. Each live scope and task has its place there from its making on.
@@ -76,14 +71,14 @@ pub struct State<P: Parts> {
     /// The numbers that calls draw next, and the next node of the document.
     pub next: Firsts,
     /// Where each number of the document stands that a live scope has, by number.
-    pub places: Table<Place>,
+    pub places: Shelf<Place>,
     /// The scopes that aren't mounted and may show: those that were made since the last mounting,
     /// and those below a boundary that turned since.
     pub fresh: List<u64>,
     /// The other scopes that aren't mounted, each with the number of a scope above that hides it.
     pub hidden: List<(u64, u64)>,
-    /// The live scopes that have queued effects, each once, and maybe others.
-    pub effects: List<u64>,
+    /// The live scopes that have queued effects, each with its height, and maybe others.
+    pub effects: Ranks,
     /// Each task with each live scope that it holds, and maybe other pairs.
     pub held: List<(u64, u64)>,
     /// The live scopes are those that are entered, with their heights.
@@ -96,6 +91,8 @@ pub struct State<P: Parts> {
     pub ghost placed: { ∥ IsPlaced (each scope_of rows.table) places ∥₁ },
     /// The cells know each live scope as a reader of just what it has read last.
     pub ghost readers: { AreKnown (each scope_of rows.table) cells.reads },
+    /// And each reactive context as a reader of just what was read into it.
+    pub ghost heard: { AreHeard cells.contexts read_order cells.reads },
     /// Each live scope that has queued effects is listed, and paired with each task that holds it.
     pub ghost listed: { AreListed (each scope_of rows.table) effects held },
 }
@@ -112,17 +109,17 @@ impl<P: Parts> State<P> {
         State {
             rows: Rows::new(alloc),
             cells: Cells::new(alloc, firsts.cells, firsts.contexts),
-            contexts: Table::new(alloc),
+            read_order: ReadOrder::new(),
             tasks: Table::new(alloc),
             owed: Owed::new(alloc),
             resolved: List::new(alloc),
             skipped: List::new(alloc),
             next_scope: 0,
             next: firsts,
-            places: Table::new(alloc),
+            places: Shelf::new(alloc),
             fresh: List::new(alloc),
             hidden: List::new(alloc),
-            effects: List::new(alloc),
+            effects: Ranks::new(alloc),
             held: List::new(alloc),
         }
     }
@@ -248,7 +245,8 @@ impl<P: Parts> State<P> {
     ) -> Result<(), OutOfMemory>
         requires callable { F.IsAlwaysCallable apply }
         requires listed { (x y : Scope P P.Component P.Props P.Value P.Handler P.TaskState P.Effect P.Payload) (done : _)
-            → FnOnceReturnsAtMut F.FnOnce apply x done y → IsListed self.old.effects self.old.held scope (scope_of x)
+            → at self.old.rows.table scope ≡ Some x → FnOnceReturnsAtMut F.FnOnce apply x done y
+            → IsListed self.old.effects self.old.held scope (scope_of x)
             → IsListed self.old.effects self.old.held scope (scope_of y) }
         requires stay { (x y : Scope P P.Component P.Props P.Value P.Handler P.TaskState P.Effect P.Payload) (done : _)
             → FnOnceReturnsAtMut F.FnOnce apply x done y → beside_lists y ≡ beside_lists x }

@@ -38,7 +38,7 @@ module _ {A : Type 0} where
             ∙ ap (λ front. front ++ put (drop (i + 1) rows) n a) (sym (take_more rows i d within));
       }
 
-  drop-all : (rows : List (ℕ × A)) (i : ℕ) → length rows ≤ i → drop i rows ≡ []
+  pub drop-all : (rows : List (ℕ × A)) (i : ℕ) → length rows ≤ i → drop i rows ≡ []
   drop-all rows i end = grind (arith, common_steps)
 
   -- past the last row

@@ -253,7 +253,7 @@ impl<T: Drop> Table<T> {
 // The index of the row of a number, among numbers that rise. It is looked for where it stands while no
 // row went.
 #[inline(always)]
-fn near<T>(rows: &[(u64, T)], number: u64) -> Option<usize>
+pub(crate) fn near<T>(rows: &[(u64, T)], number: u64) -> Option<usize>
     requires ascending { Ascends rows.now }
     ensures within { IfSome result (λ index. index < length rows.now) }
     ensures first { IfSome result (λ index. IsFirst rows.now number index) }

@@ -1,20 +1,9 @@
--- By the row that was found.
-use Rattle.std.proofs.Common.{Some, None, sym, ap}
+-- By what the cells keep.
+use Rattle.std.proofs.Common.{ap, ◌∙◌}
 use Rattle.std.specs.Prelude.{option_map}
-use Rattle.run_state.specs.Mirror.{context_of}
-use Rattle.run_state.proofs.Each.{found-each}
+use Rattle.run_records.specs.Records.{target_of}
+use Rattle.run_state.proofs.Contexts.{target_found}
 use Rattle.run_answers.proofs.kept.context_target.Goals as goal
 
-pub returns-in-Some : goal.returns-in-Some
-returns-in-Some g c =
-    λ kept.
-    sym
-    (ap (option_map (λ x. x.target))
-    (found-each context_of c.args.state.now.contexts c.args.context (Some c.in-Some.row.now) c.in-Some.ensures.value))
-
-pub returns-in-None : goal.returns-in-None
-returns-in-None g c =
-    λ kept.
-    sym
-    (ap (option_map (λ x. x.target))
-    (found-each context_of c.args.state.now.contexts c.args.context None c.in-None.ensures.value))
+pub returns : goal.returns
+returns g c = λ kept. ap (option_map target_of) c.target.ensures.target ∙ target_found kept c.args.state.now c.args.context

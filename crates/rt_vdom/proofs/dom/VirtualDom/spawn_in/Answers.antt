@@ -62,4 +62,4 @@ pub returns-in-Err-clause-kept : goal.returns-in-Err-clause-kept
 returns-in-Err-clause-kept g c =
     let d = c.args.self.now in
     ap (λ x. record d { machine = record (d.machine) { scopes = record ((d.machine).scopes) { state = x } } })
-    (next_back ((d.machine).scopes).state c.spawn_asked.new.self _ (λ n. record n { tasks = ((((d.machine).scopes).state).next).tasks }) _ _ _ _ _ _ _ _ _ _ _ _ c.in-Err.ensures.err refl)
+    (next_back ((d.machine).scopes).state c.spawn_asked.new.self _ (λ n. record n { tasks = ((((d.machine).scopes).state).next).tasks }) _ _ _ _ _ _ _ _ _ _ _ _ _ _ c.in-Err.ensures.err refl)

@@ -37,4 +37,4 @@ pub returns-in-Err-clause-kept : goal.returns-in-Err-clause-kept
 returns-in-Err-clause-kept g c =
     let d = c.args.self.now in
     ap (λ x. record d { machine = record (d.machine) { scopes = record ((d.machine).scopes) { state = x } } })
-    (next_back ((d.machine).scopes).state c.throw_asked.new.self _ (λ n. record n { errors = ((((d.machine).scopes).state).next).errors }) _ _ _ _ _ _ _ _ _ _ _ _ c.in-Err.ensures.err refl)
+    (next_back ((d.machine).scopes).state c.throw_asked.new.self _ (λ n. record n { errors = ((((d.machine).scopes).state).next).errors }) _ _ _ _ _ _ _ _ _ _ _ _ _ _ c.in-Err.ensures.err refl)

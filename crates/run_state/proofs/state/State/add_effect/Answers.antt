@@ -1,5 +1,7 @@
 use Rattle.std.proofs.Common.{◌≡◌, rules, ◌++◌, ◌∷◌, [], refl, sym, ap, ◌∙◌, nat_eq}
 use Rattle.std.specs.List.{list_any}
+use Rattle.run_state.specs.Drawn.{beside_lists}
+use Rattle.run_state.proofs.Listing.{queued_rank}
 use Rattle.run_state.proofs.state.State.add_effect.Goals as goal
 
 pub returns : goal.returns
@@ -17,6 +19,7 @@ change_listed-requires-clause-stay g c = λ x y done ret. search rules
 
 pub change_listed-requires-clause-listed : goal.change_listed-requires-clause-listed
 change_listed-requires-clause-listed g c =
-    λ x y done ret h.
+    λ x y done there ret h.
     let same : (y.rest).holders ≡ (x.rest).holders = search rules in
-    record { queues = λ q. c.requires.listed; holders = λ t q. h.holders t (sym (ap (λ hs. list_any (λ e. nat_eq e.0 t) hs) same) ∙ q) }
+    let stays : beside_lists y ≡ beside_lists x = search rules in
+    record { queues = λ k q. queued_rank (c.args.self.now.rows).table c.args.self.now.effects c.args.scope x y k there (ap (λ t. t.1) stays) c.requires.listed q; holders = λ t q. h.holders t (sym (ap (λ hs. list_any (λ e. nat_eq e.0 t) hs) same) ∙ q) }

@@ -57,5 +57,5 @@ invariant_of-self-clause-waiting g c =
 
 pub invariant_of-self-clause-listed : goal.invariant_of-self-clause-listed
 invariant_of-self-clause-listed g c =
-    listed_own (λ x y. FnOnceReturnsAtMut g.F.FnOnce c.args.apply x c.change.result y) (c.args.self.now.rows).table c.change.new.self c.args.scope c.args.self.now.effects c.args.self.now.held (λ x y ret. c.requires.listed x y c.change.result ret) c.change.ensures.absent c.change.ensures.changed
+    listed_own (λ x y. FnOnceReturnsAtMut g.F.FnOnce c.args.apply x c.change.result y) (c.args.self.now.rows).table c.change.new.self c.args.scope c.args.self.now.effects c.args.self.now.held (λ x y there ret. c.requires.listed x y c.change.result there ret) c.change.ensures.absent c.change.ensures.changed
     c.args.self.now.listed

@@ -58,4 +58,4 @@ invariant_of-self-clause-waiting g c =
 pub invariant_of-self-clause-listed : goal.invariant_of-self-clause-listed
 invariant_of-self-clause-listed g c =
     listed_changed (λ x y. FnOnceReturnsAtMut g.F.FnOnce c.args.apply x c.change.result y) (c.args.self.now.rows).table c.change.new.self c.args.scope c.args.self.now.effects c.args.self.now.held c.change.ensures.absent c.change.ensures.changed
-    (λ x y ret. ap (λ t. listed_by t.4 t.5) (c.requires.stay x y c.change.result ret)) c.args.self.now.listed
+    (λ x y ret. ap (λ t. listed_by t.1 t.4 t.5) (c.requires.stay x y c.change.result ret)) c.args.self.now.listed

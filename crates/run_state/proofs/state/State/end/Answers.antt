@@ -60,5 +60,6 @@ invariant_of-self g c =
       waiting = c.args.self.now.waiting;
       placed = c.args.self.now.placed;
       readers = c.args.self.now.readers;
+      heard = c.args.self.now.heard;
       listed = c.args.self.now.listed;
     }

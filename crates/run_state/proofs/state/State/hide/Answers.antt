@@ -17,6 +17,7 @@ invariant_of-self g c =
       waiting = rw c.in_err-push.ensures.err c.args.self.now.waiting;
       placed = c.args.self.now.placed;
       readers = c.args.self.now.readers;
+      heard = c.args.self.now.heard;
       listed = c.args.self.now.listed;
     }
 

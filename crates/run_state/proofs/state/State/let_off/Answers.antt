@@ -17,4 +17,4 @@ pub change_listed-requires-clause-stay : goal.change_listed-requires-clause-stay
 change_listed-requires-clause-stay g c = λ x y done ret. search rules
 
 pub change_listed-requires-clause-listed : goal.change_listed-requires-clause-listed
-change_listed-requires-clause-listed g c = λ x y done ret h. fewer_holders c.args.self.now.effects c.args.self.now.held c.args.scope c.args.task x y (search rules) h
+change_listed-requires-clause-listed g c = λ x y done there ret h. fewer_holders c.args.self.now.effects c.args.self.now.held c.args.scope c.args.task x y (search rules) h

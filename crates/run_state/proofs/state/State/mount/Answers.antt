@@ -52,4 +52,4 @@ invariant_of-self-clause-readers g c =
 pub invariant_of-self-clause-listed : goal.invariant_of-self-clause-listed
 invariant_of-self-clause-listed g c =
     listed_changed _ (c.args.self.now.rows).table c.change-done.new.self c.args.scope c.args.self.now.effects c.args.self.now.held c.change-done.ensures.absent c.change-done.ensures.changed
-    (λ x y ret. let same : y ≡ record x { rest = record (x.rest) { mounted = true } } = search rules in ap (λ z. listed_by (z.rest).effects (z.rest).holders) same) c.args.self.now.listed
+    (λ x y ret. let same : y ≡ record x { rest = record (x.rest) { mounted = true } } = search rules in ap (λ z. listed_by (z.rest).height (z.rest).effects (z.rest).holders) same) c.args.self.now.listed

@@ -17,4 +17,4 @@ change_listed-requires-clause-stay g c = λ x y done ret. search rules
 
 pub change_listed-requires-clause-listed : goal.change_listed-requires-clause-listed
 change_listed-requires-clause-listed g c =
-    λ x y done ret h. one_more_holder done c.args.self.now.effects c.args.self.now.held c.args.boundary c.args.task c.args.origin x y (search rules) (search rules) c.requires.paired h
+    λ x y done there ret h. one_more_holder done c.args.self.now.effects c.args.self.now.held c.args.boundary c.args.task c.args.origin x y (search rules) (search rules) c.requires.paired h

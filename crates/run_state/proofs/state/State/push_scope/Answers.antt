@@ -29,6 +29,7 @@ invariant_of-self g c =
       waiting = rw (c.in_err-enter_row.ensures.rows_err, c.in_err-enter_row.ensures.fresh_err) c.args.self.now.waiting;
       placed = rw c.in_err-enter_row.ensures.rows_err c.args.self.now.placed;
       readers = rw c.in_err-enter_row.ensures.rows_err c.args.self.now.readers;
+      heard = c.args.self.now.heard;
       listed = rw c.in_err-enter_row.ensures.rows_err c.args.self.now.listed;
     }
 

@@ -12,10 +12,10 @@ returns-in-Ok-clause-pushed g c = λ kept. tasks_pushed kept c.args.self.now c.e
 
 pub returns-in-Err-clause-err : goal.returns-in-Err-clause-err
 returns-in-Err-clause-err g c =
-    tasks_same c.args.self.now c.take_back_task.new.self c.push.new.self _ _ _ _ _ _ (c.take_back_task.ensures.tasks ∙ owed_back c.args.self.now.owed c.enter_task.new.self (c.args.task, task_scope c.args.row) c.in_ok-enter_task.ensures.ok) c.in-Err.ensures.err
+    tasks_same c.args.self.now c.take_back_task.new.self c.push.new.self _ _ _ _ _ _ _ (c.take_back_task.ensures.tasks ∙ owed_back c.args.self.now.owed c.enter_task.new.self (c.args.task, task_scope c.args.row) c.in_ok-enter_task.ensures.ok) c.in-Err.ensures.err
 
 pub returns-in_err-enter_task-clause-err : goal.returns-in_err-enter_task-clause-err
-returns-in_err-enter_task-clause-err g c = tasks_stay c.from_residual.result c.args.self.now c.enter_task.new.self c.args.self.now.tasks _ _ _ _ _ _ c.in_err-enter_task.ensures.err refl
+returns-in_err-enter_task-clause-err g c = tasks_stay c.from_residual.result c.args.self.now c.enter_task.new.self c.args.self.now.tasks _ _ _ _ _ _ _ c.in_err-enter_task.ensures.err refl
 
 pub invariant_of-self-in-Ok-clause-known : goal.invariant_of-self-in-Ok-clause-known
 invariant_of-self-in-Ok-clause-known g c =

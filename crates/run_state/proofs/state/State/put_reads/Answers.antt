@@ -11,8 +11,8 @@ use Rattle.rt_model.specs.State.{changed_scope}
 use Rattle.run_state.specs.Drawn.{drawn_for}
 use Rattle.run_state.specs.Heights.{height_in}
 use Rattle.run_state.specs.Mounts.{way_of, ways_of}
-use Rattle.run_state.specs.Mirror.{cell_of, state_of}
-use Rattle.run_state.proofs.CellsKept.{with_cells}
+use Rattle.run_state.specs.Mirror.{state_of}
+use Rattle.run_state.proofs.CellsKept.{reads_alone}
 use Rattle.run_state.proofs.Each.{found-each}
 use Rattle.run_state.proofs.Listing.{listed_by, listed_changed}
 use Rattle.run_state.proofs.Known.{known_read}
@@ -20,6 +20,7 @@ use Rattle.run_state.proofs.Rereads.{read_again}
 use Rattle.run_state.proofs.Placed.{placed_changed}
 use Rattle.run_state.proofs.Unchanged.{scope_surely, values_changed}
 use Rattle.run_state.proofs.Waiting.{ways_changed, waits_stay}
+use Rattle.run_state.proofs.Heard.{heard_told}
 use Rattle.run_state.proofs.state.State.put_reads.Goals as goal
 
 -- of a scope that isn't live nothing changes
@@ -68,11 +69,16 @@ invariant_of-self-2-clause-placed g c =
 
 pub returns : goal.returns
 returns g c = λ kept.
-    ap (λ cs. with_cells (record (state_of kept c.args.self.now) { scopes = each scope_of c.change-done.new.self }) (each cell_of cs.cells)) c.in_ok-set_reads.ensures.ok
+    reads_alone kept c.args.self.now (each scope_of c.change-done.new.self) c.set_reads.new.self (ap (λ t. t.cells) c.in_ok-set_reads.ensures.ok) (ap (λ t. t.contexts) c.in_ok-set_reads.ensures.ok)
     ∙ scope_surely _ c.args.self.now c.change-done.new.self c.args.scope (λ x. record x { rest = record (x.rest) { reads = c.args.reads } }) (λ x. record x { reads = map source_of c.args.reads })
     c.change-done.ensures.absent c.change-done.ensures.changed (λ x y ret. search rules) (λ x. refl) kept
 
 pub invariant_of-self-2-clause-listed : goal.invariant_of-self-2-clause-listed
 invariant_of-self-2-clause-listed g c =
     listed_changed _ (c.args.self.now.rows).table c.change-done.new.self c.args.scope c.args.self.now.effects c.args.self.now.held c.change-done.ensures.absent c.change-done.ensures.changed
-    (λ x y ret. let same : y ≡ record x { rest = record (x.rest) { reads = c.args.reads } } = search rules in ap (λ z. listed_by (z.rest).effects (z.rest).holders) same) c.args.self.now.listed
+    (λ x y ret. let same : y ≡ record x { rest = record (x.rest) { reads = c.args.reads } } = search rules in ap (λ z. listed_by (z.rest).height (z.rest).effects (z.rest).holders) same) c.args.self.now.listed
+
+pub invariant_of-self-2-clause-heard : goal.invariant_of-self-2-clause-heard
+invariant_of-self-2-clause-heard g c =
+    heard_told c.args.self.now.cells c.set_reads.new.self c.args.self.now.read_order (record { 0 = c.args.scope }) (in_order source_cmp c.as_slice.result.now)
+    (ap (λ t. t.contexts) c.in_ok-set_reads.ensures.ok) c.in_ok-set_reads.ensures.each c.args.self.now.heard

@@ -58,7 +58,7 @@ invariant_of-self-2-clause-readers g c =
 pub invariant_of-self-2-clause-listed : goal.invariant_of-self-2-clause-listed
 invariant_of-self-2-clause-listed g c =
     listed_changed _ (c.args.self.now.rows).table c.change-done.new.self c.args.scope c.args.self.now.effects c.args.self.now.held c.change-done.ensures.absent c.change-done.ensures.changed
-    (λ x y ret. let same : y ≡ side_put c.args.name c.args.side x = search rules in ap (λ z. listed_by (z.rest).effects (z.rest).holders) same ∙ effects_put c.args.name c.args.side x) c.args.self.now.listed
+    (λ x y ret. let same : y ≡ side_put c.args.name c.args.side x = search rules in ap (λ z. listed_by (z.rest).height (z.rest).effects (z.rest).holders) same ∙ effects_put c.args.name c.args.side x) c.args.self.now.listed
 
 pub returns : goal.returns
 returns g c =

@@ -1,4 +1,4 @@
-use Rattle.std.proofs.Common.{◌∙◌, sym, ap}
+use Rattle.std.proofs.Common.{[], ◌∙◌, sym, ap}
 use Rattle.std.proofs.Math.Logic.{∥∥₁_map}
 use Rattle.rt_model.specs.Lists.{without}
 use Rattle.run_owed.specs.Rooms.{Owing}
@@ -10,6 +10,7 @@ use Rattle.run_state.proofs.Waiting.{scope_left}
 use Rattle.run_state.proofs.Gone.{scopes_less, without_none}
 use Rattle.run_state.proofs.Listing.{listed_gone}
 use Rattle.run_state.proofs.Known.{known_less}
+use Rattle.run_state.proofs.Heard.{heard_told}
 use Rattle.run_state.proofs.state.State.remove_scope.Goals as goal
 
 pub returns-then-not-is_live : goal.returns-then-not-is_live
@@ -19,7 +20,7 @@ pub leave_scope-requires : goal.leave_scope-requires
 leave_scope-requires g c = record { entered = scope_entered c.args.self.now c.args.scope (λ kept. sym (c.is_live.ensures kept) ∙ c.if-not-is_live.false) }
 
 pub returns : goal.returns
-returns g c = record { removed = λ kept. scopes_less kept c.args.self.now c.leave_scope.new.self c.drop_reader.new.self c.remove_rows.new.rows c.args.scope c.leave_scope.ensures.scopes (ap (λ t. t.cells) c.drop_reader.ensures.dropped) c.remove_rows.ensures.rows }
+returns g c = record { removed = λ kept. scopes_less kept c.args.self.now c.leave_scope.new.self c.drop_reader.new.self c.remove_rows.new.rows c.args.scope c.leave_scope.ensures.scopes (ap (λ t. t.cells) c.drop_reader.ensures.dropped) (ap (λ t. t.contexts) c.drop_reader.ensures.dropped) c.remove_rows.ensures.rows }
 
 pub invariant_of-self-clause-entered : goal.invariant_of-self-clause-entered
 invariant_of-self-clause-entered g c =
@@ -45,3 +46,8 @@ invariant_of-self-clause-waiting g c =
 
 pub invariant_of-self-clause-listed : goal.invariant_of-self-clause-listed
 invariant_of-self-clause-listed g c = listed_gone (c.args.self.now.rows).table c.remove_rows.new.rows c.args.scope c.args.self.now.effects c.args.self.now.held c.drop_paired.new.pairs c.remove_rows.ensures.rows c.drop_paired.ensures c.args.self.now.listed
+
+pub invariant_of-self-clause-heard : goal.invariant_of-self-clause-heard
+invariant_of-self-clause-heard g c =
+    heard_told c.args.self.now.cells c.drop_reader.new.self c.args.self.now.read_order (record { 0 = c.args.scope }) []
+    (ap (λ t. t.contexts) c.drop_reader.ensures.dropped) c.drop_reader.ensures.each c.args.self.now.heard

@@ -62,6 +62,7 @@ invariant_of-self g c =
           (uncovered (ways_of (c.args.self.now.rows).table) c.args.self.now.fresh c.uncover.new.fresh c.args.self.now.hidden c.uncover.new.hidden c.args.self.now.next_scope c.in_err-uncover.ensures.covered);
       placed = c.args.self.now.placed;
       readers = c.args.self.now.readers;
+      heard = c.args.self.now.heard;
       listed = c.args.self.now.listed;
     }
 
@@ -73,4 +74,4 @@ invariant_of-self-2-clause-readers g c =
 pub invariant_of-self-2-clause-listed : goal.invariant_of-self-2-clause-listed
 invariant_of-self-2-clause-listed g c =
     listed_changed (λ x y. FnOnceReturnsAtMut g.F.FnOnce c.args.apply x c.change.result y) (c.args.self.now.rows).table c.change.new.self c.args.scope c.args.self.now.effects c.args.self.now.held c.change.ensures.absent c.change.ensures.changed
-    (λ x y ret. ap (λ t. listed_by t.4 t.5) (c.requires.stay x y c.change.result ret)) c.args.self.now.listed
+    (λ x y ret. ap (λ t. listed_by t.1 t.4 t.5) (c.requires.stay x y c.change.result ret)) c.args.self.now.listed

@@ -1,0 +1,5 @@
+-- The reads of all others stay.
+use Rattle.rt_cells.proofs.cells.Cells.add_read.Goals as goal
+
+pub returns-clause-each : goal.returns-clause-each
+returns-clause-each g c = rw (← c.self.view_is) c.add.ensures.each
