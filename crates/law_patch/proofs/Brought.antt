@@ -6,7 +6,7 @@ use Rattle.rt_model.specs.Values.{is_same_component}
 use Rattle.rt_model.proofs.Maps.{by_test}
 use Rattle.tree_marks.specs.Marks.{Mark, stays, slot_goes, slot_way, tree_way, come_in, go_out, lone, gone, come, changed, template_marks, tree_marks, slots_marks, slot_marks, items_marks}
 use Rattle.tree_marks.specs.Spots.{brings, all_brought}
-use Rattle.law_patch.proofs.Joins.{both_joined, none_more}
+use Rattle.run_work.proofs.Joins.{both_joined, none_more}
 
 module _ {K : Types} where
   -- what goes brings nothing, what comes brings itself

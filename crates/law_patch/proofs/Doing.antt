@@ -19,8 +19,8 @@ use Rattle.run_work.proofs.Agreed.{IsAgreed, all-agreed, agreed-work, agreed-dro
 use Rattle.tree_marks.specs.Marks.{Mark, stays, goes, comes, fed, left, made, given, worded, slot_goes, tree_goes, slot_way, tree_way, come_in, go_out, lone, tree_marks}
 use Rattle.tree_marks.specs.Deeds.{work_at, dropped_at, gone_at}
 use Rattle.law_patch.specs.Agenda.{not_kept, Does}
-use Rattle.law_patch.specs.Events.{events_in}
-use Rattle.law_patch.proofs.Eventful.{tree_events}
+use Rattle.run_work.specs.Marked.{events_in}
+use Rattle.run_work.proofs.Eventful.{tree_events}
 
 -- the number that goes at an event
 abbrev number_in : {K : Types} → List (Place × Kind × ℕ) → Event K → List ℕ

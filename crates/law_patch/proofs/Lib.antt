@@ -1,5 +1,3 @@
-pub mod Joins
-pub mod Eventful
 pub mod Doing
 pub mod Written
 pub mod Known

@@ -14,7 +14,7 @@ use Rattle.tree_marks.specs.Writing.{last_among, mark_writes, all_written}
 use Rattle.law_patch.specs.Written.{GoesOn}
 use Rattle.law_patch.specs.Behind.{AllKnown, ReadBehind}
 use Rattle.law_patch.specs.SoFar.{AgreeAt, SoFar, on_the_way, with_new}
-use Rattle.law_patch.proofs.Joins.{joined_append}
+use Rattle.run_work.proofs.Joins.{joined_append}
 use Rattle.law_patch.proofs.Written.{tree_writes}
 use Rattle.law_patch.proofs.Behind.{tree_behind}
 use Rattle.law_patch.proofs.Alike.{AllAgree, front_agree, back_agree, tree_alike, slot_alike, items_alike}

@@ -16,7 +16,7 @@ use Rattle.law_headline.proofs.Sweep.{tree_performs}
 use Rattle.tree_marks.specs.Marks.{Mark, stays, slot_way, tree_way, come_in, go_out, lone, gone, come, changed, template_marks, tree_marks, slots_marks, slot_marks, items_marks}
 use Rattle.tree_marks.specs.Writing.{last_among, mark_writes, all_written}
 use Rattle.law_patch.specs.Written.{GoesOn}
-use Rattle.law_patch.proofs.Joins.{joined_append}
+use Rattle.run_work.proofs.Joins.{joined_append}
 
 -- where no place is refused, what is built is written whole
 whole_built : (stop : Option Place) (place : Place) (es : List Edit) → stop ≡ None → built_whole stop place es ≡ writes es

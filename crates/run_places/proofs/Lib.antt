@@ -11,3 +11,4 @@ pub mod Alone
 pub mod Sided
 pub mod Guessed
 pub mod Lasts
+pub mod Unders

@@ -1,5 +1,5 @@
 -- What was drawn for the nodes and components of a tree, and what it is in the definitions.
-use Rattle.std.specs.Prelude.{ℕ, Bool, true, false, List, [], ◌∷◌, Option, None, Some, get_or, slice_get, slice_set, ◌≡◌}
+use Rattle.std.specs.Prelude.{ℕ, zero, suc, ◌+◌, Bool, true, false, List, [], ◌∷◌, Option, None, Some, get_or, slice_get, slice_set, ◌≡◌}
 use Rattle.rt_model.specs.Lists.{at}
 use Rattle.rt_model.specs.Tree.{Types, Place, Kind, Spot, VComponent, node_at, component_at}
 use Rattle.rt_model.specs.Run.{has_node, component_in}
@@ -16,6 +16,11 @@ filled firsts i n = elim (get_or firsts i None) [ None ↦ slice_set firsts i (S
 abbrev pub moved : List (Option ℕ) → List (ℕ × ℕ) → List (ℕ × ℕ)
 moved to [] = []
 moved to (e ∷ es) = elim (get_or to e.0 None) [ None ↦ moved to es | Some s ↦ (s, e.1) ∷ moved to es ]
+
+-- the first number under each of so many indices, from one on
+abbrev pub under : List (ℕ × ℕ) → ℕ → ℕ → List (Option ℕ)
+under pairs i zero = []
+under pairs i (suc n) = at pairs i ∷ under pairs (i + 1) n
 
 module _ {K : Types} where
   -- the nodes among spots, in their order

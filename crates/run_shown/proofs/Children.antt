@@ -76,10 +76,10 @@ module _ (seats : List Place) (s : ℕ) where
 
 -- under one index
 
-number_same : (m n : ℕ) → m ≡ n → nat_eq m n ≡ true
+pub number_same : (m n : ℕ) → m ≡ n → nat_eq m n ≡ true
 number_same m n same = ap (λ k. nat_eq m k) (sym same) ∙ eq_same m
 
-number_other : (m n : ℕ) → m ≢ n → nat_eq m n ≡ false
+pub number_other : (m n : ℕ) → m ≢ n → nat_eq m n ≡ false
 number_other m n other = by_test (nat_eq m n) (λ same. absurd (other (eqb-true m n same))) (λ apart. apart)
 
 -- the place of the scope is what stands under its index

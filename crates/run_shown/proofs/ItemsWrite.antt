@@ -21,7 +21,7 @@ use Rattle.tree_mirror.specs.Sealed.{tree_of}
 use Rattle.run_places.specs.Places.{side_of}
 use Rattle.run_shown.specs.declared.calm.Sides.{Sides}
 use Rattle.run_shown.specs.declared.showing.Shown.{Shown}
-use Rattle.run_shown.specs.Seen.{seen_within, tree_in, tree_seen, items_seen}
+use Rattle.run_shown.specs.Seen.{seen_by, tree_in, tree_seen, items_seen}
 use Rattle.run_shown.proofs.Views.{items_are}
 use Rattle.run_shown.specs.Ways.{place_found}
 use Rattle.run_shown.specs.Units.{tree_writes, items_writes, last_among, items_inserts, around_from}
@@ -94,12 +94,12 @@ module _ {P C Q V H T E L : Type 0} where
 module _ {P C Q V H T E L : Type 0} (app : Application (types C Q V H T E L)) where
   -- items
 
-  pub items_end : (b : Sides P C Q V H T E L) (place : Place) (i last : ℕ) (old : List (VNode P C Q V H T E L)) → items_writes app b place i last [] old ≡ writes (caused.removals (items_seen (b.old.now).look.now (b.old.now).depth (b.old.now).side.now i 0 place old))
+  pub items_end : (b : Sides P C Q V H T E L) (place : Place) (i last : ℕ) (old : List (VNode P C Q V H T E L)) → items_writes app b place i last [] old ≡ writes (caused.removals (items_seen (b.old.now).asked (b.old.now).side.now i 0 place old))
   unfolding items_writes
   items_end b place i last old =
       ap (λ f. writes (caused.removals f))
-      (ap (λ m. views.items_view (side_of (b.old.now).side.now) (λ t. seen_within (b.old.now).look.now (b.old.now).depth t) m place (trees_from (map tree_of old))) (let e : i ≡ i + 0 = omega arith in e) ∙
-      sym (items_are (b.old.now).look.now (b.old.now).depth (b.old.now).side.now i 0 place old))
+      (ap (λ m. views.items_view (side_of (b.old.now).side.now) (λ t. seen_by (b.old.now).asked t) m place (trees_from (map tree_of old))) (let e : i ≡ i + 0 = omega arith in e) ∙
+      sym (items_are (b.old.now).asked (b.old.now).side.now i 0 place old))
 
   around_is : (place : Place) (i : ℕ) (stop : Option Place) (trees : List (VNode P C Q V H T E L)) → caused.any_around app place i stop (trees_from (map tree_of trees)) ≡ around_from place i stop (length trees)
   around_is place i stop [] = refl
@@ -111,16 +111,16 @@ module _ {P C Q V H T E L : Type 0} (app : Application (types C Q V H T E L)) wh
   items_insert b place i last (t ∷ ts) some =
       (λ k. if around_is place i (place_found b.stop) (t ∷ ts) k then halts else writes (doc.InsertNodesAfter last (shown k) ∷ []))
     where
-      shown : views.items_view (side_of (b.new.now).side.now) (λ u. seen_within (b.new.now).look.now (b.new.now).depth u) i place (trees_from (map tree_of (t ∷ ts)))
-          ≡ items_seen (b.new.now).look.now (b.new.now).depth (b.new.now).side.now i 0 place (t ∷ ts)
+      shown : views.items_view (side_of (b.new.now).side.now) (λ u. seen_by (b.new.now).asked u) i place (trees_from (map tree_of (t ∷ ts)))
+          ≡ items_seen (b.new.now).asked (b.new.now).side.now i 0 place (t ∷ ts)
       shown =
-          ap (λ m. views.items_view (side_of (b.new.now).side.now) (λ u. seen_within (b.new.now).look.now (b.new.now).depth u) m place (trees_from (map tree_of (t ∷ ts)))) (let e : i ≡ i + 0 = omega arith in e) ∙
-          sym (items_are (b.new.now).look.now (b.new.now).depth (b.new.now).side.now i 0 place (t ∷ ts))
+          ap (λ m. views.items_view (side_of (b.new.now).side.now) (λ u. seen_by (b.new.now).asked u) m place (trees_from (map tree_of (t ∷ ts)))) (let e : i ≡ i + 0 = omega arith in e) ∙
+          sym (items_are (b.new.now).asked (b.new.now).side.now i 0 place (t ∷ ts))
 
   pub items_step : (b : Sides P C Q V H T E L) (place : Place) (i last : ℕ) (y x : VNode P C Q V H T E L) (ys xs : List (VNode P C Q V H T E L))
       → items_writes app b place i last (y ∷ ys) (x ∷ xs)
       ≡ then_on (tree_writes app b (place ++ item i ∷ []) y x)
-      (items_writes app b place (i + 1) (caused.last_of last (tree_seen (b.new.now).look.now (b.new.now).depth (b.new.now).side.now y (place ++ item i ∷ []))) ys xs)
+      (items_writes app b place (i + 1) (caused.last_of last (tree_seen (b.new.now).asked (b.new.now).side.now y (place ++ item i ∷ []))) ys xs)
   unfolding items_writes tree_writes tree_seen
   items_step b place i last y x ys xs = refl
 
@@ -163,12 +163,12 @@ module _ {P C Q V H T E L : Type 0} (app : Application (types C Q V H T E L)) wh
   pub items_over : (b : Sides P C Q V H T E L) (place : Place) (new old : List (VNode P C Q V H T E L)) (i : ℕ) (before whole : Written) (edits : List doc.Edit) (over : Forest)
       → i ≡ length new
       → then_on before (items_writes app b place i (last_among b.new.now place 0 0 (take i new)) (drop i new) (drop i old)) ≡ whole
-      → over ≡ items_seen (b.old.now).look.now (b.old.now).depth (b.old.now).side.now (length new) 0 place (drop (length new) old)
+      → over ≡ items_seen (b.old.now).asked (b.old.now).side.now (length new) 0 place (drop (length new) old)
       → edits ≡ caused.removals over
       → then_on before (writes edits) ≡ whole
   items_over b place new old i before whole edits over end so_far seen are =
       ap (λ es. then_on before (writes es))
-      (are ∙ ap caused.removals (seen ∙ ap (λ n. items_seen (b.old.now).look.now (b.old.now).depth (b.old.now).side.now n 0 place (drop n old)) (sym end))) ∙
+      (are ∙ ap caused.removals (seen ∙ ap (λ n. items_seen (b.old.now).asked (b.old.now).side.now n 0 place (drop n old)) (sym end))) ∙
       ap (λ w. then_on before w) (sym (items_end b place i (last_among b.new.now place 0 0 (take i new)) (drop i old))) ∙
       ap (λ xs. then_on before (items_writes app b place i (last_among b.new.now place 0 0 (take i new)) xs (drop i old))) (sym (drop_of_length-le new (let e : length new ≤ i = omega arith in e))) ∙
       so_far

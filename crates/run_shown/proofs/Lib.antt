@@ -25,3 +25,4 @@ pub mod RowsWrite
 pub mod Children
 pub mod Walked
 pub mod BothLooks
+pub mod Givens

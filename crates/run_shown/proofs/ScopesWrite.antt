@@ -35,7 +35,7 @@ use Rattle.run_attributes.proofs.Passes.{block_out}
 use Rattle.run_shown.specs.declared.calm.Sides.{Sides}
 use Rattle.run_shown.specs.declared.sides.Unit.{Unit as CodeUnit}
 use Rattle.run_shown.specs.Look.{look_is_shown, look_side, look_shows}
-use Rattle.run_shown.specs.Seen.{scope_seen, seen_within, tree_seen}
+use Rattle.run_shown.specs.Seen.{scope_seen, seen_by, seen_within, tree_seen}
 use Rattle.run_shown.specs.Ways.{place_found, way_of}
 use Rattle.run_shown.specs.Touched.{is_touched}
 use Rattle.run_shown.specs.Units.{Passes, both_of, shown_writes, side_writes, unit_within, unit_writes, scope_writes, name_writes, output_writes, tree_writes, slot_writes, node_writes, row_writes, tree_replaces}
@@ -125,11 +125,9 @@ module _ {P C Q V H T E L : Type 0} (app : Application (types C Q V H T E L)) wh
     pub of_unit : b.unit.now ≡ unit
     pub deep : b.depth ≡ n
     pub old_side : (b.old.now).side.now ≡ old
-    pub old_look : (b.old.now).look.now ≡ unit.before.now
-    pub old_deep : (b.old.now).depth ≡ (unit.before.now).scopes
+    pub old_seen : (t : ℕ) → seen_by (b.old.now).asked t ≡ seen_within unit.before.now (unit.before.now).scopes t
     pub new_side : (b.new.now).side.now ≡ new
-    pub new_look : (b.new.now).look.now ≡ unit.after.now
-    pub new_deep : (b.new.now).depth ≡ (unit.after.now).scopes
+    pub new_seen : (t : ℕ) → seen_by (b.new.now).asked t ≡ seen_within unit.after.now (unit.after.now).scopes t
     pub stops : place_found b.stop ≡ stop
 
   pub name_some : (unit : CodeUnit P C Q V H T E L) (n s : ℕ) (name : SideName) (old new : Side P C Q V H T E L) (b : Sides P C Q V H T E L)
@@ -142,8 +140,8 @@ module _ {P C Q V H T E L : Type 0} (app : Application (types C Q V H T E L)) wh
       (record {
         old = side_of (h.old_side k);
         new = side_of (h.new_side k);
-        old_child = λ t. seen_within (h.old_look k) (h.old_deep k) t;
-        new_child = λ t. seen_within (h.new_look k) (h.new_deep k) t;
+        old_child = λ t. h.old_seen t k;
+        new_child = λ t. h.new_seen t k;
         under = λ t. under (h.of_unit k) (h.deep k) t;
         stop = h.stops k;
         on_way = λ t. is_some (at (way_of (h.of_unit k).way.now) t);
@@ -275,8 +273,8 @@ module _ {P C Q V H T E L : Type 0} (app : Application (types C Q V H T E L)) wh
   unmatched_writes b above new old =
       caused.built_whole (place_found b.stop) above
       (replaced_by
-      (tree_view (side_of (b.old.now).side.now) (λ t. seen_within (b.old.now).look.now (b.old.now).depth t) above old)
-      (tree_view (side_of (b.new.now).side.now) (λ t. seen_within (b.new.now).look.now (b.new.now).depth t) above new))
+      (tree_view (side_of (b.old.now).side.now) (λ t. seen_by (b.old.now).asked t) above old)
+      (tree_view (side_of (b.new.now).side.now) (λ t. seen_by (b.new.now).asked t) above new))
 
   tree_parts : (b : Sides P C Q V H T E L) (above : Place) (new old : VNode P C Q V H T E L)
       → tree_writes app b above new old

@@ -17,8 +17,8 @@ use Rattle.run_places.specs.Places.{side_of}
 use Rattle.run_places.specs.Trails.{place_on}
 use Rattle.run_places.specs.Sides.{child_in}
 use Rattle.run_shown.specs.declared.look.Look.{Look}
-use Rattle.run_shown.specs.declared.showing.Shown.{Shown}
-use Rattle.run_shown.specs.declared.showing.Standing.{Standing}
+use Rattle.run_shown.specs.declared.climb.Climbed.{Climbed}
+use Rattle.run_shown.specs.declared.climb.Rooted.{Rooted}
 use Rattle.run_shown.specs.Look.{look_shown}
 
 module _ {P C Q V H T E L : Type 0} where
@@ -102,25 +102,25 @@ module _ {P C Q V H T E L : Type 0} where
       first_of (node_climb look number n side tree above up i node) (row_climb look number n side tree above up (i + 1) nodes)
 
   -- in a tree of a shown side
-  abbrev pub tree_climb_in : Shown P C Q V H T E L → ℕ → VNode P C Q V H T E L → Place → Option (Climb (types C Q V H T E L))
+  abbrev pub tree_climb_in : Climbed P C Q V H T E L → ℕ → VNode P C Q V H T E L → Place → Option (Climb (types C Q V H T E L))
   tree_climb_in shown number tree above = tree_climb shown.look.now number shown.depth shown.side.now tree above
 
   -- in what stands in a slot of it
-  abbrev pub value_climb_in : Shown P C Q V H T E L → ℕ → DynamicNode P C Q V H T E L → Place → Option (Climb (types C Q V H T E L))
+  abbrev pub value_climb_in : Climbed P C Q V H T E L → ℕ → DynamicNode P C Q V H T E L → Place → Option (Climb (types C Q V H T E L))
   value_climb_in shown number value place = value_climb shown.look.now number shown.depth shown.side.now value place
 
   -- in items of a fragment of it
-  abbrev pub items_climb_in : Shown P C Q V H T E L → ℕ → Place → List (VNode P C Q V H T E L) → Option (Climb (types C Q V H T E L))
+  abbrev pub items_climb_in : Climbed P C Q V H T E L → ℕ → Place → List (VNode P C Q V H T E L) → Option (Climb (types C Q V H T E L))
   items_climb_in shown number place trees = items_climb shown.look.now number shown.depth shown.side.now 0 place trees
 
   -- in a node of a tree that stands on it
-  abbrev pub node_climb_in : Standing P C Q V H T E L → ℕ → List ℕ → ℕ → TemplateNode → Option (Climb (types C Q V H T E L))
+  abbrev pub node_climb_in : Rooted P C Q V H T E L → ℕ → List ℕ → ℕ → TemplateNode → Option (Climb (types C Q V H T E L))
   node_climb_in standing number up i node =
       node_climb (standing.shown.now).look.now number (standing.shown.now).depth (standing.shown.now).side.now standing.tree.now
       (place_on standing.above.now) up i node
 
   -- in a row of nodes of it
-  abbrev pub row_climb_in : Standing P C Q V H T E L → ℕ → List ℕ → ℕ → List TemplateNode → Option (Climb (types C Q V H T E L))
+  abbrev pub row_climb_in : Rooted P C Q V H T E L → ℕ → List ℕ → ℕ → List TemplateNode → Option (Climb (types C Q V H T E L))
   row_climb_in standing number up i nodes =
       row_climb (standing.shown.now).look.now number (standing.shown.now).depth (standing.shown.now).side.now standing.tree.now
       (place_on standing.above.now) up i nodes

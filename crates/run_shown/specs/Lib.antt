@@ -1,5 +1,6 @@
 pub mod Look
 pub mod Stands
+pub mod Given
 pub mod Seen
 pub mod Climbs
 pub mod Hearing

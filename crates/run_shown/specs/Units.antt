@@ -26,7 +26,7 @@ use Rattle.run_shown.specs.declared.edited.Edited.{Edited}
 use Rattle.run_shown.specs.declared.calm.Sides.{Sides}
 use Rattle.run_shown.specs.declared.sides.Unit.{Unit as CodeUnit}
 use Rattle.run_shown.specs.Look.{look_is_shown, look_side, look_shows}
-use Rattle.run_shown.specs.Seen.{seen_within, scope_seen, value_in, tree_in, items_in}
+use Rattle.run_shown.specs.Seen.{seen_by, seen_within, scope_seen, value_in, tree_in, items_in}
 use Rattle.run_shown.specs.declared.showing.Shown.{Shown}
 use Rattle.run_shown.specs.Look.{ShowsScopes}
 use Rattle.run_shown.specs.Touched.{is_touched}
@@ -135,8 +135,8 @@ module _ {P C Q V H T E L : Type 0} where
         record {
           old = side_of (b.old.now).side.now;
           new = side_of (b.new.now).side.now;
-          old_child = λ t. seen_within (b.old.now).look.now (b.old.now).depth t;
-          new_child = λ t. seen_within (b.new.now).look.now (b.new.now).depth t;
+          old_child = λ t. seen_by (b.old.now).asked t;
+          new_child = λ t. seen_by (b.new.now).asked t;
           under = λ t. unit_within (b.unit.now).before.now (b.unit.now).after.now (way_of (b.unit.now).way.now) b.depth t;
           stop = place_found b.stop;
           on_way = λ t. is_some (at (way_of (b.unit.now).way.now) t);

@@ -9,10 +9,9 @@ ghost use Rattle.run_places.specs.Sides.{number_in};
 ghost use Rattle.run_shown.specs.Climbs.{child_climb, climb_found, climb_of, entries_slots, entry_slots, items_climb_in, node_climb_in, row_climb_in, scope_climb, side_climb, slots_of, tree_climb_in, value_climb_in};
 
 use crate::look::Look;
-use crate::showing::{Shown, Standing};
 use rt_values::{List, OutOfMemory, Part, Shared};
 use run_attributes::attributes_in;
-use run_places::{Kind, LEVELS, Path, Trail, down};
+use run_places::{Kind, LEVELS, Path, Side, Trail, down};
 use std::alloc::Global;
 use tree_nodes::{Attribute, DynamicNode, Parts, TemplateAttribute, TemplateNode, VNode};
 
@@ -21,6 +20,23 @@ pub(crate) type Slots<P> = List<List<Attribute<P>>>;
 
 /// The attribute slots of a node and of each element above it, innermost first.
 pub(crate) type Climb<P> = List<Slots<P>>;
+
+/// A side on which a number is looked for, with the scopes that its components show.
+#[derive(Drop)]
+pub(crate) struct Climbed<'a, P: Parts> {
+    pub look: &'a Look<'a, P>,
+    pub side: &'a Side<P>,
+    /// How many scopes deep its components may go.
+    pub depth: u64,
+}
+
+/// A tree of such a side, at its place.
+#[derive(Drop)]
+pub(crate) struct Rooted<'a, P: Parts> {
+    pub shown: &'a Climbed<'a, P>,
+    pub tree: &'a VNode<P>,
+    pub above: &'a Trail<'a>,
+}
 
 /// The climb from a number in what the root shows.
 pub(crate) fn find<P: Parts>(
@@ -54,7 +70,7 @@ fn find_within<P: Parts>(
     match look.shown_side(scope) {
         Some(side) => find_side(
             alloc,
-            &Shown {
+            &Climbed {
                 look: &*look,
                 side,
                 depth: depth - 1,
@@ -70,7 +86,7 @@ fn find_within<P: Parts>(
 #[tactic(auto, using(crate::proofs::Climbing::climbing))]
 fn find_side<P: Parts>(
     alloc: Global,
-    shown: &Shown<'_, P>,
+    shown: &Climbed<'_, P>,
     number: u64,
     levels: u64,
 ) -> Result<Option<Climb<P>>, OutOfMemory>
@@ -88,7 +104,7 @@ fn find_side<P: Parts>(
 #[tactic(auto, using(crate::proofs::Climbing::climbing))]
 fn find_tree<P: Parts>(
     alloc: Global,
-    shown: &Shown<'_, P>,
+    shown: &Climbed<'_, P>,
     number: u64,
     tree: &VNode<P>,
     above: &Trail<'_>,
@@ -98,7 +114,7 @@ fn find_tree<P: Parts>(
         ≡ tree_climb_in shown.now number tree.now (place_on above.now)) }
 {
     let levels = down(levels)?;
-    let standing = Standing {
+    let standing = Rooted {
         shown: &*shown,
         tree,
         above: &*above,
@@ -117,7 +133,7 @@ fn find_tree<P: Parts>(
 #[tactic(auto, using(crate::proofs::Climbing::climbing))]
 fn find_nodes<P: Parts>(
     alloc: Global,
-    standing: &Standing<'_, P>,
+    standing: &Rooted<'_, P>,
     number: u64,
     up: &Path<'_>,
     nodes: &[TemplateNode],
@@ -140,7 +156,7 @@ fn find_nodes<P: Parts>(
 #[tactic(auto, using(crate::proofs::Climbing::climbing))]
 fn find_node<P: Parts>(
     alloc: Global,
-    standing: &Standing<'_, P>,
+    standing: &Rooted<'_, P>,
     number: u64,
     up: &Path<'_>,
     index: u64,
@@ -181,7 +197,7 @@ fn find_node<P: Parts>(
 #[tactic(auto, using(crate::proofs::Climbing::climbing))]
 fn find_slot<P: Parts>(
     alloc: Global,
-    shown: &Shown<'_, P>,
+    shown: &Climbed<'_, P>,
     number: u64,
     value: &DynamicNode<P>,
     place: &Trail<'_>,
@@ -208,7 +224,7 @@ fn find_slot<P: Parts>(
 #[tactic(auto, using(crate::proofs::Climbing::climbing))]
 fn find_child<P: Parts>(
     alloc: Global,
-    shown: &Shown<'_, P>,
+    shown: &Climbed<'_, P>,
     number: u64,
     place: &Trail<'_>,
     levels: u64,
@@ -228,7 +244,7 @@ fn find_child<P: Parts>(
 #[tactic(auto, using(crate::proofs::Climbing::climbing))]
 fn find_items<P: Parts>(
     alloc: Global,
-    shown: &Shown<'_, P>,
+    shown: &Climbed<'_, P>,
     number: u64,
     place: &Trail<'_>,
     trees: &[VNode<P>],
@@ -248,7 +264,7 @@ fn find_items<P: Parts>(
 }
 
 // Whether the node of a kind at a place has this number.
-fn is_numbered<P: Parts>(shown: &Shown<'_, P>, place: &Trail<'_>, kind: Kind, number: u64) -> bool
+fn is_numbered<P: Parts>(shown: &Climbed<'_, P>, place: &Trail<'_>, kind: Kind, number: u64) -> bool
     ensures { result
         ≡ nat_eq (number_in shown.now.side.now (place_on place.now) (kind_of kind)) number }
 {
@@ -259,7 +275,7 @@ fn is_numbered<P: Parts>(shown: &Shown<'_, P>, place: &Trail<'_>, kind: Kind, nu
 #[tactic(auto, using(crate::proofs::Climbing::climbing))]
 fn leaf_climb<P: Parts>(
     alloc: Global,
-    shown: &Shown<'_, P>,
+    shown: &Climbed<'_, P>,
     place: &Trail<'_>,
     kind: Kind,
     number: u64,

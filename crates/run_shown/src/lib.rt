@@ -2,6 +2,7 @@
 //! calls, and the edits that a unit writes.
 #![tactic(auto)]
 
+mod asked;
 mod calm;
 mod climb;
 mod comparing;
@@ -20,6 +21,7 @@ mod touching;
 mod way;
 mod writing;
 
+pub use asked::GivenRows;
 pub use hearing::{Listener, heard};
 pub use look::{Look, Stood};
 pub use rows::{nodes_of, view};

@@ -7,8 +7,9 @@ ghost use Rattle.tree_edits.specs.Documents.{content_of, forest_below, forest_of
 ghost use Rattle.run_places.specs.Places.{kind_of};
 ghost use Rattle.run_places.specs.Sides.{number_in};
 ghost use Rattle.run_places.specs.Trails.{path_of, place_on};
-ghost use Rattle.run_shown.specs.Seen.{child_seen, items_in, node_in, row_in, scope_seen, side_seen, tree_in, value_in};
+ghost use Rattle.run_shown.specs.Seen.{child_seen, items_in, node_in, row_in, scope_seen, seen_by, side_seen, tree_in, value_in};
 
+use crate::asked::{Asked, show_given};
 use crate::look::Look;
 use rt_edits::{DocKind, DocNode};
 use rt_values::{ElementId, List, OutOfMemory, Part, Text, both};
@@ -17,13 +18,11 @@ use run_places::{Kind, Path, Side, Trail, down};
 use std::alloc::Global;
 use tree_nodes::{Attribute, DynamicNode, Parts, TemplateAttribute, TemplateNode, VNode};
 
-/// A side whose tree is shown, with the scopes that its components show.
+/// A side whose tree is shown, and who is asked for what its components show.
 #[derive(Drop)]
 pub(crate) struct Shown<'a, P: Parts> {
-    pub look: &'a Look<'a, P>,
+    pub asked: Asked<'a, P>,
     pub side: &'a Side<P>,
-    /// How many scopes deep its components may go.
-    pub depth: u64,
 }
 
 /// A tree of a side, at its place.
@@ -55,9 +54,8 @@ pub(crate) fn show_scope<P: Parts>(
     match look.shown_side(scope) {
         Some(side) => {
             let shown = Shown {
-                look: &*look,
+                asked: Asked::Look(&*look, depth - 1),
                 side,
-                depth: depth - 1,
             };
             show_side(alloc, &shown, levels, row)
         }
@@ -74,7 +72,7 @@ fn show_side<P: Parts>(
     row: &mut List<DocNode>,
 ) -> Result<(), OutOfMemory>
     ensures { OnOk result (forest_of row.new ≡ join_rows (forest_of row.old)
-        (side_seen shown.now.look.now shown.now.depth shown.now.side.now)) }
+        (side_seen shown.now.asked shown.now.side.now)) }
 {
     let levels = down(levels)?;
     match &shown.side.output {
@@ -250,12 +248,32 @@ fn show_child<P: Parts>(
     row: &mut List<DocNode>,
 ) -> Result<(), OutOfMemory>
     ensures { OnOk result (forest_of row.new ≡ join_rows (forest_of row.old)
-        (child_seen shown.now.look.now shown.now.depth shown.now.side.now (place_on place.now))) }
+        (child_seen shown.now.asked shown.now.side.now (place_on place.now))) }
 {
     let levels = down(levels)?;
     match shown.side.child_on(place) {
-        Some(child) => show_scope(alloc, shown.look, shown.depth, child, levels, row),
+        Some(child) => show_asked(alloc, &shown.asked, child, levels, row),
         None => Ok(()),
+    }
+}
+
+// Those of a child scope, by who is asked.
+#[cycle(view)]
+#[tactic(auto, using(crate::proofs::Views::views))]
+fn show_asked<P: Parts>(
+    alloc: Global,
+    asked: &Asked<'_, P>,
+    scope: u64,
+    levels: u64,
+    row: &mut List<DocNode>,
+) -> Result<(), OutOfMemory>
+    ensures { OnOk result (forest_of row.new
+        ≡ join_rows (forest_of row.old) (seen_by asked.now scope)) }
+{
+    let levels = down(levels)?;
+    match asked {
+        Asked::Look(look, depth) => show_scope(alloc, look, *depth, scope, levels, row),
+        Asked::Given(given) => show_given(alloc, given, scope, row),
     }
 }
 

@@ -1,17 +1,18 @@
 //! The scopes before and after a unit, and nodes that give way to others.
 
-ghost use Rattle.std.specs.Prelude.{◌≡◌, ◌&&◌, map, IfOk};
+ghost use Rattle.std.specs.Prelude.{ℕ, ◌≡◌, ◌&&◌, map, IfOk};
 ghost use Rattle.rt_model.specs.Document.{Forest};
 ghost use Rattle.rt_model.specs.Caused as caused;
 ghost use Rattle.tree_edits.specs.Documents.{edit_of, forest_of};
 ghost use Rattle.run_places.specs.Trails.{place_on};
 ghost use Rattle.run_shown.specs.Look.{look_is_shown};
-ghost use Rattle.run_shown.specs.Seen.{scope_seen};
+ghost use Rattle.run_shown.specs.Seen.{scope_seen, seen_by, seen_within};
 ghost use Rattle.run_shown.specs.Tops.{removed, replaced, tops_of};
 ghost use Rattle.run_shown.specs.Units.{slot_replaces, tree_replaces};
 ghost use Rattle.run_shown.specs.Ways.{place_found};
 ghost use Rattle.run_shown.specs.Written.{edited_of};
 
+use crate::asked::Asked;
 use crate::calm::Sides;
 use crate::edited::{Edited, halts, writes};
 use crate::look::Look;
@@ -46,14 +47,12 @@ pub(crate) fn is_shown_in_both<P: Parts>(unit: &Unit<'_, P>, scope: u64) -> bool
 
 /// A side with all that its components show.
 pub(crate) fn shown_in<'a, P: Parts>(look: &'a Look<'a, P>, side: &'a Side<P>) -> Shown<'a, P>
-    ensures look { result.look.now ≡ look.now }
+    ensures seen { (t : ℕ) → seen_by result.asked t ≡ seen_within look.now look.now.scopes t }
     ensures side { result.side.now ≡ side.now }
-    ensures depth { result.depth ≡ look.now.scopes }
 {
     Shown {
-        look,
+        asked: Asked::Look(look, look.scopes()),
         side,
-        depth: look.scopes(),
     }
 }
 

@@ -5,9 +5,10 @@ ghost use Rattle.std.specs.Prelude.{◌≡◌, ◌++◌, ◌∷◌, [], IfOk, On
 ghost use Rattle.run_places.specs.Places.{kind_of};
 ghost use Rattle.run_places.specs.Sides.{number_in};
 ghost use Rattle.run_places.specs.Trails.{path_of, place_on};
-ghost use Rattle.run_shown.specs.Seen.{child_seen, items_in, node_in, row_in, scope_seen, side_seen, tree_in, value_in};
+ghost use Rattle.run_shown.specs.Seen.{child_seen, items_in, node_in, row_in, scope_seen, seen_by, side_seen, tree_in, value_in};
 ghost use Rattle.run_shown.specs.Tops.{tops_of};
 
+use crate::asked::{Asked, add_given};
 use crate::look::Look;
 use crate::showing::{Shown, Standing, position_after};
 use rt_values::{List, OutOfMemory};
@@ -93,9 +94,8 @@ fn add_scope<P: Parts>(
     match look.shown_side(scope) {
         Some(side) => add_side(
             &Shown {
-                look: &*look,
+                asked: Asked::Look(&*look, depth - 1),
                 side,
-                depth: depth - 1,
             },
             levels,
             tops,
@@ -112,7 +112,7 @@ fn add_side<P: Parts>(
     tops: &mut List<u64>,
 ) -> Result<(), OutOfMemory>
     ensures { OnOk result (tops.new ≡ tops.old
-        ++ tops_of (side_seen shown.now.look.now shown.now.depth shown.now.side.now)) }
+        ++ tops_of (side_seen shown.now.asked shown.now.side.now)) }
 {
     let levels = down(levels)?;
     match &shown.side.output {
@@ -230,12 +230,30 @@ fn add_child<P: Parts>(
     tops: &mut List<u64>,
 ) -> Result<(), OutOfMemory>
     ensures { OnOk result (tops.new ≡ tops.old ++ tops_of
-        (child_seen shown.now.look.now shown.now.depth shown.now.side.now (place_on place.now))) }
+        (child_seen shown.now.asked shown.now.side.now (place_on place.now))) }
 {
     let levels = down(levels)?;
     match shown.side.child_on(place) {
-        Some(child) => add_scope(shown.look, shown.depth, child, levels, tops),
+        Some(child) => add_asked(&shown.asked, child, levels, tops),
         None => Ok(()),
+    }
+}
+
+// Those of a child scope, by who is asked.
+#[cycle(tops)]
+#[tactic(auto, using(crate::proofs::TopsSeen::tops))]
+fn add_asked<P: Parts>(
+    asked: &Asked<'_, P>,
+    scope: u64,
+    levels: u64,
+    tops: &mut List<u64>,
+) -> Result<(), OutOfMemory>
+    ensures { OnOk result (tops.new ≡ tops.old ++ tops_of (seen_by asked.now scope)) }
+{
+    let levels = down(levels)?;
+    match asked {
+        Asked::Look(look, depth) => add_scope(look, *depth, scope, levels, tops),
+        Asked::Given(given) => add_given(given, scope, tops),
     }
 }
 

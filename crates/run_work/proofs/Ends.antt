@@ -8,22 +8,23 @@ use Rattle.rt_model.specs.Tree as model
 use Rattle.rt_model.specs.Tree.{Place, Spot, spots}
 use Rattle.rt_model.specs.Run.{spots_of, serves, drops_of, is_fed}
 use Rattle.tree_mirror.specs.Sealed.{tree_of}
+use Rattle.tree_marks.specs.Marks.{come, tree_marks}
 use Rattle.run_places.specs.Apart.{Apart}
 use Rattle.run_places.specs.Drawn.{SeatsFollow}
 use Rattle.run_places.specs.Indexed.{node_index, seat_index}
 use Rattle.run_places.specs.Places.{node_of, output_of, place_of, side_name_of, side_of}
-use Rattle.run_places.specs.Spots.{tree_spots}
 use Rattle.run_places.proofs.Hits.{node_whole, seat_whole}
 use Rattle.run_places.proofs.Sided.{node_there, seat_there}
 use Rattle.run_work.specs.declared.patched.Ground.{Ground}
 use Rattle.run_work.specs.declared.patched.Patched.{Patched}
-use Rattle.run_work.specs.declared.patched.Turn.TheVariants as turns
 use Rattle.run_work.specs.After.{Out, after, nothing_yet}
-use Rattle.run_work.specs.Events.{come, pairing}
-use Rattle.run_work.specs.Grounds.{ground_of, out_of, tree_turn}
-use Rattle.run_work.specs.Pairs.{tree_pair}
+use Rattle.run_work.specs.Events as event
+use Rattle.run_work.specs.Events.{pairing}
+use Rattle.run_work.specs.Grounds.{ground_of, out_of}
+use Rattle.run_work.specs.Marked.{events_in}
 use Rattle.run_work.specs.Patches.{PatchesBy}
 use Rattle.run_work.proofs.Afters.{Finds, come_finds, pair_finds}
+use Rattle.run_work.proofs.Eventful.{come_events, tree_events}
 use Rattle.run_work.proofs.Founding.{mapped_long}
 use Rattle.rt_model.specs.Values.{is_same_component}
 
@@ -60,24 +61,24 @@ module _ {P C Q V H T E L : Type 0} (app : Application (types C Q V H T E L)) (g
 
   -- an old tree and a new one
   pub pair_ends : (old : VNode P C Q V H T E L) (start : Out (types C Q V H T E L)) → (g.side.now).output ≡ Some old → start ≡ nothing_yet (length (g.side.now).nodes) (length (g.side.now).seats)
-      → out_of o ≡ after (ground_of g) (tree_pair app old tree []) start → PatchesBy app g.scope g.name tree g.side.now o
-  unfolding ground_of tree_pair
+      → out_of o ≡ after (ground_of g) (events_in (tree_marks app [] (tree_of tree) (tree_of old))) start → PatchesBy app g.scope g.name tree g.side.now o
+  unfolding ground_of
   pair_ends old start some first found =
       by_spots (spots [] (tree_of old)) (ap (λ (x : Option (VNode P C Q V H T E L)). spots_of (output_of x)) (sym some))
       (
       subst (λ q. Finds app (ground_of g) (map node_of (g.side.now).nodes) (map place_of (g.side.now).seats) (spots [] (tree_of old)) (spots [] (tree_of tree)) q)
-      (sym (found ∙ ap (λ q. after (ground_of g) (pairing (λ c d. is_same_component app c d) (tree_of old) (tree_of tree) []) q) (first ∙ begun)))
+      (sym (found ∙ ap (λ es. after (ground_of g) es start) (tree_events app [] (tree_of tree) (tree_of old)) ∙ ap (λ q. after (ground_of g) (pairing (λ c d. is_same_component app c d) (tree_of old) (tree_of tree) []) q) (first ∙ begun)))
       (pair_finds app (ground_of g) (map node_of (g.side.now).nodes) (map place_of (g.side.now).seats) node_sound node_found seat_sound seat_found (tree_of old) (tree_of tree))
       )
 
   -- a first tree
   pub come_ends : (start : Out (types C Q V H T E L)) → (g.side.now).output ≡ None → start ≡ nothing_yet (length (g.side.now).nodes) (length (g.side.now).seats)
-      → out_of o ≡ after (ground_of g) (tree_turn turns.Comes [] tree) start → PatchesBy app g.scope g.name tree g.side.now o
-  unfolding ground_of tree_turn tree_spots
+      → out_of o ≡ after (ground_of g) (events_in (map come (spots [] (tree_of tree)))) start → PatchesBy app g.scope g.name tree g.side.now o
+  unfolding ground_of
   come_ends start none first found =
       by_spots [] (ap (λ (x : Option (VNode P C Q V H T E L)). spots_of (output_of x)) (sym none))
       (
       subst (λ q. Finds app (ground_of g) (map node_of (g.side.now).nodes) (map place_of (g.side.now).seats) [] (spots [] (tree_of tree)) q)
-      (sym (found ∙ ap (λ q. after (ground_of g) (map come (spots [] (tree_of tree))) q) (first ∙ begun)))
+      (sym (found ∙ ap (λ es. after (ground_of g) es start) (come_events (spots [] (tree_of tree))) ∙ ap (λ q. after (ground_of g) (map event.come (spots [] (tree_of tree))) q) (first ∙ begun)))
       (come_finds app (ground_of g) (map node_of (g.side.now).nodes) (map place_of (g.side.now).seats) node_sound node_found seat_sound seat_found (tree_of tree))
       )

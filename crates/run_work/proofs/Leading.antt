@@ -1,23 +1,17 @@
 -- Each event leaves those nodes that a side knows where they stand.
 use Rattle.std.proofs.Common.{ℕ, zero, suc, List, [], ◌∷◌, ◌++◌, ◌≡◌, inl, inr, length, map, get_or, refl, sym, ap, ◌∙◌, subst}
 use Rattle.std.specs.Prelude.{Option, Some, None, slice_get}
-use Rattle.tree_nodes.specs.declared.vnode.DynamicNode.{DynamicNode}
 use Rattle.rt_model.specs.OneLog.{types}
-use Rattle.rt_model.specs.World.{Application}
 use Rattle.rt_model.specs.Tree.{Types, Place, Kind}
 use Rattle.run_places.specs.Places.{node_of}
 use Rattle.run_places.proofs.Sided.{node_there}
 use Rattle.run_work.specs.After.{Ground, Out, after, nothing_yet, one, with_node}
 use Rattle.run_work.specs.Events.{Event, stays, goes, comes, fed, left, made}
-use Rattle.run_work.specs.Goes.{Leads, NodesGo, Walks}
-use Rattle.run_work.specs.Grounds.{ground_of, out_of, value_turn}
-use Rattle.run_work.specs.Pairs.{values_pair}
+use Rattle.run_work.specs.Goes.{NodesGo}
+use Rattle.run_work.specs.Grounds.{ground_of, out_of}
 use Rattle.run_work.specs.declared.patched.Ground as code
 use Rattle.run_work.specs.declared.patched.Patched.{Patched}
-use Rattle.run_work.specs.declared.patched.Turn.{Turn}
-use Rattle.run_work.specs.declared.patched.Turn.TheVariants as turns
 use Rattle.run_work.proofs.Followed.{none_at, one_goes}
-use Rattle.run_work.proofs.PairRules.{gave_way}
 
 -- what stands in a list stands there in a longer one, and what comes stands at its end
 get_before : {A : Type 0} (xs ys : List A) (i : ℕ) (x : A) → slice_get xs i ≡ Some x → slice_get (xs ++ ys) i ≡ Some x
@@ -52,41 +46,9 @@ module _ {K : Types} (g : Ground K) (olds : List (Place × Kind)) (sound : (p : 
   after_leads [] o led = led
   after_leads (e ∷ es) o led = after_leads es (one g e o) (one_leads e o led)
 
-module _ {P C Q V H T E L : Type 0} (g : code.Ground P C Q V H T E L) where
-  -- a walk that went on by events
-  pub leads_by : (es : List (Event (types C Q V H T E L))) (before now : Patched P C Q V H T E L) → out_of now ≡ after (ground_of g) es (out_of before) → Leads g before now
-  unfolding out_of ground_of
-  leads_by es before now h led =
-      let olds : List (Place × Kind) = map node_of (g.side.now).nodes in
-      subst (λ (o : Out (types C Q V H T E L)). NodesGo olds o.nodes o.nodes_to) (sym h)
-      (after_leads (ground_of g) olds (λ p k i known. node_there (g.side.now).nodes p k i (sym known)) es (out_of before) led)
-
-  -- a node that stays
-  pub leads_stays : (p : Place) (k : Kind) (before now : Patched P C Q V H T E L) → out_of now ≡ after (ground_of g) (stays p k ∷ []) (out_of before) → Leads g before now
-  leads_stays p k before now h = leads_by (stays p k ∷ []) before now h
-
-  -- what stands in a slot comes or goes
-  pub leads_turn : (turn : Turn) (value : DynamicNode P C Q V H T E L) (place : Place) (before now : Patched P C Q V H T E L) → out_of now ≡ after (ground_of g) (value_turn turn value place) (out_of before) → Leads g before now
-  leads_turn turn value place before now h = leads_by (value_turn turn value place) before now h
-
-  -- what stood in a slot gives way
-  pub leads_change : (old new : DynamicNode P C Q V H T E L) (place : Place) (before now : Patched P C Q V H T E L)
-      → out_of now ≡ after (ground_of g) (value_turn turns.Goes old place ++ value_turn turns.Comes new place) (out_of before) → Leads g before now
-  leads_change old new place before now h = leads_by (value_turn turns.Goes old place ++ value_turn turns.Comes new place) before now h
-
-  -- and what is of another kind gives way, whatever the application
-  pub walks_away : (old new a b : DynamicNode P C Q V H T E L) (place : Place) (before now : Patched P C Q V H T E L) → old ≡ a → new ≡ b
-      → ((app : Application (types C Q V H T E L)) → values_pair app a b place ≡ value_turn turns.Goes a place ++ value_turn turns.Comes b place)
-      → out_of now ≡ after (ground_of g) (value_turn turns.Goes old place ++ value_turn turns.Comes new place) (out_of before)
-      → Walks g before now (λ app. values_pair app old new place)
-  walks_away old new a b place before now was is apart h = (
-    λ app tests. gave_way app (ground_of g) old new a b place (out_of before) (out_of now) was is (apart app) h,
-    leads_change old new place before now h,
-  )
-
 module _ {P C Q V H T E L : Type 0} where
   -- nothing was walked through yet
-  pub led_first : (olds : List (Place × Kind)) (out : Patched P C Q V H T E L) (nodes seats : ℕ) → out_of out ≡ nothing_yet nodes seats → NodesGo olds (map node_of out.nodes) out.nodes_to
+  led_first : (olds : List (Place × Kind)) (out : Patched P C Q V H T E L) (nodes seats : ℕ) → out_of out ≡ nothing_yet nodes seats → NodesGo olds (map node_of out.nodes) out.nodes_to
   unfolding out_of
   led_first olds out nodes seats h =
       record {
@@ -95,3 +57,13 @@ module _ {P C Q V H T E L : Type 0} where
     where
       nowhere : {j : ℕ} → ◌≡◌ {A = Option ℕ} None (Some j) → ⊥
       nowhere k = cc k
+
+module _ {P C Q V H T E L : Type 0} (g : code.Ground P C Q V H T E L) where
+  -- a walk that found these events leads none astray
+  pub goes_by : (es : List (Event (types C Q V H T E L))) (start now : Patched P C Q V H T E L) (nodes seats : ℕ) → out_of start ≡ nothing_yet nodes seats → out_of now ≡ after (ground_of g) es (out_of start)
+      → NodesGo (map node_of (g.side.now).nodes) (map node_of now.nodes) now.nodes_to
+  unfolding out_of ground_of
+  goes_by es start now nodes seats first h =
+      let olds : List (Place × Kind) = map node_of (g.side.now).nodes in
+      subst (λ (o : Out (types C Q V H T E L)). NodesGo olds o.nodes o.nodes_to) (sym h)
+      (after_leads (ground_of g) olds (λ p k i known. node_there (g.side.now).nodes p k i (sym known)) es (out_of start) (led_first olds start nodes seats first))

@@ -6,10 +6,14 @@ pub mod Matched
 pub mod Agreed
 pub mod Followed
 pub mod Afters
+pub mod Joins
+pub mod Eventful
 pub mod Walking
+pub mod Following
 pub mod Founding
 pub mod Turns
 pub mod PairRules
+pub mod Taken
 pub mod Ends
 pub mod Leading
 pub mod Stays

@@ -6,24 +6,24 @@ use Rattle.tree_nodes.specs.declared.vnode.DynamicNode.TheVariants as values
 use Rattle.tree_nodes.specs.declared.vnode.VNode.{VNode}
 use Rattle.tree_nodes.specs.declared.template.TemplateParts.{TemplateParts as CodeTemplate}
 use Rattle.rt_model.specs.OneLog.{types}
-use Rattle.rt_model.specs.Tree.{Kind, Place, Template, TemplateNodes, element_node, item, no_nodes, place_in, slot_node, slots_spots, text_node, an_element, a_static_text}
+use Rattle.rt_model.specs.Tree.{Types, Kind, Place, Template, TemplateNodes, element_node, item, no_nodes, place_in, slot_node, slots_spots, text_node, an_element, a_static_text}
 use Rattle.tree_mirror.specs.Mirror.{slots_from}
 use Rattle.tree_mirror.specs.Sealed.{nodes_of, slot_of, template_of}
+use Rattle.tree_marks.specs.Marks.{Mark, template_marks}
 use Rattle.run_places.specs.Spots.{value_spots}
-use Rattle.run_work.specs.declared.patched.Turn.TheVariants as turns
+use Rattle.run_work.specs.declared.turning.Turn.TheVariants as turns
 use Rattle.run_work.specs.Alike.{AlikeTree, AlikeTrees, AlikeValue, AlikeValues}
-use Rattle.run_work.specs.Events.{Event, walk}
 use Rattle.run_work.specs.Grounds.{items_turn, node_turns, turned, value_turn}
 use Rattle.run_work.proofs.Turns.{row_is, spots_in, tree_row, value_some}
 use Rattle.run_work.proofs.Walking.{next_drop}
 
-module _ {A : Type 0} (node : Place → Kind → List A) (whole : Template) (above : Place) (f g : ℕ → Place → List A) (same : (k : ℕ) (place : Place) → f k place ≡ g k place) where
+module _ {K : Types} (node : Place → Kind → Mark K) (whole : Template) (above : Place) (f g : ℕ → Place → List (Mark K)) (same : (k : ℕ) (place : Place) → f k place ≡ g k place) where
   -- a walk on which all slots give the same
-  walk_same : (up : List ℕ) (i : ℕ) (ns : TemplateNodes) → walk node whole above f up i ns ≡ walk node whole above g up i ns
+  walk_same : (up : List ℕ) (i : ℕ) (ns : TemplateNodes) → template_marks node whole above f up i ns ≡ template_marks node whole above g up i ns
   walk_same up i no_nodes = refl
   walk_same up i (element_node tag namespace attributes children rest) =
-      ap (λ xs. node (place_in whole above up i) an_element ++ xs) (λ t. walk_same (up ++ i ∷ []) 0 children t ++ walk_same up (i + 1) rest t)
-  walk_same up i (text_node text rest) = ap (λ xs. node (place_in whole above up i) a_static_text ++ xs) (walk_same up (i + 1) rest)
+      ap (λ (xs : List (Mark K)). node (place_in whole above up i) an_element ∷ xs) (λ t. walk_same (up ++ i ∷ []) 0 children t ++ walk_same up (i + 1) rest t)
+  walk_same up i (text_node text rest) = ap (λ (xs : List (Mark K)). node (place_in whole above up i) a_static_text ∷ xs) (walk_same up (i + 1) rest)
   walk_same up i (slot_node k rest) = (λ t. same k (place_in whole above up i) t ++ walk_same up (i + 1) rest t)
 
 module _ {P C Q V H T E L : Type 0} where
@@ -39,11 +39,11 @@ module _ {P C Q V H T E L : Type 0} where
 
   pub tree_alike : (old new : VNode P C Q V H T E L) → new.template ≡ old.template → AlikeValues old.dynamic_nodes new.dynamic_nodes → AlikeTree old new
   tree_alike old new same slots above =
-      let walked : CodeTemplate → VNode P C Q V H T E L → List (Event (types C Q V H T E L)) =
-      λ t tree. walk (λ p k. node_turns turns.Comes p k ∷ []) (template_of t) above (λ k place. map (turned turns.Comes) (spots_in turns.Comes tree k place)) [] 0 (nodes_of t.roots) in
+      let walked : CodeTemplate → VNode P C Q V H T E L → List (Mark (types C Q V H T E L)) =
+      λ t tree. template_marks (λ p k. node_turns turns.Comes p k) (template_of t) above (λ k place. map (turned turns.Comes) (spots_in turns.Comes tree k place)) [] 0 (nodes_of t.roots) in
       tree_row turns.Comes old above
       ∙ row_is turns.Comes old above [] 0 old.template.roots
-      ∙ walk_same (λ p k. node_turns turns.Comes p k ∷ []) (template_of old.template) above (λ k place. map (turned turns.Comes) (spots_in turns.Comes old k place))
+      ∙ walk_same (λ p k. node_turns turns.Comes p k) (template_of old.template) above (λ k place. map (turned turns.Comes) (spots_in turns.Comes old k place))
       (λ k place. map (turned turns.Comes) (spots_in turns.Comes new k place)) (λ k place. slots_same old.dynamic_nodes new.dynamic_nodes slots k place) [] 0 (nodes_of old.template.roots)
       ∙ ap (λ t. walked t new) (sym same)
       ∙ sym (row_is turns.Comes new above [] 0 new.template.roots)

@@ -15,8 +15,8 @@ use Rattle.run_places.specs.Indexed.{is_node}
 use Rattle.run_places.specs.Places.{node_of, output_of}
 use Rattle.run_places.specs.Spots.{tree_spots}
 use Rattle.run_places.proofs.Trails.{on_Inside, on_Item, on_Root, path_Below, path_Top}
-use Rattle.run_work.specs.declared.patched.Turn.TheVariants as turns
-use Rattle.run_work.specs.Events.{Event, come, comes}
+use Rattle.run_work.specs.declared.turning.Turn.TheVariants as turns
+use Rattle.tree_marks.specs.Marks.{Mark, come, comes}
 use Rattle.run_work.specs.Grounds.{items_turn, node_turn, row_turn, tree_turn}
 use Rattle.run_work.specs.Stay.{Stands, coming, nodes_from, standing}
 use Rattle.run_work.proofs.Turns.{node_Element, node_Slot, node_Text, node_no_Slot, tree_row, value_Placeholder, value_Text, value_none, value_some}
@@ -37,60 +37,60 @@ module _ {K : Types} where
   stands_one nodes i j p k h = ap (λ (ns : List (Place × Kind)). coming ns) h
 
   -- one part, and then another
-  pub stands_both : (nodes : List NodeAt) (i j k : ℕ) (es fs : List (Event K)) → Stands nodes i j es → Stands nodes j k fs → Stands nodes i k (es ++ fs)
+  pub stands_both : (nodes : List NodeAt) (i j k : ℕ) (es fs : List (Mark K)) → Stands nodes i j es → Stands nodes j k fs → Stands nodes i k (es ++ fs)
   stands_both nodes i j k es fs first second = first ∙ ap (λ xs. es ++ xs) second ∙ sym (append_assoc es fs (coming (nodes_from nodes k)))
 
   -- the same, told of what is the same
-  pub stands_told : (nodes : List NodeAt) (i j : ℕ) (es fs : List (Event K)) → Stands nodes i j es → es ≡ fs → Stands nodes i j fs
+  pub stands_told : (nodes : List NodeAt) (i j : ℕ) (es fs : List (Mark K)) → Stands nodes i j es → es ≡ fs → Stands nodes i j fs
   stands_told nodes i j es fs h same = h ∙ ap (λ xs. xs ++ coming (nodes_from nodes j)) same
 
   -- where it was known how to go on from a node, it is from the one after a part
-  pub stands_on : (nodes : List NodeAt) (start i j : ℕ) (part left whole : List (Event K))
-      → ((rest : List (Event K)) → coming (nodes_from nodes i) ≡ (part ++ left) ++ rest → coming (nodes_from nodes start) ≡ whole ++ rest)
+  pub stands_on : (nodes : List NodeAt) (start i j : ℕ) (part left whole : List (Mark K))
+      → ((rest : List (Mark K)) → coming (nodes_from nodes i) ≡ (part ++ left) ++ rest → coming (nodes_from nodes start) ≡ whole ++ rest)
       → Stands nodes i j part
-      → (rest : List (Event K)) → coming (nodes_from nodes j) ≡ left ++ rest → coming (nodes_from nodes start) ≡ whole ++ rest
+      → (rest : List (Mark K)) → coming (nodes_from nodes j) ≡ left ++ rest → coming (nodes_from nodes start) ≡ whole ++ rest
   stands_on nodes start i j part left whole so_far one rest h =
       so_far rest (one ∙ ap (λ xs. part ++ xs) h ∙ sym (append_assoc part left rest))
 
   -- where none is left they are all of the nodes
-  pub whole_stands : (nodes : List NodeAt) (end : ℕ) (es fs : List (Event K)) → length nodes ≤ end → Stands nodes 0 end es → es ≡ fs → fs ≡ coming (map node_of nodes)
+  pub whole_stands : (nodes : List NodeAt) (end : ℕ) (es fs : List (Mark K)) → length nodes ≤ end → Stands nodes 0 end es → es ≡ fs → fs ≡ coming (map node_of nodes)
   whole_stands nodes end es fs past h same =
       sym same ∙ sym (append-nil es) ∙ ap (λ (ns : List NodeAt). es ++ coming (map node_of ns)) (sym (drop_of_length-le nodes past)) ∙ sym h
 
 module _ {P C Q V H T E L : Type 0} where
   -- one node of a row, and then those that are left
-  pub row_more : (tree : VNode P C Q V H T E L) (above : Place) (up : List ℕ) (row : List TemplateNode) (nodes : List NodeAt) (start i from to : ℕ) (node : TemplateNode) (whole : List (Event (types C Q V H T E L)))
+  pub row_more : (tree : VNode P C Q V H T E L) (above : Place) (up : List ℕ) (row : List TemplateNode) (nodes : List NodeAt) (start i from to : ℕ) (node : TemplateNode) (whole : List (Mark (types C Q V H T E L)))
       → i < length row → node ≡ get_or row i node
-      → ((rest : List (Event (types C Q V H T E L))) → coming (nodes_from nodes from) ≡ row_turn turns.Comes tree above up i (drop i row) ++ rest → coming (nodes_from nodes start) ≡ whole ++ rest)
+      → ((rest : List (Mark (types C Q V H T E L))) → coming (nodes_from nodes from) ≡ row_turn turns.Comes tree above up i (drop i row) ++ rest → coming (nodes_from nodes start) ≡ whole ++ rest)
       → Stands nodes from to (node_turn turns.Comes tree above up i node)
-      → (rest : List (Event (types C Q V H T E L))) → coming (nodes_from nodes to) ≡ row_turn turns.Comes tree above up (i + 1) (drop (i + 1) row) ++ rest → coming (nodes_from nodes start) ≡ whole ++ rest
+      → (rest : List (Mark (types C Q V H T E L))) → coming (nodes_from nodes to) ≡ row_turn turns.Comes tree above up (i + 1) (drop (i + 1) row) ++ rest → coming (nodes_from nodes start) ≡ whole ++ rest
   row_more tree above up row nodes start i from to node whole low is so_far one =
       stands_on nodes start from to (node_turn turns.Comes tree above up i node) (row_turn turns.Comes tree above up (i + 1) (drop (i + 1) row)) whole
       (λ rest h. so_far rest (h ∙ ap (λ ns. row_turn turns.Comes tree above up i ns ++ rest) (sym (next_drop row i node low is)))) one
 
   -- at its end
-  pub row_done : (tree : VNode P C Q V H T E L) (above : Place) (up : List ℕ) (row : List TemplateNode) (nodes : List NodeAt) (start i from : ℕ) (whole : List (Event (types C Q V H T E L)))
+  pub row_done : (tree : VNode P C Q V H T E L) (above : Place) (up : List ℕ) (row : List TemplateNode) (nodes : List NodeAt) (start i from : ℕ) (whole : List (Mark (types C Q V H T E L)))
       → length row ≤ i
-      → ((rest : List (Event (types C Q V H T E L))) → coming (nodes_from nodes from) ≡ row_turn turns.Comes tree above up i (drop i row) ++ rest → coming (nodes_from nodes start) ≡ whole ++ rest)
+      → ((rest : List (Mark (types C Q V H T E L))) → coming (nodes_from nodes from) ≡ row_turn turns.Comes tree above up i (drop i row) ++ rest → coming (nodes_from nodes start) ≡ whole ++ rest)
       → Stands nodes start from whole
   row_done tree above up row nodes start i from whole end so_far =
       so_far (coming (nodes_from nodes from)) (sym (ap (λ ns. row_turn turns.Comes tree above up i ns ++ coming (nodes_from nodes from)) (drop_of_length-le row end)))
 
   -- one item, and then those that are left
-  pub items_more : (place at_item : Place) (trees : List (VNode P C Q V H T E L)) (nodes : List NodeAt) (start i from to : ℕ) (tree : VNode P C Q V H T E L) (whole : List (Event (types C Q V H T E L)))
+  pub items_more : (place at_item : Place) (trees : List (VNode P C Q V H T E L)) (nodes : List NodeAt) (start i from to : ℕ) (tree : VNode P C Q V H T E L) (whole : List (Mark (types C Q V H T E L)))
       → i < length trees → tree ≡ get_or trees i tree → at_item ≡ place ++ item i ∷ []
-      → ((rest : List (Event (types C Q V H T E L))) → coming (nodes_from nodes from) ≡ items_turn turns.Comes i place (drop i trees) ++ rest → coming (nodes_from nodes start) ≡ whole ++ rest)
+      → ((rest : List (Mark (types C Q V H T E L))) → coming (nodes_from nodes from) ≡ items_turn turns.Comes i place (drop i trees) ++ rest → coming (nodes_from nodes start) ≡ whole ++ rest)
       → Stands nodes from to (tree_turn turns.Comes at_item tree)
-      → (rest : List (Event (types C Q V H T E L))) → coming (nodes_from nodes to) ≡ items_turn turns.Comes (i + 1) place (drop (i + 1) trees) ++ rest → coming (nodes_from nodes start) ≡ whole ++ rest
+      → (rest : List (Mark (types C Q V H T E L))) → coming (nodes_from nodes to) ≡ items_turn turns.Comes (i + 1) place (drop (i + 1) trees) ++ rest → coming (nodes_from nodes start) ≡ whole ++ rest
   items_more place at_item trees nodes start i from to tree whole low is at_place so_far one =
       stands_on nodes start from to (tree_turn turns.Comes (place ++ item i ∷ []) tree) (items_turn turns.Comes (i + 1) place (drop (i + 1) trees)) whole
       (λ rest h. so_far rest (h ∙ ap (λ ts. items_turn turns.Comes i place ts ++ rest) (sym (next_drop trees i tree low is))))
       (stands_told nodes from to (tree_turn turns.Comes at_item tree) (tree_turn turns.Comes (place ++ item i ∷ []) tree) one (ap (λ q. tree_turn turns.Comes q tree) at_place))
 
   -- at their end
-  pub items_done : (place : Place) (trees : List (VNode P C Q V H T E L)) (nodes : List NodeAt) (start i from : ℕ) (whole : List (Event (types C Q V H T E L)))
+  pub items_done : (place : Place) (trees : List (VNode P C Q V H T E L)) (nodes : List NodeAt) (start i from : ℕ) (whole : List (Mark (types C Q V H T E L)))
       → length trees ≤ i
-      → ((rest : List (Event (types C Q V H T E L))) → coming (nodes_from nodes from) ≡ items_turn turns.Comes i place (drop i trees) ++ rest → coming (nodes_from nodes start) ≡ whole ++ rest)
+      → ((rest : List (Mark (types C Q V H T E L))) → coming (nodes_from nodes from) ≡ items_turn turns.Comes i place (drop i trees) ++ rest → coming (nodes_from nodes start) ≡ whole ++ rest)
       → Stands nodes start from whole
   items_done place trees nodes start i from whole end so_far =
       so_far (coming (nodes_from nodes from)) (sym (ap (λ ts. items_turn turns.Comes i place ts ++ coming (nodes_from nodes from)) (drop_of_length-le trees end)))
@@ -115,7 +115,7 @@ module _ {K : Types} where
 
   coming_spots : (nodes : List (Place × Kind)) → coming {K = K} nodes ≡ map come (standing {K = K} nodes)
   coming_spots [] = refl
-  coming_spots (q ∷ nodes) = ap (λ (es : List (Event K)). comes q.0 q.1 ∷ es) (coming_spots nodes)
+  coming_spots (q ∷ nodes) = ap (λ (es : List (Mark K)). comes q.0 q.1 ∷ es) (coming_spots nodes)
 
   -- spots that come as these nodes do are these nodes
   pub spots_are : (xs : List (Spot K)) (nodes : List (Place × Kind)) → map come xs ≡ coming nodes → xs ≡ standing nodes

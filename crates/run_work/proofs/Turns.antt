@@ -11,26 +11,24 @@ use Rattle.tree_nodes.specs.declared.vnode.VComponent.{VComponent}
 use Rattle.tree_nodes.specs.declared.vnode.VNode.{VNode}
 use Rattle.rt_model.specs.OneLog.{types}
 use Rattle.rt_model.specs.Tree as model
-use Rattle.rt_model.specs.Tree.{TemplateNodes, no_nodes, element_node, text_node, slot_node, Template, Place, Spot, item, place_in, an_element, a_static_text, a_text, a_placeholder, an_empty_fragment, node_spots, slots_spots}
+use Rattle.rt_model.specs.Tree.{TemplateNodes, no_nodes, element_node, text_node, slot_node, Template, Place, Spot, item, place_in, an_element, a_static_text, a_text, a_placeholder, an_empty_fragment, node_spots, slots_spots, spots}
 use Rattle.tree_mirror.specs.Mirror.{slots_from}
-use Rattle.tree_mirror.specs.Sealed.{component_of, nodes_of, slot_of, template_of}
+use Rattle.tree_mirror.specs.Sealed.{component_of, nodes_of, slot_of, template_of, tree_of}
 use Rattle.tree_mirror.proofs.SealedTrees.{tree_out}
+use Rattle.tree_marks.specs.Marks.{Mark, template_marks, come}
 use Rattle.run_places.specs.Places.{at_path}
 use Rattle.run_places.specs.Spots.{tree_spots, value_spots, items_spots}
 use Rattle.run_places.proofs.Stands as stands
 use Rattle.run_places.proofs.Stands.{slot_there, slot_absent}
-use Rattle.run_places.proofs.Trails.{on_At, on_Root, on_Inside, on_Item, path_Top, path_Below}
-use Rattle.run_work.specs.declared.patched.Turn.{Turn}
-use Rattle.run_work.specs.After.{Ground, Out, after}
-use Rattle.run_work.specs.Events.{Event, walk}
+use Rattle.run_work.specs.declared.turning.Turn.{Turn}
+use Rattle.run_work.specs.declared.turning.Turn.TheVariants as turns
 use Rattle.run_work.specs.Grounds.{component_turns, items_turn, node_turn, node_turns, row_turn, tree_turn, turned, value_turn}
-use Rattle.run_work.proofs.Afters.{after-append}
 use Rattle.run_work.proofs.Walking.{mapped, next_drop, walk_Dynamic, walk_Element, walk_Text, walk_first}
 
 module _ {K : model.Types} (turn : Turn) (whole : Template) (above : Place) (slot : ℕ → Place → List (Spot K)) where
   -- the spots of a template's nodes are those of a walk
   node_walk : (up : List ℕ) (i : ℕ) (ns : TemplateNodes)
-      → map (turned turn) (node_spots whole above slot up i ns) ≡ walk (λ p k. node_turns turn p k ∷ []) whole above (λ k place. map (turned turn) (slot k place)) up i ns
+      → map (turned turn) (node_spots whole above slot up i ns) ≡ template_marks (λ p k. node_turns turn p k) whole above (λ k place. map (turned turn) (slot k place)) up i ns
   node_walk up i no_nodes = refl
   node_walk up i (element_node tag namespace attributes children rest) =
       ap (λ es. node_turns turn (place_in whole above up i) an_element ∷ es)
@@ -45,16 +43,16 @@ module _ {P C Q V H T E L : Type 0} (turn : Turn) where
   abbrev pub spots_in : VNode P C Q V H T E L → ℕ → Place → List (Spot (types C Q V H T E L))
   spots_in tree k place = slots_spots (slots_from (map slot_of tree.dynamic_nodes)) k place
 
-  abbrev walk_in : VNode P C Q V H T E L → Place → List ℕ → ℕ → TemplateNodes → List (Event (types C Q V H T E L))
+  abbrev walk_in : VNode P C Q V H T E L → Place → List ℕ → ℕ → TemplateNodes → List (Mark (types C Q V H T E L))
   walk_in tree above up i ns =
-      walk (λ p k. node_turns turn p k ∷ []) (template_of tree.template) above (λ k place. map (turned turn) (spots_in tree k place)) up i ns
+      template_marks (λ p k. node_turns turn p k) (template_of tree.template) above (λ k place. map (turned turn) (spots_in tree k place)) up i ns
 
   pub row_is : (tree : VNode P C Q V H T E L) (above : Place) (up : List ℕ) (i : ℕ) (row : List TemplateNode) → row_turn turn tree above up i row ≡ walk_in tree above up i (nodes_of row)
   unfolding node_turn
   row_is tree above up i [] = refl
   row_is tree above up i (node ∷ row) =
       ap (λ es. node_turn turn tree above up i node ++ es) (row_is tree above up (i + 1) row)
-      ∙ sym (walk_first (λ p k. node_turns turn p k ∷ []) (template_of tree.template) above (λ k place. map (turned turn) (spots_in tree k place)) up i node (nodes_of row))
+      ∙ sym (walk_first (λ p k. node_turns turn p k) (template_of tree.template) above (λ k place. map (turned turn) (spots_in tree k place)) up i node (nodes_of row))
 
   pub tree_row : (tree : VNode P C Q V H T E L) (above : Place) → tree_turn turn above tree ≡ row_turn turn tree above [] 0 tree.template.roots
   unfolding tree_turn tree_spots
@@ -68,27 +66,27 @@ module _ {P C Q V H T E L : Type 0} (turn : Turn) where
       ≡ node_turns turn (at_path (template_of tree.template) above (up ++ i ∷ [])) an_element ∷ row_turn turn tree above (up ++ i ∷ []) 0 children
   unfolding node_turn
   node_Element tree above up i tag namespace attrs children =
-      walk_Element (λ p k. node_turns turn p k ∷ []) (template_of tree.template) above (λ k place. map (turned turn) (spots_in tree k place)) up i tag namespace attrs children
+      walk_Element (λ p k. node_turns turn p k) (template_of tree.template) above (λ k place. map (turned turn) (spots_in tree k place)) up i tag namespace attrs children
       ∙ ap (λ es. node_turns turn (place_in (template_of tree.template) above up i) an_element ∷ es) (sym (row_is tree above (up ++ i ∷ []) 0 children))
 
   pub node_Text : (tree : VNode P C Q V H T E L) (above : Place) (up : List ℕ) (i : ℕ) (text : List ℕ)
       → node_turn turn tree above up i (nodes.Text text) ≡ node_turns turn (at_path (template_of tree.template) above (up ++ i ∷ [])) a_static_text ∷ []
   unfolding node_turn
   node_Text tree above up i text =
-      walk_Text (λ p k. node_turns turn p k ∷ []) (template_of tree.template) above (λ k place. map (turned turn) (spots_in tree k place)) up i text
+      walk_Text (λ p k. node_turns turn p k) (template_of tree.template) above (λ k place. map (turned turn) (spots_in tree k place)) up i text
 
   pub node_Slot : (tree : VNode P C Q V H T E L) (above : Place) (up : List ℕ) (i id : ℕ) (value : DynamicNode P C Q V H T E L)
       → slice_get tree.dynamic_nodes id ≡ Some value → node_turn turn tree above up i (nodes.Dynamic id) ≡ value_turn turn value (at_path (template_of tree.template) above (up ++ i ∷ []))
   unfolding node_turn value_turn value_spots
   node_Slot tree above up i id value h =
-      walk_Dynamic (λ p k. node_turns turn p k ∷ []) (template_of tree.template) above (λ k place. map (turned turn) (spots_in tree k place)) up i id
+      walk_Dynamic (λ p k. node_turns turn p k) (template_of tree.template) above (λ k place. map (turned turn) (spots_in tree k place)) up i id
       ∙ ap (λ xs. map (turned turn) xs) (slot_there tree.dynamic_nodes id value (at_path (template_of tree.template) above (up ++ i ∷ [])) h)
 
   pub node_no_Slot : (tree : VNode P C Q V H T E L) (above : Place) (up : List ℕ) (i id : ℕ)
       → slice_get tree.dynamic_nodes id ≡ None → node_turn turn tree above up i (nodes.Dynamic id) ≡ []
   unfolding node_turn
   node_no_Slot tree above up i id h =
-      walk_Dynamic (λ p k. node_turns turn p k ∷ []) (template_of tree.template) above (λ k place. map (turned turn) (spots_in tree k place)) up i id
+      walk_Dynamic (λ p k. node_turns turn p k) (template_of tree.template) above (λ k place. map (turned turn) (spots_in tree k place)) up i id
       ∙ ap (λ xs. map (turned turn) xs) (slot_absent tree.dynamic_nodes id (at_path (template_of tree.template) above (up ++ i ∷ [])) h)
 
   pub value_Component : (c : VComponent P C Q V H T E L) (place : Place) → value_turn turn (values.Component c) place ≡ component_turns turn place (component_of c) ∷ []
@@ -120,42 +118,26 @@ module _ {C Q V H T E L : Type 0} (P : Type 0) (turn : Turn) where
   unfolding value_turn
   value_Placeholder place = ap (λ xs. map (turned turn) xs) (stands.value_Placeholder P place)
 
--- step by step, from what was found before
+-- all of a new tree comes
+pub all_comes : {P C Q V H T E L : Type 0} (tree : VNode P C Q V H T E L) (above : Place) → tree_turn turns.Comes above tree ≡ map come (spots above (tree_of tree))
+unfolding tree_turn tree_spots
+all_comes tree above = refl
 
-module _ {K : model.Types} (g : Ground K) where
-  pub then_after : (es fs : List (Event K)) (o p q : Out K) → p ≡ after g es o → q ≡ after g fs p → q ≡ after g (es ++ fs) o
-  then_after es fs o p q first second = second ∙ ap (λ x. after g fs x) first ∙ sym (after-append g es fs o)
+-- step by step
 
-module _ {P C Q V H T E L : Type 0} (g : Ground (types C Q V H T E L)) (turn : Turn) where
-  pub row_more : (tree : VNode P C Q V H T E L) (above : Place) (up : List ℕ) (row : List TemplateNode) (i : ℕ) (node : TemplateNode) (o p whole : Out (types C Q V H T E L))
-      → i < length row → node ≡ get_or row i node
-      → after g (row_turn turn tree above up i (drop i row)) o ≡ whole
-      → p ≡ after g (node_turn turn tree above up i node) o
-      → after g (row_turn turn tree above up (i + 1) (drop (i + 1) row)) p ≡ whole
-  row_more tree above up row i node o p whole low is so_far one =
-      let rest : List (Event (types C Q V H T E L)) = row_turn turn tree above up (i + 1) (drop (i + 1) row) in
-      ap (λ x. after g rest x) one ∙ sym (after-append g (node_turn turn tree above up i node) rest o)
-      ∙ ap (λ ns. after g (row_turn turn tree above up i ns) o) (sym (next_drop row i node low is)) ∙ so_far
+module _ {P C Q V H T E L : Type 0} (turn : Turn) where
+  pub row_parts : (tree : VNode P C Q V H T E L) (above : Place) (up : List ℕ) (row : List TemplateNode) (i : ℕ) (node : TemplateNode) → i < length row → node ≡ get_or row i node
+      → row_turn turn tree above up i (drop i row) ≡ node_turn turn tree above up i node ++ row_turn turn tree above up (i + 1) (drop (i + 1) row)
+  row_parts tree above up row i node low is = ap (λ ns. row_turn turn tree above up i ns) (next_drop row i node low is)
 
-  pub row_done : (tree : VNode P C Q V H T E L) (above : Place) (up : List ℕ) (row : List TemplateNode) (i : ℕ) (o whole : Out (types C Q V H T E L))
-      → length row ≤ i → after g (row_turn turn tree above up i (drop i row)) o ≡ whole → o ≡ whole
-  row_done tree above up row i o whole end so_far =
-      sym (ap (λ ns. after g (row_turn turn tree above up i ns) o) (drop_of_length-le row end)) ∙ so_far
+  pub row_over : (tree : VNode P C Q V H T E L) (above : Place) (up : List ℕ) (row : List TemplateNode) (i : ℕ) → length row ≤ i → row_turn turn tree above up i (drop i row) ≡ []
+  row_over tree above up row i end = ap (λ ns. row_turn turn tree above up i ns) (drop_of_length-le row end)
 
-  pub items_more : (place at_item : Place) (trees : List (VNode P C Q V H T E L)) (i : ℕ) (tree : VNode P C Q V H T E L) (o p whole : Out (types C Q V H T E L))
-      → i < length trees → tree ≡ get_or trees i tree → at_item ≡ place ++ item i ∷ []
-      → after g (items_turn turn i place (drop i trees)) o ≡ whole
-      → p ≡ after g (tree_turn turn at_item tree) o
-      → after g (items_turn turn (i + 1) place (drop (i + 1) trees)) p ≡ whole
-  items_more place at_item trees i tree o p whole low is at_place so_far one =
-      let rest : List (Event (types C Q V H T E L)) = items_turn turn (i + 1) place (drop (i + 1) trees) in
-      ap (λ x. after g rest x) (one ∙ ap (λ q. after g (tree_turn turn q tree) o) at_place)
-      ∙ sym (after-append g (tree_turn turn (place ++ item i ∷ []) tree) rest o)
-      ∙ ap (λ ts. after g (items_turn turn i place ts) o) (sym (next_drop trees i tree low is)) ∙ so_far
+  pub items_parts : (place at_item : Place) (trees : List (VNode P C Q V H T E L)) (i : ℕ) (tree : VNode P C Q V H T E L) → i < length trees → tree ≡ get_or trees i tree → at_item ≡ place ++ item i ∷ []
+      → items_turn turn i place (drop i trees) ≡ tree_turn turn at_item tree ++ items_turn turn (i + 1) place (drop (i + 1) trees)
+  items_parts place at_item trees i tree low is at_place =
+      ap (λ ts. items_turn turn i place ts) (next_drop trees i tree low is)
+      ∙ ap (λ q. tree_turn turn q tree ++ items_turn turn (i + 1) place (drop (i + 1) trees)) (sym at_place)
 
-  pub items_done : (place : Place) (trees : List (VNode P C Q V H T E L)) (i : ℕ) (o whole : Out (types C Q V H T E L))
-      → length trees ≤ i → after g (items_turn turn i place (drop i trees)) o ≡ whole → o ≡ whole
-  items_done place trees i o whole end so_far =
-      sym (ap (λ ts. after g (items_turn turn i place ts) o) (drop_of_length-le trees end)) ∙ so_far
-
-pub ruleset turns = (after-append, tree_row, node_Element, node_Text, node_Slot, node_no_Slot, value_Text, value_Placeholder, value_Component, value_none, value_some, on_Root, on_Inside, on_Item, on_At, path_Top, path_Below)
+  pub items_over : (place : Place) (trees : List (VNode P C Q V H T E L)) (i : ℕ) → length trees ≤ i → items_turn turn i place (drop i trees) ≡ []
+  items_over place trees i end = ap (λ ts. items_turn turn i place ts) (drop_of_length-le trees end)

@@ -3,7 +3,7 @@ use Rattle.std.specs.Prelude.{List, [], ◌∷◌, ◌≡◌, ⊤}
 use Rattle.tree_nodes.specs.declared.vnode.VNode.{VNode}
 use Rattle.tree_nodes.specs.declared.vnode.DynamicNode.{DynamicNode}
 use Rattle.rt_model.specs.Tree.{Place}
-use Rattle.run_work.specs.declared.patched.Turn.TheVariants as turns
+use Rattle.run_work.specs.declared.turning.Turn.TheVariants as turns
 use Rattle.run_work.specs.Grounds.{tree_turn, value_turn}
 
 module _ {P C Q V H T E L : Type 0} where

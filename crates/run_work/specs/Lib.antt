@@ -1,6 +1,8 @@
 pub mod Items
 pub mod Found
 pub mod Events
+pub mod Marked
+pub mod Met
 pub mod After
 pub mod Grounds
 pub mod Pairs

@@ -7,7 +7,7 @@ use Rattle.tree_mirror.specs.Sealed.{tree_of}
 use Rattle.run_places.specs.declared.nodes.NodeAt.{NodeAt}
 use Rattle.run_places.specs.declared.side.Side.{Side}
 use Rattle.run_places.specs.Places.{node_of, side_of}
-use Rattle.run_work.specs.Events.{Event, comes}
+use Rattle.tree_marks.specs.Marks.{Mark, comes}
 
 -- the nodes from one on, with their places
 abbrev pub nodes_from : List NodeAt → ℕ → List (Place × Kind)
@@ -15,11 +15,11 @@ nodes_from nodes i = map node_of (drop i nodes)
 
 module _ {K : Types} where
   -- nodes that come
-  abbrev pub coming : List (Place × Kind) → List (Event K)
+  abbrev pub coming : List (Place × Kind) → List (Mark K)
   coming nodes = map (λ (q : Place × Kind). comes q.0 q.1) nodes
 
   -- the nodes from one on are those that come, and then those from another one on
-  abbrev pub Stands : List NodeAt → ℕ → ℕ → List (Event K) → Type 0
+  abbrev pub Stands : List NodeAt → ℕ → ℕ → List (Mark K) → Type 0
   Stands nodes i j events = coming (nodes_from nodes i) ≡ events ++ coming (nodes_from nodes j)
 
   -- nodes as what stands at their places

@@ -7,10 +7,13 @@ mod item;
 mod pairing;
 mod patched;
 mod staying;
+mod takes;
+mod taking;
 mod turning;
 
 pub use component::is_same_component;
 pub use item::{Item, RowStep};
-pub use pairing::walk_both;
+pub use pairing::{walk, walk_both, walk_new};
 pub use patched::Patched;
 pub use staying::all_stay;
+pub use takes::Takes;

@@ -8,7 +8,7 @@ ghost use Rattle.run_places.specs.Places.{kind_of, place_of};
 ghost use Rattle.run_places.specs.Trails.{place_on, steps_of};
 ghost use Rattle.run_work.specs.After.{after, goes_to, nothing_yet};
 ghost use Rattle.run_work.specs.Events as events;
-ghost use Rattle.run_work.specs.Grounds.{component_turns, ground_of, known_or, node_known, node_turns, out_of, seat_known};
+ghost use Rattle.run_work.specs.Grounds.{ground_of, known_or, node_known, out_of, seat_known};
 
 use crate::item::Item;
 use rt_values::{List, OutOfMemory, Part};
@@ -25,15 +25,6 @@ pub(crate) struct Ground<'a, P: Parts> {
     pub scope: u64,
     pub name: SideName,
     pub side: &'a Side<P>,
-}
-
-/// What becomes of a spot that stands in one of the two trees alone.
-#[derive(Clone, Copy, Debug, PartialEq, Eq)]
-pub(crate) enum Turn {
-    /// It is of the new tree.
-    Comes,
-    /// It is of the old one.
-    Goes,
 }
 
 /// What a new tree leads to, as far as both trees were walked through.
@@ -88,26 +79,8 @@ impl<P: Parts> Patched<P> {
         Ok(())
     }
 
-    /// A node stands in one of the trees alone.
-    pub(crate) fn turn_node(
-        &mut self,
-        alloc: Global,
-        ground: &Ground<'_, P>,
-        trail: &Trail<'_>,
-        kind: Kind,
-        turn: Turn,
-    ) -> Result<(), OutOfMemory>
-        ensures { OnOk result (out_of self.new ≡ after (ground_of ground.now)
-            (node_turns turn (place_on trail.now) (kind_of kind) ∷ []) (out_of self.old)) }
-    {
-        match turn {
-            Turn::Comes => self.come(alloc, ground, trail, kind),
-            Turn::Goes => Ok(()),
-        }
-    }
-
-    // A new node comes, and a number is drawn for it.
-    fn come(
+    /// A new node comes, and a number is drawn for it.
+    pub(crate) fn come(
         &mut self,
         alloc: Global,
         ground: &Ground<'_, P>,
@@ -176,27 +149,8 @@ impl<P: Parts> Patched<P> {
         })
     }
 
-    /// A component stands in one of the trees alone.
-    pub(crate) fn turn_component(
-        &mut self,
-        alloc: Global,
-        ground: &Ground<'_, P>,
-        trail: &Trail<'_>,
-        component: &VComponent<P>,
-        turn: Turn,
-    ) -> Result<(), OutOfMemory>
-        ensures { OnOk result (out_of self.new ≡ after (ground_of ground.now)
-            (component_turns turn (place_on trail.now) (component_of component.now) ∷ [])
-            (out_of self.old)) }
-    {
-        match turn {
-            Turn::Comes => self.make(alloc, ground, trail, component),
-            Turn::Goes => self.leave(ground, trail, component),
-        }
-    }
-
-    // A new component comes, and a child is made for it.
-    fn make(
+    /// A new component comes, and a child is made for it.
+    pub(crate) fn make(
         &mut self,
         alloc: Global,
         ground: &Ground<'_, P>,
@@ -217,8 +171,8 @@ impl<P: Parts> Patched<P> {
         })
     }
 
-    // An old component isn't kept, and its child is dropped.
-    fn leave(
+    /// An old component isn't kept, and its child is dropped.
+    pub(crate) fn leave(
         &mut self,
         ground: &Ground<'_, P>,
         trail: &Trail<'_>,

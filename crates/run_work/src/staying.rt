@@ -4,7 +4,7 @@ ghost use Rattle.std.specs.Prelude.{◌≡◌, ◌∷◌, [], Some, map, true, I
 ghost use Rattle.run_places.specs.Indexed.{is_node};
 ghost use Rattle.run_places.specs.Places.{kind_of, node_of};
 ghost use Rattle.run_places.specs.Trails.{path_of, place_on};
-ghost use Rattle.run_work.specs.declared.patched.Turn.TheVariants as turns;
+ghost use Rattle.run_work.specs.declared.turning.Turn.TheVariants as turns;
 ghost use Rattle.run_work.specs.Grounds.{items_turn, node_turn, row_turn, tree_turn, value_turn};
 ghost use Rattle.run_work.specs.Stay.{AllStay, Stands, coming, nodes_from};
 

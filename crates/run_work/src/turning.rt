@@ -1,31 +1,40 @@
 //! All of a tree that stands in place of none, or that gives way.
 
-ghost use Rattle.std.specs.Prelude.{◌≡◌, drop, OnOk};
+ghost use Rattle.std.specs.Prelude.{◌∷◌, [], drop, OnOk};
+ghost use Rattle.tree_mirror.specs.Sealed.{component_of};
+ghost use Rattle.run_places.specs.Places.{kind_of};
 ghost use Rattle.run_places.specs.Trails.{path_of, place_on};
-ghost use Rattle.run_work.specs.After.{after};
-ghost use Rattle.run_work.specs.Grounds.{ground_of, items_turn, node_turn, out_of, row_turn, tree_turn, value_turn};
+ghost use Rattle.run_work.specs.Grounds.{component_turns, items_turn, node_turn, node_turns, row_turn, tree_turn, value_turn};
+ghost use Rattle.run_work.specs.Met.{Follows};
 
-use crate::patched::{Ground, Patched, Turn};
+use crate::takes::Takes;
 use rt_values::OutOfMemory;
 use run_places::{Kind, Path, Trail, down, steps_on};
 use std::alloc::Global;
-use tree_nodes::{DynamicNode, Parts, TemplateNode, VNode};
+use tree_nodes::{DynamicNode, Parts, TemplateNode, VComponent, VNode};
+
+/// What becomes of a spot that stands in one of the two trees alone.
+#[derive(Clone, Copy, Debug, PartialEq, Eq)]
+pub(crate) enum Turn {
+    /// It is of the new tree.
+    Comes,
+    /// It is of the old one.
+    Goes,
+}
 
 /// All of a tree comes or goes. Of one that comes the place is made once, and those of its nodes
 /// are made from it.
 #[cycle(turning)]
-#[tactic(auto, using(crate::proofs::Turns::turns))]
-pub(crate) fn tree_turns<P: Parts>(
+pub(crate) fn tree_turns<P: Parts, T: Takes<P>>(
     alloc: Global,
-    ground: &Ground<'_, P>,
     above: &Trail<'_>,
     tree: &VNode<P>,
     turn: Turn,
     levels: u64,
-    out: &mut Patched<P>,
+    out: &mut T,
 ) -> Result<(), OutOfMemory>
-    ensures { OnOk result (out_of out.new ≡ after (ground_of ground.now)
-        (tree_turn turn (place_on above.now) tree.now) (out_of out.old)) }
+    ensures { OnOk result (Follows T.one (tree_turn turn (place_on above.now) tree.now)
+        out.old out.new) }
 {
     let levels = down(levels)?;
     let nodes = tree.template.roots();
@@ -34,36 +43,33 @@ pub(crate) fn tree_turns<P: Parts>(
         Turn::Comes => {
             let steps = steps_on(alloc, above)?;
             let known = Trail::At(&steps);
-            nodes_turn(alloc, ground, &known, &up, nodes, tree, turn, levels, out)
+            nodes_turn(alloc, &known, &up, nodes, tree, turn, levels, out)
         }
-        Turn::Goes => nodes_turn(alloc, ground, above, &up, nodes, tree, turn, levels, out),
+        Turn::Goes => nodes_turn(alloc, above, &up, nodes, tree, turn, levels, out),
     }
 }
 
 // What these nodes of a tree's template stand for.
 #[cycle(turning)]
-#[tactic(auto, using(crate::proofs::Turns::turns))]
-fn nodes_turn<P: Parts>(
+fn nodes_turn<P: Parts, T: Takes<P>>(
     alloc: Global,
-    ground: &Ground<'_, P>,
     above: &Trail<'_>,
     up: &Path<'_>,
     nodes: &[TemplateNode],
     tree: &VNode<P>,
     turn: Turn,
     levels: u64,
-    out: &mut Patched<P>,
+    out: &mut T,
 ) -> Result<(), OutOfMemory>
-    ensures { OnOk result (out_of out.new ≡ after (ground_of ground.now)
+    ensures { OnOk result (Follows T.one
         (row_turn turn tree.now (place_on above.now) (path_of up.now) 0 nodes.now)
-        (out_of out.old)) }
+        out.old out.new) }
 {
     let levels = down(levels)?;
     for index in 0..nodes.len() {
         let node = &nodes[index];
         node_turns(
             alloc,
-            ground,
             above,
             up,
             index as u64,
@@ -78,10 +84,8 @@ fn nodes_turn<P: Parts>(
 }
 
 #[cycle(turning)]
-#[tactic(auto, using(crate::proofs::Turns::turns))]
-fn node_turns<P: Parts>(
+fn node_turns<P: Parts, T: Takes<P>>(
     alloc: Global,
-    ground: &Ground<'_, P>,
     above: &Trail<'_>,
     up: &Path<'_>,
     index: u64,
@@ -89,24 +93,24 @@ fn node_turns<P: Parts>(
     tree: &VNode<P>,
     turn: Turn,
     levels: u64,
-    out: &mut Patched<P>,
+    out: &mut T,
 ) -> Result<(), OutOfMemory>
-    ensures { OnOk result (out_of out.new ≡ after (ground_of ground.now)
+    ensures { OnOk result (Follows T.one
         (node_turn turn tree.now (place_on above.now) (path_of up.now) index node.now)
-        (out_of out.old)) }
+        out.old out.new) }
 {
     let levels = down(levels)?;
     let path = Path::Below(&*up, index);
     let trail = Trail::Inside(&*above, &tree.template, &path);
     match node {
         TemplateNode::Element { children, .. } => {
-            out.turn_node(alloc, ground, &trail, Kind::Element, turn)?;
+            turn_node(alloc, &trail, Kind::Element, turn, out)?;
             let nodes = children.as_slice();
-            nodes_turn(alloc, ground, above, &path, nodes, tree, turn, levels, out)
+            nodes_turn(alloc, above, &path, nodes, tree, turn, levels, out)
         }
-        TemplateNode::Text { .. } => out.turn_node(alloc, ground, &trail, Kind::StaticText, turn),
+        TemplateNode::Text { .. } => turn_node(alloc, &trail, Kind::StaticText, turn, out),
         TemplateNode::Dynamic { id } => match tree.dynamic_nodes.get(*id as usize) {
-            Some(value) => value_turns(alloc, ground, &trail, value, turn, levels, out),
+            Some(value) => value_turns(alloc, &trail, value, turn, levels, out),
             None => Ok(()),
         },
     }
@@ -114,55 +118,84 @@ fn node_turns<P: Parts>(
 
 /// What stands in a slot comes or goes.
 #[cycle(turning)]
-#[tactic(auto, using(crate::proofs::Turns::turns))]
-pub(crate) fn value_turns<P: Parts>(
+pub(crate) fn value_turns<P: Parts, T: Takes<P>>(
     alloc: Global,
-    ground: &Ground<'_, P>,
     trail: &Trail<'_>,
     value: &DynamicNode<P>,
     turn: Turn,
     levels: u64,
-    out: &mut Patched<P>,
+    out: &mut T,
 ) -> Result<(), OutOfMemory>
-    ensures { OnOk result (out_of out.new ≡ after (ground_of ground.now)
-        (value_turn turn value.now (place_on trail.now)) (out_of out.old)) }
+    ensures { OnOk result (Follows T.one (value_turn turn value.now (place_on trail.now))
+        out.old out.new) }
 {
     let levels = down(levels)?;
     match value {
-        DynamicNode::Text(_) => out.turn_node(alloc, ground, trail, Kind::Text, turn),
-        DynamicNode::Placeholder => out.turn_node(alloc, ground, trail, Kind::Placeholder, turn),
-        DynamicNode::Component(component) => {
-            out.turn_component(alloc, ground, trail, component, turn)
-        }
+        DynamicNode::Text(_) => turn_node(alloc, trail, Kind::Text, turn, out),
+        DynamicNode::Placeholder => turn_node(alloc, trail, Kind::Placeholder, turn, out),
+        DynamicNode::Component(component) => turn_component(alloc, trail, component, turn, out),
         DynamicNode::Fragment(trees) => {
             if trees.is_empty() {
-                return out.turn_node(alloc, ground, trail, Kind::EmptyFragment, turn);
+                return turn_node(alloc, trail, Kind::EmptyFragment, turn, out);
             }
-            trees_turn(alloc, ground, trail, 0, trees.as_slice(), turn, levels, out)
+            trees_turn(alloc, trail, 0, trees.as_slice(), turn, levels, out)
         }
     }
 }
 
 /// The items of a fragment from a position on come or go.
 #[cycle(turning)]
-#[tactic(auto, using(crate::proofs::Turns::turns))]
-pub(crate) fn trees_turn<P: Parts>(
+pub(crate) fn trees_turn<P: Parts, T: Takes<P>>(
     alloc: Global,
-    ground: &Ground<'_, P>,
     trail: &Trail<'_>,
     first: usize,
     trees: &[VNode<P>],
     turn: Turn,
     levels: u64,
-    out: &mut Patched<P>,
+    out: &mut T,
 ) -> Result<(), OutOfMemory>
-    ensures { OnOk result (out_of out.new ≡ after (ground_of ground.now)
-        (items_turn turn first (place_on trail.now) (drop first trees.now)) (out_of out.old)) }
+    ensures { OnOk result (Follows T.one
+        (items_turn turn first (place_on trail.now) (drop first trees.now)) out.old out.new) }
 {
     let levels = down(levels)?;
     for position in first..trees.len() {
         let above = Trail::Item(&*trail, position as u64);
-        tree_turns(alloc, ground, &above, &trees[position], turn, levels, out)?;
+        tree_turns(alloc, &above, &trees[position], turn, levels, out)?;
     }
     Ok(())
+}
+
+// A node stands in one of the trees alone.
+fn turn_node<P: Parts, T: Takes<P>>(
+    alloc: Global,
+    trail: &Trail<'_>,
+    kind: Kind,
+    turn: Turn,
+    out: &mut T,
+) -> Result<(), OutOfMemory>
+    ensures { OnOk result (Follows T.one (node_turns turn (place_on trail.now) (kind_of kind) ∷ [])
+        out.old out.new) }
+{
+    match turn {
+        Turn::Comes => out.come(alloc, trail, kind),
+        Turn::Goes => out.go(alloc, trail, kind),
+    }
+}
+
+// A component stands in one of the trees alone.
+fn turn_component<P: Parts, T: Takes<P>>(
+    alloc: Global,
+    trail: &Trail<'_>,
+    component: &VComponent<P>,
+    turn: Turn,
+    out: &mut T,
+) -> Result<(), OutOfMemory>
+    ensures { OnOk result (Follows T.one
+        (component_turns turn (place_on trail.now) (component_of component.now) ∷ [])
+        out.old out.new) }
+{
+    match turn {
+        Turn::Comes => out.make(alloc, trail, component),
+        Turn::Goes => out.leave(alloc, trail, component),
+    }
 }

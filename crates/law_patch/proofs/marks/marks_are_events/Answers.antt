@@ -1,4 +1,4 @@
-use Rattle.law_patch.proofs.Eventful.{tree_events}
+use Rattle.run_work.proofs.Eventful.{tree_events}
 use Rattle.law_patch.proofs.marks.marks_are_events.Goals as goal
 
 pub returns : goal.returns

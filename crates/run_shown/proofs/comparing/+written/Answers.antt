@@ -159,11 +159,9 @@ side_written-returns-in-Some-side g t c =
       of_unit = refl;
       deep = refl;
       old_side = c.shown_in-old.ensures.side;
-      old_look = c.shown_in-old.ensures.look;
-      old_deep = c.shown_in-old.ensures.depth;
+      old_seen = c.shown_in-old.ensures.seen;
       new_side = c.shown_in-new.ensures.side;
-      new_look = c.shown_in-new.ensures.look;
-      new_deep = c.shown_in-new.ensures.depth;
+      new_seen = c.shown_in-new.ensures.seen;
       stops = c.stop_on-stop.ensures;
     }))
     c.outputs_written.ensures

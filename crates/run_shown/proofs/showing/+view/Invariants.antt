@@ -13,8 +13,8 @@ invariant-show_nodes-loop-index g l =
 
 abbrev pub invariant-show_items-loop-index : goal.invariant-show_items-loop-index
 invariant-show_items-loop-index g l =
-    join_rows (forest_of l.row) (items_seen l.shown.look.now l.shown.depth l.shown.side.now l.first l.index (place_on l.place) (drop l.index l.trees)) ≡
-    join_rows (forest_of l.fn.row) (items_seen l.shown.look.now l.shown.depth l.shown.side.now l.first 0 (place_on l.place) l.trees)
+    join_rows (forest_of l.row) (items_seen l.shown.asked l.shown.side.now l.first l.index (place_on l.place) (drop l.index l.trees)) ≡
+    join_rows (forest_of l.fn.row) (items_seen l.shown.asked l.shown.side.now l.first 0 (place_on l.place) l.trees)
 
 abbrev pub decreases-show_scope : goal.decreases-show_scope
 decreases-show_scope g l = l.levels
@@ -39,3 +39,6 @@ decreases-show_child g l = l.levels
 
 abbrev pub decreases-show_items : goal.decreases-show_items
 decreases-show_items g l = l.levels
+
+abbrev pub decreases-show_asked : goal.decreases-show_asked
+decreases-show_asked g l = l.levels

@@ -11,8 +11,8 @@ invariant-add_nodes-loop-index g l =
 
 abbrev pub invariant-add_items-loop-index : goal.invariant-add_items-loop-index
 invariant-add_items-loop-index g l =
-    l.tops ++ tops_of (items_seen l.shown.look.now l.shown.depth l.shown.side.now l.first l.index (place_on l.place) (drop l.index l.trees)) ≡
-    l.fn.tops ++ tops_of (items_seen l.shown.look.now l.shown.depth l.shown.side.now l.first 0 (place_on l.place) l.trees)
+    l.tops ++ tops_of (items_seen l.shown.asked l.shown.side.now l.first l.index (place_on l.place) (drop l.index l.trees)) ≡
+    l.fn.tops ++ tops_of (items_seen l.shown.asked l.shown.side.now l.first 0 (place_on l.place) l.trees)
 
 abbrev pub decreases-add_scope : goal.decreases-add_scope
 decreases-add_scope g l = l.levels
@@ -37,3 +37,6 @@ decreases-add_child g l = l.levels
 
 abbrev pub decreases-add_items : goal.decreases-add_items
 decreases-add_items g l = l.levels
+
+abbrev pub decreases-add_asked : goal.decreases-add_asked
+decreases-add_asked g l = l.levels

@@ -1,6 +1,6 @@
 -- Trees are alike slot by slot, fragments item by item.
 use Rattle.std.proofs.Common.{arith, length, subst, sym, ap, ◌<◌, ◌≤◌, ◌∙◌}
-use Rattle.run_work.specs.declared.patched.Turn.TheVariants as turns
+use Rattle.run_work.specs.declared.turning.Turn.TheVariants as turns
 use Rattle.run_work.specs.Alike.{AlikeTrees, AlikeValues}
 use Rattle.run_work.specs.Grounds.{value_turn}
 use Rattle.run_work.proofs.Likened.{fragment_alike, tree_alike, trees_done, trees_more, values_done, values_more}

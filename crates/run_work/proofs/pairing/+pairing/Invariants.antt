@@ -1,23 +1,20 @@
--- What was found so far, and then what is left, is what both lead to.
-use Rattle.std.proofs.Common.{◌≤◌, length, drop}
+-- Where it is known what is left, it is known of all.
+use Rattle.std.proofs.Common.{◌≤◌, [], length, take, drop}
 use Rattle.run_places.specs.Trails.{path_of, place_on}
-use Rattle.run_work.specs.Goes.{Leads}
-use Rattle.run_work.specs.Pairs.{Left, items_pair, row_pair}
+use Rattle.run_work.specs.Met.{Meets}
+use Rattle.run_work.specs.Pairs.{items_pair, row_pair}
 use Rattle.run_work.proofs.pairing.+pairing.Given as goal
 
 abbrev pub invariant-pair_nodes-loop-index : goal.invariant-pair_nodes-loop-index
 invariant-pair_nodes-loop-index g l =
-    (Left l.ground l.fn.out l.out
-    (λ app. row_pair app l.old l.new (place_on l.above) (path_of l.up) l.index (drop l.index l.nodes))
-    (λ app. row_pair app l.old l.new (place_on l.above) (path_of l.up) 0 l.nodes))
-    × Leads l.ground l.fn.out l.out
+    (end : _) → Meets g.T.Takes.one l.out end (λ app. row_pair app l.old l.new (place_on l.above) (path_of l.up) l.index (drop l.index l.nodes))
+    → Meets g.T.Takes.one l.fn.out end (λ app. row_pair app l.old l.new (place_on l.above) (path_of l.up) 0 l.nodes)
 
 abbrev pub invariant-pair_items-loop-position : goal.invariant-pair_items-loop-position
 invariant-pair_items-loop-position g l =
-    (l.position ≤ length l.were) × (Left l.ground l.fn.out l.out
-    (λ app. items_pair app l.position (place_on l.trail) (drop l.position l.were) (drop l.position l.are))
-    (λ app. items_pair app 0 (place_on l.trail) l.were l.are))
-    × Leads l.ground l.fn.out l.out
+    (l.position ≤ length l.were) × ((end : _)
+    → Meets g.T.Takes.one l.out end (λ app. items_pair app l.position (place_on l.trail) (take l.position l.are) (drop l.position l.were) (drop l.position l.are))
+    → Meets g.T.Takes.one l.fn.out end (λ app. items_pair app 0 (place_on l.trail) [] l.were l.are))
 
 abbrev pub decreases-pair_tree : goal.decreases-pair_tree
 decreases-pair_tree g l = l.levels

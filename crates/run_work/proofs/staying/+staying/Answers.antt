@@ -1,7 +1,7 @@
 -- One more node of a template, or one more item, stands there, and at the end all do.
 use Rattle.run_places.specs.Trails.{path_of, place_on}
 use Rattle.run_places.proofs.Trails.{on_Item}
-use Rattle.run_work.specs.declared.patched.Turn.TheVariants as turns
+use Rattle.run_work.specs.declared.turning.Turn.TheVariants as turns
 use Rattle.run_work.specs.Grounds.{items_turn, row_turn}
 use Rattle.run_work.proofs.Stays.{items_done, items_more, row_done, row_more}
 use Rattle.run_work.proofs.staying.+staying.Goals as goal

@@ -1,7 +1,7 @@
 -- What follows from the node that was come to, with what is left, follows for the whole from the first one.
 use Rattle.std.proofs.Common.{◌≡◌, ◌++◌, drop}
 use Rattle.run_places.specs.Trails.{path_of, place_on}
-use Rattle.run_work.specs.declared.patched.Turn.TheVariants as turns
+use Rattle.run_work.specs.declared.turning.Turn.TheVariants as turns
 use Rattle.run_work.specs.Grounds.{items_turn, row_turn}
 use Rattle.run_work.specs.Stay.{coming, nodes_from}
 use Rattle.run_work.proofs.staying.+staying.Given as goal

@@ -1,7 +1,7 @@
 -- The walk through a tree comes to the end of the nodes.
 use Rattle.std.proofs.Common.{ap, arith, length, ◌≤◌}
 use Rattle.run_places.proofs.Trails.{on_Root}
-use Rattle.run_work.specs.declared.patched.Turn.TheVariants as turns
+use Rattle.run_work.specs.declared.turning.Turn.TheVariants as turns
 use Rattle.run_work.specs.Grounds.{tree_turn}
 use Rattle.run_work.proofs.Stays.{whole_stands}
 use Rattle.run_work.proofs.staying.are_nodes.Goals as goal

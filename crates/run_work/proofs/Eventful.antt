@@ -8,8 +8,8 @@ use Rattle.rt_model.proofs.SamePlaces.{template-true}
 use Rattle.run_work.specs.Events as event
 use Rattle.run_work.specs.Events.{Event, walk, pairing, both_slots, pair_slots, pair_items}
 use Rattle.tree_marks.specs.Marks.{Mark, stays, slot_goes, slot_way, tree_way, come_in, go_out, lone, gone, come, changed, template_marks, tree_marks, slots_marks, slot_marks, items_marks}
-use Rattle.law_patch.specs.Events.{event_at, events_in}
-use Rattle.law_patch.proofs.Joins.{both_joined, none_more}
+use Rattle.run_work.specs.Marked.{event_at, events_in}
+use Rattle.run_work.proofs.Joins.{both_joined, none_more}
 
 -- a test has one answer
 one_answer : {P : Type 0} {b : Bool} → b ≡ true → b ≡ false → P
@@ -21,7 +21,7 @@ module _ {K : Types} where
   gone_events (node_at p k ∷ ss) = ap (λ (zs : List (Event K)). event.goes p k ∷ zs) (gone_events ss)
   gone_events (component_at p c ∷ ss) = ap (λ (zs : List (Event K)). event.left p c ∷ zs) (gone_events ss)
 
-  come_events : (ss : List (Spot K)) → events_in (map come ss) ≡ map event.come ss
+  pub come_events : (ss : List (Spot K)) → events_in (map come ss) ≡ map event.come ss
   come_events [] = refl
   come_events (node_at p k ∷ ss) = ap (λ (zs : List (Event K)). event.comes p k ∷ zs) (come_events ss)
   come_events (component_at p c ∷ ss) = ap (λ (zs : List (Event K)). event.made p c ∷ zs) (come_events ss)

@@ -1,0 +1,8 @@
+-- One mark more.
+use Rattle.run_places.specs.Places.{place_of}
+use Rattle.run_work.specs.Met.{items_out}
+use Rattle.run_met.proofs.Kept.{one_kept}
+use Rattle.run_met.proofs.planning.PlanningTakes.go_out.Goals as goal
+
+pub returns : goal.returns
+returns g c = record { taken = one_kept c.args.self.now.plan _ _ _ c.in_ok-push.ensures.ok (λ t. items_out (place_of (c.in_ok-place.ensures t)) c.args.first (c.in_ok-trees.ensures t)) }
