@@ -34,6 +34,7 @@ pub mod Unpolled
 pub mod Spawned
 pub mod Tended
 pub mod Coming
+pub mod Comers
 pub mod Drawn
 pub mod DrawnCells
 pub mod Hearing

@@ -32,7 +32,7 @@ use Rattle.law_minding.specs.Waking.{some_wakes}
 use Rattle.law_minding.proofs.Drawn.{tasks_are_drawn, polled_there}
 use Rattle.law_minding.proofs.Caused.{polls_are_caused}
 use Rattle.law_minding.specs.Coming.{FreshFrom}
-use Rattle.law_minding.proofs.Coming.{spawned_stand}
+use Rattle.law_minding.proofs.Comers.{comers_stand}
 use Rattle.law_minding.proofs.Spawned.{fresh_are_kept}
 use Rattle.law_minding.proofs.Unpolled.{fresh_stay, fresh_is_owed}
 
@@ -161,10 +161,8 @@ module _ {K : Types} {F : Type 0} (a : Formulas K F) (app : Application K) (stat
         opened.0,
         opened.1,
         opened.2,
-        λ spawns spares stays calm there later.
-            fresh_stay a app state lawful limits (opened.1).0 n opened.0 t cell scope held f loads (opened.1).2
-            (spawned_stand a app state lawful limits m (opened.1).0 (Logged e) t cell scope held f loads (opened.1).1 none spawns spares stays there)
-            calm later,
+        λ comes there.
+            comers_stand a app state lawful limits m n (Logged e ∷ opened.0) t cell scope held f loads opened.1 none comes there,
       )
 
   who_is_kept : (done later : List Report) (before between log : List Entry) (m u v : Machine K)

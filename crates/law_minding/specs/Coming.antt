@@ -31,8 +31,25 @@ module _
   SpawnsFresh w s polled (c ∷ cs) = SpawnsOne w s c × SpawnsFresh (command app w s polled c) s polled cs
 
 module _ {K : Types} {F : Type 0} (a : Formulas K F) (app : Application K) (state : MemoTask K.Value F → K.TaskState) where
-  -- an entry is made of moves, of which the first is logged: a task that this one spawns fresh, and that no later one touches, stands fresh
-  -- at their end, where it is there then
+  -- until a task is there each of these moves spawns it in no other way than fresh; the one behind which it is there first spares it and
+  -- doesn't remove its scope, and those that follow don't poll it and spare it
+  abbrev pub ComesFresh :
+      (limits : Limits) (t cell scope : ℕ) (held : CellRow K) (f : F) (loads : Bool) (m v : Machine K) (moves : List Move)
+      → Leads app limits m moves v
+      → Type 0
+  ComesFresh limits t cell scope held f loads m v [] leads = Unit {0}
+  ComesFresh limits t cell scope held f loads m v (move ∷ moves) leads =
+      AllByRecursion
+      (λ (d : Deed K). SpawnsFresh app state t cell scope held f loads d.state d.scope d.polled d.wants)
+      (move_deeds app m move)
+      × (at leads.0.state.tasks t ≡ None → ComesFresh limits t cell scope held f loads leads.0 v moves leads.2)
+      × (is_some (at leads.0.state.tasks t) ≡ true
+      → MoveSpares a app m t held.owner (fresh cell f loads) move
+      × (move_removes scope move ≡ false)
+      × UnpolledOn a app limits t held.owner (fresh cell f loads) leads.0 v moves leads.2)
+
+  -- an entry is made of moves, of which the first is logged and no other one is: a task that comes fresh in one of them stands fresh at
+  -- their end, where it is there then
   abbrev pub FreshFrom :
       (limits : Limits) (m n : Machine K) (e : Entry) (t cell scope : ℕ) (held : CellRow K) (f : F) (loads : Bool)
       → Type 0
@@ -40,13 +57,7 @@ module _ {K : Types} {F : Type 0} (a : Formulas K F) (app : Application K) (stat
       (moves : List Move)
       × (leads : Leads app limits m (Logged e ∷ moves) n)
       × (entries moves ≡ [])
-      × (AllByRecursion
-      (λ (d : Deed K). SpawnsFresh app state t cell scope held f loads d.state d.scope d.polled d.wants)
-      (move_deeds app m (Logged e))
-      → MoveSpares a app m t held.owner (fresh cell f loads) (Logged e)
-      → move_removes scope (Logged e) ≡ false
-      → UnpolledOn a app limits t held.owner (fresh cell f loads) leads.0 n moves leads.2
-      → is_some (at leads.0.state.tasks t) ≡ true
+      × (ComesFresh limits t cell scope held f loads m n (Logged e ∷ moves) leads
       → is_some (at n.state.tasks t) ≡ true
       → StandsFresh state n.state t cell scope held f loads)
 
@@ -65,3 +76,14 @@ module _ {K : Types} {F : Type 0} (a : Formulas K F) (app : Application K) (stat
       → move_removes scope move ≡ false
       → is_some (at u.state.tasks t) ≡ true
       → StandsFresh state u.state t cell scope held f loads
+
+  -- so it is along moves, with entries or without, as where a boundary turns and calls its callbacks, or runs its fallback
+  abbrev pub ComersStand : Type 0
+  ComersStand =
+      IsLawful K app
+      → (limits : Limits) (m v : Machine K) (moves : List Move) (t cell scope : ℕ) (held : CellRow K) (f : F) (loads : Bool)
+      → (leads : Leads app limits m moves v)
+      → at m.state.tasks t ≡ None
+      → ComesFresh limits t cell scope held f loads m v moves leads
+      → is_some (at v.state.tasks t) ≡ true
+      → StandsFresh state v.state t cell scope held f loads

@@ -29,7 +29,7 @@ module _ {K : Types} {F : Type 0} (a : Formulas K F) (app : Application K) (stat
         → at m.state.tasks t ≡ Some task
         → task.state ≡ state x
         → (u : Machine K) × Moves app limits m (Logged (Poll t)) u × (u.state ≡ state_after_poll a app state m t task x)
-    -- who is spawned fresh by an entry, and isn't touched until the next one, stands fresh then
+    -- who is spawned fresh by an entry, or by what follows on it without one, and isn't touched until the next entry, stands fresh then
     pub spawned :
         (before rest : List Entry) (e : Entry) (m n : Machine K) (t cell scope : ℕ) (held : CellRow K) (f : F) (loads : Bool)
         → joined (logs_of reports) ≡ before ++ e ∷ rest

@@ -9,7 +9,7 @@ ghost use Rattle.law_minding.specs.Numbering.{CellsAreDrawn, MovesNumber, NextIs
 ghost use Rattle.law_minding.specs.Homes.{HomesAreLive};
 ghost use Rattle.law_minding.specs.Unpolled.{FreshAreKept, FreshIsOwed, FreshStay};
 ghost use Rattle.law_minding.specs.Sessions.{SessionsKeepMemos};
-ghost use Rattle.law_minding.specs.Coming.{SpawnedStand};
+ghost use Rattle.law_minding.specs.Coming.{ComersStand, SpawnedStand};
 ghost use Rattle.law_minding.specs.Settling.{CallsAreParts, SettledKeep};
 ghost use Rattle.law_minding.specs.Tended.{TendedAreKept};
 ghost use Rattle.law_minding.specs.Waking.{PollsAreCaused, PollsAreCausedThrough};
@@ -154,6 +154,13 @@ pub fn spawned_stand<C, P, V, H, T, E, L, F>()
     ensures { (app : Application (types C P V H T E L)) (a : Formulas (types C P V H T E L) F)
         (state : MemoTask V F → T)
         → SpawnedStand a app state }
+{}
+
+/// So it is at the end of moves, whichever of them spawns it, with an entry or without one.
+pub fn comers_stand<C, P, V, H, T, E, L, F>()
+    ensures { (app : Application (types C P V H T E L)) (a : Formulas (types C P V H T E L) F)
+        (state : MemoTask V F → T)
+        → ComersStand a app state }
 {}
 
 /// And so it is along all of a program's way with a runtime that it keeps, past calls that log no
