@@ -42,23 +42,22 @@ use Rattle.law_reduce.proofs.OneReport.{settled_alive, settled_idle}
 use Rattle.law_reduce.proofs.Reports.{AllSettled, none_told}
 use Rattle.law_reduce.proofs.RootStays.{wrappers_stay}
 use Rattle.law_reduce.proofs.Wrapping.{current_wrapped}
-use Rattle.law_elm.specs.Safe.{NoneFails}
 use Rattle.law_elm.specs.Roots.{root_place, RootStands, RootGoesOn, RootsLast}
 use Rattle.law_elm.specs.RootShows.{RootShowsFold, ElmShows, RootFolds, ElmFolds, RepliesRead}
-use Rattle.law_elm.proofs.Each.{one_scope}
-use Rattle.law_elm.proofs.Serving.{AllSafe, safe_lasts}
-use Rattle.law_elm.proofs.Sessions.{start_safe, logs_safe}
+use Rattle.law_elm.proofs.Following.{AllSafe, safe_lasts}
+use Rattle.law_elm.proofs.Rules.{Rules}
+use Rattle.law_elm.proofs.Sessions.{plain_rules, start_safe, logs_safe}
 use Rattle.law_elm.proofs.Staying.{shows_there, sort_there, stays}
 
 module _
-    {K : Types} (k : Keeping K.Value) (a : Pages K) (calm : NoneFails a) (lawful : IsLawful K (meaning_of_pages k a)) (fits : ChildrenFitSlots (meaning_of_pages k a))
-    (root_lasts : RootStays (meaning_of_pages k a)) (props : K.Props) (inputs : List (Input K))
+    {K : Types} (k : Keeping K.Value) (a : Pages K) (props : K.Props) (law : Rules k a props) (fresh : (n : ℕ) → law.hooks n []) (lawful : IsLawful K (meaning_of_pages k a))
+    (fits : ChildrenFitSlots (meaning_of_pages k a)) (root_lasts : RootStays (meaning_of_pages k a)) (inputs : List (Input K))
   where
     abbrev app : Application K
     app = meaning_of_pages k a
 
     abbrev Safe : Machine K → Type 0
-    Safe m = Steady (λ w work. AllSafe a.root props w work) m
+    Safe m = Steady (λ w work. AllSafe k a props law w work) m
 
     abbrev Stands : ℕ → State K → Type 0
     Stands root w = RootStands a.root props w root
@@ -66,7 +65,7 @@ module _
     abbrev AllStand : ℕ → List (Told K) → Type 0
     AllStand root told = AllByRecursion (λ (r : Told K). Stands root r.machine.state) told
 
-    led_reached : (m : Machine K) → LedTo app props inputs m → (limits : Limits) × Reached app limits props inputs m
+    pub led_reached : (m : Machine K) → LedTo app props inputs m → (limits : Limits) × Reached app limits props inputs m
     led_reached m led =
         let first : Machine K = start app props inputs in
         let within = some_limits app led.done first m led.goes in
@@ -74,7 +73,7 @@ module _
         (within.0, reached_moved app within.0 props inputs first m moved.0 (start_reached app within.0 props inputs) moved.1)
 
     -- before the build it doesn't stand there
-    not_yet : (limits : Limits) (m : Machine K) (s t : ℕ) → (reached : Reached app limits props inputs m) → m.dead ≡ None → Wrapped a.root props m.state s t → m.built ≡ true
+    pub not_yet : (limits : Limits) (m : Machine K) (s t : ℕ) → (reached : Reached app limits props inputs m) → m.dead ≡ None → Wrapped a.root props m.state s t → m.built ≡ true
     not_yet limits m s t reached alive h =
         elim (start_or_built app lawful limits props inputs m reached alive) [
           | inl same ↦
@@ -101,7 +100,7 @@ module _
         let built : m.built ≡ true = not_yet limits m s t reached alive around.2 in
         let y = found_live (at m.state.scopes t) (around.2).live in
         let tree : Tree K = children_tree (rendered (one_slot (component_slot (Own a.root props)))) in
-        let shows : (y.0).main_side.output ≡ Some tree = shows_there k a calm lawful fits props inputs limits s t m reached built alive safe around.2 y.0 y.1 in
+        let shows : (y.0).main_side.output ≡ Some tree = shows_there k a props law lawful fits inputs limits s t m reached built alive safe around.2 y.0 y.1 in
         let kid : HasChild m.state t y.0 MainSide root_place =
         settled_have_children app lawful limits props inputs m reached alive built idle t y.0 MainSide tree root_place (Own a.root props) y.1 shows
         (contained (spots [] tree) (component_at root_place (Own a.root props)) (inl refl)) in (
@@ -129,8 +128,8 @@ module _
         let alive : v.dead ≡ None = settled_alive v ends.0 in
         let quiet : v.work ≡ [] = settled_idle v ends.0 in
         let living : m.dead ≡ None = alive_before app way.limits m v way.moves m.dead refl way.leads alive in
-        let on = stays k a calm lawful fits props inputs way.limits h.boundary h.error m way.reached idle h.wrapped [] m v way.moves refl way.leads alive built safe in
-        let sort = sort_there k a calm lawful fits props inputs way.limits h.boundary h.error m way.reached built living safe h.wrapped in
+        let on = stays k a props law lawful fits inputs way.limits h.boundary h.error m way.reached idle h.wrapped [] m v way.moves refl way.leads alive built safe in
+        let sort = sort_there k a props law lawful fits inputs way.limits h.boundary h.error m way.reached built living safe h.wrapped in
         let kid = root_lasts lawful way.limits props inputs m v way.moves h.boundary h.error root_place (own_sort a.root) root way.reached way.leads alive idle quiet h.wrapped sort on h.child in
         let wrapped : Wrapped a.root props v.state h.boundary h.error = wrappers_stay app lawful way.limits props inputs m v way.moves h.boundary h.error way.reached way.leads alive idle h.wrapped in
         let next : Stands root v.state = record {
@@ -142,7 +141,7 @@ module _
         } in
         let spared : NoneRemoves root (entries way.moves) = live_unremoved app lawful way.limits props inputs m v way.moves root way.reached way.leads alive kid.1 in
         let built_there : v.built ≡ true = built_on app lawful way.limits props inputs m v way.moves (sound app lawful way.limits props inputs m way.reached) built way.leads alive in
-        let safe_there : Safe v = moves_last app (λ w work. AllSafe a.root props w work) (safe_lasts k a calm props) way.limits m v way.moves way.leads alive safe in
+        let safe_there : Safe v = moves_last app (λ w work. AllSafe k a props law w work) (safe_lasts k a props law) way.limits m v way.moves way.leads alive safe in
         let within = some_limits app r.log m v goes in
         let rest = goes_on root rs v f.1 (led_on app props inputs m v r.log led goes) (settled_after app within.0 r.log m v still within.1) quiet built_there safe_there next f.3 ends.1 in (
           (subst (λ (es : List Entry). NoneRemoves root es) way.entries_are spared, rest.0),
@@ -164,7 +163,7 @@ module _
         let within = some_limits app r.log m v goes in
         let alive : v.dead ≡ None = settled_alive v ends.0 in
         let still : IsSettled v = settled_after app within.0 r.log m v refl within.1 in
-        let safe : Safe v = logs_safe k a calm props m v r.log refl refl (start_safe k a calm props inputs) goes alive in
+        let safe : Safe v = logs_safe k a props law m v r.log refl refl (start_safe k a props law fresh inputs) goes alive in
         let now : AllByRecursion (λ (x : Told K). AllCurrent app x.machine.state) (told_by f.0 ∷ f.1) =
         subst (λ (x : List (Told K)). AllByRecursion (λ (i : Told K). AllCurrent app i.machine.state) x) (sym f.4) current in
         subst (λ (x : List (Told K)). RootGoesOn a.root props (r ∷ rs) x) f.4 (
@@ -174,7 +173,7 @@ module _
 
 pub roots_last : (K : Types) → ((k : Keeping K.Value) (a : Pages K) → ChildrenFitSlots (meaning_of_pages k a)) → ((k : Keeping K.Value) (a : Pages K) → RootStays (meaning_of_pages k a)) → RootsLast K
 roots_last K fits stays_there k a calm lawful props inputs limits taken reports h =
-    from_build k a calm lawful (fits k a) (stays_there k a) props inputs reports h.told (h.done).one_each ((h.holds).recorded).accepted ((h.holds).recorded).settled (h.holds).current
+    from_build k a props (plain_rules k a props calm) (λ n. tt) lawful (fits k a) (stays_there k a) inputs reports h.told (h.done).one_each ((h.holds).recorded).accepted ((h.holds).recorded).settled (h.holds).current
 
 pub elm_shows : (K : Types) → RootsLast K → OwnPagesShow K → ElmShows K
 elm_shows K roots own k a back calm lawful props inputs limits taken reports h =

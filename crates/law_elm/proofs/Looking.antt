@@ -3,12 +3,12 @@ use Rattle.std.proofs.Common.{ℕ, Bool, true, false, List, [], ◌∷◌, ◌++
 use Rattle.std.specs.Prelude.{Option, Some, None, if◌then◌else◌, length}
 use Rattle.rt_model.specs.Lists.{at, nth}
 use Rattle.rt_model.specs.Program.{Program, done, current_scope, read, new_cell, hook_is_new, use_hook, Call, begun, exec, noted, noted_at, faults, past_hook, drew_cell, hooked, kind_of, hook_value, value_in}
-use Rattle.rt_model.specs.Tree.{Types, Element, rendered}
+use Rattle.rt_model.specs.Tree.{Types, rendered}
 use Rattle.rt_model.specs.World.{Source, Cell, at_end, CounterAtEnd, OtherHook, Cells, Hook, HookValue, Command, NewCell, KeepHook, World, Meaning}
 use Rattle.author_programs.specs.Cells.{Keeping, own_cell, made_cell, first_or_kept, all_read}
 use Rattle.author_programs.specs.Pages.{Page, Pages, own_cells, one_more, and_more, shown, page_body, meaning_of_pages}
 use Rattle.author_programs.specs.Sequence.{go_on}
-use Rattle.law_elm.specs.Safe.{SafeTree, SafeAnswer, NoneFails}
+use Rattle.law_elm.specs.Safe.{SafeTree, SafeAnswer, PagesSafe}
 
 module _ {K : Types} where
   -- a cell that is made, or a hook that is kept
@@ -94,8 +94,8 @@ module _ {K : Types} where
   more_looks others h None = tt
   more_looks others h (Some m) = looks_on (λ o. Unit {0}) others (λ o. done (one_more m o)) h (λ o. tt)
 
-  page_looks : (k : Keeping K.Value) (page : Page K) → ((s : ℕ) (own : List ℕ) (values : List (Option K.Value)) → SafeTree (λ d. ⊥) (page.shows s own values)) → Looks (λ e. SafeAnswer (λ d. ⊥) e) (page_body k page)
-  page_looks k page safe = looks_on (λ e. SafeAnswer (λ d. ⊥) e) (own_cells k page.cells) (λ own. shown page own) (cells_look page.cells) shows
+  page_looks : (may : K.Component → Type 0) (k : Keeping K.Value) (page : Page K) → ((s : ℕ) (own : List ℕ) (values : List (Option K.Value)) → SafeTree may (page.shows s own values)) → Looks (λ e. SafeAnswer may e) (page_body k page)
+  page_looks may k page safe = looks_on (λ e. SafeAnswer may e) (own_cells k page.cells) (λ own. shown page own) (cells_look page.cells) shows
     where
       made : (o : Option ℕ) → Looks (λ o. Unit {0}) (made_cell {K = K} k o)
       made None = tt
@@ -113,12 +113,12 @@ module _ {K : Types} where
       reads_look [] = tt
       reads_look (m ∷ ns) = λ v. looks_on (λ vs. Unit {0}) (all_read ns) (λ vs. done (v ∷ vs)) (reads_look ns) (λ vs. tt)
 
-      shows : (o : Option (List ℕ)) → Looks (λ e. SafeAnswer (λ d. ⊥) e) (shown page o)
+      shows : (o : Option (List ℕ)) → Looks (λ e. SafeAnswer may e) (shown page o)
       shows None = (tt, tt)
-      shows (Some own) = looks_on (λ e. SafeAnswer (λ d. ⊥) e) (all_read (page.reads own)) (λ vs. current_scope (λ s. done (rendered (page.shows s own vs)))) (reads_look (page.reads own)) (λ vs s. safe s own vs)
+      shows (Some own) = looks_on (λ e. SafeAnswer may e) (all_read (page.reads own)) (λ vs. current_scope (λ s. done (rendered (page.shows s own vs)))) (reads_look (page.reads own)) (λ vs s. safe s own vs)
 
   -- the body of a page in which nothing fails
-  pub page_means : (k : Keeping K.Value) (a : Pages K) → NoneFails a → (c : K.Component) (p : K.Props) (w : World K)
-      → AllQuiet ((meaning_of_pages k a).body c p w).commands × SafeAnswer (λ d. ⊥) ((meaning_of_pages k a).body c p w).answer
-  page_means k a safe c p w =
-      exec_means (λ e. SafeAnswer (λ d. ⊥) e) w (page_body k (a.page c p)) (begun true w.given.next) (page_looks k (a.page c p) (λ s own values. safe c p s own values)) (tt, refl, refl)
+  pub page_means : (may : K.Component → Type 0) (k : Keeping K.Value) (a : Pages K) → PagesSafe may a → (c : K.Component) (p : K.Props) (w : World K)
+      → AllQuiet ((meaning_of_pages k a).body c p w).commands × SafeAnswer may ((meaning_of_pages k a).body c p w).answer
+  page_means may k a safe c p w =
+      exec_means (λ e. SafeAnswer may e) w (page_body k (a.page c p)) (begun true w.given.next) (page_looks may k (a.page c p) (λ s own values. safe c p s own values)) (tt, refl, refl)

@@ -3,3 +3,4 @@ pub mod Safe
 pub mod NoErrors
 pub mod Roots
 pub mod RootShows
+pub mod Programs

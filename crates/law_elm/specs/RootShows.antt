@@ -1,6 +1,6 @@
 -- Elm's equation for an application of pages in which nothing fails: after the last report the root shows its function of the fold of all
 -- inputs, whatever the logs are.
-use Rattle.std.specs.Prelude.{ℕ, true, List, [], ◌∷◌, length, Option, ◌≡◌}
+use Rattle.std.specs.Prelude.{ℕ, true, List, ◌∷◌, length, Option, ◌≡◌}
 use Rattle.std.specs.List.{AllByRecursion}
 use Rattle.rt_model.specs.Lists.{at, has}
 use Rattle.rt_model.specs.Tree.{Types}

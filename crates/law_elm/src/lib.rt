@@ -5,7 +5,9 @@
 #![tactic(auto)]
 
 mod failing;
+mod folding;
 mod rooting;
 
 pub use failing::{no_error_comes, pages_keep_no_error};
+pub use folding::{elm_programs_fold, elm_programs_show};
 pub use rooting::{elm_folds, elm_shows, replies_read, roots_last};

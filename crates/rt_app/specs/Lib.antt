@@ -83,6 +83,7 @@ pub use Rattle.rt_author.specs.ShowsValues
 pub use Rattle.rt_author.specs.Elm
 pub use Rattle.rt_author.specs.ErrorsStayAway
 pub use Rattle.rt_author.specs.NoErrors
+pub use Rattle.rt_author.specs.Programs
 pub use Rattle.rt_author.specs.RootShows
 pub use Rattle.rt_author.specs.Roots
 pub use Rattle.rt_author.specs.Safe

@@ -56,6 +56,7 @@ pub use Rattle.author_programs.specs.Sequence
 pub use Rattle.author_programs.specs.Shows
 pub use Rattle.law_elm.specs.ErrorsStayAway
 pub use Rattle.law_elm.specs.NoErrors
+pub use Rattle.law_elm.specs.Programs
 pub use Rattle.law_elm.specs.RootShows
 pub use Rattle.law_elm.specs.Roots
 pub use Rattle.law_elm.specs.Safe

@@ -43,7 +43,8 @@ pub use tree_nodes::{
 
 // Laws of sessions, of pages and bodies, of contexts, and of memos.
 pub use law_elm::{
-    elm_folds, elm_shows, no_error_comes, pages_keep_no_error, replies_read, roots_last,
+    elm_folds, elm_programs_fold, elm_programs_show, elm_shows, no_error_comes,
+    pages_keep_no_error, replies_read, roots_last,
 };
 pub use law_kinds::{commands_keep_others, programs_keep_others};
 pub use law_lasting::{
