@@ -5,7 +5,7 @@ use lang_views::{Content, Value};
 use rt_edits::{Edit, Mutations};
 use rt_values::{List, OutOfMemory, ScopeId, Task};
 use run_reports::{Fault, Report};
-use show_print::{edit_line, report_line};
+use show_print::{edit_line, fault_line, report_line};
 use std::alloc::{AllocError, Global};
 
 pub(crate) fn put_value(alloc: Global, out: &mut String, value: &Value) -> Result<(), AllocError> {
@@ -21,24 +21,21 @@ pub(crate) fn put_value(alloc: Global, out: &mut String, value: &Value) -> Resul
     }
 }
 
-/// A fault of a run.
+/// A fault of a run, as the program prints it; by its number alone where that prints nothing.
 pub fn put_fault(alloc: Global, out: &mut String, fault: Fault) -> Result<(), AllocError> {
-    let said = match fault {
-        Fault::OutOfMemory => format!(in alloc; "fault 1\n")?,
-        Fault::SinkFault => format!(in alloc; "fault 2\n")?,
-        Fault::OutOfTurns { units } => format!(in alloc; "fault 3 {units}\n")?,
-        Fault::TooDeep { height } => format!(in alloc; "fault 4 {height}\n")?,
-        Fault::IdsExhausted { what: _ } => format!(in alloc; "fault 5\n")?,
-        Fault::HookChanged {
-            scope,
-            index,
-            kept,
-            asked,
-        } => format!(in alloc; "fault 6 {} {index} {kept} {asked}\n", scope.0)?,
-        Fault::NoSuchTask { scope, task } => format!(in alloc; "fault 7 {} {}\n", scope.0, task.0)?,
-        Fault::BadNode { scope } => format!(in alloc; "fault 8 {}\n", scope.0)?,
-    };
-    out.push_str(said.as_str())
+    match fault_line(alloc, fault) {
+        Ok(Some(line)) => put_bytes(out, line.as_slice()),
+        Ok(None) => out.push_str(number_line(fault)),
+        Err(OutOfMemory) => out.push_str("memory\n"),
+    }
+}
+
+/// The number of a fault that the program doesn't print.
+fn number_line(fault: Fault) -> &'static str {
+    match fault {
+        Fault::SinkFault => "fault 2\n",
+        _ => "fault 1\n",
+    }
 }
 
 fn put_bytes(out: &mut String, bytes: &[u8]) -> Result<(), AllocError> {

@@ -78,6 +78,19 @@ const CONTEXT_GONE: &[Step] = &[
 
 const TARGET: &[Step] = &[Step::BeginsFor(TASK), Step::Tells(TASK)];
 
+const ENTERED: &[Step] = &[
+    Step::Makes(3, 10, 1),
+    Step::Enters(4, true),
+    Step::Enters(4, false),
+    Step::Enters(2, false),
+    Step::BeginsAt(5),
+    Step::Enters(u64::MAX, false),
+    Step::DropsContexts,
+    Step::Enters(5, false),
+    Step::Enters(7, true),
+    Step::ReadBy(1, &[]),
+];
+
 const LOOKED_UP: &[Step] = &[
     Step::LooksUp(9, 0, 4),
     Step::LookedUp(4, &[Source::Context(0, ScopeId(4))]),
@@ -91,13 +104,14 @@ const LAST_NUMBERS: &[Step] = &[
 ];
 
 /// What new cells answer, by the numbers at which their counters stand.
-const CASES: [(u64, &[Step]); 8] = [
+const CASES: [(u64, &[Step]); 9] = [
     (1, READERS),
     (1, DROPPED_READER),
     (1, CELL_NOT_THERE),
     (1, OWNED),
     (1, CONTEXT_GONE),
     (1, TARGET),
+    (1, ENTERED),
     (1, LOOKED_UP),
     (u64::MAX - 1, LAST_NUMBERS),
 ];

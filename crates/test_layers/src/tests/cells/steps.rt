@@ -1,7 +1,7 @@
 //! Calls of the cells as data, each with the answer that is wanted of it.
 
 use rt_cells::{
-    Cells, CellsFault, List, OutOfMemory, ReactiveContext, Reader, ScopeId, Source, Target,
+    Cells, CellsFault, List, OutOfMemory, ReactiveContext, Reader, Readers, ScopeId, Source, Target,
 };
 use std::alloc::Global;
 
@@ -9,6 +9,9 @@ pub(crate) const SCOPE: ScopeId = ScopeId(3);
 
 /// What the body of the scope reads.
 pub(crate) const BODY: Reader = Reader::Scope(SCOPE);
+
+/// Whom a reactive context tells that is entered.
+const TARGET: Target = Target::Scope(SCOPE);
 
 /// The first reactive context.
 pub(crate) const FIRST: ReactiveContext = ReactiveContext(1);
@@ -34,7 +37,7 @@ pub(crate) enum Step<'a> {
     DropsBody,
     /// What the body reads.
     Reads(&'a [Source]),
-    /// Who reads a cell.
+    /// Who reads a cell, in a list and met one by one.
     ReadBy(u64, &'a [Reader]),
     /// Some scope looks up what a scope provides of a kind.
     LooksUp(u64, u32, u64),
@@ -46,6 +49,8 @@ pub(crate) enum Step<'a> {
     BeginsAt(u64),
     /// The reactive context, which tells that target.
     BeginsFor(Target),
+    /// A reactive context of that number, which was drawn elsewhere, and whether it is taken.
+    Enters(u64, bool),
     Subscribes(u64),
     Clears,
     /// The reactive contexts of scope 3 go.
@@ -102,6 +107,9 @@ fn is_context_answered(alloc: Global, cells: &mut Cells<u64>, step: Step) -> boo
         Step::BeginsFor(target) => {
             ReactiveContext::new_with_callback(cells, SCOPE, target) == Ok(FIRST)
         }
+        Step::Enters(number, taken) => {
+            cells.enter_context(SCOPE, number, TARGET).is_ok() == taken
+        }
         Step::Subscribes(cell) => FIRST.subscribe(alloc, cells, Source::Cell(cell)).is_ok(),
         Step::Clears => {
             FIRST.clear_subscribers(cells);
@@ -125,13 +133,25 @@ pub(crate) fn is_seen(alloc: Global, cells: &Cells<u64>, step: Step) -> bool {
         Step::Holds(cell, want) => cells.get(cell).copied() == want,
         Step::Owns(scope, want) => is_list(cells.owned(alloc, ScopeId(scope)), want),
         Step::Reads(want) => cells.reads_of(BODY) == want,
-        Step::ReadBy(cell, want) => is_list(cells.readers_of(alloc, Source::Cell(cell)), want),
+        Step::ReadBy(cell, want) => {
+            let source = Source::Cell(cell);
+            is_list(cells.readers_of(alloc, source), want) & are_met(cells.readers(source), want)
+        }
         Step::LookedUp(scope, want) => is_list(cells.context_sources(alloc, ScopeId(scope)), want),
         Step::Tells(target) => {
             (FIRST.origin_scope(cells) == Some(SCOPE)) & (FIRST.target(cells) == Some(target))
         }
         _ => FIRST.origin_scope(cells).is_none() & FIRST.target(cells).is_none(),
     }
+}
+
+// Whether just these readers are met.
+fn are_met(mut readers: Readers, want: &[Reader]) -> bool {
+    let mut are_those = true;
+    for reader in want {
+        are_those = are_those & (readers.next() == Some(*reader));
+    }
+    are_those & readers.next().is_none()
 }
 
 // Whether the answer is a list of just these items, and no want of memory.
