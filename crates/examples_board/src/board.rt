@@ -1,15 +1,14 @@
 //! The application.
+#![tactic(auto, using(rt_author::proofs::Rules::hooking))]
+
 ghost use Rattle.std.specs.Prelude.{◌≡◌, IfOk};
 ghost use Rattle.examples_board.specs.Meaning as meaning;
 
-use crate::bodies::{desk, fetch, letter, news, raise, refusal};
-use crate::faces::line;
-use crate::parts::{Cells, Component, Loading, given};
-use examples_library::{HasChildren, card};
-use rt_author::{
-    Bodied, Bodies, BodyCx, Cx, Element, Event, Given, Inside, KeepsCells, NoData, OutOfMemory,
-    Parts, Shared, TaskStep, Text, VNode, or_out_of_memory,
-};
+use crate::bodies::{Answer, Body, Call, Step, desk, fetch, letter, news, raise, refusal};
+use crate::faces::{Tree, line};
+use crate::parts::{Cells, Component, Loading, NONE, Props, given};
+use examples_library::{HasChildren, Made, card};
+use rt_author::{Bodied, Bodies, Event, KeepsCells, NoData, Parts, Text, or_out_of_memory};
 use std::alloc::Global;
 
 /// What the application is made of.
@@ -19,19 +18,8 @@ pub struct Board;
 /// The application.
 pub type Boarded = Bodied<Board>;
 
-/// The cells of who has none.
-const NONE: Cells = Cells { tries: 0, log: 0 };
-
-/// What the card at the top is given: a desk stands in it.
-pub fn standing(alloc: Global) -> Result<Given<Component, Cells>, OutOfMemory> {
-    let component = Component::Desk;
-    let given = given(NONE);
-    let inside = Shared::one(alloc, Inside { component, given })?;
-    Ok(Given { own: NONE, inside })
-}
-
 /// The card at the top.
-fn top(alloc: Global, props: &Given<Component, Cells>) -> Result<VNode<Boarded>, OutOfMemory>
+fn top(alloc: Global, props: &Props) -> Tree
     ensures tree { IfOk result (λ tree. tree ≡ meaning.top props.now) }
 {
     let title = Text::from_str(alloc, "Board")?;
@@ -41,7 +29,7 @@ fn top(alloc: Global, props: &Given<Component, Cells>) -> Result<VNode<Boarded>,
 impl Parts for Board {
     type Component = Component;
 
-    type Props = Given<Component, Cells>;
+    type Props = Props;
 
     /// A count, or the number of the cell that keeps it.
     type Value = u64;
@@ -57,34 +45,27 @@ impl Parts for Board {
     type Payload = NoData;
 }
 
+#[rattlefmt::skip]
 impl KeepsCells for Board {
     ghost keeping = { meaning.keeping };
 
-    fn cell_kind() -> u32 {
-        0
-    }
-
-    fn keep_cell(_alloc: Global, cell: u64) -> Result<u64, OutOfMemory> {
-        Ok(cell)
-    }
-
-    fn cell_in(value: &u64) -> Option<u64> {
-        Some(*value)
-    }
+    fn cell_kind() -> u32 { 0 }
+    fn keep_cell(_alloc: Global, cell: u64) -> Made<u64> { Ok(cell) }
+    fn cell_in(value: &u64) -> Option<u64> { Some(*value) }
 }
 
+#[rattlefmt::skip]
 impl HasChildren for Board {
     type Own = Cells;
 
     ghost giving = { λ given. given };
 
-    fn given_props(given: Given<Component, Cells>) -> Given<Component, Cells>
+    fn given_props(given: Props) -> Props
         ensures props { result ≡ given }
-    {
-        given
-    }
+    { given }
 }
 
+#[rattlefmt::skip]
 impl Bodies for Board {
     ghost programs = { λ _. meaning.programs };
 
@@ -92,23 +73,11 @@ impl Bodies for Board {
 
     ghost decide = { λ _. meaning.decides };
 
-    fn root(&self, _alloc: Global) -> Result<Component, OutOfMemory> {
-        Ok(Component::Card)
-    }
+    fn root(&self, _alloc: Global) -> Made<Component> { Ok(Component::Card) }
+    fn empty_props(&self, _alloc: Global) -> Made<Props> { Ok(given(NONE)) }
 
-    fn empty_props(&self, _alloc: Global) -> Result<Given<Component, Cells>, OutOfMemory> {
-        Ok(given(NONE))
-    }
-
-    #[tactic(auto, using(rt_author::proofs::Rules::hooking))]
-    fn body(
-        &self,
-        alloc: Global,
-        component: &Component,
-        props: &Given<Component, Cells>,
-        cx: &mut BodyCx<'_, Boarded>,
-    ) -> Result<Element<Boarded>, OutOfMemory> {
-        match component {
+    fn body(&self, alloc: Global, which: &Component, props: &Props, cx: &mut Body<'_>) -> Answer {
+        match which {
             Component::Card => Ok(Ok(top(alloc, props)?)),
             Component::Desk => desk(alloc, cx),
             Component::News => news(alloc, props.own, cx),
@@ -118,32 +87,16 @@ impl Bodies for Board {
         }
     }
 
-    fn step(
-        &self,
-        _alloc: Global,
-        state: Loading,
-        cx: &mut Cx<'_, Boarded>,
-    ) -> Result<TaskStep<Loading>, OutOfMemory> {
-        fetch(state, cx)
-    }
+    fn step(&self, _alloc: Global, state: Loading, cx: &mut Call<'_>) -> Step { fetch(state, cx) }
 
-    fn effect(
-        &self,
-        alloc: Global,
-        effect: &u64,
-        cx: &mut Cx<'_, Boarded>,
-    ) -> Result<(), OutOfMemory> {
+    fn effect(&self, alloc: Global, effect: &u64, cx: &mut Call<'_>) -> Made<()> {
         raise(alloc, *effect, cx)
     }
 
     #[tactic(auto, using(rt_author::proofs::Rules::throwing))]
     fn hear(
-        &self,
-        alloc: Global,
-        handler: &Cells,
-        _event: &mut Event<NoData>,
-        cx: &mut Cx<'_, Boarded>,
-    ) -> Result<(), OutOfMemory> {
+        &self, alloc: Global, handler: &Cells, _event: &mut Event<NoData>, cx: &mut Call<'_>,
+    ) -> Made<()> {
         raise(alloc, handler.tries, cx)?;
         or_out_of_memory(cx.clear_errors())
     }

@@ -1,4 +1,6 @@
 //! What the board's components, its task, its effects and its listeners do.
+#![tactic(auto, using(rt_author::proofs::Rules::hooking))]
+
 ghost use Rattle.std.specs.Prelude.{◌≡◌, IfOk, OnOk};
 ghost use Rattle.rt_author.specs.Words.{Comes, ComesIfRemembered, Knows, element_of, nothing, step_of};
 ghost use Rattle.examples_board.specs.Meaning as meaning;
@@ -6,20 +8,26 @@ ghost use Rattle.examples_board.specs.Meaning as meaning;
 use crate::board::Boarded;
 use crate::faces::{desk_face, line, refusal_face};
 use crate::parts::{Cells, Loading};
+use examples_library::Made;
 use rt_author::{
-    BodyCx, Cx, Element, OutOfMemory, RenderError, Signal, TaskStep, Text, VNode, or_out_of_memory,
-    own_cell, own_pair, unless_refused,
+    BodyCx, Cx, Element, RenderError, Signal, TaskStep, Text, VNode, or_out_of_memory, own_cell,
+    own_pair, unless_refused,
 };
 use std::alloc::Global;
 
 /// What a body answers.
-pub(crate) type Answer = Result<Element<Boarded>, OutOfMemory>;
+pub(crate) type Answer = Made<Element<Boarded>>;
+
+/// What a step of the task answers.
+pub(crate) type Step = Made<TaskStep<Loading>>;
+
+/// What a task, an effect or a listener calls.
+pub(crate) type Call<'a> = Cx<'a, Boarded>;
 
 /// What a body calls.
 pub(crate) type Body<'a> = BodyCx<'a, Boarded>;
 
-/// The desk keeps its two cells.
-#[tactic(auto, using(rt_author::proofs::Rules::hooking))]
+/// The desk keeps its two cells, and reads how many entries the log has.
 pub(crate) fn desk(alloc: Global, cx: &mut Body<'_>) -> Answer
     ensures came { IfOk result (λ answer.
         ComesIfRemembered cx.old cx.new meaning.desk (element_of answer)) }
@@ -29,23 +37,13 @@ pub(crate) fn desk(alloc: Global, cx: &mut Body<'_>) -> Answer
         return Ok(VNode::empty(alloc)?);
     };
     let (tries, log) = (pair.source.0, pair.derived.0);
-    Ok(desk_of(alloc, Cells { tries, log }, cx)?)
-}
-
-/// It reads how many entries the log has.
-#[tactic(auto, using(rt_author::proofs::Rules::hooking))]
-fn desk_of(alloc: Global, cells: Cells, cx: &mut Body<'_>) -> Answer
-    ensures came { IfOk result (λ answer.
-        ComesIfRemembered cx.old cx.new (meaning.desk_of cells) (element_of answer)) }
-    ensures world { cx.new.world ≡ cx.old.world }
-{
-    let entries = Signal(cells.log).get(alloc, cx)?;
-    Ok(Ok(desk_face(alloc, cells, entries)?))
+    let entries = Signal(log).get(alloc, cx)?;
+    Ok(Ok(desk_face(alloc, Cells { tries, log }, entries)?))
 }
 
 /// A clean-up is kept, which raises a cell; none where another hook stands there.
 #[tactic(auto, using(crate::proofs::Refusals::cleaning))]
-fn cleaned(log: u64, cx: &mut Body<'_>) -> Result<Option<()>, OutOfMemory>
+fn cleaned(log: u64, cx: &mut Body<'_>) -> Made<Option<()>>
     ensures came { IfOk result (λ kept.
         Knows kept cx.new (Comes cx.old cx.new (meaning.cleaned log) kept)) }
     ensures world { cx.new.world ≡ cx.old.world }
@@ -56,8 +54,7 @@ fn cleaned(log: u64, cx: &mut Body<'_>) -> Result<Option<()>, OutOfMemory>
     }
 }
 
-/// The news keep a clean-up, which logs that they went.
-#[tactic(auto, using(rt_author::proofs::Rules::hooking))]
+/// The news keep a clean-up, which logs that they went, and read how often someone has tried again.
 pub(crate) fn news(alloc: Global, cells: Cells, cx: &mut Body<'_>) -> Answer
     ensures came { IfOk result (λ answer.
         ComesIfRemembered cx.old cx.new (meaning.news cells) (element_of answer)) }
@@ -66,44 +63,21 @@ pub(crate) fn news(alloc: Global, cells: Cells, cx: &mut Body<'_>) -> Answer
     let Some(()) = cleaned(cells.log, cx)? else {
         return Ok(VNode::empty(alloc)?);
     };
-    Ok(news_at(alloc, cells, cx)?)
-}
-
-/// They read how often someone has tried again.
-#[tactic(auto, using(rt_author::proofs::Rules::hooking))]
-fn news_at(alloc: Global, cells: Cells, cx: &mut Body<'_>) -> Answer
-    ensures came { IfOk result (λ answer.
-        ComesIfRemembered cx.old cx.new (meaning.news_at cells) (element_of answer)) }
-    ensures world { cx.new.world ≡ cx.old.world }
-{
     let tries = Signal(cells.tries).get(alloc, cx)?;
     Ok(told(alloc, cells.log, tries, cx)?)
 }
 
 /// Where the cell is there, the news, or an error until someone has tried again.
-#[tactic(auto, using(rt_author::proofs::Rules::hooking))]
 fn told(alloc: Global, log: u64, tries: Option<u64>, cx: &mut Body<'_>) -> Answer
     ensures came { IfOk result (λ answer.
         ComesIfRemembered cx.old cx.new (meaning.told log tries) (element_of answer)) }
     ensures world { cx.new.world ≡ cx.old.world }
 {
     match tries {
-        Some(tries) => told_after(alloc, log, tries, cx),
+        Some(0) => refused(alloc, cx),
+        Some(_) => arrived(alloc, log, cx),
         None => Ok(VNode::empty(alloc)?),
     }
-}
-
-/// The news after so many tries.
-#[tactic(auto, using(rt_author::proofs::Rules::hooking))]
-fn told_after(alloc: Global, log: u64, tries: u64, cx: &mut Body<'_>) -> Answer
-    ensures came { IfOk result (λ answer.
-        ComesIfRemembered cx.old cx.new (meaning.told_after log tries) (element_of answer)) }
-    ensures world { cx.new.world ≡ cx.old.world }
-{
-    if tries == 0 {
-        return refused(alloc, cx);
-    }
-    arrived(alloc, log, cx)
 }
 
 /// An error in the place of a tree.
@@ -143,8 +117,7 @@ pub(crate) fn refusal(alloc: Global, cells: Cells, cx: &mut Body<'_>) -> Answer
     Ok(Ok(refusal_face(alloc, scope, cells, error)?))
 }
 
-/// The letter keeps its cell.
-#[tactic(auto, using(rt_author::proofs::Rules::hooking))]
+/// The letter keeps its cell, and is read in it.
 pub(crate) fn letter(alloc: Global, cx: &mut Body<'_>) -> Answer
     ensures came { IfOk result (λ answer.
         ComesIfRemembered cx.old cx.new meaning.letter (element_of answer)) }
@@ -153,44 +126,21 @@ pub(crate) fn letter(alloc: Global, cx: &mut Body<'_>) -> Answer
     let Some(cell) = own_cell(alloc, cx, 0)? else {
         return Ok(VNode::empty(alloc)?);
     };
-    Ok(letter_at(alloc, cell, cx)?)
-}
-
-/// It is read in its cell.
-#[tactic(auto, using(rt_author::proofs::Rules::hooking))]
-fn letter_at(alloc: Global, cell: u64, cx: &mut Body<'_>) -> Answer
-    ensures came { IfOk result (λ answer.
-        ComesIfRemembered cx.old cx.new (meaning.letter_at cell) (element_of answer)) }
-    ensures world { cx.new.world ≡ cx.old.world }
-{
     let letters = Signal(cell).get(alloc, cx)?;
     Ok(opened(alloc, cell, letters, cx)?)
 }
 
 /// Where the cell is there, the letter, or a suspension until one has come.
-#[tactic(auto, using(rt_author::proofs::Rules::hooking))]
 fn opened(alloc: Global, cell: u64, letters: Option<u64>, cx: &mut Body<'_>) -> Answer
     ensures came { IfOk result (λ answer.
         ComesIfRemembered cx.old cx.new (meaning.opened cell letters) (element_of answer)) }
     ensures world { cx.new.world ≡ cx.old.world }
 {
     match letters {
-        Some(letters) => opened_of(alloc, cell, letters, cx),
+        Some(0) => awaits(alloc, cell, cx),
+        Some(_) => Ok(Ok(line(alloc, "a letter")?)),
         None => Ok(VNode::empty(alloc)?),
     }
-}
-
-/// What shows of so many letters.
-#[tactic(auto, using(rt_author::proofs::Rules::hooking))]
-fn opened_of(alloc: Global, cell: u64, letters: u64, cx: &mut Body<'_>) -> Answer
-    ensures came { IfOk result (λ answer.
-        ComesIfRemembered cx.old cx.new (meaning.opened_of cell letters) (element_of answer)) }
-    ensures world { cx.new.world ≡ cx.old.world }
-{
-    if letters == 0 {
-        return awaits(alloc, cell, cx);
-    }
-    Ok(Ok(line(alloc, "a letter")?))
 }
 
 /// A suspension on the task that fetches the letter.
@@ -207,11 +157,7 @@ fn awaits(alloc: Global, cell: u64, cx: &mut Body<'_>) -> Answer
 }
 
 /// A step of the task: it asks, and at the next wake the letter is there.
-#[tactic(auto, using(rt_author::proofs::Rules::hooking))]
-pub(crate) fn fetch(
-    state: Loading,
-    cx: &mut Cx<'_, Boarded>,
-) -> Result<TaskStep<Loading>, OutOfMemory>
+pub(crate) fn fetch(state: Loading, cx: &mut Call<'_>) -> Step
     ensures came { IfOk result (λ step.
         ComesIfRemembered cx.old cx.new (meaning.fetch state) (step_of step)) }
     ensures world { cx.new.world ≡ cx.old.world }
@@ -226,8 +172,7 @@ pub(crate) fn fetch(
 }
 
 /// A cell is raised by one, where it is there.
-#[tactic(auto, using(rt_author::proofs::Rules::hooking))]
-pub(crate) fn raise(alloc: Global, cell: u64, cx: &mut Cx<'_, Boarded>) -> Result<(), OutOfMemory>
+pub(crate) fn raise(alloc: Global, cell: u64, cx: &mut Call<'_>) -> Made<()>
     ensures came { OnOk result (Comes cx.old cx.new (meaning.raise cell) nothing) }
     ensures world { cx.new.world ≡ cx.old.world }
 {

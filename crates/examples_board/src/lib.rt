@@ -8,6 +8,6 @@ mod faces;
 mod laws;
 mod parts;
 
-pub use board::{Board, Boarded, standing};
+pub use board::{Board, Boarded};
 pub use laws::{news_show, retry_shows_news};
-pub use parts::{Cells, Component, Loading, given};
+pub use parts::{Cells, Component, Loading, Props, given, standing};

@@ -2,7 +2,8 @@
 ghost use Rattle.std.specs.Prelude.{◌≡◌};
 ghost use Rattle.examples_board.specs.Meaning as meaning;
 
-use rt_author::{Given, OutOfMemory, Part, Shared};
+use examples_library::Made;
+use rt_author::{Given, Inside, Part, Shared};
 use std::alloc::Global;
 
 /// A component.
@@ -25,7 +26,7 @@ pub enum Component {
 #[rattlefmt::skip]
 impl Part for Component {
     fn same(&self, other: &Component) -> bool { *self == *other }
-    fn copy(&self, _alloc: Global) -> Result<Component, OutOfMemory> { Ok(*self) }
+    fn copy(&self, _alloc: Global) -> Made<Component> { Ok(*self) }
 }
 
 /// The cells of a desk.
@@ -40,7 +41,7 @@ pub struct Cells {
 #[rattlefmt::skip]
 impl Part for Cells {
     fn same(&self, other: &Cells) -> bool { *self == *other }
-    fn copy(&self, _alloc: Global) -> Result<Cells, OutOfMemory> { Ok(*self) }
+    fn copy(&self, _alloc: Global) -> Made<Cells> { Ok(*self) }
 }
 
 /// The state of the task that fetches the letter. Each names the cell of the letter.
@@ -52,12 +53,24 @@ pub enum Loading {
     Waits(u64),
 }
 
+/// What a component is given.
+pub type Props = Given<Component, Cells>;
+
 /// What a component without children is given.
-pub fn given(cells: Cells) -> Given<Component, Cells>
-    ensures given { result ≡ meaning.given cells }
+pub fn given(own: Cells) -> Props
+    ensures given { result ≡ meaning.given own }
 {
-    Given {
-        own: cells,
-        inside: Shared::empty(),
-    }
+    let inside = Shared::empty();
+    Given { own, inside }
+}
+
+/// The cells of who has none.
+pub(crate) const NONE: Cells = Cells { tries: 0, log: 0 };
+
+/// What the card at the top is given: a desk stands in it.
+pub fn standing(alloc: Global) -> Made<Props> {
+    let component = Component::Desk;
+    let given = given(NONE);
+    let inside = Shared::one(alloc, Inside { component, given })?;
+    Ok(Given { own: NONE, inside })
 }

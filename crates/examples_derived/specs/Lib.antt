@@ -1,4 +1,3 @@
 pub mod Values
-pub mod Counting
 pub mod Meaning
 pub mod Sentences

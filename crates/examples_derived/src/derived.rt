@@ -1,13 +1,15 @@
 //! The application: what its components show, and what its memos and resources are of.
+#![tactic(auto, using(rt_author::proofs::Rules::hooking))]
+
 ghost use Rattle.std.specs.Prelude.{◌≡◌, IfOk};
 ghost use Rattle.rt_author.specs.Words.{Comes, ComesIfRemembered, as_task, element_of, task_of};
 ghost use Rattle.examples_derived.specs.Meaning as meaning;
 
-use crate::parts::{Value, no_words, or_empty};
+use crate::parts::{Made, Value, no_words, or_empty};
 use rt_author::{
     Bodied, Bodies, BodyCx, Cx, Element, Event, HasMemo, KeepsCells, Load, MemoBodies, MemoTask,
-    NoData, OutOfMemory, Part, Parts, Signal, TaskStep, Text, VNode, own_cell, shown, step_memo,
-    use_memo, use_resource, view,
+    NoData, Part, Parts, Signal, TaskStep, Text, VNode, own_cell, shown, step_memo, use_memo,
+    use_resource, view,
 };
 use std::alloc::Global;
 
@@ -19,6 +21,15 @@ pub struct Derived {
 
 /// The application.
 pub type Deriving = Bodied<Derived>;
+
+/// Where a task stands.
+pub type Tasks = MemoTask<Value, Formula>;
+
+/// What a body answers.
+pub type Answer = Made<Element<Deriving>>;
+
+/// What a body calls.
+pub type Body<'a> = BodyCx<'a, Deriving>;
 
 /// A component.
 #[derive(Clone, Copy, PartialEq, Eq)]
@@ -32,7 +43,7 @@ pub enum Component {
 #[rattlefmt::skip]
 impl Part for Component {
     fn same(&self, other: &Component) -> bool { *self == *other }
-    fn copy(&self, _alloc: Global) -> Result<Component, OutOfMemory> { Ok(*self) }
+    fn copy(&self, _alloc: Global) -> Made<Component> { Ok(*self) }
 }
 
 /// What a memo or a resource is of, by the numbers of cells.
@@ -45,8 +56,7 @@ pub enum Formula {
 }
 
 /// The value of a cell; no words where it is gone.
-#[tactic(auto, using(rt_author::proofs::Rules::hooking))]
-fn value_in(alloc: Global, cx: &mut Cx<'_, Deriving>, cell: u64) -> Result<Value, OutOfMemory>
+fn value_in(alloc: Global, cx: &mut Cx<'_, Deriving>, cell: u64) -> Made<Value>
     ensures came { IfOk result (λ value. Comes cx.old cx.new (meaning.value_in cell) value) }
     ensures world { cx.new.world ≡ cx.old.world }
 {
@@ -55,13 +65,7 @@ fn value_in(alloc: Global, cx: &mut Cx<'_, Deriving>, cell: u64) -> Result<Value
 }
 
 /// The value of a cell, unless it isn't asked for: then 0, and the cell isn't read.
-#[tactic(auto, using(rt_author::proofs::Rules::hooking))]
-fn value_unless(
-    alloc: Global,
-    cx: &mut Cx<'_, Deriving>,
-    off: bool,
-    cell: u64,
-) -> Result<Value, OutOfMemory>
+fn value_unless(alloc: Global, cx: &mut Cx<'_, Deriving>, off: bool, cell: u64) -> Made<Value>
     ensures came { IfOk result (λ value. Comes cx.old cx.new (meaning.value_unless off cell) value) }
     ensures world { cx.new.world ≡ cx.old.world }
 {
@@ -72,13 +76,7 @@ fn value_unless(
 }
 
 /// The second of two cells, where the first one is a number other than 0, else 0.
-#[tactic(auto, using(rt_author::proofs::Rules::hooking))]
-fn chosen(
-    alloc: Global,
-    cx: &mut Cx<'_, Deriving>,
-    first: u64,
-    second: u64,
-) -> Result<Value, OutOfMemory>
+fn chosen(alloc: Global, cx: &mut Cx<'_, Deriving>, first: u64, second: u64) -> Made<Value>
     ensures came { IfOk result (λ value. Comes cx.old cx.new (meaning.chosen first second) value) }
     ensures world { cx.new.world ≡ cx.old.world }
 {
@@ -88,7 +86,7 @@ fn chosen(
 }
 
 /// A greeting.
-fn greeting(alloc: Global, key: &Value) -> Result<Value, OutOfMemory>
+fn greeting(alloc: Global, key: &Value) -> Made<Value>
     ensures words { IfOk result (λ value. value ≡ meaning.greeting key.now) }
 {
     let name = key.words(alloc)?;
@@ -99,7 +97,7 @@ fn greeting(alloc: Global, key: &Value) -> Result<Value, OutOfMemory>
 }
 
 /// A tree that shows a value; a placeholder where it is gone.
-fn face(alloc: Global, read: Option<Value>) -> Result<VNode<Deriving>, OutOfMemory>
+fn face(alloc: Global, read: Option<Value>) -> Made<VNode<Deriving>>
     ensures tree { IfOk result (λ tree. tree ≡ meaning.face read) }
 {
     match read {
@@ -112,12 +110,7 @@ fn face(alloc: Global, read: Option<Value>) -> Result<VNode<Deriving>, OutOfMemo
 }
 
 /// What is shown of a cell that a task keeps.
-#[tactic(auto, using(rt_author::proofs::Rules::hooking))]
-fn showing(
-    alloc: Global,
-    cx: &mut BodyCx<'_, Deriving>,
-    cell: u64,
-) -> Result<Element<Deriving>, OutOfMemory>
+fn showing(alloc: Global, cx: &mut Body<'_>, cell: u64) -> Answer
     ensures came { IfOk result (λ answer.
         Comes cx.old cx.new (meaning.showing cell) (element_of answer)) }
     ensures world { cx.new.world ≡ cx.old.world }
@@ -127,12 +120,7 @@ fn showing(
 }
 
 /// Two cells, and a memo of them that is shown.
-#[tactic(auto, using(rt_author::proofs::Rules::hooking))]
-fn choosing(
-    app: &Derived,
-    alloc: Global,
-    cx: &mut BodyCx<'_, Deriving>,
-) -> Result<Element<Deriving>, OutOfMemory>
+fn choosing(app: &Derived, alloc: Global, cx: &mut Body<'_>) -> Answer
     ensures came { IfOk result (λ answer.
         ComesIfRemembered cx.old cx.new meaning.choosing (element_of answer)) }
     ensures world { cx.new.world ≡ cx.old.world }
@@ -144,13 +132,7 @@ fn choosing(
 }
 
 /// The second cell, and the memo, where the first cell is had.
-#[tactic(auto, using(rt_author::proofs::Rules::hooking))]
-fn choosing_of(
-    app: &Derived,
-    alloc: Global,
-    cx: &mut BodyCx<'_, Deriving>,
-    first: u64,
-) -> Result<Element<Deriving>, OutOfMemory>
+fn choosing_of(app: &Derived, alloc: Global, cx: &mut Body<'_>, first: u64) -> Answer
     ensures came { IfOk result (λ answer.
         ComesIfRemembered cx.old cx.new (meaning.choosing_of first) (element_of answer)) }
     ensures world { cx.new.world ≡ cx.old.world }
@@ -162,13 +144,7 @@ fn choosing_of(
 }
 
 /// A memo that is shown.
-#[tactic(auto, using(rt_author::proofs::Rules::hooking))]
-fn memo_of(
-    app: &Derived,
-    alloc: Global,
-    cx: &mut BodyCx<'_, Deriving>,
-    formula: Formula,
-) -> Result<Element<Deriving>, OutOfMemory>
+fn memo_of(app: &Derived, alloc: Global, cx: &mut Body<'_>, formula: Formula) -> Answer
     ensures came { IfOk result (λ answer.
         ComesIfRemembered cx.old cx.new (meaning.memo_of formula) (element_of answer)) }
     ensures world { cx.new.world ≡ cx.old.world }
@@ -180,19 +156,14 @@ fn memo_of(
 }
 
 /// Who is greeted first.
-fn first_name(alloc: Global) -> Result<Value, OutOfMemory>
+fn first_name(alloc: Global) -> Made<Value>
     ensures name { IfOk result (λ value. value ≡ meaning.first_name) }
 {
     Ok(Value::Words(Text::from_str(alloc, "a")?))
 }
 
 /// A cell, and what is loaded for it.
-#[tactic(auto, using(rt_author::proofs::Rules::hooking))]
-fn loading(
-    app: &Derived,
-    alloc: Global,
-    cx: &mut BodyCx<'_, Deriving>,
-) -> Result<Element<Deriving>, OutOfMemory>
+fn loading(app: &Derived, alloc: Global, cx: &mut Body<'_>) -> Answer
     ensures came { IfOk result (λ answer.
         ComesIfRemembered cx.old cx.new meaning.loading (element_of answer)) }
     ensures world { cx.new.world ≡ cx.old.world }
@@ -205,13 +176,7 @@ fn loading(
 }
 
 /// A resource that is shown.
-#[tactic(auto, using(rt_author::proofs::Rules::hooking))]
-fn resource_of(
-    app: &Derived,
-    alloc: Global,
-    cx: &mut BodyCx<'_, Deriving>,
-    formula: Formula,
-) -> Result<Element<Deriving>, OutOfMemory>
+fn resource_of(app: &Derived, alloc: Global, cx: &mut Body<'_>, formula: Formula) -> Answer
     ensures came { IfOk result (λ answer.
         ComesIfRemembered cx.old cx.new (meaning.resource_of formula) (element_of answer)) }
     ensures world { cx.new.world ≡ cx.old.world }
@@ -222,6 +187,7 @@ fn resource_of(
     Ok(showing(alloc, cx, loaded)?)
 }
 
+#[rattlefmt::skip]
 impl HasMemo<Deriving> for Derived {
     type Formula = Formula;
 
@@ -229,40 +195,27 @@ impl HasMemo<Deriving> for Derived {
 
     ghost state = { λ task. as_task task };
 
-    fn memo_state(task: MemoTask<Value, Formula>) -> MemoTask<Value, Formula>
+    fn memo_state(task: Tasks) -> Tasks
         ensures state { result ≡ as_task (task_of task) }
     {
         task
     }
 
-    fn compute(
-        &self,
-        alloc: Global,
-        formula: &Formula,
-        cx: &mut Cx<'_, Deriving>,
-    ) -> Result<Value, OutOfMemory> {
+    fn compute(&self, alloc: Global, formula: &Formula, cx: &mut Cx<'_, Deriving>) -> Made<Value> {
         match formula {
             Formula::Chosen { first, second } => chosen(alloc, cx, *first, *second),
             Formula::Greeting(cell) => value_in(alloc, cx, *cell),
         }
     }
 
-    fn load(
-        &self,
-        alloc: Global,
-        _formula: &Formula,
-        key: &Value,
-        step: u64,
-    ) -> Result<Load<Value>, OutOfMemory> {
+    fn load(&self, alloc: Global, _formula: &Formula, key: &Value, step: u64) -> Made<Load<Value>> {
         if step < 1 {
             return Ok(Load::Wait);
         }
         Ok(Load::Done(greeting(alloc, key)?))
     }
 
-    fn empty(&self, alloc: Global) -> Result<Value, OutOfMemory> {
-        no_words(alloc)
-    }
+    fn empty(&self, alloc: Global) -> Made<Value> { no_words(alloc) }
 
     ghost look = { λ _. meaning.looks };
 }
@@ -280,24 +233,19 @@ impl Parts for Derived {
 
     type Handler = NoData;
 
-    type TaskState = MemoTask<Value, Formula>;
+    type TaskState = Tasks;
 
     type Effect = NoData;
 
     type Payload = NoData;
 }
 
+#[rattlefmt::skip]
 impl KeepsCells for Derived {
     ghost keeping = { meaning.keeping };
 
-    fn cell_kind() -> u32 {
-        0
-    }
-
-    fn keep_cell(_alloc: Global, cell: u64) -> Result<Value, OutOfMemory> {
-        Ok(Value::Number(cell))
-    }
-
+    fn cell_kind() -> u32 { 0 }
+    fn keep_cell(_alloc: Global, cell: u64) -> Made<Value> { Ok(Value::Number(cell)) }
     fn cell_in(value: &Value) -> Option<u64> {
         match value {
             Value::Number(cell) => Some(*cell),
@@ -306,6 +254,7 @@ impl KeepsCells for Derived {
     }
 }
 
+#[rattlefmt::skip]
 impl Bodies for Derived {
     ghost programs = { λ bodies. meaning.programs bodies.root };
 
@@ -313,21 +262,16 @@ impl Bodies for Derived {
 
     ghost decide = { λ bodies. meaning.decides bodies.root };
 
-    fn root(&self, _alloc: Global) -> Result<Component, OutOfMemory> {
-        Ok(self.root)
-    }
-
-    fn empty_props(&self, _alloc: Global) -> Result<NoData, OutOfMemory> {
-        Ok(NoData)
-    }
+    fn root(&self, _alloc: Global) -> Made<Component> { Ok(self.root) }
+    fn empty_props(&self, _alloc: Global) -> Made<NoData> { Ok(NoData) }
 
     fn body(
         &self,
         alloc: Global,
         component: &Component,
         _props: &NoData,
-        cx: &mut BodyCx<'_, Deriving>,
-    ) -> Result<Element<Deriving>, OutOfMemory> {
+        cx: &mut Body<'_>,
+    ) -> Answer {
         match component {
             Component::Chosen => choosing(self, alloc, cx),
             Component::Loaded => loading(self, alloc, cx),
@@ -337,30 +281,23 @@ impl Bodies for Derived {
     fn step(
         &self,
         alloc: Global,
-        state: MemoTask<Value, Formula>,
+        state: Tasks,
         cx: &mut Cx<'_, Deriving>,
-    ) -> Result<TaskStep<MemoTask<Value, Formula>>, OutOfMemory> {
+    ) -> Made<TaskStep<Tasks>> {
         step_memo(self, alloc, state, cx)
     }
 
-    #[tactic(auto, using(rt_author::proofs::Rules::hooking))]
-    fn effect(
-        &self,
-        _alloc: Global,
-        _effect: &NoData,
-        _cx: &mut Cx<'_, Deriving>,
-    ) -> Result<(), OutOfMemory> {
+    fn effect(&self, _alloc: Global, _effect: &NoData, _cx: &mut Cx<'_, Deriving>) -> Made<()> {
         Ok(())
     }
 
-    #[tactic(auto, using(rt_author::proofs::Rules::hooking))]
     fn hear(
         &self,
         _alloc: Global,
         _handler: &NoData,
         _event: &mut Event<NoData>,
         _cx: &mut Cx<'_, Deriving>,
-    ) -> Result<(), OutOfMemory> {
+    ) -> Made<()> {
         Ok(())
     }
 }

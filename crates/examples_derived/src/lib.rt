@@ -1,13 +1,11 @@
-//! A memo of two cells and a resource that greets, in bodies, and a page with a derived cell. What
-//! shows one runs again where it changes.
+//! A memo of two cells and a resource that greets, in bodies. What shows one runs again where it
+//! changes.
 #![tactic(auto)]
 
 mod derived;
 mod laws;
 mod parts;
-mod tally;
 
-pub use derived::{Component, Derived, Deriving, Formula};
+pub use derived::{Answer, Body, Component, Derived, Deriving, Formula, Tasks};
 pub use laws::derived_are_kept;
-pub use parts::Value;
-pub use tally::{Tallied, Tally, application};
+pub use parts::{Made, Value};

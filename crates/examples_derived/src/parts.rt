@@ -5,6 +5,9 @@ ghost use Rattle.examples_derived.specs.Values as values;
 use rt_author::{OutOfMemory, Part, Text};
 use std::alloc::Global;
 
+/// What is made, or want of memory.
+pub type Made<T> = Result<T, OutOfMemory>;
+
 /// What a cell or a hook holds.
 #[derive(Drop)]
 pub enum Value {
@@ -22,7 +25,7 @@ impl Part for Value {
         }
     }
 
-    fn copy(&self, alloc: Global) -> Result<Value, OutOfMemory> {
+    fn copy(&self, alloc: Global) -> Made<Value> {
         match self {
             Value::Number(number) => Ok(Value::Number(*number)),
             Value::Words(words) => Ok(Value::Words(words.copy(alloc)?)),
@@ -42,7 +45,7 @@ impl Value {
     }
 
     /// What it is in words.
-    pub fn words(&self, alloc: Global) -> Result<Text, OutOfMemory>
+    pub fn words(&self, alloc: Global) -> Made<Text>
         ensures words { IfOk result (λ words. words ≡ values.words self.now) }
     {
         match self {
@@ -56,14 +59,14 @@ impl Value {
 }
 
 /// What a cell holds that has no value yet.
-pub fn no_words(alloc: Global) -> Result<Value, OutOfMemory>
+pub fn no_words(alloc: Global) -> Made<Value>
     ensures empty { IfOk result (λ value. value ≡ values.empty) }
 {
     Ok(Value::Words(Text::from_str(alloc, "")?))
 }
 
 /// What was read of a cell; no words where it is gone.
-pub fn or_empty(alloc: Global, read: Option<Value>) -> Result<Value, OutOfMemory>
+pub fn or_empty(alloc: Global, read: Option<Value>) -> Made<Value>
     ensures value { IfOk result (λ value. value ≡ values.or_empty read) }
 {
     match read {

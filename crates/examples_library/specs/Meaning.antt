@@ -1,10 +1,10 @@
--- What a field, a card and tabs are, for every application.
+-- What a field, a card, tabs and a line are, for every application.
 use Rattle.std.proofs.Common.{refl}
 use Rattle.std.specs.Prelude.{ℕ, nat_eq, Bool, true, false, ◌&&◌, List, [], ◌∷◌, codes, map, Option, Some, None}
 use Rattle.std.specs.List.{slice_get}
 use Rattle.rt_author.specs.Words.{Carrying, Element, Event, NoData, Page, Program, Reply, Types, VNode}
 use Rattle.rt_author.specs.Words.{attrs, child, current_scope, done, element, empty_attrs, empty_piece, go_on, listens}
-use Rattle.rt_author.specs.Words.{coded_tests, pair_tests, placeholder_tree, plain_tests, rendered, row, says, several, shown}
+use Rattle.rt_author.specs.Words.{coded_tests, pair_tests, placeholder_tree, plain_tests, rendered, row, says, several, shown, text}
 use Rattle.rt_author.specs.Words.{tree_of, types, view, when}
 use Rattle.rt_author.specs.Carrying.{carried, read_held, write_held}
 use Rattle.rt_author.specs.Piece.{Piece}
@@ -19,6 +19,10 @@ use Rattle.examples_library.specs.declared.parts.Typed.{Typed}
 -- the library, by its types
 abbrev pub Library : Types
 Library = types NoData FieldProps (List ℕ) Typed NoData NoData (List ℕ)
+
+-- what a field is given, of its cell and its words
+abbrev pub field_props : ℕ → List ℕ → List ℕ → FieldProps
+field_props cell label refusal = record { cell = cell; label = label; refusal = refusal }
 
 -- what a field is given, as a pair, and back
 abbrev pub field_code : FieldProps → ℕ × (List ℕ × List ℕ)
@@ -136,6 +140,12 @@ module _ {P C Q V H T E L Own : Type 0} where
       (element (codes "h2") empty_attrs (shown title) ∷ several (all_inner giving inside) ∷ [])))
 
 module _ {P C Q V H T E L : Type 0} where
+  -- a line of these words, with a button that takes it out
+  abbrev pub line : ℕ → List ℕ → H → VNode P C Q V H T E L
+  line scope words removes =
+      view (element (codes "li") empty_attrs (row
+      (shown words ∷ element (codes "button") (listens (codes "onclick") scope removes) (text (codes "remove")) ∷ [])))
+
   -- a tab
   abbrev pub tab : List ℕ → Bool → ℕ → H → VNode P C Q V H T E L
   tab name true scope choose = view (element (codes "b") empty_attrs (shown name))

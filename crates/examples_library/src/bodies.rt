@@ -4,8 +4,8 @@ ghost use Rattle.rt_author.specs.Words.{Comes, element_of, event_of};
 ghost use Rattle.examples_library.specs.Meaning as meaning;
 
 use crate::faces::present;
-use crate::parts::{FieldProps, Library, Typed};
-use rt_author::{Carries, Cx, Element, Event, OutOfMemory, read_held, write_held};
+use crate::parts::{FieldProps, Library, Made, Typed};
+use rt_author::{Carries, Cx, Element, Event, read_held, write_held};
 use std::alloc::Global;
 
 /// The body of a field.
@@ -14,7 +14,7 @@ pub fn field<P: Carries<Library>, K>(
     alloc: Global,
     props: &FieldProps,
     cx: &mut Cx<'_, P, K>,
-) -> Result<Element<P>, OutOfMemory>
+) -> Made<Element<P>>
     ensures came { IfOk result (λ answer. Comes cx.old cx.new
         (meaning.field P P.carrying props.now) (element_of answer)) }
     ensures fault { OnOk result (cx.new.fault ≡ cx.old.fault) }
@@ -32,7 +32,7 @@ pub fn typed_in<P: Carries<Library>, K>(
     typed: &Typed,
     event: &Event<P::Payload>,
     cx: &mut Cx<'_, P, K>,
-) -> Result<(), OutOfMemory>
+) -> Made<()>
     ensures came { OnOk result (Comes cx.old cx.new
         (meaning.typed_in P.carrying typed.now (event_of event.now)) (event_of event.now)) }
     ensures fault { OnOk result (cx.new.fault ≡ cx.old.fault) }

@@ -2,9 +2,10 @@
 ghost use Rattle.std.specs.Prelude.{◌≡◌, IfOk};
 ghost use Rattle.examples_library.specs.Meaning as meaning;
 
+use crate::parts::Made;
 use rt_author::{
-    Bodied, Given, Inside, List, OutOfMemory, Paged, Part, Parts, Text, VNode, child, element,
-    empty_attrs, row, several, shown, view,
+    Bodied, Given, Inside, List, Paged, Part, Parts, Text, VNode, child, element, empty_attrs, row,
+    several, shown, view,
 };
 use std::alloc::Global;
 
@@ -48,10 +49,7 @@ impl<S: HasChildren> HasChildren for Paged<S> {
 }
 
 /// A component that stands in a card, as a tree.
-fn inner<P: HasChildren>(
-    alloc: Global,
-    item: &Inside<P::Component, P::Own>,
-) -> Result<VNode<P>, OutOfMemory>
+fn inner<P: HasChildren>(alloc: Global, item: &Inside<P::Component, P::Own>) -> Made<VNode<P>>
     ensures tree { IfOk result (λ tree. tree ≡ meaning.inner P.giving item.now) }
 {
     let component = item.component.copy(alloc)?;
@@ -63,7 +61,7 @@ fn inner<P: HasChildren>(
 fn all_inner<P: HasChildren>(
     alloc: Global,
     inside: &[Inside<P::Component, P::Own>],
-) -> Result<List<VNode<P>>, OutOfMemory>
+) -> Made<List<VNode<P>>>
     ensures trees { IfOk result (λ trees. trees ≡ meaning.all_inner P.giving inside.now) }
 {
     let mut trees = List::new(alloc);
@@ -78,7 +76,7 @@ pub fn card<P: HasChildren>(
     alloc: Global,
     title: &Text,
     inside: &[Inside<P::Component, P::Own>],
-) -> Result<VNode<P>, OutOfMemory>
+) -> Made<VNode<P>>
     ensures tree { IfOk result (λ tree. tree ≡ meaning.card P.giving title.now inside.now) }
 {
     let title = title.copy(alloc)?;

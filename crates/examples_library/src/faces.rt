@@ -2,25 +2,22 @@
 ghost use Rattle.std.specs.Prelude.{◌≡◌, IfOk};
 ghost use Rattle.examples_library.specs.Meaning as meaning;
 
-use crate::parts::{FieldProps, Library, Typed};
+use crate::parts::{FieldProps, Library, Made, Typed};
 use rt_author::{
-    Carries, NoData, OutOfMemory, Part, Parts, Piece, ScopeId, Text, VNode, attrs, carried,
-    element, empty_attrs, empty_piece, listens, row, says, shown, view, when,
+    Carries, NoData, Part, Parts, Piece, ScopeId, Text, VNode, attrs, carried, element,
+    empty_attrs, empty_piece, listens, row, says, shown, view, when,
 };
 use std::alloc::Global;
 
 /// A field, as a piece of a tree.
-pub fn field_at<P: Carries<Library>>(
-    alloc: Global,
-    props: FieldProps,
-) -> Result<Piece<P>, OutOfMemory>
+pub fn field_at<P: Carries<Library>>(alloc: Global, props: FieldProps) -> Made<Piece<P>>
     ensures piece { IfOk result (λ piece. piece ≡ meaning.field_at P.carrying props) }
 {
     carried::<Library, P>(alloc, NoData, props)
 }
 
 /// What is said of a text: a refusal while there is none.
-fn said<P: Parts>(alloc: Global, text: &Text, refusal: &Text) -> Result<Piece<P>, OutOfMemory>
+fn said<P: Parts>(alloc: Global, text: &Text, refusal: &Text) -> Made<Piece<P>>
     ensures piece { IfOk result (λ piece. piece ≡ meaning.said text.now refusal.now) }
 {
     if text.is_empty() {
@@ -36,7 +33,7 @@ fn face<P: Carries<Library>>(
     scope: ScopeId,
     props: &FieldProps,
     text: Text,
-) -> Result<VNode<P>, OutOfMemory>
+) -> Made<VNode<P>>
     ensures tree { IfOk result (λ tree. tree ≡ meaning.face P.carrying scope.0 props.now text) }
 {
     let words = props.label.copy(alloc)?;
@@ -57,7 +54,7 @@ pub(crate) fn present<P: Carries<Library>>(
     scope: ScopeId,
     props: &FieldProps,
     held: Option<Text>,
-) -> Result<VNode<P>, OutOfMemory>
+) -> Made<VNode<P>>
     ensures tree { IfOk result (λ tree. tree ≡ meaning.present P.carrying scope.0 props.now held) }
 {
     match held {

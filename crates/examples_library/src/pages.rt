@@ -4,12 +4,12 @@ ghost use Rattle.std.specs.Option.{option_copied};
 ghost use Rattle.examples_library.specs.Meaning as meaning;
 
 use crate::faces::present;
-use crate::parts::{FieldProps, Library, Typed};
-use rt_author::{Carries, List, OutOfMemory, Part, ScopeId, VNode, one};
+use crate::parts::{FieldProps, Library, Made, Typed};
+use rt_author::{Carries, List, Part, ScopeId, VNode, one};
 use std::alloc::Global;
 
 /// The cells that a field reads.
-pub fn field_reads(alloc: Global, props: &FieldProps) -> Result<List<u64>, OutOfMemory>
+pub fn field_reads(alloc: Global, props: &FieldProps) -> Made<List<u64>>
     ensures reads { IfOk result (λ cells. cells ≡ meaning.field_reads props.now) }
 {
     one(alloc, props.cell)
@@ -21,7 +21,7 @@ pub fn field_shows<P: Carries<Library>>(
     scope: ScopeId,
     props: &FieldProps,
     value: Option<&Option<P::Value>>,
-) -> Result<VNode<P>, OutOfMemory>
+) -> Made<VNode<P>>
     ensures tree { IfOk result (λ tree. tree
         ≡ meaning.field_shows P.carrying scope.0 props.now (option_copied value.entry)) }
 {
@@ -36,7 +36,7 @@ pub fn typed_writes<P: Carries<Library>>(
     alloc: Global,
     typed: &Typed,
     payload: &P::Payload,
-) -> Result<List<(u64, P::Value)>, OutOfMemory>
+) -> Made<List<(u64, P::Value)>>
     ensures writes { IfOk result (λ writes. writes
         ≡ meaning.typed_writes P.carrying typed.now (P.carrying.payload payload.now)) }
 {

@@ -1,4 +1,6 @@
 //! What the library is made of: its types, what a field is given, and what its listener does.
+ghost use Rattle.std.specs.Prelude.{◌≡◌, IfOk};
+ghost use Rattle.examples_library.specs.Meaning as meaning;
 
 use rt_author::{NoData, OutOfMemory, Part, Parts, Text};
 use std::alloc::Global;
@@ -25,6 +27,9 @@ impl Parts for Library {
     type Payload = Text;
 }
 
+/// What is made, or want of memory.
+pub type Made<T> = Result<T, OutOfMemory>;
+
 /// What a field is given.
 #[derive(Drop)]
 pub struct FieldProps {
@@ -35,6 +40,20 @@ pub struct FieldProps {
     pub refusal: Text,
 }
 
+impl FieldProps {
+    /// Of the cell, with these words.
+    pub fn new(alloc: Global, cell: u64, label: &str, refusal: &str) -> Made<FieldProps>
+        ensures props { IfOk result (λ props.
+            props ≡ meaning.field_props cell label.now refusal.now) }
+    {
+        Ok(FieldProps {
+            cell,
+            label: Text::from_str(alloc, label)?,
+            refusal: Text::from_str(alloc, refusal)?,
+        })
+    }
+}
+
 impl Part for FieldProps {
     fn same(&self, other: &FieldProps) -> bool {
         self.cell == other.cell
@@ -42,7 +61,7 @@ impl Part for FieldProps {
             && self.refusal.same(&other.refusal)
     }
 
-    fn copy(&self, alloc: Global) -> Result<FieldProps, OutOfMemory> {
+    fn copy(&self, alloc: Global) -> Made<FieldProps> {
         Ok(FieldProps {
             cell: self.cell,
             label: self.label.copy(alloc)?,
@@ -60,5 +79,5 @@ pub struct Typed {
 #[rattlefmt::skip]
 impl Part for Typed {
     fn same(&self, other: &Typed) -> bool { *self == *other }
-    fn copy(&self, _alloc: Global) -> Result<Typed, OutOfMemory> { Ok(*self) }
+    fn copy(&self, _alloc: Global) -> Made<Typed> { Ok(*self) }
 }

@@ -3,9 +3,10 @@ ghost use Rattle.std.specs.Prelude.{◌≡◌, IfOk};
 ghost use Rattle.rt_author.specs.Had.{Had};
 ghost use Rattle.examples_library.specs.Meaning as meaning;
 
+use crate::parts::Made;
 use rt_author::{
-    List, OutOfMemory, Parts, Piece, ScopeId, Text, VNode, element, empty_attrs, listens, row,
-    several, shown, view,
+    List, Parts, Piece, ScopeId, Text, VNode, element, empty_attrs, listens, row, several, shown,
+    view,
 };
 use std::alloc::Global;
 
@@ -16,14 +17,12 @@ pub fn tab<P: Parts>(
     chosen: bool,
     scope: ScopeId,
     choose: P::Handler,
-) -> Result<VNode<P>, OutOfMemory>
+) -> Made<VNode<P>>
     ensures tree { IfOk result (λ tree. tree ≡ meaning.tab name chosen scope.0 choose) }
 {
     if chosen {
-        view(
-            alloc,
-            element(alloc, "b", empty_attrs(alloc), shown(alloc, name)),
-        )
+        let plain = element(alloc, "b", empty_attrs(alloc), shown(alloc, name));
+        view(alloc, plain)
     } else {
         let chooses = listens(alloc, "onclick", scope, choose);
         view(alloc, element(alloc, "button", chooses, shown(alloc, name)))
@@ -31,11 +30,7 @@ pub fn tab<P: Parts>(
 }
 
 /// Tabs in a bar, and below them what the chosen one shows.
-pub fn tabs<P: Parts>(
-    alloc: Global,
-    bar: List<VNode<P>>,
-    below: Result<Piece<P>, OutOfMemory>,
-) -> Result<VNode<P>, OutOfMemory>
+pub fn tabs<P: Parts>(alloc: Global, bar: List<VNode<P>>, below: Made<Piece<P>>) -> Made<VNode<P>>
     ensures tree { IfOk result (λ tree. Had below (λ below. tree ≡ meaning.tabs bar below)) }
 {
     let names = element(alloc, "nav", empty_attrs(alloc), several(alloc, bar));

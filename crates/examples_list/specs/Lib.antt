@@ -1,4 +1,3 @@
 pub mod Tests
-pub mod Shapes
 pub mod Meaning
 pub mod Sentences

@@ -5,10 +5,10 @@ use Rattle.std.specs.Prelude.{Option, Some, None, if◌then◌else◌}
 use Rattle.std.specs.List.{slice_get}
 use Rattle.rt_author.specs.Words.{AllDecide, Carrying, Event, Keeping, NoData, Page, Paged, Pages, Reply, Types, VNode}
 use Rattle.rt_author.specs.Words.{coded_tests, either_tests, element, empty_attrs, listens, pair_tests, placeholder_tree, plain_tests}
-use Rattle.rt_author.specs.Words.{row, same_either, several, shown, text, tree_of, types, view}
+use Rattle.rt_author.specs.Words.{row, same_either, several, text, tree_of, types, view}
 use Rattle.rt_author.specs.Lists.{same_list, same_numbers}
 use Rattle.rt_author.specs.Piece.{Piece}
-use Rattle.examples_library.specs.Meaning.{Library, field_at, field_page, field_tests, same_field, typed_reply}
+use Rattle.examples_library.specs.Meaning.{Library, field_at, field_page, field_props, field_tests, line, same_field, typed_reply}
 use Rattle.examples_library.specs.declared.parts.FieldProps.{FieldProps}
 use Rattle.examples_library.specs.declared.parts.Typed.{Typed}
 use Rattle.examples_list.specs.Tests.{list_tests}
@@ -39,18 +39,14 @@ abbrev pub words_of : Value → Option (List ℕ)
 words_of (values.Words words) = Some words
 words_of _ = None
 
--- the items, where a value is them
-abbrev pub items_of : Value → Option (List (List ℕ))
-items_of (values.Items items) = Some items
-items_of _ = None
-
 -- of a value that was read
 abbrev pub words_in : Option (Option Value) → Option (List ℕ)
-words_in (Some (Some value)) = words_of value
+words_in (Some (Some (values.Words words))) = Some words
 words_in _ = None
 
+-- the items, of a value that was read
 abbrev pub items_in : Option (Option Value) → Option (List (List ℕ))
-items_in (Some (Some value)) = items_of value
+items_in (Some (Some (values.Items items))) = Some items
 items_in _ = None
 
 -- the number of a cell, where a value keeps that
@@ -75,30 +71,26 @@ carrying =
       payload = λ words. Some words;
     }
 
--- a button whose clicks are heard
-abbrev pub button : List ℕ → ℕ → Change → ListPiece
-button words scope change = element (codes "button") (listens (codes "onclick") scope change) (text words)
-
--- an item at a position, with a button that takes it out
-abbrev pub line : ℕ → ℕ → ℕ → List ℕ → ListTree
-line scope cell at words =
-    view (element (codes "li") empty_attrs (row (shown words ∷ button (codes "remove") scope (changes.Remove cell at) ∷ [])))
-
--- the items from a position on
+-- the items from a position on: each with a button that takes it out
 abbrev pub lines : ℕ → ℕ → ℕ → List (List ℕ) → List ListTree
 lines scope cell at [] = []
-lines scope cell at (words ∷ items) = line scope cell at words ∷ lines scope cell (at + 1) items
+lines scope cell at (words ∷ items) = line scope words (changes.Remove cell at) ∷ lines scope cell (at + 1) items
 
 -- the field for what is wanted
 abbrev pub draft_field : ℕ → ListPiece
-draft_field cell = field_at carrying (record { cell = cell; label = codes "Wanted"; refusal = codes "Say what" })
+draft_field cell = field_at carrying (field_props cell (codes "Wanted") (codes "Say what"))
+
+-- the button that adds what was typed
+abbrev pub add_button : ℕ → ℕ → ℕ → ListPiece
+add_button scope draft cell =
+    element (codes "button") (listens (codes "onclick") scope (changes.Add draft cell)) (text (codes "Add"))
 
 -- the field, a button, and the items
 abbrev pub whole : ℕ → ℕ → ℕ → List (List ℕ) → ListTree
 whole scope draft cell items =
     view (row
     (draft_field draft
-    ∷ button (codes "Add") scope (changes.Add draft cell)
+    ∷ add_button scope draft cell
     ∷ element (codes "ul") empty_attrs (several (lines scope cell 0 items))
     ∷ []))
 
@@ -208,7 +200,7 @@ same_change = same_either same_pair (same_either same_pair nat_eq)
 
 -- what the whole is given
 abbrev pub no_props : FieldProps
-no_props = record { cell = 0; label = []; refusal = [] }
+no_props = field_props 0 [] []
 
 -- the whole application
 abbrev pub answers : Pages ListTypes

@@ -1,99 +1,75 @@
 //! What the list shows.
 ghost use Rattle.std.specs.Prelude.{◌≡◌, IfOk};
-ghost use Rattle.std.specs.Option.{option_copied};
+ghost use Rattle.std.specs.List.{slice_get};
 ghost use Rattle.examples_list.specs.Meaning as meaning;
 
-use crate::kept::KeptLine;
-use crate::listed::Shopping;
-use crate::parts::Change;
-use examples_library::{FieldProps, field_at};
+use crate::listed::Listed;
+use crate::parts::{Change, Value, items_in};
+use examples_library::{FieldProps, Line, Made, field_at};
 use rt_author::{
-    List, OutOfMemory, Paged, Piece, ScopeId, Text, VNode, element, empty_attrs, listens, row,
-    several, text, view,
+    List, Piece, ScopeId, Text, VNode, element, empty_attrs, listens, row, several, text, view,
 };
 use std::alloc::Global;
 
-/// A button whose clicks are heard.
-fn button(
-    alloc: Global,
-    words: &str,
-    scope: ScopeId,
-    change: Change,
-) -> Result<Piece<Paged<Shopping>>, OutOfMemory>
-    ensures piece { IfOk result (λ piece. piece ≡ meaning.button words.now scope.0 change) }
-{
-    let clicked = listens(alloc, "onclick", scope, change);
-    element(alloc, "button", clicked, text(alloc, words))
-}
+/// A tree of the list.
+pub(crate) type Tree = Made<VNode<Listed>>;
 
-/// The items, in order.
-fn lines(
-    alloc: Global,
-    line: &KeptLine,
-    scope: ScopeId,
-    cell: u64,
-    items: &[Text],
-) -> Result<List<VNode<Paged<Shopping>>>, OutOfMemory>
-    ensures lines { IfOk result (λ lines. lines ≡ meaning.lines scope.0 cell 0 items.now) }
+/// Trees beside one another.
+type Lines = Made<List<VNode<Listed>>>;
+
+/// The items, in order: each with a button that takes it out.
+fn lines(alloc: Global, line: &Line, scope: ScopeId, items: u64, words: &[Text]) -> Lines
+    ensures lines { IfOk result (λ lines. lines ≡ meaning.lines scope.0 items 0 words.now) }
 {
     let mut lines = List::new(alloc);
-    for at in 0..items.len() {
-        lines.push(line.of(alloc, scope, cell, at as u64, &items[at])?)?;
+    for index in 0..words.len() {
+        let at = index as u64;
+        let removes = Change::Remove { items, at };
+        lines.push(line.of::<Listed>(alloc, scope, &words[index], removes)?)?;
     }
     Ok(lines)
 }
 
 /// The field for what is wanted.
-fn draft_field(alloc: Global, cell: u64) -> Result<Piece<Paged<Shopping>>, OutOfMemory>
+fn draft_field(alloc: Global, cell: u64) -> Made<Piece<Listed>>
     ensures piece { IfOk result (λ piece. piece ≡ meaning.draft_field cell) }
 {
-    let label = Text::from_str(alloc, "Wanted")?;
-    let refusal = Text::from_str(alloc, "Say what")?;
-    let props = FieldProps {
-        cell,
-        label,
-        refusal,
-    };
-    Ok(field_at(alloc, props)?)
+    Ok(field_at(alloc, FieldProps::new(alloc, cell, "Wanted", "Say what")?)?)
+}
+
+/// The button that adds what was typed.
+fn add_button(alloc: Global, scope: ScopeId, draft: u64, items: u64) -> Made<Piece<Listed>>
+    ensures piece { IfOk result (λ piece. piece ≡ meaning.add_button scope.0 draft items) }
+{
+    let adds = listens(alloc, "onclick", scope, Change::Add { draft, items });
+    element(alloc, "button", adds, text(alloc, "Add"))
 }
 
 /// The field, a button, and the items.
-fn whole(
-    alloc: Global,
-    line: &KeptLine,
-    scope: ScopeId,
-    draft: u64,
-    cell: u64,
-    items: &[Text],
-) -> Result<VNode<Paged<Shopping>>, OutOfMemory>
-    ensures tree { IfOk result (λ tree. tree ≡ meaning.whole scope.0 draft cell items.now) }
+fn whole(alloc: Global, line: &Line, scope: ScopeId, draft: u64, items: u64, words: &[Text]) -> Tree
+    ensures tree { IfOk result (λ tree. tree ≡ meaning.whole scope.0 draft items words.now) }
 {
-    let lines = lines(alloc, line, scope, cell, items)?;
-    let add = button(alloc, "Add", scope, Change::Add { draft, items: cell });
+    let lines = lines(alloc, line, scope, items, words)?;
+    let add = add_button(alloc, scope, draft, items);
     let list = element(alloc, "ul", empty_attrs(alloc), several(alloc, lines));
     view(alloc, row![draft_field(alloc, draft), add, list])
 }
 
-/// What is shown of the two cells and of the items that were read.
+/// What is shown of the numbers of the two cells, and of the items that were read.
 pub(crate) fn present(
     alloc: Global,
-    line: &KeptLine,
+    line: &Line,
     scope: ScopeId,
-    draft: Option<&u64>,
-    cell: Option<&u64>,
-    items: Option<List<Text>>,
-) -> Result<VNode<Paged<Shopping>>, OutOfMemory>
-    ensures tree { IfOk result (λ tree. tree
-        ≡ meaning.present scope.0 (option_copied draft.entry) (option_copied cell.entry) items) }
+    own: &[u64],
+    values: &[Option<Value>],
+) -> Tree
+    ensures tree { IfOk result (λ tree. tree ≡ meaning.present scope.0
+        (slice_get own.now 0) (slice_get own.now 1) (meaning.items_in (slice_get values.now 0))) }
 {
-    let Some(draft) = draft else {
-        return VNode::placeholder(alloc);
-    };
-    let Some(cell) = cell else {
-        return VNode::placeholder(alloc);
-    };
-    match items {
-        Some(items) => whole(alloc, line, scope, *draft, *cell, items.as_slice()),
-        None => VNode::placeholder(alloc),
+    match (own.get(0), own.get(1), items_in(alloc, values.get(0))?) {
+        (Some(draft), Some(items), Some(words)) => {
+            whole(alloc, line, scope, *draft, *items, words.as_slice())
+        }
+        _ => VNode::placeholder(alloc),
     }
 }

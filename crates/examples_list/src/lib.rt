@@ -3,7 +3,6 @@
 #![tactic(auto)]
 
 mod faces;
-mod kept;
 mod laws;
 mod listed;
 mod parts;

@@ -3,30 +3,39 @@ ghost use Rattle.std.specs.Prelude.{◌≡◌, IfOk};
 ghost use Rattle.std.specs.Option.{option_copied};
 ghost use Rattle.examples_list.specs.Meaning as meaning;
 
-use crate::faces::present;
-use crate::kept::KeptLine;
-use crate::parts::{Change, Component, Value};
-use crate::writing::{added, items_in, removed, words_in};
-use examples_library::{FieldProps, Library, Typed, field_reads, field_shows, typed_writes};
+use crate::faces::{Tree, present};
+use crate::parts::{Change, Component, Value, items_in};
+use crate::writing::{Writes, added, removed};
+use examples_library::{
+    FieldProps, Library, Line, Made, Typed, field_reads, field_shows, typed_writes,
+};
 use rt_author::{
-    Carries, Event, KeepsCells, List, NoData, OutOfMemory, Paged, Pages, Part, Parts, ScopeId,
-    Text, VNode, one, two,
+    Carries, Event, KeepsCells, List, NoData, Paged, Pages, Part, Parts, ScopeId, Text, one, two,
 };
 use std::alloc::Global;
 
 /// The application, with what stays of its lines.
 #[derive(Drop)]
 pub struct Shopping {
-    line: KeptLine,
+    line: Line,
 }
 
 impl Shopping {
     /// Makes it.
-    pub fn new(alloc: Global) -> Result<Shopping, OutOfMemory> {
-        let line = KeptLine::new(alloc)?;
+    pub fn new(alloc: Global) -> Made<Shopping> {
+        let line = Line::new::<Listed>(alloc)?;
         Ok(Shopping { line })
     }
 }
+
+/// The application, as the runtime takes it.
+pub type Listed = Paged<Shopping>;
+
+/// The cells that are read.
+type Read = Made<List<u64>>;
+
+/// The first values of cells.
+type Values = Made<List<Value>>;
 
 impl Parts for Shopping {
     type Component = Component;
@@ -51,12 +60,9 @@ impl KeepsCells for Shopping {
     ghost keeping = { meaning.keeping };
 
     fn cell_kind() -> u32 { 0 }
-    fn keep_cell(_alloc: Global, cell: u64) -> Result<Value, OutOfMemory> { Ok(Value::Cell(cell)) }
+    fn keep_cell(_alloc: Global, cell: u64) -> Made<Value> { Ok(Value::Cell(cell)) }
     fn cell_in(value: &Value) -> Option<u64> {
-        match value {
-            Value::Cell(cell) => Some(*cell),
-            _ => None,
-        }
+        match value { Value::Cell(cell) => Some(*cell), _ => None }
     }
 }
 
@@ -68,25 +74,21 @@ impl Carries<Library> for Shopping {
     fn props_of(props: FieldProps) -> FieldProps { props }
     fn handler_of(typed: Typed) -> Change { Change::Field(typed) }
     fn value_of(text: Text) -> Value { Value::Words(text) }
-    fn held_in(value: Value) -> Option<Text> { value.words() }
-    fn payload_in(alloc: Global, payload: &Text) -> Result<Option<Text>, OutOfMemory> {
-        Ok(Some(payload.copy(alloc)?))
+    fn held_in(value: Value) -> Option<Text> {
+        match value { Value::Words(words) => Some(words), _ => None }
     }
+    fn payload_in(alloc: Global, text: &Text) -> Made<Option<Text>> { Ok(Some(text.copy(alloc)?)) }
 }
 
 /// What the whole is given.
-pub fn no_props(alloc: Global) -> Result<FieldProps, OutOfMemory>
+pub fn no_props(alloc: Global) -> Made<FieldProps>
     ensures props { IfOk result (λ props. props ≡ meaning.no_props) }
 {
-    Ok(FieldProps {
-        cell: 0,
-        label: Text::from_str(alloc, "")?,
-        refusal: Text::from_str(alloc, "")?,
-    })
+    FieldProps::new(alloc, 0, "", "")
 }
 
 /// The cell, where there is one.
-fn only(alloc: Global, cell: Option<&u64>) -> Result<List<u64>, OutOfMemory>
+fn only(alloc: Global, cell: Option<&u64>) -> Read
     ensures cells { IfOk result (λ cells. cells ≡ meaning.only (option_copied cell.entry)) }
 {
     match cell {
@@ -95,6 +97,7 @@ fn only(alloc: Global, cell: Option<&u64>) -> Result<List<u64>, OutOfMemory>
     }
 }
 
+#[rattlefmt::skip]
 impl Pages for Shopping {
     ghost answers = { λ _. meaning.answers };
 
@@ -102,20 +105,10 @@ impl Pages for Shopping {
 
     ghost decide = { λ _. meaning.decides };
 
-    fn root(&self, _alloc: Global) -> Result<Component, OutOfMemory> {
-        Ok(Component::Whole)
-    }
+    fn root(&self, _alloc: Global) -> Made<Component> { Ok(Component::Whole) }
+    fn empty_props(&self, alloc: Global) -> Made<FieldProps> { no_props(alloc) }
 
-    fn empty_props(&self, alloc: Global) -> Result<FieldProps, OutOfMemory> {
-        no_props(alloc)
-    }
-
-    fn cells(
-        &self,
-        alloc: Global,
-        component: &Component,
-        _props: &FieldProps,
-    ) -> Result<List<Value>, OutOfMemory> {
+    fn cells(&self, alloc: Global, component: &Component, _props: &FieldProps) -> Values {
         match component {
             Component::Whole => {
                 let words = Value::Words(Text::from_str(alloc, "")?);
@@ -125,13 +118,7 @@ impl Pages for Shopping {
         }
     }
 
-    fn reads(
-        &self,
-        alloc: Global,
-        component: &Component,
-        props: &FieldProps,
-        own: &[u64],
-    ) -> Result<List<u64>, OutOfMemory> {
+    fn reads(&self, alloc: Global, component: &Component, props: &FieldProps, own: &[u64]) -> Read {
         match component {
             Component::Whole => only(alloc, own.get(1)),
             Component::Field => field_reads(alloc, props),
@@ -146,24 +133,14 @@ impl Pages for Shopping {
         scope: ScopeId,
         own: &[u64],
         values: &[Option<Value>],
-    ) -> Result<VNode<Paged<Shopping>>, OutOfMemory> {
+    ) -> Tree {
         match component {
-            Component::Whole => {
-                let items = items_in(alloc, values.get(0))?;
-                present(alloc, &self.line, scope, own.get(0), own.get(1), items)
-            }
-            Component::Field => {
-                field_shows::<Paged<Shopping>>(alloc, scope, props, values.get(0))
-            },
+            Component::Whole => present(alloc, &self.line, scope, own, values),
+            Component::Field => field_shows::<Listed>(alloc, scope, props, values.get(0)),
         }
     }
 
-    fn hears(
-        &self,
-        alloc: Global,
-        handler: &Change,
-        _event: &Event<Text>,
-    ) -> Result<List<u64>, OutOfMemory> {
+    fn hears(&self, alloc: Global, handler: &Change, _event: &Event<Text>) -> Read {
         match handler {
             Change::Add { draft, items } => two(alloc, *draft, *items),
             Change::Remove { items, .. } => one(alloc, *items),
@@ -177,18 +154,9 @@ impl Pages for Shopping {
         handler: &Change,
         event: &mut Event<Text>,
         values: &[Option<Value>],
-    ) -> Result<List<(u64, Value)>, OutOfMemory> {
+    ) -> Writes {
         match handler {
-            Change::Add { draft, items } => {
-                let words = words_in(alloc, values.get(0))?;
-                added(
-                    alloc,
-                    *draft,
-                    *items,
-                    words,
-                    items_in(alloc, values.get(1))?,
-                )
-            }
+            Change::Add { draft, items } => added(alloc, *draft, *items, values),
             Change::Remove { items, at } => {
                 removed(alloc, *items, *at, items_in(alloc, values.get(0))?)
             }

@@ -1,9 +1,10 @@
 //! What the list is made of: its components, its values, and what its listeners do.
-ghost use Rattle.std.specs.Prelude.{◌≡◌};
+ghost use Rattle.std.specs.Prelude.{◌≡◌, IfOk};
+ghost use Rattle.std.specs.Option.{option_copied};
 ghost use Rattle.examples_list.specs.Meaning as meaning;
 
-use examples_library::Typed;
-use rt_author::{List, OutOfMemory, Part, Text};
+use examples_library::{Made, Typed};
+use rt_author::{List, Part, Text};
 use std::alloc::Global;
 
 /// A component.
@@ -18,7 +19,7 @@ pub enum Component {
 #[rattlefmt::skip]
 impl Part for Component {
     fn same(&self, other: &Component) -> bool { *self == *other }
-    fn copy(&self, _alloc: Global) -> Result<Component, OutOfMemory> { Ok(*self) }
+    fn copy(&self, _alloc: Global) -> Made<Component> { Ok(*self) }
 }
 
 /// A value: the number of a cell that a hook keeps, what was typed, or the items.
@@ -39,7 +40,7 @@ impl Part for Value {
         }
     }
 
-    fn copy(&self, alloc: Global) -> Result<Value, OutOfMemory> {
+    fn copy(&self, alloc: Global) -> Made<Value> {
         match self {
             Value::Cell(cell) => Ok(Value::Cell(*cell)),
             Value::Words(words) => Ok(Value::Words(words.copy(alloc)?)),
@@ -48,25 +49,13 @@ impl Part for Value {
     }
 }
 
-impl Value {
-    /// What was typed, where it is that.
-    pub fn words(self) -> Option<Text>
-        ensures words { result ≡ meaning.words_of self }
-    {
-        match self {
-            Value::Words(words) => Some(words),
-            _ => None,
-        }
-    }
-
-    /// The items, where it is them.
-    pub fn items(self) -> Option<List<Text>>
-        ensures items { result ≡ meaning.items_of self }
-    {
-        match self {
-            Value::Items(items) => Some(items),
-            _ => None,
-        }
+/// The items, of a value that was read.
+pub(crate) fn items_in(alloc: Global, value: Option<&Option<Value>>) -> Made<Option<List<Text>>>
+    ensures items { IfOk result (λ items. items ≡ meaning.items_in (option_copied value.entry)) }
+{
+    match value {
+        Some(Some(Value::Items(items))) => Ok(Some(items.copy(alloc)?)),
+        _ => Ok(None),
     }
 }
 
@@ -84,5 +73,5 @@ pub enum Change {
 #[rattlefmt::skip]
 impl Part for Change {
     fn same(&self, other: &Change) -> bool { *self == *other }
-    fn copy(&self, _alloc: Global) -> Result<Change, OutOfMemory> { Ok(*self) }
+    fn copy(&self, _alloc: Global) -> Made<Change> { Ok(*self) }
 }

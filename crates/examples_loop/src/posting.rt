@@ -6,8 +6,7 @@ ghost use Rattle.rt_app.specs.Posters.{AllReady};
 use crate::running::{POSTS, Running};
 use rt_app::dom::DomFault;
 use rt_app::{
-    Bell, Inbox, List, OutOfMemory, Owner, Post, Poster, ScopeId, Task, post_beside, posters_for,
-    two,
+    Bell, Inbox, List, OutOfMemory, Owner, Post, Poster, ScopeId, post_beside, posters_for, two,
 };
 use std::alloc::Global;
 use std::sync::Wait;
@@ -74,13 +73,13 @@ fn serve_beside<R: Threads + Wait + Sync>(
     )
 }
 
-/// An inbox with its owner, and two posters: one of them wakes the task, and both mark the card.
+/// An inbox with its owner, and two posters: both mark the button's scope, so that it runs again.
 fn convened(alloc: Global) -> Result<(Inbox, Owner, Vec<Poster>), OutOfMemory>
     ensures owner { IfOk result (λ made. IsOwnerOf made.0 made.1) }
     ensures ready { IfOk result (λ made. AllReady made.0 made.2.items) }
 {
     let mark = Post::Mark(ScopeId(3));
-    let first = two(alloc, mark, Post::Wake(Task(1)))?;
+    let first = two(alloc, mark, mark)?;
     let second = two(alloc, mark, mark)?;
     let posts = two(alloc, first, second)?;
     let (inbox, owner, notifiers) = Inbox::new(alloc, 2)?;
@@ -88,8 +87,8 @@ fn convened(alloc: Global) -> Result<(Inbox, Owner, Vec<Poster>), OutOfMemory>
     Ok((inbox, owner, posters.into_vec()))
 }
 
-/// A board is built, served until all posts were taken, and closed. The rows that show at its end,
-/// as lines.
+/// An application is built, served until all posts were taken, and closed. The rows that show at
+/// its end, as lines.
 pub fn looped<R: Threads + Wait + Sync>(rt: &R, alloc: Global) -> Result<List<u8>, DomFault> {
     let mut running = Running::new(alloc)?;
     let (inbox, mut owner, mut posters) = convened(alloc)?;

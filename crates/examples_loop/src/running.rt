@@ -1,34 +1,35 @@
-//! The board in a runtime that is kept, with the renderer that it writes to.
+//! The application to start from in a runtime that is kept, with the renderer that it writes to.
 
-use examples_board::{Board, Boarded, standing};
 use examples_renderer::Renderer;
+use examples_template::Application;
 use rt_app::dom::{DomFault, Drained, VirtualDom};
-use rt_app::{Bodied, ByEdit, ElementId, Event, Fault, Limits, List, NoData};
+use rt_app::{ByEdit, ElementId, Event, Fault, Limits, List, NoData, Paged};
 use std::alloc::Global;
 
 /// How many posts there are.
 pub const POSTS: u64 = 4;
 
-/// The button that tries again, as the build numbers it.
-const BUTTON: ElementId = ElementId(11);
+/// The button, as the build numbers it.
+const BUTTON: ElementId = ElementId(1);
+
+/// A runtime of the application.
+type Kept = VirtualDom<Paged<Application>>;
 
 /// The runtime, what it writes to, and how many posts it has taken.
 #[derive(Drop)]
 pub struct Running {
-    dom: VirtualDom<Boarded>,
+    dom: Kept,
     sink: ByEdit<Renderer>,
     taken: u64,
 }
 
-/// A board that isn't built yet.
-fn unbuilt(alloc: Global) -> Result<VirtualDom<Boarded>, DomFault> {
-    let props = standing(alloc)?;
-    let app = Bodied { bodies: Board };
-    Ok(VirtualDom::new_with_props(alloc, app, props, Limits::usual())?)
+/// An application that isn't built yet.
+fn unbuilt(alloc: Global) -> Result<Kept, DomFault> {
+    Ok(VirtualDom::new(alloc, Paged { pages: Application }, Limits::usual())?)
 }
 
 impl Running {
-    /// A board that is built and shows.
+    /// An application that is built and shows.
     pub fn new(alloc: Global) -> Result<Running, DomFault> {
         let takes = Renderer::new(alloc);
         let mut running = Running {
@@ -59,17 +60,17 @@ impl Running {
         Ok(())
     }
 
-    /// A click at the button that tries again.
+    /// A click at the button.
     fn click(&mut self) -> Result<(), DomFault> {
         let event = Event::new(NoData, true);
         self.dom.handle_event("click", event, BUTTON)?;
         Ok(())
     }
 
-    /// What is owed is done, and the rows that show then come as lines.
+    /// What is owed is done, and the rows that show then come as lines: there is one.
     pub fn lines(&mut self, alloc: Global) -> Result<List<u8>, DomFault> {
         self.dom.settle(&mut self.sink)?;
-        let Ok(screen) = self.sink.takes.draw(alloc, 40, 4) else {
+        let Ok(screen) = self.sink.takes.draw(alloc, 40, 1) else {
             return Err(DomFault::Run(Fault::OutOfMemory));
         };
         let mut lines = List::new(alloc);

@@ -10,6 +10,7 @@ use Rattle.rt_author.specs.Headline.{Headline}
 use Rattle.rt_author.specs.Heard.{Listener}
 use Rattle.rt_author.specs.Lists.{at}
 use Rattle.rt_author.specs.Pages.{meaning_of_pages}
+use Rattle.rt_author.specs.Programs.{HasCells}
 use Rattle.rt_author.specs.Ran.{Ran}
 use Rattle.rt_author.specs.Reduces.{hearers, reduced}
 use Rattle.rt_author.specs.Replay.{Build, Entry, EventAt, Heard, Input, Made, Rerun, Taken}
@@ -72,7 +73,8 @@ ButtonShowsFold =
     → ShowsModel answers s nothing (run.first.given.given.next.cells ∷ []) (last_state first.machine.state rest)
     (folded answers first.machine.state inputs rest (model_of first.machine.state))
 
--- the button's scope is that of the application's root, and nothing fails in its page: so no log removes it, and it shows that
+-- the button's scope is that of the application's root, and all cells are the root's: so no log removes it, whoever hears an input, and it
+-- shows that
 abbrev pub RootShows : Type 0
 RootShows =
     (inputs : List (Input OwnTypes)) (limits : Limits) (taken : Option (List Edit)) (build : Report) (reports : List Report)
@@ -81,10 +83,22 @@ RootShows =
     → h.told ≡ first ∷ rest
     → RootStands nothing nothing first.machine.state s
     → (run : HasRun keeping answers s nothing nothing first.machine.state)
-    → AllRead answers (run.first.given.given.next.cells ∷ []) first.machine.state inputs rest
     → Owned first.machine.state run.first.given.given.next.cells s
     → ShowsModel answers s nothing (run.first.given.given.next.cells ∷ []) (last_state first.machine.state rest)
     (folded answers first.machine.state inputs rest (model_of first.machine.state))
+
+-- where it has its cell when the build is reported, each cell has after the last report what the fold of all inputs makes of it
+abbrev pub CellsFold : Type 0
+CellsFold =
+    (inputs : List (Input OwnTypes)) (limits : Limits) (taken : Option (List Edit)) (build : Report) (reports : List Report)
+    → (first : Told OwnTypes) (rest : List (Told OwnTypes)) (s : ℕ)
+    → (h : Headline app nothing inputs limits taken (build ∷ reports))
+    → h.told ≡ first ∷ rest
+    → RootStands nothing nothing first.machine.state s
+    → HasCells keeping answers first.machine.state s
+    → (cell : ℕ)
+    → at (model_of (last_state first.machine.state rest)) cell
+    ≡ at (folded answers first.machine.state inputs rest (model_of first.machine.state)) cell
 
 -- the logs of a build and of one click at the button, whose element is the first
 abbrev pub click_logs : List (List Entry)

@@ -147,7 +147,7 @@ fn present(
 }
 
 /// The write that raises a cell, up to the greatest number.
-fn raised(
+pub(crate) fn raised(
     alloc: Global,
     cell: u64,
     value: Option<&Option<u64>>,

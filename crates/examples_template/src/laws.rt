@@ -1,10 +1,10 @@
 //! What a click makes of the number, and what the button shows of all that came. The functions do
 //! nothing: what each claims is its contract, which follows of the laws that it names.
-ghost use Rattle.examples_template.specs.Sentences.{ButtonShowsFold, ClickRaises, OneClick, ReportRaises, RootShows};
+ghost use Rattle.examples_template.specs.Sentences.{ButtonShowsFold, CellsFold, ClickRaises, OneClick, ReportRaises, RootShows};
 
 use rt_author::{
-    NoData, elm_shows, one_hears, own_pages_show, pages_are_lawful, reports_reduce,
-    rows_are_sessions,
+    NoData, elm_programs_fold, elm_programs_show, one_hears, own_pages_show, pages_are_lawful,
+    reports_reduce, rows_are_sessions,
 };
 
 /// A click that the listener of a cell alone hears raises its number by one.
@@ -30,11 +30,20 @@ pub fn button_shows_fold()
     pages_are_lawful::<NoData, NoData, u64, u64, NoData, NoData, NoData>();
 }
 
-/// So it does in the scope of the application's root, whatever the logs are.
+/// So it does in the scope of the application's root, whoever hears the inputs and whatever the logs
+/// are.
 pub fn root_shows()
     ensures { RootShows }
 {
-    elm_shows::<NoData, NoData, u64, u64, NoData, NoData, NoData>();
+    elm_programs_show::<NoData, NoData, u64, u64, NoData, NoData, NoData>();
+    pages_are_lawful::<NoData, NoData, u64, u64, NoData, NoData, NoData>();
+}
+
+/// And each cell has what that fold makes of it.
+pub fn cells_fold()
+    ensures { CellsFold }
+{
+    elm_programs_fold::<NoData, NoData, u64, u64, NoData, NoData, NoData>();
     pages_are_lawful::<NoData, NoData, u64, u64, NoData, NoData, NoData>();
 }
 

@@ -4,6 +4,8 @@
 
 mod application;
 mod laws;
+mod tally;
 
 pub use application::Application;
-pub use laws::{button_shows_fold, click_raises, one_click, report_raises, root_shows};
+pub use laws::{button_shows_fold, cells_fold, click_raises, one_click, report_raises, root_shows};
+pub use tally::{Made, Tallied, Tally, tallying};

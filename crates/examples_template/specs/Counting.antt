@@ -1,10 +1,11 @@
 -- What the component, its derived cell and its listener are, and that the tests decide.
 use Rattle.std.proofs.Common.{refl}
-use Rattle.std.specs.Prelude.{ℕ, ◌+◌, true, List, [], ◌∷◌, codes, min, nat_eq, nat_lt, Option, Some, None, if◌then◌else◌}
+use Rattle.std.specs.Prelude.{ℕ, true, List, [], ◌∷◌, codes, nat_eq, nat_lt, Option, Some, None, if◌then◌else◌}
 use Rattle.std.specs.List.{slice_get}
-use Rattle.rt_author.specs.Words.{AllDecide, Derivations, DerivedTree, Event, Keeping, NoData, Page, Pages, Reply, Types}
-use Rattle.rt_author.specs.Words.{derived_types, element, last_number, listens, placeholder_tree, plain_tests, shown, tree_of, view}
-use Rattle.examples_derived.specs.declared.tally.Tally.{Tally}
+use Rattle.rt_author.specs.Words.{AllDecide, Derivations, DerivedTree, Event, NoData, Page, Pages, Reply, Types}
+use Rattle.rt_author.specs.Words.{derived_types, element, listens, placeholder_tree, plain_tests, shown, tree_of, view}
+use Rattle.examples_template.specs.Meaning.{raised}
+use Rattle.examples_template.specs.declared.tally.Tally.{Tally}
 
 -- its values, handlers and formulas are numbers
 abbrev pub TallyTypes : Types
@@ -12,10 +13,6 @@ TallyTypes = derived_types NoData NoData ℕ ℕ ℕ NoData
 
 abbrev pub TallyTree : Type 0
 TallyTree = DerivedTree Tally NoData NoData ℕ ℕ ℕ NoData NoData
-
--- hooks keep the numbers of cells as they are
-abbrev pub keeping : Keeping ℕ
-keeping = record { kind = 0; keeps = λ n. n; kept = λ n. Some n }
 
 -- a cell, where it is had
 abbrev pub listed : Option ℕ → List ℕ
@@ -52,11 +49,6 @@ page =
       reads = λ all. listed (slice_get all 1);
       shows = λ scope all values. tree_of (face scope (slice_get all 0) (slice_get values 0));
     }
-
--- one more, up to the greatest number
-abbrev pub raised : ℕ → Option (Option ℕ) → List (ℕ × ℕ)
-raised cell (Some (Some count)) = (cell, min (count + 1) last_number) ∷ []
-raised cell _ = []
 
 -- the listener
 abbrev pub reply : ℕ → Event TallyTypes → Reply TallyTypes

@@ -1,9 +1,11 @@
-//! A button that raises a count and says whether it is many. That is derived of the count: the button
-//! is run again only where it says something else.
+//! The button with a derived cell: it says whether its number is many. That is derived of the
+//! number, and the button reads that alone: so it is run again only where it says something else.
 ghost use Rattle.std.specs.Prelude.{◌≡◌, IfOk};
 ghost use Rattle.std.specs.Option.{option_copied};
-ghost use Rattle.examples_derived.specs.Counting as meaning;
+ghost use Rattle.examples_template.specs.Counting as meaning;
+ghost use Rattle.examples_template.specs.Meaning as template;
 
+use crate::application::raised;
 use rt_author::{
     Bodied, DerivedPaged, DerivedPages, Event, KeepsCells, List, NoData, OutOfMemory, Parts,
     ScopeId, Text, VNode, element, listens, one, shown, view,
@@ -17,11 +19,13 @@ pub struct Tally;
 /// The application.
 pub type Tallied = Bodied<DerivedPaged<Tally>>;
 
+/// What is made, or want of memory.
+pub type Made<T> = Result<T, OutOfMemory>;
+
 /// The application.
-pub fn application() -> Tallied {
-    Bodied {
-        bodies: DerivedPaged { pages: Tally },
-    }
+pub fn tallying() -> Tallied {
+    let bodies = DerivedPaged { pages: Tally };
+    Bodied { bodies }
 }
 
 impl Parts for Tally {
@@ -43,22 +47,16 @@ impl Parts for Tally {
     type Payload = NoData;
 }
 
+#[rattlefmt::skip]
 impl KeepsCells for Tally {
-    ghost keeping = { meaning.keeping };
+    ghost keeping = { template.keeping };
 
-    fn cell_kind() -> u32 {
-        0
-    }
-
-    fn keep_cell(_alloc: Global, cell: u64) -> Result<u64, OutOfMemory> {
-        Ok(cell)
-    }
-
-    fn cell_in(value: &u64) -> Option<u64> {
-        Some(*value)
-    }
+    fn cell_kind() -> u32 { 0 }
+    fn keep_cell(_alloc: Global, cell: u64) -> Made<u64> { Ok(cell) }
+    fn cell_in(value: &u64) -> Option<u64> { Some(*value) }
 }
 
+#[rattlefmt::skip]
 impl DerivedPages for Tally {
     ghost answers = { λ _. meaning.answers };
 
@@ -66,20 +64,11 @@ impl DerivedPages for Tally {
 
     ghost decide = { λ _. meaning.decides };
 
-    fn root(&self, _alloc: Global) -> Result<NoData, OutOfMemory> {
-        Ok(NoData)
-    }
+    fn root(&self, _alloc: Global) -> Made<NoData> { Ok(NoData) }
+    fn empty_props(&self, _alloc: Global) -> Made<NoData> { Ok(NoData) }
+    fn empty(&self, _alloc: Global) -> Made<u64> { Ok(0) }
 
-    fn empty_props(&self, _alloc: Global) -> Result<NoData, OutOfMemory> {
-        Ok(NoData)
-    }
-
-    fn cells(
-        &self,
-        alloc: Global,
-        _component: &NoData,
-        _props: &NoData,
-    ) -> Result<List<u64>, OutOfMemory> {
+    fn cells(&self, alloc: Global, _component: &NoData, _props: &NoData) -> Made<List<u64>> {
         one(alloc, 0)
     }
 
@@ -89,25 +78,16 @@ impl DerivedPages for Tally {
         _component: &NoData,
         _props: &NoData,
         own: &[u64],
-    ) -> Result<List<u64>, OutOfMemory> {
+    ) -> Made<List<u64>> {
         listed(alloc, own.get(0))
     }
 
-    fn sources(&self, alloc: Global, count: &u64) -> Result<List<u64>, OutOfMemory> {
+    fn sources(&self, alloc: Global, count: &u64) -> Made<List<u64>> {
         one(alloc, *count)
     }
 
-    fn value(
-        &self,
-        _alloc: Global,
-        _count: &u64,
-        values: &[Option<u64>],
-    ) -> Result<u64, OutOfMemory> {
+    fn value(&self, _alloc: Global, _count: &u64, values: &[Option<u64>]) -> Made<u64> {
         Ok(many(values.get(0)))
-    }
-
-    fn empty(&self, _alloc: Global) -> Result<u64, OutOfMemory> {
-        Ok(0)
     }
 
     fn reads(
@@ -116,7 +96,7 @@ impl DerivedPages for Tally {
         _component: &NoData,
         _props: &NoData,
         all: &[u64],
-    ) -> Result<List<u64>, OutOfMemory> {
+    ) -> Made<List<u64>> {
         listed(alloc, all.get(1))
     }
 
@@ -128,16 +108,11 @@ impl DerivedPages for Tally {
         scope: ScopeId,
         all: &[u64],
         values: &[Option<u64>],
-    ) -> Result<VNode<Tallied>, OutOfMemory> {
+    ) -> Made<VNode<Tallied>> {
         face(alloc, scope, all.get(0), values.get(0))
     }
 
-    fn hears(
-        &self,
-        alloc: Global,
-        handler: &u64,
-        _event: &Event<NoData>,
-    ) -> Result<List<u64>, OutOfMemory> {
+    fn hears(&self, alloc: Global, handler: &u64, _event: &Event<NoData>) -> Made<List<u64>> {
         one(alloc, *handler)
     }
 
@@ -147,13 +122,13 @@ impl DerivedPages for Tally {
         handler: &u64,
         _event: &mut Event<NoData>,
         values: &[Option<u64>],
-    ) -> Result<List<(u64, u64)>, OutOfMemory> {
+    ) -> Made<List<(u64, u64)>> {
         raised(alloc, *handler, values.get(0))
     }
 }
 
 /// A cell, where it is had.
-fn listed(alloc: Global, cell: Option<&u64>) -> Result<List<u64>, OutOfMemory>
+fn listed(alloc: Global, cell: Option<&u64>) -> Made<List<u64>>
     ensures listed { IfOk result (λ cells. cells ≡ meaning.listed (option_copied cell.entry)) }
 {
     match cell {
@@ -179,28 +154,13 @@ fn is_many(count: u64) -> u64
     if count > 1 { 1 } else { 0 }
 }
 
-/// The write that raises a cell, up to the greatest number.
-fn raised(
-    alloc: Global,
-    cell: u64,
-    value: Option<&Option<u64>>,
-) -> Result<List<(u64, u64)>, OutOfMemory>
-    ensures writes { IfOk result (λ writes.
-        writes ≡ meaning.raised cell (option_copied value.entry)) }
-{
-    match value {
-        Some(Some(count)) => one(alloc, (cell, count.saturating_add(1))),
-        _ => Ok(List::new(alloc)),
-    }
-}
-
 /// What the component shows: the button, where its cells have values.
 fn face(
     alloc: Global,
     scope: ScopeId,
     count: Option<&u64>,
     said: Option<&Option<u64>>,
-) -> Result<VNode<Tallied>, OutOfMemory>
+) -> Made<VNode<Tallied>>
     ensures tree { IfOk result (λ tree.
         tree ≡ meaning.face scope.0 (option_copied count.entry) (option_copied said.entry)) }
 {
@@ -214,12 +174,7 @@ fn face(
 }
 
 /// The button of a scope, by the cell that it raises and what it says.
-fn button(
-    alloc: Global,
-    scope: ScopeId,
-    count: u64,
-    said: u64,
-) -> Result<VNode<Tallied>, OutOfMemory>
+fn button(alloc: Global, scope: ScopeId, count: u64, said: u64) -> Made<VNode<Tallied>>
     ensures tree { IfOk result (λ tree. tree ≡ meaning.button scope.0 count said) }
 {
     let words = Text::from_str(alloc, word(said))?;
