@@ -1,10 +1,9 @@
 //! A session of each example.
 
 use examples_board::{Board, standing};
-use examples_derived::application;
 use examples_lines::{click, lines};
 use examples_router::Router;
-use examples_template::Application;
+use examples_template::{Application, tallying};
 use rt_app::{App, Bodied, Input, List, NoData, OutOfMemory, Paged, Part, Task};
 use std::alloc::Global;
 
@@ -36,7 +35,7 @@ pub(crate) fn router(alloc: Global) -> Result<List<u8>, OutOfMemory> {
 /// The tally, raised three times.
 pub(crate) fn tally(alloc: Global) -> Result<List<u8>, OutOfMemory> {
     let inputs = clicks(alloc, NoData, &[1, 1, 1])?;
-    lines(alloc, application(), NoData, inputs)
+    lines(alloc, tallying(), NoData, inputs)
 }
 
 /// The board: a click at the button that tries again, and a wake of the task.
