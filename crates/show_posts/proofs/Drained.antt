@@ -9,6 +9,7 @@ use Rattle.serde_json.specs.Data.{Data, Items, no_items, item}
 use Rattle.serde_json.specs.Find.{as_array}
 use Rattle.rt_edits.specs.Sinks as sinks
 use Rattle.rt_edits.specs.declared.edit.Edit.{Edit}
+use Rattle.lang_minding.specs.Kept.{SourcesKeepMemos}
 use Rattle.lang_expressions.specs.Fields.{list_or_empty}
 use Rattle.lang_expressions.specs.Lists.{in_front, read_each}
 use Rattle.rt_inbox.specs.declared.message.Msg.{Msg}
@@ -21,9 +22,11 @@ use Rattle.rt_language.specs.Syntax as syntax
 use Rattle.rt_language.specs.Syntax.{Source}
 use Rattle.run_outside.specs.Sessions.{CameAt, Headlined}
 use Rattle.tree_edits.specs.Documents.{edit_of}
+use Rattle.rt_model.specs.Document as document
 use Rattle.rt_model.specs.Headline.{CameTo, Headline}
 use Rattle.rt_model.specs.Merge.{AreSized, HasFronts, IsCut, ValidOverCuts, drained}
 use Rattle.rt_model.specs.Replay as replay
+use Rattle.rt_model.specs.Reports as model_reports
 use Rattle.rt_model.specs.State as model
 use Rattle.run_reports.specs.Seen.{fault_of, limits_of, post_of, report_of, usual}
 use Rattle.run_reports.specs.declared.fault.Fault.{Fault}
@@ -37,7 +40,7 @@ use Rattle.lang_syntax.specs.Mirror as mirror
 use Rattle.lang_syntax.specs.Mirror.{source_of}
 use Rattle.lang_syntax.specs.declared.source.PostSource.{PostSource}
 use Rattle.lang_syntax.specs.declared.source.Source as checked
-use Rattle.show_posts.specs.Posting.{HasComeOver, HasHeadlineOver, HasPosters, IsPostedFault, IsPostedText, IsSafeOver, lists_in, posted_text}
+use Rattle.show_posts.specs.Posting.{HasComeOver, HasHeadlineOver, HasPosters, IsPostedFault, IsPostedText, IsSafeOver, KeepsMemosOver, lists_in, posted_text}
 use Rattle.show_words.specs.Runs.{DescribedBy}
 use Rattle.show_words.proofs.Preparing.{holds_of, named}
 use Rattle.rt_session.specs.Posted.{TookAll, TookFronts, drains_of, lists_of}
@@ -174,6 +177,13 @@ headline_over said drains old new edits reports shown began tells same headlined
     holds_of (λ e r. Headline (meaning_of said) (props_of said) (drained drains) (limits_of usual) (Some e) r) old new edits headlined.wrote reports shown
     began tells same headlined.told headlined.headline
 
+-- where the headline is had, memos and resources are kept
+memos_over : SourcesKeepMemos → (said : Source) (drains : List (List replay.Message)) (edits : List document.Edit) (reports : List model_reports.Report)
+    → HasHeadlineOver said drains edits reports
+    → KeepsMemosOver said drains reports
+unfolding HasHeadlineOver KeepsMemosOver
+memos_over law said drains edits reports headline = law said (props_of said) (drained drains) (limits_of usual) (Some edits) reports headline
+
 come_over : (said : Source) (drains : List (List replay.Message)) (old new : Option (List Edit)) (edits : List Edit) (reports shown : List Report) (fault : model.Fault)
     → old ≡ Some [] → new ≡ Some edits → shown ≡ reports
     → CameAt (meaning_of said) (props_of said) (drained drains) (limits_of usual) old new (map report_of reports) fault
@@ -184,24 +194,28 @@ come_over said drains old new edits reports shown fault began tells same came =
     began tells same came.told came.came_to
 
 -- edits, reports and drains are the text of a run that was done
-pub posted_done : (said : Source) (posts : List (List Post)) (old new : Option (List Edit)) (edits : List Edit) (reports shown : List Report)
+pub posted_done : SourcesKeepMemos → (said : Source) (posts : List (List Post)) (old new : Option (List Edit)) (edits : List Edit) (reports shown : List Report)
     (drains seen : List (List Msg)) (inbox : Taken)
     → old ≡ Some [] → new ≡ Some edits → shown ≡ reports → seen ≡ drains
     → lists_of posts ≡ lists_in said
     → Headlined (meaning_of said) (props_of said) (drained (drains_of drains)) (limits_of usual) old new (map report_of reports)
     → TookAll posts usual.drain drains inbox
     → IsPostedText said (posted_text (map edit_of edits) (map report_of shown) (drains_of seen))
-posted_done said posts old new edits reports shown drains seen inbox began tells same kept lists headlined took =
+posted_done law said posts old new edits reports shown drains seen inbox began tells same kept lists headlined took =
     record {
       edits = map edit_of edits;
       reports = map report_of shown;
       drains = drains_of seen;
       cut = subst (λ ls. IsCut ls usual.drain (drains_of seen)) lists (subst (λ ds. IsCut (lists_of posts) usual.drain (drains_of ds)) (sym kept) took.cut);
-      headline =
-          subst (λ ds. HasHeadlineOver said (drains_of ds) (map edit_of edits) (map report_of shown)) (sym kept)
-          (headline_over said (drains_of drains) old new edits reports shown began tells same headlined);
+      headline = over;
+      memos = memos_over law said (drains_of seen) (map edit_of edits) (map report_of shown) over;
       printed = refl;
     }
+  where
+    over : HasHeadlineOver said (drains_of seen) (map edit_of edits) (map report_of shown)
+    over =
+        subst (λ ds. HasHeadlineOver said (drains_of ds) (map edit_of edits) (map report_of shown)) (sym kept)
+        (headline_over said (drains_of drains) old new edits reports shown began tells same headlined)
 
 -- want of memory is none of the faults of the definitions
 told_fault : (fault : Fault) (f : model.Fault) → fault_of fault ≡ Some f → fault ≢ faults.OutOfMemory

@@ -1,5 +1,8 @@
 -- What the program prints of a run whose source's posters post, and what its statuses say.
 use Rattle.std.specs.Prelude.{◌≡◌, ◌≢◌, ◌↔◌, ◌⊎◌, ℕ, ◌+◌, ◌<◌, ◌≤◌, Bool, true, false, List, [], ◌∷◌, ◌++◌, length, map, bytes_eq, codes, All, Option, Some, Result, Ok, Err}
+use Rattle.law_minding.specs.Sessions.{MemosKept}
+use Rattle.rt_language.specs.Expressions.{Minding}
+use Rattle.rt_language.specs.Formulas.{formulas}
 use Rattle.rt_language.specs.Lines.{line, fault_text, taken_text}
 use Rattle.rt_language.specs.Meaning.{meaning_of, post_of, props_of}
 use Rattle.rt_language.specs.Syntax.{PostSource, Source}
@@ -56,7 +59,11 @@ unfoldable pub HasHeadlineOver : Source → List (List Message) → List Edit �
 HasHeadlineOver said drains edits reports =
     Headline (meaning_of said) (props_of said) (drained drains) (limits_of usual) (Some edits) reports
 
--- the same of the reports that were finished before a fault
+-- its memos and resources are kept in the session of these reports
+unfoldable pub KeepsMemosOver : Source → List (List Message) → List Report → Type 0
+KeepsMemosOver said drains reports = MemosKept formulas (meaning_of said) Minding (props_of said) (drained drains) (limits_of usual) reports
+
+-- it has the headline of the reports that were finished before a fault
 unfoldable pub HasComeOver : Source → List (List Message) → List Edit → List Report → Fault → Type 0
 HasComeOver said drains edits reports fault =
     CameTo (meaning_of said) (props_of said) (drained drains) (limits_of usual) (Some edits) reports fault
@@ -73,6 +80,8 @@ pub record IsPostedText (said : Source) (text : List (List ℕ)) : Type 0 where
   pub drains : List (List Message)
   pub cut : IsCut (lists_in said) usual.drain drains
   pub headline : HasHeadlineOver said drains edits reports
+  -- each poll of a memo or of a resource is that of the definitions, and one that nobody else touches is kept after each report
+  pub memos : KeepsMemosOver said drains reports
   pub printed : text ≡ posted_text edits reports drains
 
 -- the text of a run that a fault ended

@@ -12,6 +12,7 @@ ghost use Rattle.lang_syntax.specs.Mirror.{source_of};
 ghost use Rattle.rt_session.specs.Posted.{TookAll, TookFronts, drains_of, lists_of};
 
 use crate::taking::{put_ended_posted, put_posted};
+use lang_minding::sources_keep_memos;
 use lang_script::{Script, posts_of};
 use lang_syntax::Source as Described;
 use lang_views::Props;
@@ -92,6 +93,7 @@ fn run<R: Threads + Wait + Sync, O: Out, G: Gate>(
     ensures posts { PostsAs (source_of described) (O.puts out.old) (O.puts out.new)
         (O.faults out.old) (O.faults out.new) result }
 {
+    sources_keep_memos();
     let posts = posts_of(alloc, described.posts.as_slice())?;
     let Prepared {
         script,

@@ -13,9 +13,9 @@ use Rattle.show_answers.specs.Told.{Form}
 use Rattle.show_stream.proofs.Asking.{front_more, says_front, says_more}
 use Rattle.show_stream.proofs.Going.{none_more}
 use Rattle.show_stream.proofs.Stopping.{behind, cut_put, nothing_put, stops_behind, stops_more, stops_streamed}
-use Rattle.show_stream.proofs.Taking.{Holds, Told, told}
+use Rattle.show_stream.proofs.Taking.{Told, told}
 use Rattle.show_stream.specs.Streams.{IsFaulted, IsStreamedFault, IsStreamedPart, Says, own_asked}
-use Rattle.show_stream.specs.UnderWay.{Answers, Begins, Builds, IsAmong, IsAt, IsUnderWay, Opens, PutsBehind, StopsAmong, TakesAll}
+use Rattle.show_stream.specs.UnderWay.{Answers, Begins, Builds, Holds, IsAmong, IsAt, IsUnderWay, Opens, PutsBehind, StopsAmong, TakesAll}
 use Rattle.show_stream.specs.declared.streaming.Streaming.{Streaming}
 use Rattle.show_streams.specs.Writes.{Puts, Writes, grown}
 use Rattle.show_streams.specs.declared.out.OutError.{OutError}

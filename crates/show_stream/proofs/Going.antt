@@ -2,11 +2,14 @@
 use Rattle.std.proofs.Common.{◌≡◌, ℕ, ◌+◌, Bool, true, false, List, [], ◌∷◌, ◌++◌, length, map, refl, sym, ap, ◌∙◌, subst, arith}
 use Rattle.std.proofs.lemmas.List.{length-append, length-map, map-append}
 use Rattle.std.specs.Prelude.{Option, Some, None}
+use Rattle.lang_minding.specs.Kept.{SourcesKeepMemos}
 use Rattle.lang_script.specs.Applications.{meaning_of_script}
+use Rattle.law_minding.specs.Sessions.{MemosKept}
 use Rattle.rt_edits.specs.Sinks.{grown}
 use Rattle.rt_edits.specs.declared.edit.Edit.{Edit}
 use Rattle.rt_language.specs.Meaning.{input_of, inputs_of, meaning_of, props_of}
-use Rattle.rt_language.specs.Expressions.{SourceTypes}
+use Rattle.rt_language.specs.Expressions.{Minding, SourceTypes}
+use Rattle.rt_language.specs.Formulas.{formulas}
 use Rattle.rt_language.specs.Syntax.{InputSource, Source}
 use Rattle.rt_model.specs.Headline.{CameTo, Headline}
 use Rattle.rt_model.specs.Lists.{Text}
@@ -49,6 +52,13 @@ own_count old new own before after report began tells took =
 behind_none : (wrote all : List Edit) → Some all ≡ grown (Some []) wrote → wrote ≡ all
 behind_none wrote all told = sym (some_same all wrote told)
 
+-- where the headline holds, memos and resources are kept
+pub memos_held : SourcesKeepMemos → (source : Source) (asked : List (Option InputSource)) (now : Option (List Edit)) (reports : List Report)
+    → Headlined (meaning_of source) (props_of source) (inputs_of (inputs_in asked)) (limits_of usual) (Some []) now (map report_of reports)
+    → MemosKept formulas (meaning_of source) Minding (props_of source) (inputs_of (inputs_in asked)) (limits_of usual) (map report_of reports)
+memos_held law source asked now reports headlined =
+    law source (props_of source) (inputs_of (inputs_in asked)) (limits_of usual) (Some (map edit_of headlined.wrote)) (map report_of reports) headlined.headline
+
 -- one report more
 longer : (reports : List Report) (report : Report) (taken next : ℕ) → length reports ≡ taken + 1 → next ≡ taken + 1 → length (reports ++ report ∷ []) ≡ next + 1
 longer reports report taken next counted one =
@@ -59,14 +69,16 @@ module _ (form : Form) (source : Source) (asked : List (Option InputSource)) (te
   -- what was put is told
   pub told_at : (s : Streaming) → (at : IsAt form source asked text s)
       → Headlined (meaning_of source) (props_of source) (inputs_of (inputs_in asked)) (limits_of usual) (Some []) (Some at.wrote) (map report_of at.reports)
+      × MemosKept formulas (meaning_of source) Minding (props_of source) (inputs_of (inputs_in asked)) (limits_of usual) (map report_of at.reports)
       → IsTold form source asked text
-  told_at s at headlined =
+  told_at s at held =
       record {
         edits = map edit_of at.wrote;
         reports = map report_of at.reports;
         headline =
             subst (λ (wrote : List Edit). Headline (meaning_of source) (props_of source) (inputs_of (inputs_in asked)) (limits_of usual) (Some (map edit_of wrote)) (map report_of at.reports))
-            (behind_none headlined.wrote at.wrote headlined.told) headlined.headline;
+            (behind_none (held.0).wrote at.wrote (held.0).told) (held.0).headline;
+        memos = held.1;
         printed = at.printed;
       }
 

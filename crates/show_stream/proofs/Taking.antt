@@ -11,8 +11,7 @@ use Rattle.rt_language.specs.Values.{Value}
 use Rattle.rt_model.specs.Lists.{Text}
 use Rattle.rt_model.specs.Replay.{Input}
 use Rattle.run_ongoing.specs.Ongoings.{AwaitsMore, EndsAt, number_of}
-use Rattle.run_outside.specs.Sessions.{Headlined}
-use Rattle.run_reports.specs.Seen.{fault_of, limits_of, report_of, usual}
+use Rattle.run_reports.specs.Seen.{fault_of, report_of, usual}
 use Rattle.run_reports.specs.declared.fault.Fault.{Fault}
 use Rattle.run_reports.specs.declared.report.Report.{Report}
 use Rattle.show_answers.specs.Told.{Form}
@@ -23,7 +22,7 @@ use Rattle.show_stream.proofs.Put.{put_none}
 use Rattle.show_stream.proofs.Stopping.{among_all, among_front, behind, cut_put, fault_put, stops_behind, stops_more}
 use Rattle.show_stream.specs.Put.{PutsFault, faulted}
 use Rattle.show_stream.specs.Streams.{IsFaulted, IsTold, inputs_in}
-use Rattle.show_stream.specs.UnderWay.{BuiltAs, IsAmong, IsAt, PutsBehind, StopsAmong, TakesAll}
+use Rattle.show_stream.specs.UnderWay.{BuiltAs, Holds, IsAmong, IsAt, PutsBehind, StopsAmong, TakesAll}
 use Rattle.show_stream.specs.declared.streaming.Streaming.{Streaming}
 use Rattle.show_streams.specs.Writes.{Puts, Writes, grown}
 use Rattle.show_streams.specs.declared.out.OutError.{OutError}
@@ -38,17 +37,6 @@ use Rattle.tree_edits.specs.Documents.{edit_of}
 -- a text that is told, or a fault's
 abbrev pub Told : (form : Form) → Source → List (Option InputSource) → List Text → Type 0
 Told form source asked own = IsTold form source asked own ⊎ IsFaulted form source asked own
-
-abbrev pub TellsHeadline : Source → List (Option InputSource) → Option (List Edit) → List Report → Type 0
-TellsHeadline source asked now reports =
-    Headlined (meaning_of source) (props_of source) (inputs_of (inputs_in asked)) (limits_of usual) (Some []) now (map report_of reports)
-
--- the headline at each time, as a session says it
-abbrev pub Holds : Streaming → Type 0
-Holds s =
-    (source : Source) (asked : List (Option InputSource)) (now : Option (List Edit)) (reports : List Report)
-    → AwaitsMore (λ script. meaning_of_script script) (meaning_of source) usual (props_of source) (inputs_of (inputs_in asked)) (Some []) now reports s.session
-    → TellsHeadline source asked now reports
 
 module _ (form : Form) (source : Source) (asked : List (Option InputSource)) (text : List Text) where
   -- what was put so far is told

@@ -1,5 +1,8 @@
 -- What is written of an application that is given line by line: the text of a session, of which the headline holds.
 use Rattle.std.specs.Prelude.{◌≡◌, ◌⊎◌, ℕ, Bool, true, List, [], ◌∷◌, ◌++◌, map, Option, Some, None, is_some}
+use Rattle.law_minding.specs.Sessions.{MemosKept}
+use Rattle.rt_language.specs.Expressions.{Minding}
+use Rattle.rt_language.specs.Formulas.{formulas}
 use Rattle.rt_language.specs.Meaning.{inputs_of, meaning_of, props_of}
 use Rattle.rt_language.specs.Syntax.{InputSource, Source}
 use Rattle.rt_model.specs.Document.{Edit}
@@ -39,12 +42,14 @@ own_asked source = map Some source.inputs
 abbrev pub marks_of : List (Option InputSource) → List Bool
 marks_of asked = true ∷ map (λ said. is_some said) asked
 
--- a text is that of a session of a source with these inputs, of which the headline holds: report by report its edits and its line, and a
--- refusal where no input was asked
+-- a text is that of a session of a source with these inputs, of which the headline holds, and whose memos and resources are kept: report by
+-- report its edits and its line, and a refusal where no input was asked
 pub record IsTold (form : Form) (source : Source) (asked : List (Option InputSource)) (text : List Text) : Type 0 where
   pub edits : List Edit
   pub reports : List Report
   pub headline : Headline (meaning_of source) (props_of source) (inputs_of (inputs_in asked)) (limits_of usual) (Some edits) reports
+  -- each poll of a memo or of a resource is that of the definitions, and one that nobody else touches is kept after each report
+  pub memos : MemosKept formulas (meaning_of source) Minding (props_of source) (inputs_of (inputs_in asked)) (limits_of usual) reports
   pub printed : text ≡ streamed form (marks_of asked) 0 edits reports
 
 -- the same of a session that came to a fault at the last that was asked, or in the build: behind the answers to those before it stand the

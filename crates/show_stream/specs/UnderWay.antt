@@ -1,13 +1,17 @@
 -- An application that is given line by line, under way: what holds of it, and of what it puts next.
 use Rattle.std.specs.Prelude.{◌≡◌, ◌⊎◌, ℕ, ◌+◌, ◌<◌, List, [], ◌∷◌, ◌++◌, length, map, Option, Some, Result, Ok, Err}
 use Rattle.lang_script.specs.Applications.{meaning_of_script}
+use Rattle.law_minding.specs.Sessions.{MemosKept}
 use Rattle.lang_sources.specs.Describes.{Describes}
 use Rattle.rt_edits.specs.declared.edit.Edit.{Edit}
+use Rattle.rt_language.specs.Expressions.{Minding}
+use Rattle.rt_language.specs.Formulas.{formulas}
 use Rattle.rt_language.specs.Meaning.{inputs_of, meaning_of, props_of}
 use Rattle.rt_language.specs.Syntax.{InputSource, Source}
 use Rattle.rt_model.specs.Lists.{Text}
 use Rattle.run_ongoing.specs.Ongoings.{AwaitsMore, number_of}
-use Rattle.run_reports.specs.Seen.{report_of, usual}
+use Rattle.run_outside.specs.Sessions.{Headlined}
+use Rattle.run_reports.specs.Seen.{limits_of, report_of, usual}
 use Rattle.run_reports.specs.declared.report.Report.{Report}
 use Rattle.show_answers.specs.Streamed.{AreAnswered, streamed}
 use Rattle.show_answers.specs.Told.{Form}
@@ -18,6 +22,15 @@ use Rattle.show_words.specs.Asked.{SaysNone}
 use Rattle.show_words.specs.declared.reason.Stop.{Stop}
 use Rattle.show_words.specs.declared.reason.Stop.TheVariants as stops
 use Rattle.tree_edits.specs.Documents.{edit_of}
+
+-- whichever session of a source it has under way, the headline holds of its reports, and its memos and resources are kept
+abbrev pub Holds : Streaming → Type 0
+Holds s =
+    (source : Source) (asked : List (Option InputSource)) (now : Option (List Edit)) (reports : List Report)
+    → AwaitsMore (λ script. meaning_of_script script) (meaning_of source) usual (props_of source) (inputs_of (inputs_in asked)) (Some []) now
+    reports s.session
+    → Headlined (meaning_of source) (props_of source) (inputs_of (inputs_in asked)) (limits_of usual) (Some []) now (map report_of reports)
+    × MemosKept formulas (meaning_of source) Minding (props_of source) (inputs_of (inputs_in asked)) (limits_of usual) (map report_of reports)
 
 -- it was asked this and put this text, and awaits what comes next
 pub record IsAt (form : Form) (source : Source) (asked : List (Option InputSource)) (text : List Text) (s : Streaming) : Type 0 where

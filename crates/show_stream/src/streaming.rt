@@ -5,11 +5,12 @@ ghost use Rattle.rt_language.specs.Meaning as language;
 ghost use Rattle.run_reports.specs.Seen.{input_of};
 ghost use Rattle.show_words.specs.Ready.{MadeOf};
 ghost use Rattle.show_stream.specs.Streams.{IsStreamed};
-ghost use Rattle.show_stream.specs.UnderWay.{Answers, Begins, Builds, IsAt, IsUnderWay, Opens, TakesAll};
+ghost use Rattle.show_stream.specs.UnderWay.{Answers, Begins, Builds, Holds, IsAt, IsUnderWay, Opens, TakesAll};
 
 use crate::answers::{put_answer, put_fault, put_refusal};
 use crate::refused::say_refused;
 use lang_inputs::read_input;
+use lang_minding::sources_keep_memos;
 use lang_script::{Script, inputs_of};
 use lang_sources::read_source;
 use lang_syntax::{InputSource, Source as Described};
@@ -79,7 +80,7 @@ impl Streaming {
             (O.faults out.old) (O.faults out.new) self.new result }
         ensures later { O.faults out.old ≤ O.faults out.new }
     {
-        self.session.holds();
+        self.held();
         match read_input(alloc, bytes)? {
             Some(said) => {
                 let inputs = input_said(alloc, said)?;
@@ -93,12 +94,21 @@ impl Streaming {
         }
     }
 
-    /// At each time what was put is the text of a session of which the headline holds.
+    /// At each time what was put is the text of a session of which the headline holds, and whose
+    /// memos and resources are kept.
     pub fn holds(&self)
         ensures streamed { (form : _) (first : _) (lines : _) (text : _) →
             IsUnderWay form first lines text self.now → IsStreamed form first lines text }
     {
+        self.held();
+    }
+
+    /// The headline holds of the session so far, and its memos and resources are kept.
+    fn held(&self)
+        ensures held { Holds self.now }
+    {
         self.session.holds();
+        sources_keep_memos();
     }
 
     /// Builds an application, and takes in the inputs that stand in it.
@@ -138,9 +148,10 @@ impl Streaming {
         let mut sink = T::fresh(alloc);
         match Ongoing::begin(alloc, script, props, USUAL, &mut sink) {
             Ok((session, report)) => {
-                session.holds();
+                let built = Streaming { session };
+                built.held();
                 put_answer::<T, O>(alloc, sink.kept(), 0, &report, out)?;
-                Ok(Streaming { session })
+                Ok(built)
             }
             Err(fault) => Err(put_fault::<T, O>(alloc, sink.kept(), fault, out, line)),
         }
@@ -180,11 +191,11 @@ impl Streaming {
             (O.faults out.old) (O.faults out.new) self.new result }
         ensures later { O.faults out.old ≤ O.faults out.new }
     {
-        self.session.holds();
+        self.held();
         let mut sink = T::fresh(alloc);
         match self.session.take(input, &mut sink) {
             Ok(report) => {
-                self.session.holds();
+                self.held();
                 let number = self.session.taken();
                 put_answer::<T, O>(alloc, sink.kept(), number, &report, out)?;
                 Ok(())

@@ -32,7 +32,7 @@ pub returns-in-Ok : goal.returns-in-Ok
 returns-in-Ok g c =
     let lists : lists_of c.in_ok-posts.posts ≡ lists_in (source_of c.args.described) = lists_said c.in_ok-posts.posts c.args.described (c.in_ok-posts.ensures.posts ∙ ap (λ ls. map (map posted_of) ls) c.as_slice.ensures.items) in
     let run : IsPostedText (source_of c.args.described) (posted_text (map edit_of c.edits.result.now) (map report_of c.as_slice-in-Ok.result.now) (drains_of c.as_slice-in-Ok-2.result.now)) =
-    posted_done (source_of c.args.described) c.in_ok-posts.posts _ _ c.edits.result.now c.in-Ok.field-0.reports c.as_slice-in-Ok.result.now c.in-Ok.field-0.drains c.as_slice-in-Ok-2.result.now
+    posted_done c.sources_keep_memos.ensures (source_of c.args.described) c.in_ok-posts.posts _ _ c.edits.result.now c.in-Ok.field-0.reports c.as_slice-in-Ok.result.now c.in-Ok.field-0.drains c.as_slice-in-Ok-2.result.now
     c.in-Ok.field-0.inbox c.default_list-sink.ensures.taken c.edits.ensures.taken c.as_slice-in-Ok.ensures.items c.as_slice-in-Ok-2.ensures.items lists
     (c.in-Ok.ensures.headline (source_of c.args.described) _ c.in_ok-script.ensures.made) c.in-Ok.ensures.took_all in
     record {
@@ -48,7 +48,7 @@ returns-in_err-put_posted-in-Ok g c =
     let stopped : c.from_residual-in_err-put_posted-in-Ok.result ≡ Err (stop_of c.in_err-put_posted-in-Ok.field-0.0) = search rules in
     let lists : lists_of c.in_ok-posts.posts ≡ lists_in (source_of c.args.described) = lists_said c.in_ok-posts.posts c.args.described (c.in_ok-posts.ensures.posts ∙ ap (λ ls. map (map posted_of) ls) c.as_slice.ensures.items) in
     let run : IsPostedText (source_of c.args.described) (posted_text (map edit_of c.edits.result.now) (map report_of c.as_slice-in-Ok.result.now) (drains_of c.as_slice-in-Ok-2.result.now)) =
-    posted_done (source_of c.args.described) c.in_ok-posts.posts _ _ c.edits.result.now c.in-Ok.field-0.reports c.as_slice-in-Ok.result.now c.in-Ok.field-0.drains c.as_slice-in-Ok-2.result.now
+    posted_done c.sources_keep_memos.ensures (source_of c.args.described) c.in_ok-posts.posts _ _ c.edits.result.now c.in-Ok.field-0.reports c.as_slice-in-Ok.result.now c.in-Ok.field-0.drains c.as_slice-in-Ok-2.result.now
     c.in-Ok.field-0.inbox c.default_list-sink.ensures.taken c.edits.ensures.taken c.as_slice-in-Ok.ensures.items c.as_slice-in-Ok-2.ensures.items lists
     (c.in-Ok.ensures.headline (source_of c.args.described) _ c.in_ok-script.ensures.made) c.in-Ok.ensures.took_all in
     record { posts = rw stopped (cut_text (source_of c.args.described) _ _ _ _ _ c.in_err-put_posted-in-Ok.field-0.0 (inl run) c.in_err-put_posted-in-Ok.ensures.writes) }

@@ -3,10 +3,8 @@ use Rattle.std.proofs.Common.{rules, ◌≡◌, [], ◌∷◌, ◌++◌, Some, E
 use Rattle.std.specs.Prelude.{IfSome}
 use Rattle.lang_inputs.specs.Describes.{DescribesInput}
 use Rattle.lang_syntax.specs.Mirror.{input_of}
-use Rattle.rt_language.specs.Meaning.{inputs_of, meaning_of, props_of}
-use Rattle.run_reports.specs.Seen.{usual}
 use Rattle.show_stream.proofs.Answering.{answered, refused_cut, refused_put, says_none, wanting}
-use Rattle.show_stream.specs.Streams.{inputs_in, own_asked}
+use Rattle.show_stream.specs.Streams.{own_asked}
 use Rattle.show_words.specs.Outs.{stop_of}
 use Rattle.show_words.specs.declared.reason.Stop.TheVariants as stops
 use Rattle.show_stream.proofs.streaming.Streaming.answer.Goals as goal
@@ -16,14 +14,14 @@ returns-in_err-said-clause-answers g c = λ first lines text is.
     let stopped : c.from_residual.result ≡ Err stops.OutOfMemory = search rules in
     rw stopped
     (wanting g.T.Tells.form first lines c.args.bytes.now text c.args.self.now is (g.O.Out.puts c.args.out.now) (g.O.Out.puts c.args.out.now) (g.O.Out.faults c.args.out.now) (g.O.Out.faults c.args.out.now) c.args.self.now
-    (λ s a now reports awaits. c.holds.ensures.headline (meaning_of s) usual (props_of s) (inputs_of (inputs_in a)) (Some []) now reports awaits) refl)
+    c.held.ensures.held refl)
 
 pub returns-in_err-inputs-in-Some-clause-answers : goal.returns-in_err-inputs-in-Some-clause-answers
 returns-in_err-inputs-in-Some-clause-answers g c = λ first lines text is.
     let stopped : c.from_residual-in_err-inputs-in-Some.result ≡ Err stops.OutOfMemory = search rules in
     rw stopped
     (wanting g.T.Tells.form first lines c.args.bytes.now text c.args.self.now is (g.O.Out.puts c.args.out.now) (g.O.Out.puts c.args.out.now) (g.O.Out.faults c.args.out.now) (g.O.Out.faults c.args.out.now) c.args.self.now
-    (λ s a now reports awaits. c.holds.ensures.headline (meaning_of s) usual (props_of s) (inputs_of (inputs_in a)) (Some []) now reports awaits) refl)
+    c.held.ensures.held refl)
 
 pub returns-in_ok-inputs-in-Some-clause-answers : goal.returns-in_ok-inputs-in-Some-clause-answers
 returns-in_ok-inputs-in-Some-clause-answers g c = λ first lines text is.
@@ -40,7 +38,7 @@ returns-in_err-put_refusal-in-None-clause-answers g c = λ first lines text is.
     (refused_cut g.T.Tells.form first lines c.args.bytes.now text c.args.self.now is (g.O.Out.puts c.args.out.now) (g.O.Out.puts c.put_refusal.new.out)
     (g.O.Out.faults c.args.out.now) (g.O.Out.faults c.put_refusal.new.out) c.args.self.now c.in_err-put_refusal-in-None.field-0.0
     (says_none c.args.bytes.now c.in_ok-said.field-0 c.in-None.is c.in_ok-said.ensures.answered)
-    (λ s a now reports awaits. c.holds.ensures.headline (meaning_of s) usual (props_of s) (inputs_of (inputs_in a)) (Some []) now reports awaits)
+    c.held.ensures.held
     c.in_err-put_refusal-in-None.ensures.writes)
 
 pub returns-in_ok-put_refusal-in-None-clause-answers : goal.returns-in_ok-put_refusal-in-None-clause-answers

@@ -1,11 +1,8 @@
 -- It was built and its answer put, or the program stops there.
-use Rattle.std.proofs.Common.{◌∷◌, [], Some}
+use Rattle.std.proofs.Common.{◌∷◌, []}
 use Rattle.std.proofs.lemmas.Result.{err_from_is_err_and}
-use Rattle.rt_language.specs.Meaning.{inputs_of, meaning_of, props_of}
-use Rattle.run_reports.specs.Seen.{usual}
 use Rattle.show_stream.proofs.Going.{own_count}
 use Rattle.show_stream.proofs.Taking.{built_awaits, built_cut, built_ends, built_fault, built_put}
-use Rattle.show_stream.specs.Streams.{inputs_in}
 use Rattle.show_stream.specs.declared.streaming.Streaming.{Streaming}
 use Rattle.show_stream.proofs.streaming.Streaming.build.Goals as goal
 
@@ -30,7 +27,7 @@ returns-in_err-put_answer-in-Ok-clause-builds g c = λ source inputs made.
     (g.O.Out.faults c.args.out.now) (g.O.Out.faults c.put_answer.new.out) c.in_err-put_answer-in-Ok.field-0.0
     (built_awaits source c.args.script c.args.props inputs made _ _ own c.fresh-sink.ensures.taken c.kept.ensures.lines.tells (report ∷ []) here c.in-Ok.ensures.begins)
     c.in-Ok.ensures.none (own_count _ _ own _ _ report c.fresh-sink.ensures.taken c.kept.ensures.lines.tells c.in-Ok.ensures.took) c.kept.ensures.lines.printed
-    (λ s a now reports awaits. c.holds.ensures.headline (meaning_of s) usual (props_of s) (inputs_of (inputs_in a)) (Some []) now reports awaits)
+    c.held.ensures.held
     c.in_err-put_answer-in-Ok.ensures.writes)
 
 pub returns-clause-builds : goal.returns-clause-builds

@@ -1,8 +1,6 @@
 -- What was put is told.
-use Rattle.rt_language.specs.Meaning.{inputs_of, meaning_of, props_of}
-use Rattle.run_reports.specs.Seen.{usual}
 use Rattle.show_stream.proofs.Taking.{told}
-use Rattle.show_stream.specs.Streams.{inputs_in, own_asked}
+use Rattle.show_stream.specs.Streams.{own_asked}
 use Rattle.std.proofs.Common.{◌++◌}
 use Rattle.show_stream.proofs.streaming.Streaming.holds.Goals as goal
 
@@ -14,7 +12,6 @@ returns c = record {
         described = is.described;
         said = is.said;
         says = is.says;
-        told = told form is.source (own_asked is.source ++ is.said) text c.args.self.now is.at
-            (λ s a now reports awaits. c.holds.ensures.headline (meaning_of s) usual (props_of s) (inputs_of (inputs_in a)) _ now reports awaits);
+        told = told form is.source (own_asked is.source ++ is.said) text c.args.self.now is.at c.held.ensures.held;
       };
 }

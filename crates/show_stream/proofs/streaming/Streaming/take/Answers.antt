@@ -34,7 +34,7 @@ returns-in_err-put_answer-in-Ok-clause-takes g c =
     (c.in-Ok.ensures.takes (meaning_of source) usual (props_of source) (inputs_of (inputs_in asked)) (Some []) (Some at.wrote) (Some (at.wrote ++ own)) at.reports at.awaits
     (carries_on _ _ at.wrote own c.fresh-sink.ensures.taken c.kept.ensures.lines.tells))
     c.in-Ok.ensures.number (own_count _ _ own _ _ c.in-Ok.report c.fresh-sink.ensures.taken c.kept.ensures.lines.tells c.in-Ok.ensures.took) c.taken-number.ensures.taken
-    (λ s a now reports awaits. c.holds-in-Ok.ensures.headline (meaning_of s) usual (props_of s) (inputs_of (inputs_in a)) (Some []) now reports awaits)
+    c.held-in-Ok.ensures.held
     c.in_err-put_answer-in-Ok.ensures.writes)
 
 pub returns-clause-takes : goal.returns-clause-takes
@@ -46,5 +46,5 @@ returns-clause-takes g c =
     (g.O.Out.faults c.args.out.now) (g.O.Out.faults c.put_fault.new.out) c.put_fault.result
     (c.in-Err.ensures.takes (meaning_of source) usual (props_of source) (inputs_of (inputs_in asked)) (Some []) (Some at.wrote) (Some (at.wrote ++ own)) at.reports at.awaits
     (carries_on _ _ at.wrote own c.fresh-sink.ensures.taken c.kept-in-Err.ensures.lines.tells))
-    (λ s a now reports awaits. c.holds.ensures.headline (meaning_of s) usual (props_of s) (inputs_of (inputs_in a)) (Some []) now reports awaits)
+    c.held.ensures.held
     c.put_fault.ensures.puts
