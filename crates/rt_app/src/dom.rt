@@ -10,7 +10,7 @@ pub use law_minding::{
 };
 
 // The runtime.
-pub use rt_boundary::NotBuilt;
+pub use rt_boundary::{Fragment, NotBuilt};
 pub use rt_session::{Posted, PostedFault, session_posted};
 pub use rt_vdom::{
     DomFault, Drained, ErrorContext, Place, Poll, ScopeState, Scopes, Step, SuspenseContext,
