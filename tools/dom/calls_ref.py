@@ -29,8 +29,7 @@ def fault_text(f):
     return fault_line(f.fault)
 
 def fault_line(x):
-    if x.number in (1, 2, 5): return f"fault {x.number}"
-    return " ".join([f"fault {x.number}"] + [str(d) for d in x.details])
+    return f"fault {x.number}" if x.number in (1, 2) else x.line()
 
 def names(d): return sorted(d)
 
