@@ -1,11 +1,11 @@
 -- Several reads and writes, one after another.
-use Rattle.std.proofs.Common.{ℕ, suc, Bool, true, false, List, [], ◌∷◌, ◌++◌, ◌≡◌, refl, sym, ap, subst, ◌∙◌, ◌+◌, ◌<◌, ◌≤◌, length, get_or, slice_index_or, drop, add-one, arith}
-use Rattle.std.proofs.Common.{drop-cons as drop-items}
+use Rattle.std.proofs.Common.{ℕ, suc, Bool, true, false, List, [], ◌∷◌, ◌++◌, ◌≡◌, refl, sym, ap, subst, ◌∙◌, ◌+◌, ◌<◌, ◌≤◌, length, get_or, slice_index_or, drop, arith}
 use Rattle.std.proofs.Math.Seq.{drop-cons}
 use Rattle.std.specs.Prelude.{◌↔◌, IsTrue, Option, Some, None}
 use Rattle.rt_model.specs.Laws.{Tests}
 use Rattle.std.proofs.Math.ListN.{drop_of_length-le}
 use Rattle.std.proofs.lemmas.List.{append_assoc}
+use Rattle.rt_lemmas.proofs.Lists.{next_drop, append_nil}
 use Rattle.rt_model.specs.Program.{Program, done, current_scope, Call, says}
 use Rattle.rt_model.specs.Tree.{Types, rendered, placeholder_tree}
 use Rattle.rt_model.specs.World.{World, Write, Event, Nothing, nothing}
@@ -16,15 +16,6 @@ use Rattle.author_programs.specs.Cells.{Keeping, own_cell}
 use Rattle.author_programs.specs.Pages.{Page, Reply, own_cells, and_more, one_more, shown, page_body, reply_call}
 use Rattle.author_programs.specs.Sequence.{go_on}
 use Rattle.author_programs.proofs.Steps.{on, at_done, at_read, at_write, at_scope}
-
-append_nil : {A : Type 0} (xs : List A) → xs ++ [] ≡ xs
-append_nil [] = refl
-append_nil (x ∷ xs) = ap (λ ys. x ∷ ys) (append_nil xs)
-
-next_drop : {A : Type 0} (xs : List A) (i : ℕ) (x : A) → i < length xs → x ≡ get_or xs i x → drop i xs ≡ x ∷ drop (i + 1) xs
-next_drop xs i x low is =
-    let e : drop i xs ≡ get_or xs i x ∷ drop (i + 1) xs = rw (add-one, drop-items xs i x) refl in
-    e ∙ ap (λ y. y ∷ drop (i + 1) xs) (sym is)
 
 -- the item at a position of numbers, before those that follow
 pub split_at : (xs : List ℕ) (i : ℕ) → i < length xs → drop i xs ≡ slice_index_or xs i 0 ∷ drop (i + 1) xs

@@ -1,6 +1,7 @@
 -- Calls that were refused, and what bodies come to then.
 use Rattle.std.proofs.Common.{ℕ, Bool, true, false, ◌≡◌, refl, sym, ap, ◌∙◌, not, nat_eq}
 use Rattle.std.specs.Prelude.{◌≢◌, ◌↔◌, ◌⊎◌, IsTrue, if◌then◌else◌, Option, Some, None, option_map, option_and_then, Result, Ok, Err, IfErr}
+use Rattle.rt_lemmas.proofs.Options.{some_same as some-is}
 use Rattle.rt_model.specs.OneLog.{types}
 use Rattle.rt_model.specs.Tree.{Types}
 use Rattle.rt_model.specs.Program as program
@@ -29,9 +30,6 @@ drawn result fault a false h is = refl
 not-wanted : (before : Option CxFault) (fault : CxFault) → first_refusal before fault ≢ Some refusals.OutOfMemory → before ≢ Some refusals.OutOfMemory
 not-wanted None fault h = λ is. cc
 not-wanted (Some old) fault h = h
-
-some-is : (m k : ℕ) → Some m ≡ Some k → m ≡ k
-some-is m k h = cc
 
 module _ {K : Types} where
   -- another hook stands there

@@ -1,15 +1,12 @@
 -- A look-up climbs from scope to scope.
-use Rattle.std.proofs.Common.{ℕ, true, false, ◌+◌, ◌-◌, ◌<◌, ◌≡◌, refl, ap, ◌∙◌, cond, arith}
-use Rattle.std.specs.Prelude.{suc, Option, Some, None}
+use Rattle.std.proofs.Common.{ℕ, true, false, ◌+◌, ◌-◌, ◌<◌, ◌≡◌, refl, ap, ◌∙◌, cond}
+use Rattle.std.specs.Prelude.{Option, Some, None}
+use Rattle.rt_lemmas.proofs.Numbers.{fewer}
 use Rattle.rt_model.specs.Lists.{has}
 use Rattle.rt_model.specs.Program.{Call, Found, noted, found_at, no_further, further_up, own_context, looked_up, parent_in, boundary_above}
 use Rattle.rt_model.specs.Tree.{Types}
 use Rattle.rt_model.specs.World.{Context, Given, World}
 use Rattle.author_programs.specs.Reads.{looked_at}
-
--- one step fewer is left
-fewer : (n i : ℕ) → i < n → n - i ≡ suc (n - (i + 1))
-fewer n i h = omega arith
 
 module _ {K : Types} where
   -- a value that is found ends the look-up there

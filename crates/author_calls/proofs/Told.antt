@@ -1,6 +1,7 @@
 -- The call after a refusal for another cause than want of memory, as the model has it.
 use Rattle.std.proofs.Common.{ℕ, Bool, true, false, ◌≡◌, refl, sym, ap, ◌∙◌, not, nat_eq}
 use Rattle.std.specs.Prelude.{◌≢◌, if◌then◌else◌, Option, Some, None, option_map}
+use Rattle.rt_lemmas.proofs.Options.{some_same as some-is}
 use Rattle.rt_model.specs.OneLog.{types}
 use Rattle.rt_model.specs.Tree.{Types}
 use Rattle.rt_model.specs.Program as program
@@ -17,9 +18,6 @@ use Rattle.run_records.specs.declared.faults.Counter.{Counter}
 use Rattle.run_records.specs.declared.faults.CxFault.{CxFault}
 use Rattle.run_records.specs.declared.faults.CxFault.TheVariants as refusals
 use Rattle.author_calls.proofs.ProgramsGoOn.{stand-for}
-
-some-is : (m k : ℕ) → Some m ≡ Some k → m ≡ k
-some-is m k h = cc
 
 module _ {K : Types} where
   -- another hook stands there

@@ -1,7 +1,6 @@
 -- A component whose scope's hooks keep all its cells comes to what a page does whose own cells these are.
-use Rattle.std.proofs.Common.{ℕ, zero, suc, Bool, true, false, List, [], ◌∷◌, ◌++◌, ◌≡◌, refl, sym, ap, subst, ◌∙◌, map, length, nat_eq, nat_le, ◌+◌, ◌<◌, append-nil, append_assoc, arith}
-use Rattle.std.specs.Prelude.{Option, Some, None, if◌then◌else◌, option_and_then}
-use Rattle.std.proofs.lemmas.Bool.{lt-leb}
+use Rattle.std.proofs.Common.{ℕ, suc, Bool, true, false, List, [], ◌∷◌, ◌++◌, ◌≡◌, refl, sym, ap, subst, ◌∙◌, map, length, nat_eq, nat_le, ◌+◌, append-nil, append_assoc}
+use Rattle.std.specs.Prelude.{Option, Some, if◌then◌else◌, option_and_then}
 use Rattle.rt_model.specs.Lists.{nth}
 use Rattle.rt_model.specs.Program as program
 use Rattle.rt_model.specs.Program.{Program, done, Call, past_hook, hook_value, hooked, begun, body_means}
@@ -13,27 +12,14 @@ use Rattle.author_programs.specs.Cells.{Keeping, own_cell, kept_cell, first_or_k
 use Rattle.author_programs.specs.Pages.{Page, own_cells, and_more, one_more, shown, page_body}
 use Rattle.author_programs.specs.Shows.{IsKept, KeepAll}
 use Rattle.author_programs.proofs.Goes.{exec-came, told_by}
-use Rattle.author_programs.proofs.Shows.{after_hooks}
+use Rattle.author_programs.proofs.Shows.{after_hooks, within as old, same-kind as same_kind}
 use Rattle.author_programs.proofs.Steps.{on, at_done, at_hook_is_new, at_use_hook}
 use Rattle.author_formulas.specs.Memos.{MemoTask, own_memo, first_or_kept_memo}
 use Rattle.author_derived.specs.Derived.{Derivations, derived_behind, all_cells, derived_body}
 use Rattle.author_derived.proofs.Gathered.{cells_on, derived_more}
 
--- where an item stands the list is longer
-below : {A : Type 0} (xs : List A) (i : ℕ) (x : A) → nth xs i ≡ Some x → i < length xs
-below [] i x h = cc
-below (y ∷ ys) zero x h = omega arith
-below (y ∷ ys) (suc i) x h = let low : i < length ys = below ys i x h in omega (arith, low)
-
-old : {A : Type 0} (xs : List A) (i : ℕ) (x : A) → nth xs i ≡ Some x → nat_le (length xs) i ≡ false
-old xs i x h = lt-leb (length xs) i (below xs i x h)
-
 fewer : (m n : ℕ) → suc m ≡ suc n → m ≡ n
 fewer m n e = cc
-
--- a hook of the kind that is asked for
-same_kind : (K : Types) (k : ℕ) (first value : K.Value) → hook_value {K = K} k first (Some (HookValue k value)) ≡ Some value
-same_kind K k first value = ap (λ (b : Bool). if b then Some value else None) (eq_same k)
 
 module _ {K : Types} (k : Keeping K.Value) (w : World K) where
   passed : (c : Call K) (kind : ℕ) (new : Hook K) (value : K.Value) → hooked w c kind new (Some (HookValue kind value)) ≡ past_hook c

@@ -1,6 +1,7 @@
 -- The answer of a program that only looks is decided by the values of what it looked at.
-use Rattle.std.proofs.Common.{ℕ, Bool, true, false, List, [], ◌∷◌, ◌+◌, ◌≡◌, ◌<◌, refl, ap, sym, subst, ◌∙◌, nat_lt, arith}
+use Rattle.std.proofs.Common.{ℕ, Bool, true, false, List, [], ◌∷◌, ◌+◌, ◌≡◌, refl, ap, sym, subst, ◌∙◌, nat_lt}
 use Rattle.std.specs.Prelude.{Option, Some, None, if◌then◌else◌, length}
+use Rattle.rt_lemmas.proofs.Numbers.{lt_true as tested_low}
 use Rattle.rt_model.specs.Lists.{at}
 use Rattle.rt_model.specs.Laws.{SameAt, Agree}
 use Rattle.rt_model.specs.Program.{Program, done, current_scope, read, consume_context, has_context, Call, Found, noted, noted_at, value_in, own_context, found_at, no_further, look_up, look_here}
@@ -10,10 +11,6 @@ use Rattle.author_programs.specs.Came.{came}
 use Rattle.author_programs.specs.Reads.{read_value, read_call}
 use Rattle.author_formulas.specs.Looking.{Looks, all_noted, own_way, MadeNothing, StandAlike, LookingDecides}
 use Rattle.author_formulas.proofs.Looking.{along, goes_along, up_notes, here_notes}
-
--- a test of numbers that holds
-tested_low : (n m : ℕ) → nat_lt n m ≡ true → n < m
-tested_low n m q = grind (arith, q)
 
 module _ {K : Types} (v w : World K) where
   -- the two worlds agree on what was looked at so far

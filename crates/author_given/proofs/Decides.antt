@@ -1,6 +1,7 @@
 -- The test of props with children decides.
-use Rattle.std.proofs.Common.{rules, Bool, true, false, ◌&&◌, List, [], ◌∷◌, ◌≡◌, refl, sym, ap, subst, ◌∙◌, map}
+use Rattle.std.proofs.Common.{rules, Bool, true, ◌&&◌, List, [], ◌∷◌, ◌≡◌, refl, sym, ap, subst, ◌∙◌, map}
 use Rattle.std.specs.List.{AllByRecursion}
+use Rattle.rt_lemmas.proofs.Bools.{and_both as both}
 use Rattle.rt_model.specs.Laws.{Tests}
 use Rattle.rt_model.proofs.Conjunctions.{and-left, and-right}
 use Rattle.author_given.proofs.Alike.{alike}
@@ -10,10 +11,6 @@ use Rattle.author_given.specs.declared.props.Given.TheFolds.{ind-Given}
 use Rattle.author_given.specs.declared.props.Given.TheOpen.{Given-F, Inside-F}
 use Rattle.author_given.specs.declared.props.Given.TheViews.{out-Given, out-Inside, roll-Given, roll-Inside, out-roll-Given, out-roll-Inside, roll-out-Given, roll-out-Inside}
 use Rattle.author_given.specs.declared.props.Inside.{Inside}
-
-both : (a b : Bool) → a ≡ true → b ≡ true → (a && b) ≡ true
-both true b h k = k
-both false b h k = h
 
 module _ {C Q : Type 0} (same_component : C → C → Bool) (same_own : Q → Q → Bool) (components : Tests C same_component) (owns : Tests Q same_own) where
   abbrev same : Given C Q → Given C Q → Bool

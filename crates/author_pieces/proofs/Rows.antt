@@ -1,6 +1,7 @@
 -- Rows of a template, one node after another.
 use Rattle.std.proofs.Common.{◌≡◌, ℕ, ◌+◌, ◌<◌, ◌≤◌, suc, List, [], ◌∷◌, ◌++◌, length, get_or, drop, map, refl, sym, ◌∙◌, ap, rules}
 use Rattle.std.proofs.Math.ListN.{drop_of_length-le}
+use Rattle.rt_lemmas.proofs.Lists.{append_nil as nil}
 use Rattle.tree_fits.proofs.NamesLemmas.{drop-next}
 use Rattle.tree_nodes.specs.declared.template.TemplateAttribute.{TemplateAttribute}
 use Rattle.tree_nodes.specs.declared.template.TemplateNode.{TemplateNode}
@@ -19,10 +20,6 @@ joined made rest = (made ++ rest.0, rest.1)
 snoc : {T : Type 0} (xs : List T) (x : T) (ys : List T) → (xs ++ x ∷ []) ++ ys ≡ xs ++ x ∷ ys
 snoc [] x ys = refl
 snoc (y ∷ xs) x ys = ap (λ zs. y ∷ zs) (snoc xs x ys)
-
-nil : {T : Type 0} (xs : List T) → xs ++ [] ≡ xs
-nil [] = refl
-nil (x ∷ xs) = ap (λ zs. x ∷ zs) (nil xs)
 
 -- one more is made
 one-more : {T : Type 0} (row more : List T) (x : T) (p : Paths) (made : T × Paths) (rest : Paths → List T × Paths)

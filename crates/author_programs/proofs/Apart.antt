@@ -3,6 +3,7 @@ use Rattle.std.proofs.Common.{ℕ, zero, suc, ◌+◌, ◌<◌, ◌≤◌, Bool,
 use Rattle.std.specs.Prelude.{Option, Some, None, if◌then◌else◌}
 use Rattle.std.specs.List.{AllByRecursion}
 use Rattle.std.proofs.lemmas.Bool.{eqb-true, leb-true, ltb-true}
+use Rattle.rt_lemmas.proofs.Options.{some_same as some-is}
 use Rattle.rt_model.specs.Lists.{nth}
 use Rattle.rt_model.specs.Program.{Program, done, current_scope, parent_scope, current_task, rendering, generation, read, error, consume_context, has_context, new_context, run_in, reset_and_run_in, leave, new_cell, write, drop_cell, spawn, remove_future, wake, set_active, queue_effect, after_suspense_resolved, freeze, provide, needs_update, captured, throw, clear_errors, hook_is_new, use_hook, use_effect, Call, Found, says, faults, noted, noted_at, noted_error, exec, nearest_boundary, error_in, own_context, found_at, further_up, no_further, looked_up, look_up, look_here, own_scope_or, parent_in, provides, hooked, hook_value, hook_stands, past_hook, kind_of, drew_cell, drew_context, drew_task, drew_error, begun}
 use Rattle.rt_model.specs.Tree.{Types}
@@ -14,9 +15,6 @@ use Rattle.author_programs.specs.Kinds.{Kinds, is_among, apart, apart_from, all_
 use Rattle.author_programs.specs.Reads.{read_value, read_call}
 use Rattle.author_programs.specs.Sequence.{go_on}
 use Rattle.author_programs.proofs.Goes.{exec-came}
-
-some-is : {A : Type 0} (a b : A) → Some a ≡ Some b → a ≡ b
-some-is a b h = cc
 
 -- where one range ends before another one begins, no kind is in both
 not-both : (n m kind : ℕ) → n ≤ m → kind < n → m ≤ kind → ⊥

@@ -2,6 +2,7 @@
 use Rattle.std.proofs.Common.{ℕ, Bool, true, false, ◌&&◌, List, [], ◌∷◌, ◌++◌, ◌≡◌, inl, inr, refl, sym, ap, subst, ◌∙◌, length, nat_eq, append-nil}
 use Rattle.std.specs.Prelude.{◌⊎◌, Option, Some, None, if◌then◌else◌}
 use Rattle.std.specs.List.{AllByRecursion}
+use Rattle.rt_lemmas.proofs.Bools.{and_left as and-first}
 use Rattle.rt_model.specs.Commands.{names_source, readers, post_target, tell_contexts, tell, written_at, write_cell}
 use Rattle.rt_model.specs.Current.{AllCurrent}
 use Rattle.rt_model.specs.Heard.{Listener, Climb, matches, find_within, heard, heard_on, listener_of, is_listener, all_matching, first_matching, first_listener, climbing, bubbling, in_order, at_target}
@@ -29,10 +30,6 @@ parted a (x ∷ xs) ys h = either (λ is. inl (inl is)) (λ rest. either (λ fir
 by-test : {P : Type 0} (m : P) (b : Bool) (rest : List P) → b ≡ false → rest ≡ [] → (if b then m ∷ rest else rest) ≡ []
 by-test m true rest bad none = cc
 by-test m false rest bad none = none
-
-and-first : (a b : Bool) → (a && b) ≡ true → a ≡ true
-and-first true b h = refl
-and-first false b h = h
 
 module _ {K : Types} where
   no-readers : (x : Source) (es : List (ℕ × Scope K)) → AllByRecursion (λ (e : ℕ × Scope K). names_source (e.1).reads x ≡ false) es → readers x es ≡ []

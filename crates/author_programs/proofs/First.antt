@@ -2,7 +2,9 @@
 use Rattle.std.proofs.Common.{ℕ, suc, ◌+◌, ◌<◌, ◌≤◌, Bool, true, false, ◌||◌, ◌&&◌, not, List, [], ◌∷◌, ◌≡◌, refl, sym, ap, subst, ◌∙◌, map, length, nat_eq, nat_le, nat_lt, arith}
 use Rattle.std.specs.Prelude.{Option, Some, None, if◌then◌else◌, option_and_then}
 use Rattle.std.specs.List.{AllByRecursion}
-use Rattle.std.proofs.lemmas.Bool.{eqb-true, le-leb}
+use Rattle.std.proofs.lemmas.Bool.{le-leb}
+use Rattle.rt_lemmas.proofs.Bools.{or_right as or-right}
+use Rattle.rt_lemmas.proofs.Numbers.{eq_below as not-at-end}
 use Rattle.rt_model.specs.Commands.{names_source}
 use Rattle.rt_model.specs.Current.{IsCurrent, CurrentAs, BodyIsCurrent, KeepsAnswer, Repeats, world_again, again}
 use Rattle.rt_model.specs.Lists.{at, nth, first_of}
@@ -22,40 +24,16 @@ use Rattle.author_programs.proofs.Goes.{exec-came}
 use Rattle.author_programs.proofs.Shows.{after_reads}
 use Rattle.author_programs.proofs.Steps.{on, at_done, at_scope, at_read, at_new_cell, at_hook_is_new, at_use_hook}
 use Rattle.author_programs.specs.First.{GivesBack, numbers_from, made_from, first_value, FirstPagesShow}
-
-some-is : {A : Type 0} (a b : A) → Some a ≡ Some b → a ≡ b
-some-is a b h = cc
-
-or-right : (a b : Bool) → b ≡ true → (a || b) ≡ true
-or-right true b h = refl
-or-right false b h = h
+use Rattle.author_programs.proofs.Present.{found}
 
 zero-le : (n : ℕ) → nat_le 0 n ≡ true
 zero-le n = le-leb 0 n (omega arith)
-
--- a number below the last one isn't at its end
-not-at-end : (n m : ℕ) → n < m → nat_eq n m ≡ false
-not-at-end n m low = decided (nat_eq n m) refl
-  where
-    decided : (b : Bool) → nat_eq n m ≡ b → nat_eq n m ≡ false
-    decided false is = is
-    decided true is = let same : n ≡ m = eqb-true n m is in absurd (omega (arith, low, same))
 
 fits-here : (n l m : ℕ) → n + suc l ≤ m → n < m
 fits-here n l m h = omega (arith, h)
 
 fits-next : (n l m : ℕ) → n + suc l ≤ m → n + 1 + l ≤ m
 fits-next n l m h = omega (arith, h)
-
-here : {A : Type 0} (b : Bool) (P : ℕ × A → Type 0) (e : ℕ × A) (n : ℕ) (a : A) (rest : Option A) → nat_eq e.0 n ≡ b → P e
-    → (if b then Some e.1 else rest) ≡ Some a → (rest ≡ Some a → P (n, a)) → P (n, a)
-here {A} true P e n a rest same holds is go = subst (λ (m : ℕ). P (m, a)) (eqb-true e.0 n same) (subst (λ (v : A). P (e.0, v)) (some-is e.1 a is) holds)
-here false P e n a rest same holds is go = go is
-
--- what holds of all holds of what stands under a number
-found : {A : Type 0} (P : ℕ × A → Type 0) (es : List (ℕ × A)) (n : ℕ) (a : A) → AllByRecursion P es → at es n ≡ Some a → P (n, a)
-found P [] n a h is = cc
-found P (e ∷ es) n a h is = here (nat_eq e.0 n) P e n a (at es n) refl h.0 is (λ there. found P es n a h.1 there)
 
 module _ {K : Types} where
   -- the call after a cell that was made and kept

@@ -1,7 +1,8 @@
 -- Applications of pure answers are lawful.
-use Rattle.std.proofs.Common.{Bool, true, false, ◌&&◌, ◌≡◌, refl, sym, ap, ◌∙◌, inl, inr}
+use Rattle.std.proofs.Common.{true, ◌≡◌, refl, sym, ap, ◌∙◌, inl, inr}
 use Rattle.std.specs.Prelude.{◌⊎◌}
 use Rattle.std.proofs.lemmas.Bool.{eqb-true}
+use Rattle.rt_lemmas.proofs.Bools.{and_both as and-both}
 use Rattle.rt_model.specs.Laws.{Tests}
 use Rattle.rt_model.specs.Program.{Programs, body_means}
 use Rattle.rt_model.specs.Tree.{Types}
@@ -31,10 +32,6 @@ memoized_are_lawful K a by_props components props values handlers =
     props
     values
     handlers
-
-and-both : (a b : Bool) → a ≡ true → b ≡ true → (a && b) ≡ true
-and-both true b h k = k
-and-both false b h k = h
 
 pub pair_tests : {A B : Type 0} → PairTests A B
 pair_tests s t f g = (

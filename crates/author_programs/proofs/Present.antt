@@ -3,6 +3,8 @@ use Rattle.std.proofs.Common.{ℕ, Bool, true, false, ◌||◌, ◌&&◌, not, L
 use Rattle.std.specs.Prelude.{Option, Some, None, if◌then◌else◌}
 use Rattle.std.specs.List.{AllByRecursion}
 use Rattle.std.proofs.lemmas.Bool.{eqb-true}
+use Rattle.rt_lemmas.proofs.Options.{some_same as some-is}
+use Rattle.rt_lemmas.proofs.Bools.{or_right as or-right}
 use Rattle.rt_model.specs.Commands.{names_source}
 use Rattle.rt_model.specs.Current.{AllCurrent, IsCurrent, CurrentAs, BodyIsCurrent, KeepsAnswer, Repeats, is_aside, world_again, again}
 use Rattle.rt_model.specs.Lists.{at}
@@ -20,13 +22,6 @@ use Rattle.author_programs.specs.Reads.{read_call}
 use Rattle.author_programs.specs.Shows.{KeepAll, present}
 use Rattle.author_programs.proofs.Goes.{exec-came}
 use Rattle.author_programs.proofs.Shows.{after_hooks, after_reads, page-comes}
-
-some-is : {A : Type 0} (a b : A) → Some a ≡ Some b → a ≡ b
-some-is a b h = cc
-
-or-right : (a b : Bool) → b ≡ true → (a || b) ≡ true
-or-right true b h = refl
-or-right false b h = h
 
 here : {A : Type 0} (b : Bool) (P : ℕ × A → Type 0) (e : ℕ × A) (n : ℕ) (a : A) (rest : Option A) → nat_eq e.0 n ≡ b → P e
     → (if b then Some e.1 else rest) ≡ Some a → (rest ≡ Some a → P (n, a)) → P (n, a)

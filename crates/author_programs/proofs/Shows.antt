@@ -18,16 +18,16 @@ use Rattle.author_programs.proofs.Goes.{exec-came, told_by}
 use Rattle.author_programs.proofs.Steps.{on, at_done, at_scope, at_read, at_hook_is_new, at_use_hook}
 
 -- where an item stands the list is longer
-below : {A : Type 0} (xs : List A) (i : ℕ) (x : A) → nth xs i ≡ Some x → i < length xs
+pub below : {A : Type 0} (xs : List A) (i : ℕ) (x : A) → nth xs i ≡ Some x → i < length xs
 below [] i x h = cc
 below (y ∷ ys) zero x h = omega arith
 below (y ∷ ys) (suc i) x h = let low : i < length ys = below ys i x h in omega (arith, low)
 
-within : {A : Type 0} (xs : List A) (i : ℕ) (x : A) → nth xs i ≡ Some x → nat_le (length xs) i ≡ false
+pub within : {A : Type 0} (xs : List A) (i : ℕ) (x : A) → nth xs i ≡ Some x → nat_le (length xs) i ≡ false
 within xs i x h = lt-leb (length xs) i (below xs i x h)
 
 -- a hook of the kind that is asked for
-same-kind : (K : Types) (k : ℕ) (first value : K.Value) → hook_value {K = K} k first (Some (HookValue k value)) ≡ Some value
+pub same-kind : (K : Types) (k : ℕ) (first value : K.Value) → hook_value {K = K} k first (Some (HookValue k value)) ≡ Some value
 same-kind K k first value = ap (λ (b : Bool). if b then Some value else None) (eq_same k)
 
 module _ {K : Types} where

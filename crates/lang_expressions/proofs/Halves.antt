@@ -1,28 +1,15 @@
 -- A text among texts that ascend stands at one place.
-use Rattle.std.proofs.Common.{◌≡◌, ℕ, zero, suc, ◌+◌, ◌<◌, ◌≤◌, List, [], ◌∷◌, length, get_or, drop, drop-cons, add-one, Bool, true, false, ◌&&◌, Option, Some, None, if◌then◌else◌, bytes_eq, refl, sym, ap, ◌∙◌, arith}
-use mathlib.Core.Bool.{true≢false}
-use Rattle.std.specs.declared.cmp.Ordering.{Ordering}
-use Rattle.std.specs.declared.cmp.Ordering.TheVariants.{Less, Equal, Greater}
+use Rattle.std.proofs.Common.{◌≡◌, ℕ, zero, suc, ◌+◌, ◌<◌, ◌≤◌, List, [], ◌∷◌, length, get_or, drop, drop-cons, add-one, true, false, ◌&&◌, Option, Some, None, if◌then◌else◌, bytes_eq, refl, sym, ap, ◌∙◌, arith}
+use Rattle.std.specs.declared.cmp.Ordering.TheVariants.{Less, Equal}
 use Rattle.std.specs.Ordering.{is_lt, is_eq, nat_cmp}
 use Rattle.std.specs.Cmp.Lexicographic.{slice_cmp, nat_list_cmp_total, nat_list_eq_equiv}
 use Rattle.std.proofs.lemmas.List.{drop_all}
 use Rattle.std.proofs.lemmas.Map.Text.{is_eq-slice_cmp}
 use Rattle.std.proofs.lemmas.Map.Lookups.{exact_bytes}
+use Rattle.rt_lemmas.proofs.Bools.{and_left as left, and_right as right}
+use Rattle.rt_lemmas.proofs.Orders.{less}
 use Rattle.lang_expressions.specs.Ascending.{ascend, rises}
 use Rattle.lang_expressions.specs.Names.{place_from, place_of}
-
-left : (a b : Bool) → (a && b) ≡ true → a ≡ true
-left true b h = refl
-left false b h = absurd (true≢false (sym h))
-
-right : (a b : Bool) → (a && b) ≡ true → b ≡ true
-right true b h = h
-right false b h = absurd (true≢false (sym h))
-
-less : (r : Ordering) → is_lt r ≡ true → r ≡ Less
-less Less is = refl
-less Equal is = absurd (true≢false (sym is))
-less Greater is = absurd (true≢false (sym is))
 
 -- a text that comes after a name isn't that name
 other : (name text : List ℕ) → slice_cmp nat_cmp name text ≡ Less → bytes_eq text name ≡ false

@@ -11,18 +11,11 @@ use Rattle.std.specs.List.{list_any}
 use Rattle.std.specs.BTreeSet.{BTreeSet, insert_key}
 use Rattle.std.proofs.lemmas.Map.Text.{is_eq-slice_cmp}
 use Rattle.std.proofs.lemmas.Map.Lookups.{exact_bytes}
+use Rattle.rt_lemmas.proofs.Bools.{or_swapped as swapped, or_twice as twice}
+pub use Rattle.rt_lemmas.proofs.Bools.{not_true as is_new}
 use Rattle.lang_expressions.specs.Names.{is_seen, place_from, place_of}
 use Rattle.lang_expressions.specs.Kinds as kinds
 use Rattle.lang_expressions.specs.Kinds.{place_among, put_among, put_at}
-
-twice : (b r : Bool) → (b || r) ≡ (b || (b || r))
-twice true r = refl
-twice false r = refl
-
-swapped : (a b r : Bool) → (a || (b || r)) ≡ (b || (a || r))
-swapped true true r = refl
-swapped true false r = refl
-swapped false b r = refl
 
 -- the order of the set's texts
 abbrev text_order : Bor (List ℕ) → Bor (List ℕ) → Ordering
@@ -51,11 +44,6 @@ seen_more (x ∷ xs) k other =
 pub not_new : (b : Bool) → not b ≡ false → b ≡ true
 not_new true h = refl
 not_new false h = absurd (true≢false h)
-
--- and what is new wasn't
-pub is_new : (b : Bool) → not b ≡ true → b ≡ false
-is_new false h = refl
-is_new true h = absurd (true≢false (sym h))
 
 chosen : (b : Bool) (at : ℕ) (before : Option ℕ) → is_some (if b then Some at else before) ≡ (b || is_some before)
 chosen true at before = refl

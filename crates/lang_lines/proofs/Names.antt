@@ -6,6 +6,7 @@ use Rattle.std.specs.List.{AllByRecursion, list_all}
 use Rattle.std.specs.Str.Parse.{AllDigits, digits_value}
 use Rattle.std.proofs.lemmas.Str.Parse.{digit_from_value}
 use Rattle.std.proofs.lemmas.Fmt.{decimal_is_IsNumeral}
+use Rattle.rt_lemmas.proofs.Options.{some_same as texts_told}
 use Rattle.json.specs.Print.{escape, quoted}
 use Rattle.json.specs.Text.{content, plain}
 use Rattle.json.proofs.Printed.Strings.{content-escape}
@@ -117,14 +118,6 @@ qualified_parted (Some n) (Some m) t u r s spaced other named names stop stops s
 
 quoted_is : (t r : List ℕ) → quoted t ++ r ≡ 34 ∷ (escape t ++ (34 ∷ r))
 quoted_is t r = ap (λ x. 34 ∷ x) (append_assoc (escape t) (34 ∷ []) r)
-
-value_in : List ℕ → Option (List ℕ) → List ℕ
-value_in t None = t
-value_in t (Some u) = u
-
-texts_told : (t u : List ℕ) → Some t ≡ Some u → t ≡ u
-unfolding value_in
-texts_told t u same = ap (λ o. value_in t o) same
 
 -- quoted texts and what follows them are told apart
 pub quoted_parted : (t u r s : List ℕ) → quoted t ++ r ≡ quoted u ++ s → (t ≡ u) × (r ≡ s)

@@ -1,6 +1,7 @@
 -- An attribute that takes its place leaves attributes that ascend.
 use Rattle.std.proofs.Common.{Bool, true, false, ◌&&◌, ◌||◌, List, [], ◌∷◌, ◌≡◌, refl, sym, ap, ◌∙◌}
-use Rattle.std.specs.Prelude.{Option, Some, None, if◌then◌else◌}
+use Rattle.std.specs.Prelude.{Option, if◌then◌else◌}
+pub use Rattle.rt_lemmas.proofs.Bools.{and_both as both}
 use Rattle.rt_html.specs.Reading.{before_first, ascend}
 use Rattle.rt_model.specs.Lists.{Text, same_numbers, same_option, earlier_text}
 use Rattle.rt_model.specs.Document.{DocAttribute, earlier_namespace, same_key, earlier_key, with_attribute}
@@ -9,16 +10,8 @@ use Rattle.rt_model.proofs.Conjunctions.{and-left, and-right}
 use Rattle.rt_model.proofs.Maps.{pick_false, by_test}
 use Rattle.rt_model.proofs.Members.{clash}
 use Rattle.rt_model.proofs.SamePlaces.{numbers-true, option-true}
+use Rattle.rt_model.proofs.Quiet.{option_same as own_space}
 use Rattle.law_headline.proofs.Entries.{attributes_commute}
-
--- both tests hold
-pub both : (a b : Bool) → a ≡ true → b ≡ true → (a && b) ≡ true
-both true b h k = k
-both false b h k = cc
-
-own_space : (namespace : Option Text) → same_option same_numbers namespace namespace ≡ true
-own_space None = refl
-own_space (Some n) = numbers_same n
 
 -- an attribute has its own key
 own_key : (a : DocAttribute) → same_key a a.name a.namespace ≡ true

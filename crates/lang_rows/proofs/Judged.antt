@@ -1,5 +1,6 @@
 -- A verdict is what the log deserves.
 use Rattle.std.proofs.Common.{◌≡◌, ℕ, zero, suc, ◌+◌, Bool, true, false, if◌then◌else◌, List, [], ◌∷◌, ◌++◌, length, Option, Some, None, ◌⊎◌, inl, inr, refl, sym, ap, ◌∙◌, subst, arith}
+use Rattle.rt_lemmas.proofs.Bools.{pick_true, pick_false}
 use Rattle.rt_model.specs.Tree.{Types}
 use Rattle.rt_model.specs.World.{Application}
 use Rattle.rt_model.specs.Replay.{Entry, Machine}
@@ -16,12 +17,6 @@ counted-is n (x ∷ xs) = let more = counted-is (suc n) xs in omega (arith, more
 
 counted-length : {A : Type 0} (xs : List A) → counted 0 xs ≡ length xs
 counted-length xs = let is = counted-is 0 xs in omega (arith, is)
-
-pick_true : {A : Type 0} (b : Bool) (x y : A) → b ≡ true → (if b then x else y) ≡ x
-pick_true b x y h = ap (λ c. if c then x else y) h
-
-pick_false : {A : Type 0} (b : Bool) (x y : A) → b ≡ false → (if b then x else y) ≡ y
-pick_false b x y h = ap (λ c. if c then x else y) h
 
 module _ {K : Types} (app : Application K) where
   abbrev by : ℕ → ℕ → Option (Machine K) → List Entry → (Machine K → Verdict) → Verdict

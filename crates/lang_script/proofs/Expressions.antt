@@ -1,8 +1,9 @@
 -- What each form of expression means, and a list of arguments, one after another.
-use Rattle.std.proofs.Common.{ℕ, Bool, true, false, List, [], ◌∷◌, ◌++◌, ◌≡◌, refl, sym, ap, ◌∙◌, not, ◌+◌, ◌<◌, ◌≤◌, length, get_or, drop, add-one, drop-cons, arith}
+use Rattle.std.proofs.Common.{ℕ, Bool, true, false, List, [], ◌∷◌, ◌++◌, ◌≡◌, refl, sym, ap, ◌∙◌, not, ◌+◌, ◌<◌, ◌≤◌, length, get_or, drop, arith}
 use Rattle.std.proofs.Math.ListN.{drop_of_length-le}
 use Rattle.std.proofs.lemmas.List.{append_assoc}
 use Rattle.std.specs.Prelude.{None, if◌then◌else◌}
+use Rattle.rt_lemmas.proofs.Lists.{next_drop, append_nil}
 use Rattle.rt_model.specs.Lists.{or_else}
 use Rattle.rt_model.specs.Program.{Program, done, current_scope, current_task, error, consume_context, Call}
 use Rattle.rt_model.specs.World.{World}
@@ -125,11 +126,6 @@ module _ (by : Caller) (held : List Value) where
       ap (λ (x : Came SourceTypes (List Value)). came w (k x.answer) x.call) whole ∙
       sym (on w rest (λ xs. k (v ∷ xs)) d)
 
-next_drop : {A : Type 0} (xs : List A) (i : ℕ) (x : A) → i < length xs → x ≡ get_or xs i x → drop i xs ≡ x ∷ drop (i + 1) xs
-next_drop xs i x low is =
-    let e : drop i xs ≡ get_or xs i x ∷ drop (i + 1) xs = rw (add-one, drop-cons xs i x) refl in
-    e ∙ ap (λ y. y ∷ drop (i + 1) xs) (sym is)
-
 -- one more argument
 pub one_argument : {A : Type 0} (w : World SourceTypes) (by : Caller) (held : List Value) (es : List Expression) (i : ℕ) (e : Expression) (k : List Value → Program SourceTypes A) (v : Value) (c d : Call SourceTypes)
     → i < length es → e ≡ get_or es i e
@@ -153,10 +149,6 @@ then_text text vs = done (TextValue (text ++ texts_of vs))
 -- values, after values that were there
 unfoldable pub then_values : List Value → List Value → Program SourceTypes (List Value)
 then_values values vs = done (values ++ vs)
-
-append_nil : {A : Type 0} (xs : List A) → xs ++ [] ≡ xs
-append_nil [] = refl
-append_nil (x ∷ xs) = ap (λ ys. x ∷ ys) (append_nil xs)
 
 -- parts are joined from no text on
 pub text_start : (by : Caller) (held : List Value) (parts : List Expression) → evaluate by held (language.Cat (arguments_of parts)) ≡ go_on (evaluate_all by held (arguments_of parts)) (then_text [])

@@ -1,8 +1,10 @@
 -- Trees of code at the mirror, and what plans mean, slot by slot.
-use Rattle.std.proofs.Common.{ℕ, zero, suc, List, [], ◌∷◌, ◌++◌, ◌≡◌, refl, sym, ap, subst, ◌∙◌, rules, map, ◌+◌, ◌-◌, ◌<◌, ◌≤◌, length, get_or, drop, add-one, drop-cons, arith}
+use Rattle.std.proofs.Common.{ℕ, zero, suc, List, [], ◌∷◌, ◌++◌, ◌≡◌, refl, sym, ap, subst, ◌∙◌, rules, map, ◌+◌, ◌-◌, ◌<◌, ◌≤◌, length, get_or, drop, arith}
 use Rattle.std.proofs.Math.ListN.{drop_of_length-le}
 use Rattle.std.proofs.lemmas.List.{append_assoc}
 use Rattle.std.specs.Prelude.{Option, Some, None, option_map, is_none, pos, Result, Ok, if◌then◌else◌}
+use Rattle.rt_lemmas.proofs.Lists.{next_drop}
+pub use Rattle.rt_lemmas.proofs.Lists.{append_nil, map_append as map-append}
 use Rattle.tree_nodes.specs.declared.error.RenderError.{RenderError}
 use Rattle.tree_nodes.specs.declared.template.TemplateParts.{TemplateParts as Template}
 use Rattle.tree_nodes.specs.declared.vnode.DynamicNode.TheVariants as nodes
@@ -198,11 +200,6 @@ module _ (by : Caller) (held : List Value) where
       sym (on w rest (then_tree template (filled_on before first.answer)) first.call) ∙
       ap (λ (y : Came SourceTypes Filling). came w (go_on rest (then_tree template y.answer)) y.call) put
 
-next_drop : {A : Type 0} (xs : List A) (i : ℕ) (x : A) → i < length xs → x ≡ get_or xs i x → drop i xs ≡ x ∷ drop (i + 1) xs
-next_drop xs i x low is =
-    let e : drop i xs ≡ get_or xs i x ∷ drop (i + 1) xs = rw (add-one, drop-cons xs i x) refl in
-    e ∙ ap (λ y. y ∷ drop (i + 1) xs) (sym is)
-
 -- one more slot is filled
 pub tree-more : (w : World SourceTypes) (by : Caller) (held : List Value) (template : Option Template) (xs : List Fill) (i : ℕ) (x : Fill) (before after : Filling) (c d : Call SourceTypes)
     → i < length xs → x ≡ get_or xs i x
@@ -211,10 +208,6 @@ pub tree-more : (w : World SourceTypes) (by : Caller) (held : List Value) (templ
 tree-more w by held template xs i x before after c d low is h =
     ap (λ (ys : List Fill). came w (go_on (filled (map fill_of ys) by held) (then_tree template before)) c) (next_drop xs i x low is) ∙
     first_filled by held w template x (drop (i + 1) xs) before after c d h
-
-pub append_nil : {A : Type 0} (xs : List A) → xs ++ [] ≡ xs
-append_nil [] = refl
-append_nil (x ∷ xs) = ap (λ ys. x ∷ ys) (append_nil xs)
 
 -- all slots are filled
 pub tree-end : (w : World SourceTypes) (by : Caller) (held : List Value) (template : Option Template) (xs : List Fill) (i : ℕ) (all : Filling) (c : Call SourceTypes)
@@ -225,10 +218,6 @@ tree-end w by held template xs i all c end =
     ap (λ (ys : List Fill). came w (go_on (filled (map fill_of ys) by held) (then_tree template all)) c) (drop_of_length-le xs end) ∙
     at_done w (tree_with template (filled_on all nothing_filled)) c ∙
     (λ i. reached (tree_with template (record { attributes = append_nil all.attributes i; slots = append_nil all.slots i })) c)
-
-pub map-append : {A B : Type 0} (f : A → B) (xs ys : List A) → map f (xs ++ ys) ≡ map f xs ++ map f ys
-map-append f [] ys = refl
-map-append f (x ∷ xs) ys = ap (λ zs. f x ∷ zs) (map-append f xs ys)
 
 -- items, one after another
 

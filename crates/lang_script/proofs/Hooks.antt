@@ -1,6 +1,7 @@
 -- Hooks that are refused, and what the statements of bodies come to.
 use Rattle.std.proofs.Common.{ℕ, Bool, true, false, ◌≡◌, refl, ap, ◌∙◌, not, arith, ◌<◌, ◌-◌}
 use Rattle.std.specs.Prelude.{◌≢◌, Option, Some, Result, Ok, IfErr}
+use Rattle.rt_lemmas.proofs.Bools.{not_back as stands-not}
 use Rattle.rt_model.specs.Program as program
 use Rattle.rt_model.specs.Program.{Call, hooked, hook_stands}
 use Rattle.rt_model.specs.World as model
@@ -20,10 +21,6 @@ use Rattle.author_bodies.proofs.Refused.{refused-hook, no-value}
 use Rattle.lang_script.specs.Seen.{ScriptCall}
 use Rattle.lang_script.proofs.Statements.{performing, s-UseCell, s-UseHook, s-CallAt, s-FailWith, s-SuspendOn, p-UseCell, p-UseHook, p-CallAt, p-FailWith, p-SuspendOn, p-kept, body-sees, unsuspended}
 use Rattle.author_programs.proofs.Steps.{at_done, at_scope, at_new_cell, at_hook_is_new, at_use_hook, at_use_effect}
-
-stands-not : (b : Bool) → true ≡ not b → b ≡ false
-stands-not true kind = cc
-stands-not false kind = refl
 
 -- a hook was refused, and nothing is bound
 pub hook-refused : {A : Type 0} (result : Result A CxFault) (before after : ScriptCall) (k : ℕ) (v : Value) (f : statements.Frame)

@@ -1,8 +1,10 @@
 -- What each form of statement means, and statements, one after another.
-use Rattle.std.proofs.Common.{inl, inr, ℕ, Bool, true, false, List, [], ◌∷◌, ◌++◌, ◌≡◌, refl, sym, ap, subst, ◌∙◌, rules, ◌+◌, ◌<◌, ◌≤◌, length, get_or, take, drop, add-one, drop-cons}
+use Rattle.std.proofs.Common.{inl, inr, ℕ, Bool, true, false, List, [], ◌∷◌, ◌++◌, ◌≡◌, refl, sym, ap, subst, ◌∙◌, rules, ◌+◌, ◌<◌, ◌≤◌, length, get_or, take, drop}
 use Rattle.std.proofs.Math.ListN.{drop_of_length-le}
 use Rattle.std.proofs.lemmas.List.{append_assoc}
-use Rattle.std.specs.Prelude.{◌≢◌, ◌↔◌, IsTrue, ◌⊎◌, Result, Ok, Err, if◌then◌else◌, pos, negsuc}
+use Rattle.std.specs.Prelude.{◌≢◌, ◌↔◌, IsTrue, ◌⊎◌, Result, Err, if◌then◌else◌, pos, negsuc}
+use Rattle.rt_lemmas.proofs.Lists.{next_drop, append_nil}
+pub use Rattle.rt_lemmas.proofs.Lists.{take_front}
 use Rattle.rt_model.specs.Program.{done, spawn, queue_effect, after_suspense_resolved, freeze, provide, captured, clear_errors, hook_is_new, use_effect, Call}
 use Rattle.rt_model.specs.World.{World}
 use Rattle.run_records.specs.Records.{world_of}
@@ -33,6 +35,7 @@ use Rattle.lang_script.specs.declared.caller.Outcome.TheVariants as outcomes
 use Rattle.author_programs.specs.Came.{Came, came, reached}
 use Rattle.lang_script.specs.Held.{IsNoCell, IsNoTask, IsNoScope}
 use Rattle.author_bodies.specs.Comes.{Comes}
+use Rattle.author_bodies.proofs.Refused.{drawn}
 use Rattle.lang_script.specs.Seen.{caller_of, SeesRenders, IsOutside, IsBody, outcome_of, ScriptCall, ScriptWorld, Knows, Extends, Follows}
 use Rattle.lang_script.proofs.Expressions.{chosen_by}
 use Rattle.author_programs.proofs.Steps.{on, at_done, at_scope, at_write, at_drop_cell, at_spawn, at_wake, at_remove_future, at_set_active, at_queue_effect, at_resolved, at_freeze, at_provide, at_needs_update, at_captured, at_throw, at_clear_errors}
@@ -218,21 +221,11 @@ unsuspended f (TextValue t) h = refl
 unsuspended f (CellValue n) h = refl
 unsuspended f (TaskValue t) h = absurd h
 
--- a number was drawn
-pub drawn : {A : Type 0} (result : Result A CxFault) (fault : CxFault) (a : A) (b : Bool) → ((result ≡ Err fault) ↔ IsTrue b) → result ≡ Ok a → b ≡ false
-drawn result fault a true h is = cc (h.1 refl, is)
-drawn result fault a false h is = refl
-
 -- no number was drawn, and memory wasn't wanted
 pub undrawn : {A : Type 0} (result : Result A CxFault) (fault told : CxFault) (b : Bool) → ((result ≡ Err told) ↔ IsTrue b) → result ≡ Err fault
     → fault ≢ OutOfMemory → (fault ≡ OutOfMemory) ⊎ (fault ≡ told) → b ≡ true
 undrawn result fault told b h is had (inl wanted) = absurd (had wanted)
 undrawn result fault told b h is had (inr end) = h.0 (is ∙ ap Err end)
-
--- what a frame after another keeps
-append_nil : {A : Type 0} (xs : List A) → xs ++ [] ≡ xs
-append_nil [] = refl
-append_nil (x ∷ xs) = ap (λ ys. x ∷ ys) (append_nil xs)
 
 pub extends-same : (a : List Value) → Extends a a
 extends-same a = record { more = []; is = sym (append_nil a) }
@@ -248,10 +241,6 @@ follows-on f g h a b = record { by = b.by ∙ a.by; held = extends-on f.held g.h
 
 pub follows-bound : (f g : frames.Frame) (v : Value) → g.by ≡ f.by → g.held ≡ f.held ++ v ∷ [] → Follows f g
 follows-bound f g v by held = record { by = by; held = record { more = v ∷ []; is = held } }
-
-pub take_front : {A : Type 0} (xs ys : List A) → take (length xs) (xs ++ ys) ≡ xs
-take_front [] ys = refl
-take_front (x ∷ xs) ys = ap (λ zs. x ∷ zs) (take_front xs ys)
 
 -- the first values of those after are those before
 pub kept-held : (before after : List Value) → Extends before after → take (length before) after ≡ before
@@ -347,11 +336,6 @@ pub went : (before after : ScriptCall) (v : ScriptWorld) (by like : code.Caller)
     → came (world_of v) (p (caller_of like)) (call_of before) ≡ reached (WentOn g) (call_of after)
 went before after v by like p o g world caller is h =
     moved before after v by like p (WentOn g) world caller (subst (λ (x : Outcome). Knows x after (Comes before after (p (caller_of by)) (outcome_of x g))) is h)
-
-next_drop : {A : Type 0} (xs : List A) (i : ℕ) (x : A) → i < length xs → x ≡ get_or xs i x → drop i xs ≡ x ∷ drop (i + 1) xs
-next_drop xs i x low is =
-    let e : drop i xs ≡ get_or xs i x ∷ drop (i + 1) xs = rw (add-one, drop-cons xs i x) refl in
-    e ∙ ap (λ y. y ∷ drop (i + 1) xs) (sym is)
 
 first_then : (w : World SourceTypes) (by : Caller) (f : statements.Frame) (s : Statement) (ss : List Statement) (o : statements.Outcome) (c d : Call SourceTypes)
     → came w (perform by f (statement_of s)) c ≡ reached o d

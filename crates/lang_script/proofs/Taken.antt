@@ -1,16 +1,12 @@
 -- Lists that are gathered item by item.
-use Rattle.std.proofs.Common.{ℕ, List, [], ◌∷◌, ◌++◌, ◌≡◌, refl, sym, ap, ◌∙◌, map, ◌+◌, ◌<◌, ◌≤◌, length, get_or, drop, add-one, drop-cons}
+use Rattle.std.proofs.Common.{ℕ, List, [], ◌∷◌, ◌++◌, ◌≡◌, sym, ap, ◌∙◌, map, ◌+◌, ◌<◌, ◌≤◌, length, get_or, drop}
 use Rattle.std.proofs.Math.ListN.{drop_of_length-le}
 use Rattle.std.proofs.lemmas.List.{append_assoc}
+use Rattle.rt_lemmas.proofs.Lists.{next_drop}
 use Rattle.rt_model.specs.Replay.{Message}
 use Rattle.rt_language.specs.Meaning.{post_of, messages_from}
 use Rattle.rt_language.specs.Syntax as language
 use Rattle.lang_script.proofs.Fills.{map-append, append_nil}
-
-next_drop : {A : Type 0} (xs : List A) (i : ℕ) (x : A) → i < length xs → x ≡ get_or xs i x → drop i xs ≡ x ∷ drop (i + 1) xs
-next_drop xs i x low is =
-    let e : drop i xs ≡ get_or xs i x ∷ drop (i + 1) xs = rw (add-one, drop-cons xs i x) refl in
-    e ∙ ap (λ y. y ∷ drop (i + 1) xs) (sym is)
 
 -- one more item, of items that are given one for one
 pub taken-more : {A B C : Type 0} (seen : B → C) (given : List A → List C) (xs : List A) (i : ℕ) (x : A) (there longer : List B) (y : B) (c : C) (whole : List C)
@@ -48,12 +44,6 @@ put-more given xs i x there longer y whole low is gives long before =
     ∙ append_assoc there (y ∷ []) rest
     ∙ ap (λ ys. there ++ ys) (sym gives ∙ ap given (sym (next_drop xs i x low is)))
     ∙ before
-
--- all values are there
-pub put-all : {A B : Type 0} (given : List A → List B) (xs : List A) (i : ℕ) (all whole : List B)
-    → length xs ≤ i → given [] ≡ [] → all ++ given (drop i xs) ≡ whole → all ≡ whole
-put-all given xs i all whole end none before =
-    sym (append_nil all) ∙ ap (λ ys. all ++ ys) (sym none ∙ ap given (sym (drop_of_length-le xs end))) ∙ before
 
 -- one more message, numbered by its place
 pub message-more : {A B : Type 0} (seen : B → Message) (asks : A → language.PostSource) (xs : List A) (i : ℕ) (x : A) (there longer : List B) (y : B) (whole : List Message)

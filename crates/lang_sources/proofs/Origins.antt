@@ -1,13 +1,6 @@
 -- Where what was read came from.
 use Rattle.std.proofs.Common.{◌≡◌, Bool, true, false, Option, Some, None, option_map, option_and_then, if◌then◌else◌, refl}
-
--- nothing was answered
-pub none_is : {A C : Type 0} (x : A) → None ≡ Some x → C
-none_is x h = cc
-
--- one answer
-pub same : {A : Type 0} (x y : A) → Some x ≡ Some y → x ≡ y
-same x y h = cc
+pub use Rattle.rt_lemmas.proofs.Options.{some_same as same, none_is}
 
 -- what was mapped
 pub mapped : {A B : Type 0} (f : A → B) (o : Option A) (y : B) → option_map f o ≡ Some y → (x : A) × ((o ≡ Some x) × (f x ≡ y))

@@ -1,6 +1,7 @@
 -- What is read in an action or a step may stand outside of bodies.
-use Rattle.std.proofs.Common.{◌≡◌, ℕ, zero, suc, Bool, true, false, List, [], ◌∷◌, ◌++◌, Option, Some, None, option_map, option_and_then, if◌then◌else◌, refl, sym, subst, ◌∙◌}
+use Rattle.std.proofs.Common.{◌≡◌, ℕ, zero, suc, true, false, List, [], ◌∷◌, ◌++◌, Option, Some, None, option_map, option_and_then, if◌then◌else◌, refl, sym, subst, ◌∙◌}
 use Rattle.std.specs.Prelude.{◌&&◌, codes}
+use Rattle.rt_lemmas.proofs.Bools.{contrary}
 use Rattle.serde_json.specs.Data.{Data, Items, no_items, item}
 use Rattle.lang_expressions.specs.Keys.{is_object_of}
 use Rattle.lang_expressions.specs.Fields.{text_at, list_at, is_zero_at}
@@ -40,11 +41,6 @@ Bound = Option (List ℕ) × Statement
 -- the names in reach behind statements, and the statements
 abbrev Block : Type 0
 Block = List (List ℕ) × List Statement
-
--- a place is none of its own kind
-contrary : {C : Type 0} (b : Bool) → b ≡ true → b ≡ false → C
-contrary true h k = cc
-contrary false h k = cc
 
 -- a statement that was made of what was read
 made : {A : Type 0} (f : A → Statement) (o : Option A) (x : Statement) → option_map f o ≡ Some x →

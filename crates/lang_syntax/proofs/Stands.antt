@@ -1,6 +1,6 @@
 -- Which statements may stand outside of bodies, form by form.
-use Rattle.std.proofs.Common.{arith, rules, ℕ, zero, suc, Bool, true, false, List, [], ◌∷◌, ◌++◌, ◌≡◌, refl, ap, ◌∙◌, ◌<◌, length, get_or, map}
-use Rattle.std.specs.Prelude.{◌&&◌}
+use Rattle.std.proofs.Common.{arith, rules, ℕ, zero, suc, true, false, List, [], ◌∷◌, ◌++◌, ◌≡◌, refl, ap, ◌∙◌, ◌<◌, length, get_or, map}
+use Rattle.rt_lemmas.proofs.Bools.{and_both, and_left as and_first, and_right as and_other}
 use Rattle.lang_syntax.specs.declared.derived.Derived.{Derived}
 use Rattle.lang_syntax.specs.declared.expression.Expression.{Expression}
 use Rattle.lang_syntax.specs.declared.statement.HookTime.{HookTime}
@@ -49,18 +49,6 @@ o-FailWith e = search (rules, the_lemmas)
 pub o-SuspendOn : (variable : ℕ) → stands_outside (forms.SuspendOn variable) ≡ false
 unfolding stands_outside
 o-SuspendOn variable = search (rules, the_lemmas)
-
-and_first : (a b : Bool) → (a && b) ≡ true → a ≡ true
-and_first true b h = refl
-and_first false b h = h
-
-and_other : (a b : Bool) → (a && b) ≡ true → b ≡ true
-and_other true b h = h
-and_other false b h = cc
-
-and_both : (a b : Bool) → a ≡ true → b ≡ true → (a && b) ≡ true
-and_both true b h k = k
-and_both false b h k = h
 
 -- no statement
 pub outside-none : stand_outside [] ≡ true

@@ -3,15 +3,12 @@ use Rattle.std.proofs.Common.{ℕ, ◌+◌, ◌*◌, ◌-◌, ◌<◌, ◌≤◌
 use Rattle.std.proofs.lemmas.Bool.{lt-leb, leb-false, leb-true}
 use Rattle.std.specs.Prelude.{Option, Some, None, if◌then◌else◌}
 use Rattle.std.specs.Char.{is_ascii_digit}
-use Rattle.rt_model.specs.Lists.{or_else}
+use Rattle.rt_lemmas.proofs.Options.{some_same as some-is}
 use Rattle.rt_language.specs.Values.{digits_after}
 use Rattle.lang_views.specs.Digits.{at_most, next_number}
 
 some-none : {A : Type 0} (m : ℕ) → Some m ≡ None → A
 some-none m h = cc
-
-some-is : (m k : ℕ) → Some m ≡ Some k → m ≡ k
-some-is m k h = ap (λ (o : Option ℕ). or_else 0 o) h
 
 either : (b : Bool) (o : Option ℕ) (most : ℕ) → at_most most o ≡ None → at_most most (if b then o else None) ≡ None
 either true o most h = h

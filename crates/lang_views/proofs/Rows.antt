@@ -2,6 +2,7 @@
 use Rattle.std.proofs.Common.{ℕ, List, [], ◌∷◌, ◌++◌, ◌≡◌, refl, sym, ap, subst, ◌∙◌, map, ◌+◌, length, arith}
 use Rattle.std.proofs.lemmas.List.{append_assoc}
 use Rattle.std.specs.Prelude.{Option, Some, None, MatchOption}
+use Rattle.rt_lemmas.proofs.Lists.{map_append, one_longer, length_append}
 use Rattle.tree_nodes.specs.declared.template.TemplateAttribute as code
 use Rattle.tree_nodes.specs.declared.template.TemplateNode.{TemplateNode}
 use Rattle.tree_nodes.specs.declared.template.TemplateNode.TheVariants as made
@@ -29,13 +30,6 @@ use Rattle.lang_views.proofs.Taken.{append_nil}
 paths-append : (xs ys : List (ℕ × List ℕ)) → paths_of (xs ++ ys) ≡ paths_of xs ++ paths_of ys
 paths-append [] ys = refl
 paths-append (x ∷ xs) ys = ap (λ zs. x.1 ∷ zs) (paths-append xs ys)
-
-length_append : {A : Type 0} (xs ys : List A) → length (xs ++ ys) ≡ length xs + length ys
-length_append [] ys = omega arith
-length_append (x ∷ xs) ys = let rest = length_append xs ys in omega (arith, rest)
-
-one_longer : {A : Type 0} (xs : List A) (x : A) → length (xs ++ x ∷ []) ≡ length xs + 1
-one_longer xs x = length_append xs (x ∷ [])
 
 own_count : (a : ℕ) (given : List language.ViewAttribute) (path : List ℕ) → length (paths_of (slots_among (template_attributes a given) path)) ≡ own_slots given
 own_count a [] path = refl
@@ -287,10 +281,6 @@ row-end first now whole left there i none so_far =
     }
 
 -- paths as bytes
-
-map_append : {A B : Type 0} (f : A → B) (xs ys : List A) → map f (xs ++ ys) ≡ map f xs ++ map f ys
-map_append f [] ys = refl
-map_append f (x ∷ xs) ys = ap (λ zs. f x ∷ zs) (map_append f xs ys)
 
 bytes-append : (xs ys : List (ℕ × List ℕ)) → in_bytes (paths_of (xs ++ ys)) ≡ in_bytes (paths_of xs) ++ in_bytes (paths_of ys)
 bytes-append xs ys = ap in_bytes (paths-append xs ys) ∙ map_append (map step_of) (paths_of xs) (paths_of ys)

@@ -1,13 +1,8 @@
 -- A test that is true exactly of equal values is the language's.
-use Rattle.std.proofs.Common.{Bool, true, false, ◌≡◌, ◌↔◌, refl, sym, subst, IsTrue}
+use Rattle.std.proofs.Common.{Bool, true, ◌≡◌, ◌↔◌, subst, IsTrue}
+use Rattle.rt_lemmas.proofs.Bools.{agree as alike}
 use Rattle.rt_language.specs.Values.{Value, same_value}
 use Rattle.rt_language.proofs.Lawful.{value}
-
-alike : (a b : Bool) → (a ≡ true → b ≡ true) → (b ≡ true → a ≡ true) → a ≡ b
-alike true true f g = refl
-alike true false f g = sym (f refl)
-alike false true f g = g refl
-alike false false f g = refl
 
 pub same-decides : (is_same : Bool) (v u : Value) → (IsTrue is_same ↔ (v ≡ u)) → is_same ≡ same_value v u
 same-decides is_same v u h =

@@ -1,5 +1,5 @@
 -- The plan of a tree that is made builds the nodes of that tree.
-use Rattle.std.proofs.Common.{◌≡◌, ℕ, zero, suc, ◌+◌, true, List, [], ◌∷◌, ◌++◌, map, Option, Some, refl, sym, ap, ◌∙◌, subst, append_assoc, append-nil, rules}
+use Rattle.std.proofs.Common.{◌≡◌, ℕ, zero, suc, ◌+◌, true, List, [], ◌∷◌, ◌++◌, map, Option, refl, sym, ap, ◌∙◌, subst, append_assoc, append-nil, rules}
 use Rattle.std.specs.List.{AllByRecursion, slice_index_or}
 use Rattle.rt_values.specs.declared.names.ScopeId.{ScopeId}
 use Rattle.tree_nodes.specs.declared.attribute.Attribute.{Attribute}
@@ -28,12 +28,13 @@ use Rattle.tree_plan.specs.Pieces.{index_of, Pieces, pieces_among, pieces_step, 
 use Rattle.tree_plan.proofs.MakingLemmas.{make_Text, make_Placeholder, make_Component, make_none, make_some, make_tree_out}
 use Rattle.rt_tree.specs.declared.step.PatchStep.{PatchStep}
 use Rattle.rt_tree.specs.declared.step.PatchStep.TheVariants as p
-use Rattle.rt_tree.specs.Building.{Built, with_shape, split_last, closed_frame, closed as closed_built}
+use Rattle.rt_tree.specs.Building.{Built, with_shape, closed_frame, closed as closed_built}
 use Rattle.rt_tree.specs.Gathered.{Kept}
 use Rattle.rt_tree.specs.Steps.{Answer, numbered, answered, Rest, steps}
 use Rattle.law_agenda.specs.Blocks.{Marks, Laid, Part, no_part, end_part, numbered_part, scope_part, laid_on, both_parts, all_parts, shape_pieces, template_part, fragment_part, tree_part, value_part, block_pieces}
 use Rattle.law_agenda.specs.Hidden.{IsQuiet}
 use Rattle.rt_tree.specs.Mounted.{numbers_given, scopes_given, nodes_given, AreFor}
+use Rattle.rt_tree.proofs.Ends.{split_last-append as last_split}
 use Rattle.law_agenda.specs.MadeNodes.{built_on, first_steps, BuildsNodes}
 use Rattle.law_agenda.specs.Pieces.{Piece, Head, opened, closed, first_piece, later_pieces, flat}
 use Rattle.law_agenda.proofs.PieceLemmas.{flat-append, later-Element, first-Element}
@@ -101,11 +102,6 @@ drawn_alone : (kept : Kept) (number : ℕ) (kind : DocKind) →
     gathered kept (kept.numbers ++ record { 0 = number } ∷ []) kept.children (kept.built.row ++ record { id = record { 0 = number }; kind = kind } ∷ []) ≡ built_on kept (numbered number ∷ []) (record { id = record { 0 = number }; kind = kind } ∷ [])
 drawn_alone kept number kind =
     ap (λ (cs : List ScopeId). gathered kept (kept.numbers ++ record { 0 = number } ∷ []) cs (kept.built.row ++ record { id = record { 0 = number }; kind = kind } ∷ [])) (sym (append-nil kept.children))
-
--- an element that is closed again
-last_split : {A : Type 0} (xs : List A) (x : A) → split_last (xs ++ x ∷ []) ≡ Some (xs, x)
-last_split [] x = refl
-last_split (y ∷ xs) x = rw (last_split xs x) refl
 
 close_open : (built : Built) (id : ElementId) (tag : List ℕ) (namespace : Option (List ℕ)) (attrs : List DocAttr) (listeners : List (List ℕ)) (nodes : List DocNode) →
     closed_built (record (with_shape id (shape.Element tag namespace attrs listeners) built) { row = nodes }) ≡ record built { row = built.row ++ record { id = id; kind = kinds.Element tag namespace attrs listeners nodes } ∷ [] }

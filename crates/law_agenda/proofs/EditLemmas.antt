@@ -10,10 +10,10 @@ use Rattle.rt_edits.specs.declared.doc_node.DocKind.TheVariants as kinds
 use Rattle.rt_edits.specs.declared.edit.Edit.{Edit}
 use Rattle.rt_edits.specs.declared.edit.Edit.TheVariants as edits
 use Rattle.rt_edits.specs.declared.document.DocFault.{DocFault}
-use Rattle.rt_edits.proofs.Rows.{numbers_below-Element, found_below-Element}
 use Rattle.rt_edits.proofs.Found.{neither, has-cons}
 use Rattle.rt_edits.proofs.Numbered.{accepted}
-use Rattle.rt_edits.proofs.Times.{equal_numbers, found_has_below}
+use Rattle.rt_edits.proofs.Times.{equal_numbers}
+use Rattle.rt_edits.proofs.Elsewhere.{found_has}
 use Rattle.law_agenda.specs.Pieces.{Head, Piece, opened, closed, words, hole, first_piece, later_pieces, pieces_in, flat, has_number}
 use Rattle.law_agenda.specs.FlatEdits.{own_number, piece_numbers, suits_piece, head_after, with_head, pieces_instead, pieces_changed, unsuited_piece, flat_fault, flat_unless, flat_result, EditsAreFlat}
 use Rattle.law_agenda.proofs.PieceLemmas.{has_first, flat-append, pieces_row, later-Element, later-row, ends_node, holds_node, piece_numbers-later, piece_numbers-row, piece_numbers-flat, or_found, found-flat}
@@ -166,11 +166,6 @@ found_first number (Some kind) = refl
 same_fault : (edit : Edit) (document : List DocNode) → is_append edit ≡ false → flat_fault edit (flat document) ≡ fault_of edit document
 same_fault edit document h =
     rw (found-flat (named edit) document, found_first (named edit) (found (named edit) document), unsuited_first edit (named edit) (found (named edit) document), piece_numbers-flat document, h) refl
-
--- an edit without a fault names a node that is there
-found_has : (number : ℕ) (nodes : List DocNode) → is_some (found number nodes) ≡ has number (numbers nodes)
-found_has number nodes =
-    ap is_some (sym (found_below-Element number [] None [] [] nodes)) ∙ found_has_below number (kinds.Element [] None [] [] nodes) ∙ ap (has number) (numbers_below-Element [] None [] [] nodes)
 
 not_wrong : (root unsuitable : Bool) → cond root (not false) unsuitable ≡ false → root ≡ false
 not_wrong true unsuitable h = cc

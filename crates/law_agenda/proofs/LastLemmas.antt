@@ -1,7 +1,9 @@
 -- The last root of a block.
-use Rattle.std.proofs.Common.{◌≡◌, ℕ, zero, suc, ◌+◌, ◌-◌, ◌≤◌, ◌<◌, true, false, nat_lt, List, [], ◌∷◌, ◌++◌, length, refl, sym, ap, ◌∙◌, subst, append_assoc, arith}
+use Rattle.std.proofs.Common.{◌≡◌, ℕ, zero, suc, ◌+◌, ◌-◌, ◌≤◌, ◌<◌, true, nat_lt, List, [], ◌∷◌, ◌++◌, length, refl, sym, ap, ◌∙◌, subst, append_assoc, arith}
 use Rattle.std.proofs.lemmas.Bool.Decides.{nat_tests}
 use Rattle.std.specs.List.{slice_index_or}
+use Rattle.rt_lemmas.proofs.Numbers.{high_test as not_more}
+pub use Rattle.rt_lemmas.proofs.Lists.{length_append as length-more}
 use Rattle.rt_values.specs.declared.element.ElementId.{ElementId}
 use Rattle.rt_edits.specs.declared.doc_node.DocNode.{DocNode}
 use Rattle.tree_plan.specs.declared.anchor.Anchor.{Anchor}
@@ -13,10 +15,6 @@ use Rattle.law_agenda.specs.Pieces.{Piece, flat}
 use Rattle.law_agenda.proofs.PieceLemmas.{flat-append}
 use Rattle.law_agenda.proofs.BuiltLemmas.{both_laid}
 
-pub length-more : {A : Type 0} (xs ys : List A) → length (xs ++ ys) ≡ length xs + length ys
-length-more [] ys = omega arith
-length-more (x ∷ xs) ys = omega (arith, length-more xs ys)
-
 index_more : {A : Type 0} (xs ys : List A) (k : ℕ) (other : A) → k < length xs → slice_index_or (xs ++ ys) k other ≡ slice_index_or xs k other
 index_more [] ys k other h = absurd (omega arith)
 index_more (x ∷ xs) ys zero other h = refl
@@ -27,9 +25,6 @@ index_at [] ys y zero other e = refl
 index_at [] ys y (suc k) other e = absurd (omega arith)
 index_at (x ∷ xs) ys y zero other e = absurd (omega arith)
 index_at (x ∷ xs) ys y (suc k) other e = index_at xs ys y k other (omega arith)
-
-not_more : (n back : ℕ) → back ≤ n → nat_lt n back ≡ false
-not_more n back h = grind (arith, nat_tests)
 
 some_back : (back : ℕ) → 1 ≤ back → nat_lt 0 back ≡ true
 some_back back h = grind (arith, nat_tests)

@@ -1,6 +1,7 @@
 -- The plan of a tree that goes gathers the nodes of that tree.
 use Rattle.std.proofs.Common.{◌≡◌, ℕ, zero, suc, ◌+◌, Bool, true, false, ◌&&◌, List, [], ◌∷◌, ◌++◌, map, Option, refl, sym, ap, ◌∙◌, subst, append_assoc, append-nil, rules}
 use Rattle.std.specs.List.{AllByRecursion, slice_index_or}
+use Rattle.rt_lemmas.proofs.Bools.{and_false as and_no}
 use Rattle.rt_values.specs.declared.names.ScopeId.{ScopeId}
 use Rattle.tree_nodes.specs.declared.attribute.Attribute.{Attribute}
 use Rattle.rt_values.specs.declared.element.ElementId.{ElementId}
@@ -63,10 +64,6 @@ lost_twice kept roots more gone also drops besides =
 no_roots : (root : Bool) → roots_of root [] ≡ []
 no_roots true = refl
 no_roots false = refl
-
-and_no : (root : Bool) → root && false ≡ false
-and_no true = refl
-and_no false = refl
 
 module _ {P C Q V H T E L : Type 0} where
   edits-append : (one other : List (PatchStep P C Q V H T E L)) → AllByRecursion IsNoEdit one → AllByRecursion IsNoEdit other → AllByRecursion IsNoEdit (one ++ other)

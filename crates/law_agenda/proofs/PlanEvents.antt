@@ -27,6 +27,7 @@ use Rattle.tree_mirror.specs.Mirror.{nodes_of, template_of, attribute_of, slots_
 use Rattle.tree_mirror.specs.ByParts.{slot_of}
 use Rattle.tree_mirror.proofs.TreeOut.{tree-out}
 use Rattle.std.proofs.lemmas.Bool.Decides.{nat_tests}
+use Rattle.rt_lemmas.proofs.Bools.{contrary as true_of}
 use Rattle.run_work.specs.Events.{Event, stays, fed, left, made, walk, gone, come, changed}
 use Rattle.run_work.proofs.Flats.{flat, flat-append, walk-flat}
 use Rattle.run_work.proofs.EventSpots.{template-true}
@@ -38,9 +39,6 @@ use Rattle.law_agenda.proofs.Cases.{by-value, slot-Text, slot-Placeholder, slot-
 use Rattle.law_agenda.proofs.Visits.{visit, walk-visit, spot_deed, items-serve, slot-serves}
 use Rattle.law_agenda.proofs.PlanWalks.{nodes-visit, value_lost, tree_lost, items_lost, Spotted, Counted, value_made, tree_made, items_made_of, lost-walk, made-walk, lost-spots, made-spots}
 use Rattle.law_agenda.proofs.Counts.{forget, gone-deeds, come-deeds}
-
-true_of : {A : Type 0} (b : Bool) → b ≡ true → b ≡ false → A
-true_of b p q = let no : true ≡ false = sym p ∙ q in cc no
 
 module _ {P C Q V H T E L : Type 0} (equality : Equality C) (shown : Bool) (alike : VComponent (types C Q V H T E L) → VComponent (types C Q V H T E L) → Bool) (same_alike : (c d : CodeComponent P C Q V H T E L) → are_alike equality c d ≡ alike (component_of c) (component_of d)) where
   abbrev Deeds : Type 0

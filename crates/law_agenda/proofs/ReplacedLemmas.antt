@@ -2,6 +2,7 @@
 use Rattle.std.proofs.Common.{◌≡◌, ◌≢◌, ℕ, suc, ◌+◌, ◌≤◌, Bool, true, false, cond, ◌||◌, nat_eq, nat_lt, List, [], ◌∷◌, ◌++◌, map, Result, Ok, Err, refl, sym, ap, ◌∙◌, subst, append_assoc, append-nil, arith}
 use Rattle.std.proofs.lemmas.Bool.Decides.{nat_tests}
 use Rattle.std.specs.List.{list_any}
+use Rattle.rt_lemmas.proofs.Numbers.{eq_same as itself, not_zero as no_zero}
 use Rattle.rt_values.specs.declared.names.ScopeId.{ScopeId}
 use Rattle.rt_values.specs.declared.element.ElementId.{ElementId}
 use Rattle.rt_edits.specs.Document.{is_barred}
@@ -55,9 +56,6 @@ absent number (other ∷ all) h = by (nat_eq other number) h (absent number all)
     by true e rest = absurd (omega arith)
     by false e rest = rest (omega arith)
 
-itself : (n : ℕ) → nat_eq n n ≡ true
-itself n = grind (arith, nat_tests)
-
 pub stands_first : (number : ℕ) (all : List ℕ) → times number (number ∷ all) ≡ suc (times number all)
 stands_first number all = ap (λ (b : Bool). cond b 1 0 + times number all) (itself number) ∙ omega arith
 
@@ -70,9 +68,6 @@ fewer_first number other all = by (nat_eq other number)
 
 below_one : (n : ℕ) → n ≤ 1 → nat_lt 1 n ≡ false
 below_one n h = grind (arith, nat_tests)
-
-no_zero : (n : ℕ) → n ≢ 0 → nat_eq n 0 ≡ false
-no_zero n h = grind (arith, nat_tests)
 
 -- numbers that stand in the old nodes and the new ones, where none stands twice
 module _ (front back : List Piece) (goes comes : List DocNode)

@@ -1,6 +1,6 @@
 -- Each edit of a sweep acts where the new pieces end and the old ones begin.
-use Rattle.std.proofs.Common.{◌≡◌, ◌≢◌, ℕ, zero, suc, true, false, cond, nat_eq, List, [], ◌∷◌, ◌++◌, Some, None, Result, Ok, Err, refl, sym, ap, ◌∙◌, append_assoc, append-nil, arith}
-use Rattle.std.proofs.lemmas.Bool.Decides.{nat_tests}
+use Rattle.std.proofs.Common.{◌≡◌, ℕ, zero, suc, true, false, cond, nat_eq, List, [], ◌∷◌, ◌++◌, Some, None, Result, Ok, Err, refl, sym, ap, ◌∙◌, append_assoc, append-nil}
+use Rattle.rt_lemmas.proofs.Numbers.{eq_same as same, not_zero as not_root}
 use Rattle.rt_edits.specs.Nodes.{has}
 use Rattle.rt_edits.specs.Document.{named}
 use Rattle.rt_edits.specs.declared.doc_node.DocNode.{DocNode}
@@ -14,12 +14,6 @@ use Rattle.law_agenda.specs.Runs.{and_then, run}
 use Rattle.law_agenda.specs.Sweep.{Cell, Kept, Rewritten, Adjusted, Fed, Replaced, Shrunk, Grown, head_after_all, before_cell, after_cell, removals, edits_of_cell, before_all, after_all, edits_of, IsAhead, AreAhead, Adjusts, MayAdjust, IsClear, SweepsAreSound}
 use Rattle.law_agenda.proofs.PieceLemmas.{has_first, ends_node, holds_node}
 use Rattle.law_agenda.proofs.EditLemmas.{changed_past, passes}
-
-same : (n : ℕ) → nat_eq n n ≡ true
-same n = grind (arith, nat_tests)
-
-not_root : (n : ℕ) → n ≢ 0 → nat_eq n 0 ≡ false
-not_root n h = grind (arith, nat_tests)
 
 then_run : (es fs : List Edit) (made : Result (List Piece) DocFault) → and_then made (run (es ++ fs)) ≡ and_then (and_then made (run es)) (run fs)
 then_run es fs (Err fault) = refl

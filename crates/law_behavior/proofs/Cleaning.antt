@@ -2,6 +2,7 @@
 use Rattle.std.proofs.Common.{ℕ, zero, suc, ◌≤◌, Bool, true, false, not, List, [], ◌∷◌, ◌++◌, length, ◌≡◌, refl, sym, ap, ◌∙◌, subst, nat_eq, arith}
 use Rattle.std.specs.Prelude.{Option, Some, None, if◌then◌else◌, is_some}
 use Rattle.std.proofs.lemmas.List.{append-nil}
+use Rattle.rt_lemmas.proofs.Lists.{append_append as joined_twice}
 use Rattle.rt_model.specs.Lists.{at, without, kept_by, drop_number}
 use Rattle.rt_model.specs.Tree.{Types}
 use Rattle.rt_model.specs.World.{clean_up_kind, CallFault, Hook, HookValue, HookEffect, Command, Meaning, Nothing, Application}
@@ -18,10 +19,6 @@ use Rattle.rt_model.specs.State.{onward, change}
 use Rattle.rt_model.specs.Replay.{batch_then}
 use Rattle.law_behavior.specs.Batches.{DoneInTurn, EffectsInTurn}
 use Rattle.law_behavior.specs.CleanUps.{backwards, clean_ups_among, CalledInTurn, CleanUpsInTurn, ChildrenGoFirst}
-
-joined_twice : {A : Type 0} (xs ys zs : List A) → (xs ++ ys) ++ zs ≡ xs ++ (ys ++ zs)
-joined_twice [] ys zs = refl
-joined_twice {A = A} (x ∷ xs) ys zs = ap (λ (l : List A). x ∷ l) (joined_twice xs ys zs)
 
 module _ {K : Types} where
   -- the definitions' list of clean-ups is the one from the last made to the first

@@ -2,6 +2,7 @@
 use Rattle.std.proofs.Common.{ℕ, ◌+◌, ◌≤◌, Bool, true, false, List, [], ◌∷◌, ◌++◌, ◌≡◌, length, refl, sym, ap, ◌∙◌, subst, arith}
 use Rattle.std.specs.Prelude.{Option, Some, None, if◌then◌else◌, is_some}
 use Rattle.std.specs.List.{AllByRecursion}
+pub use Rattle.rt_lemmas.proofs.Lists.{none_most as no_number}
 use Rattle.rt_model.specs.Lists.{at, drop_number, join}
 use Rattle.rt_model.specs.Tree.{Types}
 use Rattle.rt_model.specs.State.{Posted, Mark, Woken, Scope, State, is_live}
@@ -9,10 +10,6 @@ use Rattle.rt_model.specs.Next.{Work, RerunScope, PollTask, RunEffects, least, l
 use Rattle.rt_model.proofs.Maps.{by_test, pick_true, pick_false}
 use Rattle.law_behavior.specs.Comes.{IsFirst, task_before, ComesToRerun, ComesToEffects, ComesInTurn, emptied, NothingLeft, NextInTurn, NoneIsLeft}
 use Rattle.law_behavior.proofs.Firsts.{IsOrder, scopes_order, order_by, first_of_least, none_least, all_first, all_map, shorter}
-
-pub no_number : (xs : List ℕ) → length xs ≤ 0 → xs ≡ []
-no_number [] h = refl
-no_number (x ∷ xs) h = absurd (omega (arith, h))
 
 module _ {K : Types} where
   task_order : (w : State K) → IsOrder (λ a b. task_before w a b)

@@ -1,7 +1,8 @@
 -- What an entry of a render runs, and that it runs none again.
-use Rattle.std.proofs.Common.{ℕ, ◌+◌, ◌<◌, Bool, true, false, ◌&&◌, List, [], ◌∷◌, ◌++◌, ◌≡◌, ◌⊎◌, inl, inr, refl, sym, ap, ◌∙◌, subst, arith, nat_eq}
-use Rattle.std.specs.Prelude.{Option, Some, None, is_some, if◌then◌else◌, nat_lt}
+use Rattle.std.proofs.Common.{ℕ, ◌+◌, Bool, true, false, ◌&&◌, List, [], ◌∷◌, ◌++◌, ◌≡◌, ◌⊎◌, inl, inr, refl, sym, ap, ◌∙◌, subst, arith, nat_eq}
+use Rattle.std.specs.Prelude.{Option, Some, None, is_some, if◌then◌else◌}
 use Rattle.std.proofs.lemmas.Bool.{eqb-true}
+use Rattle.rt_lemmas.proofs.Numbers.{not_less}
 use Rattle.rt_model.specs.Lists.{at, first_of}
 use Rattle.rt_model.specs.Tree.{Types, Place, VComponent}
 use Rattle.rt_model.specs.World.{Scopes, at_end, Application}
@@ -80,9 +81,6 @@ four_false false false c d h = refl
 
 pub one_more : (n : ℕ) → nat_eq n (n + 1) ≡ false
 one_more n = by_test (nat_eq n (n + 1)) (λ q. let same : n ≡ n + 1 = eqb-true n (n + 1) q in absurd (omega (arith, same))) (λ q. q)
-
-not_less : (n : ℕ) → nat_lt n n ≡ false
-not_less n = by_test (nat_lt n n) (λ q. let low : n < n = grind (arith, q) in absurd (omega (arith, low))) (λ q. q)
 
 abbrev at_most : Option ℕ → ℕ
 at_most None = 0

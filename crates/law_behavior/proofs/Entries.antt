@@ -2,6 +2,8 @@
 use Rattle.std.proofs.Common.{ℕ, ◌+◌, ◌≤◌, ◌<◌, true, false, List, [], ◌∷◌, ◌++◌, ◌≡◌, ◌⊎◌, inl, inr, refl, sym, ap, ◌∙◌, subst, arith, nat_eq}
 use Rattle.std.specs.Prelude.{Option, Some, None, is_some, nat_lt}
 use Rattle.std.proofs.lemmas.Bool.{eqb-true}
+use Rattle.rt_lemmas.proofs.Numbers.{eq_over as apart}
+use Rattle.rt_lemmas.proofs.Options.{some_same as some_side}
 use Rattle.rt_model.specs.Lists.{at, has, drop_number}
 use Rattle.rt_model.specs.Tree.{Types, Place, VComponent}
 use Rattle.rt_model.specs.World.{Application}
@@ -38,12 +40,6 @@ use Rattle.law_behavior.proofs.Since.{Early, Since, since_rest, fades_unseen, ca
 use Rattle.rt_model.proofs.Members.{number_left, number_gone}
 use Rattle.law_behavior.proofs.Orders.{next_seen, unlooked}
 use Rattle.law_behavior.proofs.NoneAgain.{OneMore, fades_same, fades_left, not_both, behind_feed, others_of, SinceOn, ended_since, run_since}
-
-some_side : (a b : SideName) → Some a ≡ Some b → a ≡ b
-some_side a b h = cc
-
-apart : (n t : ℕ) → t < n → nat_eq n t ≡ false
-apart n t low = by_test (nat_eq n t) (λ q. let same : n ≡ t = eqb-true n t q in absurd (omega (arith, same, low))) (λ q. q)
 
 module _ {K : Types} where
   pub live_low : (w : State K) (t : ℕ) → IsRooted w → is_live w t ≡ true → t < w.next_scope

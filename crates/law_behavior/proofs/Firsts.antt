@@ -1,8 +1,10 @@
 -- The first of the least ones of a list, by a test that orders.
 use Rattle.std.proofs.Common.{ℕ, ◌+◌, ◌≤◌, ◌<◌, ◌⊎◌, inl, inr, Bool, true, false, ◌&&◌, ◌||◌, List, [], ◌∷◌, ◌++◌, ◌≡◌, length, refl, sym, ap, ◌∙◌, subst, nat_eq, nat_lt, arith}
 use Rattle.std.proofs.lemmas.Bool.{eqb-true}
-use Rattle.std.specs.Prelude.{Some, None, if◌then◌else◌}
+use Rattle.std.specs.Prelude.{Some, if◌then◌else◌}
 use Rattle.std.specs.List.{AllByRecursion}
+use Rattle.rt_lemmas.proofs.Numbers.{eq_true, lt_true, lt_false, high_test as false_lt, eq_above as eq_false, low_test as true_lt, eq_apart}
+pub use Rattle.law_moves.proofs.Settled.{no_least as none_least}
 use Rattle.rt_model.specs.Lists.{drop_number}
 use Rattle.rt_model.specs.Tree.{Types}
 use Rattle.rt_model.specs.State.{Scope, height_of}
@@ -17,27 +19,6 @@ pub record IsOrder (earlier : ℕ → ℕ → Bool) : Type 0 where
   pub level : (a b c : ℕ) → earlier a c ≡ false → earlier b a ≡ false → earlier b c ≡ false
 
 -- an order by two numbers, the second one where the first ones are equal
-
-lt_true : (a b : ℕ) → nat_lt a b ≡ true → a < b
-lt_true a b h = grind (arith, h)
-
-lt_false : (a b : ℕ) → nat_lt a b ≡ false → b ≤ a
-lt_false a b h = grind (arith, h)
-
-true_lt : (a b : ℕ) → a < b → nat_lt a b ≡ true
-true_lt a b h = grind (arith, h)
-
-false_lt : (a b : ℕ) → b ≤ a → nat_lt a b ≡ false
-false_lt a b h = grind (arith, h)
-
-eq_false : (a b : ℕ) → a < b → nat_eq b a ≡ false
-eq_false a b h = grind (arith, h)
-
-eq_true : (a b : ℕ) → a ≡ b → nat_eq a b ≡ true
-eq_true a b h = ap (λ (n : ℕ). nat_eq a n) (sym h) ∙ eq_same a
-
-eq_apart : (a b : ℕ) → nat_lt a b ≡ false → nat_eq a b ≡ false → b < a
-eq_apart a b h g = grind (arith, h, g)
 
 abbrev by_two : ℕ → ℕ → ℕ → ℕ → Bool
 by_two a b s t = nat_lt a b || (nat_eq a b && nat_lt s t)
@@ -205,10 +186,6 @@ module _ (earlier : ℕ → ℕ → Bool) (o : IsOrder earlier) where
   pub first_of_least : (xs : List ℕ) (x : ℕ) → least earlier xs ≡ Some x → IsFirst earlier x xs
   first_of_least [] x h = cc
   first_of_least (s ∷ ss) x h = let same : least_from earlier s ss ≡ x = cc in subst (λ (k : ℕ). IsFirst earlier k (s ∷ ss)) same (least_first s ss)
-
-pub none_least : (earlier : ℕ → ℕ → Bool) (xs : List ℕ) → least earlier xs ≡ None → xs ≡ []
-none_least earlier [] h = refl
-none_least earlier (s ∷ ss) h = cc
 
 -- what holds of all that come later and of all that come no earlier holds of the whole list
 pub all_first : (P : ℕ → Type 0) (front back : List ℕ) (x : ℕ) → AllByRecursion P front → P x → AllByRecursion P back → AllByRecursion P (front ++ x ∷ back)

@@ -3,6 +3,7 @@ use Rattle.std.proofs.Common.{ℕ, ◌+◌, ◌≤◌, Bool, true, false, List, 
 use Rattle.std.proofs.lemmas.Bool.{eqb-true}
 use Rattle.std.specs.Prelude.{Option, Some, None, if◌then◌else◌, is_some}
 use Rattle.std.specs.List.{list_any}
+use Rattle.rt_lemmas.proofs.Numbers.{eq_past as above_bound}
 use Rattle.rt_model.specs.Lists.{at, put, without, kept_by, drop_number}
 use Rattle.rt_model.specs.Tree.{Types}
 use Rattle.rt_model.specs.World.{NewCell, Write, DropCell, NewContext, Reset, ReadInto, Firsts, Command, Spawn, RemoveFuture, ClearErrors, Application}
@@ -67,9 +68,6 @@ held_longer (d ∷ hs) t u origin h = either (nat_eq d.0 t) (λ g. held_longer h
         → b || list_any (λ h. nat_eq h.0 t) hs ≡ true → b || list_any (λ h. nat_eq h.0 t) (hs ++ (u, origin) ∷ []) ≡ true
     either true go g = refl
     either false go g = go g
-
-above_bound : (t n : ℕ) → t + 1 ≤ n → nat_eq n t ≡ false
-above_bound t n low = grind (arith, low)
 
 none_held : (hs : List (ℕ × ℕ)) (t : ℕ) → list_any (λ h. nat_eq h.0 t) (kept_by (λ h. not (nat_eq h.0 t)) hs) ≡ false
 none_held [] t = refl

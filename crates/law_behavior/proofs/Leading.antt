@@ -1,6 +1,7 @@
 -- Where the log of a call leads.
 use Rattle.std.proofs.Common.{◌⊎◌, inl, inr, ℕ, arith, Bool, true, false, ◌&&◌, not, List, [], ◌∷◌, ◌++◌, ◌≡◌, refl, sym, ap, ◌∙◌}
 use Rattle.std.specs.Prelude.{Option, Some, None, Ok, is_some}
+use Rattle.rt_lemmas.proofs.Options.{not_some as alive_of}
 use Rattle.rt_model.specs.Tree.{Types}
 use Rattle.rt_model.specs.World.{Application}
 use Rattle.rt_model.specs.Laws.{IsLawful}
@@ -29,10 +30,6 @@ use Rattle.law_headline.proofs.Views.{level_views}
 use Rattle.law_headline.proofs.UnitsShow.{Rest, Ends, rest_ends}
 use Rattle.law_headline.proofs.Reports.{settled_after, unit_over, one_machine, one_telling}
 use Rattle.law_behavior.specs.Doms.{Until, Events, Renders, Settles, ends_by, left_by, LedTo, AsidesLead, Unended, CallSpent}
-
-alive_of : (o : Option Fault) → not (is_some o) ≡ true → o ≡ None
-alive_of None h = refl
-alive_of (Some fault) h = cc
 
 module _ {K : Types} where
   idle_of : (work : List (Item K)) → no_work work ≡ true → work ≡ []

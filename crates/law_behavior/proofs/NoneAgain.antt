@@ -2,6 +2,7 @@
 use Rattle.std.proofs.Common.{ℕ, ◌+◌, ◌≤◌, ◌<◌, Bool, true, false, List, [], ◌∷◌, ◌++◌, ◌≡◌, ◌⊎◌, inl, inr, refl, sym, ap, ◌∙◌, subst, arith}
 use Rattle.std.specs.Prelude.{Option, Some, None, is_some, if◌then◌else◌}
 use Rattle.std.specs.List.{AllByRecursion}
+pub use Rattle.rt_lemmas.proofs.Bools.{contrary as not_both}
 use Rattle.rt_model.specs.Lists.{at, has, drop_number}
 use Rattle.rt_model.specs.Tree.{Types, Place, Kind, VComponent}
 use Rattle.rt_model.specs.World.{Elements, at_end, Application}
@@ -27,9 +28,6 @@ use Rattle.rt_model.proofs.Members.{number_left, number_gone}
 -- one more scope ran
 abbrev pub OneMore : (ℕ → Type 0) → ℕ → ℕ → Type 0
 OneMore ran t u = ran u ⊎ (u ≡ t)
-
-pub not_both : {P : Type 0} (b : Bool) → b ≡ true → b ≡ false → P
-not_both b e f = let absurdity : true ≡ false = sym e ∙ f in cc
 
 module _ {K : Types} where
   pub fades_same : (w v : State K) → v.seen ≡ w.seen → Fades w v

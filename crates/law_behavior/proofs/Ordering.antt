@@ -3,6 +3,8 @@ use Rattle.std.proofs.Common.{ℕ, ◌+◌, ◌++◌, ◌≤◌, ◌<◌, Bool, 
 use Rattle.std.specs.Prelude.{Option, Some, None, is_some, if◌then◌else◌, nat_lt}
 use Rattle.std.specs.List.{AllByRecursion}
 use Rattle.std.proofs.lemmas.Bool.{eqb-true}
+use Rattle.rt_lemmas.proofs.Bools.{and_false as and_none}
+use Rattle.rt_lemmas.proofs.Numbers.{other_way, not_less as none_less}
 use Rattle.rt_model.specs.Lists.{at, has, drop_number}
 use Rattle.rt_model.specs.Tree.{Types, Place, VComponent}
 use Rattle.rt_model.specs.World.{Scopes, Elements, at_end, Application}
@@ -32,13 +34,6 @@ use Rattle.law_behavior.proofs.Unlooked.{Sees, changes, run_sees, row_sees, remo
 use Rattle.law_behavior.proofs.Seen.{Lined, drops_same}
 use Rattle.law_behavior.proofs.Sorting.{drop_none, turn_sorted, drop_sorted, agree_sorted, all_map}
 
-none_less : (n : ℕ) → nat_lt n n ≡ false
-none_less n = by_test (nat_lt n n) (λ q. let low : n < n = grind (arith, q) in absurd (omega (arith, low))) (λ q. q)
-
-and_none : (b : Bool) → b && false ≡ false
-and_none true = refl
-and_none false = refl
-
 pub all_any : (P : ℕ → Type 0) (xs : List ℕ) → ((x : ℕ) → P x) → AllByRecursion P xs
 all_any P [] f = tt
 all_any P (x ∷ xs) f = (f x, all_any P xs f)
@@ -51,17 +46,6 @@ apart_all (x ∷ xs) n h = by (λ g. apart_all xs n g) (nat_eq x n) refl h
         → AllByRecursion (λ (y : ℕ). nat_eq y n ≡ false) (x ∷ xs)
     by go true e g = cc
     by go false e g = (e, go g)
-
-other_way : (x y : ℕ) → nat_eq x y ≡ false → nat_eq y x ≡ false
-other_way x y h =
-    by_test (nat_eq y x)
-    (
-    λ q.
-    let same : x ≡ y = sym (eqb-true y x q) in
-    let absurdity : true ≡ false = sym q ∙ ap (λ (k : ℕ). nat_eq y k) same ∙ sym (ap (λ (k : ℕ). nat_eq k y) same) ∙ h in
-    cc
-    )
-    (λ q. q)
 
 -- numbers below one are not that one
 below_out : (xs : List ℕ) (n : ℕ) → AllByRecursion (λ (x : ℕ). x < n) xs → has xs n ≡ false

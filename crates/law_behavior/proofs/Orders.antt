@@ -5,15 +5,12 @@ use Rattle.std.proofs.lemmas.Bool.{eqb-true}
 use Rattle.rt_model.specs.Lists.{has, drop_number}
 use Rattle.rt_model.specs.Tree.{Types}
 use Rattle.rt_model.specs.State.{Scope, State, height_of}
-use Rattle.rt_model.specs.Next.{Work, RerunScope, PollTask, RunEffects, least_from, least, is_before, scope_of_task, first_task, first_seen, chosen, found, paused, drop_then, drops, looked, at_rest, with_effects, or_effects, next}
+use Rattle.rt_model.specs.Next.{Work, RerunScope, RunEffects, least_from, least, is_before, scope_of_task, first_task, first_seen, chosen, found, paused, drop_then, drops, looked, at_rest, with_effects, or_effects, next}
 use Rattle.rt_model.specs.Sentences.{render_ends}
 use Rattle.rt_model.proofs.Maps.{eq_same}
 use Rattle.rt_model.proofs.Members.{or_left, or_right, by_either}
 use Rattle.law_moves.proofs.Lists.{some_number}
-
-picked : (b : Bool) (s t r : ℕ) → (if b then Some (RerunScope s) else Some (PollTask t)) ≡ Some (RerunScope r) → s ≡ r
-picked true s t r h = cc
-picked false s t r h = cc
+use Rattle.law_moves.proofs.Due.{either_rerun as picked}
 
 rerun_of : (o : Option ℕ) (s : ℕ) → elim o as (λ z. Option Work) [ None ↦ None | Some r ↦ Some (RunEffects r) ] ≡ Some (RerunScope s) → ⊥
 rerun_of None s h = cc

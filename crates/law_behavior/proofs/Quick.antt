@@ -2,6 +2,7 @@
 use Rattle.std.proofs.Common.{ℕ, ◌+◌, Bool, true, false, not, List, [], ◌∷◌, ◌++◌, ◌≡◌, refl, sym, ap, ◌∙◌, subst, arith}
 use Rattle.std.specs.Prelude.{Option, Some, None, is_some, if◌then◌else◌}
 use Rattle.std.specs.List.{AllByRecursion}
+use Rattle.rt_lemmas.proofs.Numbers.{zero_more as none_more}
 use Rattle.rt_model.specs.Lists.{at, drop_number}
 use Rattle.rt_model.specs.Tree.{Types}
 use Rattle.rt_model.specs.World.{Meaning, CallFault, TaskStep, Application}
@@ -39,9 +40,6 @@ served_renders (Heard s) h = cc
 served_renders (Rerun s) h = cc
 served_renders (Poll t) h = cc
 served_renders (Effects s) h = cc
-
-none_more : (n : ℕ) → 0 + n ≡ n
-none_more n = omega arith
 
 no_front : {P : Type 0} (front back : List ℕ) (s : ℕ) → [] ≡ front ++ s ∷ back → P
 no_front [] back s h = cc

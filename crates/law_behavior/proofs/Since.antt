@@ -2,6 +2,7 @@
 use Rattle.std.proofs.Common.{ℕ, ◌≤◌, ◌<◌, Bool, true, false, List, [], ◌∷◌, ◌++◌, ◌≡◌, ◌⊎◌, inl, inr, refl, sym, ap, ◌∙◌, subst, arith}
 use Rattle.std.specs.Prelude.{Option, Some, None}
 use Rattle.std.specs.List.{AllByRecursion}
+use Rattle.law_headline.proofs.Lines.{among_either}
 use Rattle.rt_model.specs.Lists.{at, has}
 use Rattle.rt_model.specs.Tree.{Types, Tree, Place, VComponent, spots}
 use Rattle.rt_model.specs.World.{Application}
@@ -14,11 +15,6 @@ use Rattle.law_moves.proofs.Lists.{some_number, every_among}
 use Rattle.law_moves.proofs.Opens.{Opens}
 use Rattle.law_moves.proofs.Weaves.{Knows, put_side, put_turns}
 use Rattle.law_behavior.proofs.Lines.{turns, Line, OfTurn, turn_owner, Clear, line_opened}
-
-pub among_either : {A : Type 0} (xs ys : List A) (x : A) → Among (xs ++ ys) x → Among xs x ⊎ Among ys x
-among_either [] ys x h = inr h
-among_either (z ∷ xs) ys x (inl h) = inl (inl h)
-among_either (z ∷ xs) ys x (inr h) = elim (among_either xs ys x h) [ inl g ↦ inl (inr g) | inr g ↦ inr g ]
 
 module _ {K : Types} where
   -- no scope becomes seen

@@ -1,8 +1,9 @@
 -- A list in its order: what a number that goes leaves, and which one comes first.
 use Rattle.std.proofs.Common.{ℕ, Bool, true, false, ◌||◌, List, [], ◌∷◌, ◌++◌, ◌≡◌, refl, sym, ap, ◌∙◌, subst, nat_eq}
-use Rattle.std.proofs.lemmas.Bool.{eqb-true}
 use Rattle.std.specs.Prelude.{if◌then◌else◌}
 use Rattle.std.specs.List.{AllByRecursion}
+use Rattle.rt_lemmas.proofs.Bools.{neither as one_false}
+use Rattle.rt_lemmas.proofs.Numbers.{other_way}
 use Rattle.rt_model.specs.Lists.{has, drop_number}
 use Rattle.rt_model.specs.Next.{insert_by, sorted_by}
 use Rattle.rt_model.proofs.Maps.{by_test, pick_true, pick_false, eq_same}
@@ -13,13 +14,6 @@ use Rattle.law_behavior.proofs.Firsts.{IsOrder}
 abbrev pub Distinct : List ℕ → Type 0
 Distinct [] = Unit {0}
 Distinct (x ∷ xs) = (has xs x ≡ false) × Distinct xs
-
-one_false : (b c : Bool) → b || c ≡ false → (b ≡ false) × (c ≡ false)
-one_false true c h = cc
-one_false false c h = (refl, h)
-
-other_way : (x y : ℕ) → nat_eq x y ≡ false → nat_eq y x ≡ false
-other_way x y h = by_test (nat_eq y x) (λ q. let absurdity : true ≡ false = sym (eq_same y) ∙ ap (λ (k : ℕ). nat_eq k y) (eqb-true y x q) ∙ h in cc) (λ q. q)
 
 -- what isn't there goes without a change
 pub drop_none : (xs : List ℕ) (s : ℕ) → has xs s ≡ false → drop_number xs s ≡ xs

@@ -302,7 +302,7 @@ logged_first_error_lasts app limits m v log b first settled accepted stays h =
 
 -- hooks
 
-nth_stays : {A : Type 0} (xs : List A) (i : ℕ) (x y : A) → nth xs i ≡ Some x → nth (xs ++ y ∷ []) i ≡ Some x
+pub nth_stays : {A : Type 0} (xs : List A) (i : ℕ) (x y : A) → nth xs i ≡ Some x → nth (xs ++ y ∷ []) i ≡ Some x
 nth_stays [] i x y h = cc
 nth_stays (z ∷ xs) zero x y h = h
 nth_stays (z ∷ xs) (suc i) x y h = nth_stays xs i x y h

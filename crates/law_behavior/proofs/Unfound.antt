@@ -1,6 +1,7 @@
 -- A number that doesn't show isn't found among what shows, so nobody hears an event there.
 use Rattle.std.proofs.Common.{ℕ, zero, suc, ◌+◌, Bool, true, false, ◌||◌, List, [], ◌∷◌, ◌++◌, length, ◌≡◌, refl, ap, ◌∙◌, nat_eq}
 use Rattle.std.specs.Prelude.{Option, Some, None, if◌then◌else◌}
+use Rattle.rt_lemmas.proofs.Bools.{neither}
 use Rattle.rt_model.specs.Lists.{Text, at, first_of}
 use Rattle.rt_model.specs.Tree.{Types, TemplateNodes, no_nodes, element_node, text_node, slot_node, Template, Attribute, Tree, block, Slots, no_slots, more_slots, Slot, text_slot, placeholder_slot, component_slot, fragment_slot, Trees, no_trees, more_trees, item, Place, Kind, an_element, a_static_text, a_text, a_placeholder, an_empty_fragment, place_in}
 use Rattle.rt_model.specs.State.{SideName, Side, Scope, State, side_of}
@@ -9,10 +10,6 @@ use Rattle.rt_model.specs.Heard.{number_at, Climb, below_element, slots_on, leaf
 use Rattle.rt_model.specs.Document.{Forest, Empty, Node, join_rows, is_in}
 use Rattle.rt_model.specs.View.{child_view, nodes_view, tree_view, slots_view, slot_view, items_view, side_view, scope_view, view_within, view}
 use Rattle.rt_model.proofs.Maps.{pick_false}
-
-neither : (a b : Bool) → a || b ≡ false → (a ≡ false) × (b ≡ false)
-neither true b h = cc
-neither false b h = (refl, h)
 
 joined_in : (i : ℕ) (f g : Forest) → is_in i (join_rows f g) ≡ false → (is_in i f ≡ false) × (is_in i g ≡ false)
 joined_in i Empty g h = (refl, h)

@@ -2,6 +2,7 @@
 use Rattle.std.proofs.Common.{ℕ, ◌<◌, ◌≤◌, ◌+◌, true, false, List, [], ◌∷◌, ◌++◌, ◌≡◌, refl, sym, ap, ◌∙◌, subst, nat_eq, arith, inl, inr}
 use Rattle.std.proofs.lemmas.Bool.{eqb-true}
 use Rattle.std.specs.Prelude.{Option, Some, is_some, if◌then◌else◌}
+use Rattle.law_minding.proofs.Values.{longer_live as at_longer}
 use Rattle.rt_model.specs.Lists.{at, put}
 use Rattle.rt_model.specs.Tree.{Types, VComponent, Place}
 use Rattle.rt_model.specs.State.{SideName, MainSide, ChildrenSide, FallbackSide, Scope, State, Item, Draw, Row, Feed, Make, Drop, side_of, new_scope, is_live}
@@ -22,17 +23,6 @@ use Rattle.law_elm.proofs.Running.{All}
 -- a lower number is another one
 lower : (n bound t : ℕ) → n < bound → bound ≤ t → nat_eq t n ≡ false
 lower n bound t low most = by_test (nat_eq t n) (λ q. let same : t ≡ n = eqb-true t n q in absurd (omega (arith, low, most, same))) (λ q. q)
-
-at_longer : {A : Type 0} (es : List (ℕ × A)) (m : ℕ) (y : A) (n : ℕ) → is_some (at es n) ≡ true → is_some (at (es ++ (m, y) ∷ []) n) ≡ true
-at_longer [] m y n h = cc
-at_longer (e ∷ es) m y n h =
-    by_test (nat_eq e.0 n)
-    (λ q. ap (λ (o : Option _). is_some o) (pick_true (Some e.1) (at (es ++ (m, y) ∷ []) n) q))
-    (
-    λ q.
-    ap (λ (o : Option _). is_some o) (pick_false (Some e.1) (at (es ++ (m, y) ∷ []) n) q)
-    ∙ at_longer es m y n (sym (ap (λ (o : Option _). is_some o) (pick_false (Some e.1) (at es n) q)) ∙ h)
-    )
 
 -- the scope t comes, of that tier
 module _ (tiers : ℕ → Tier) (bound t : ℕ) (tier : Tier) (most : bound ≤ t) where

@@ -1,22 +1,16 @@
 -- So the root of an Elm program shows its page's function of the fold.
-use Rattle.std.proofs.Common.{ℕ, suc, ◌+◌, ◌<◌, ◌≤◌, Bool, true, List, [], ◌∷◌, ◌≡◌, refl, ap, ◌∙◌, map, nat_lt, arith}
+use Rattle.std.proofs.Common.{ℕ, suc, ◌+◌, ◌<◌, Bool, true, List, [], ◌∷◌, ◌≡◌, refl, ap, ◌∙◌, map}
 use Rattle.std.specs.Prelude.{Option, Some, None, if◌then◌else◌, is_some, length}
 use Rattle.std.specs.List.{AllByRecursion}
+use Rattle.rt_lemmas.proofs.Numbers.{low_test as tests_low}
 use Rattle.rt_model.specs.Lists.{at, has}
 use Rattle.rt_model.specs.Tree.{Types}
-use Rattle.rt_model.specs.World.{Application}
-use Rattle.rt_model.specs.Laws.{IsLawful}
 use Rattle.rt_model.specs.State.{CellRow, State}
 use Rattle.rt_model.specs.Current.{AllCurrent}
-use Rattle.rt_model.specs.Replay.{Input, Machine, start}
 use Rattle.rt_model.specs.Told.{Told}
 use Rattle.rt_model.specs.Reports.{Report}
-use Rattle.rt_model.proofs.Maps.{by_test}
 use Rattle.law_moves.specs.Sorts.{ChildrenFitSlots, FedFit}
-use Rattle.law_moves.proofs.Limited.{some_limits}
-use Rattle.law_moves.proofs.Logs.{logs_are_moves}
 use Rattle.law_minding.specs.Numbering.{CellsAreDrawn}
-use Rattle.law_minding.proofs.Coming.{not_low}
 use Rattle.law_behavior.specs.Owed.{MarksAreRun}
 use Rattle.law_lasting.specs.ComponentsLast.{ComponentsLast}
 use Rattle.author_programs.specs.Cells.{Keeping}
@@ -27,16 +21,13 @@ use Rattle.law_reduce.specs.Elm.{NeverRemoved}
 use Rattle.law_reduce.specs.Folds.{folded, last_state}
 use Rattle.law_reduce.specs.RootStays.{RootStays}
 use Rattle.law_reduce.specs.Values.{own_of, ShowsNow}
-use Rattle.law_reduce.proofs.Led.{LedTo}
 use Rattle.law_reduce.proofs.Reports.{EachGoesOn, each_goes_on, BuiltBy, each_built}
 use Rattle.law_reduce.proofs.Values.{shows_end}
+use Rattle.law_reduce.proofs.Elm.{drawn_there as were_drawn}
 use Rattle.law_elm.specs.Roots.{RootGoesOn}
 use Rattle.law_elm.specs.Programs.{ProgramFolds, ElmProgramsFold, ProgramShows, ElmProgramsShow}
 use Rattle.law_elm.proofs.Asking.{root_rules}
 use Rattle.law_elm.proofs.Ending.{from_build}
-
-tests_low : (n m : ℕ) → n < m → nat_lt n m ≡ true
-tests_low n m h = by_test (nat_lt n m) (λ q. q) (λ q. let high : m ≤ n = not_low n m q in absurd (omega (arith, high, h)))
 
 module _ {V : Type 0} where
   -- as many numbers as values
@@ -53,15 +44,6 @@ module _ {V : Type 0} where
       λ i.
       (ap (λ (b : Bool). if b then at m n else None) (tests_low n drawn (low n h.0)) ∙ same n) i
       ∷ reads_fold m f own drawn low same ns h.1 i
-
--- the cells of a machine to which a log leads from the start of a session were drawn
-were_drawn : {K : Types} (app : Application K) → CellsAreDrawn app → IsLawful K app → (props : K.Props) (inputs : List (Input K)) (m : Machine K) → LedTo app props inputs m
-    → (n : ℕ) → is_some (at m.state.cells n) ≡ true → n < m.state.next.cells
-were_drawn {K = K} app drawn lawful props inputs m led n there =
-    let first : Machine K = start app props inputs in
-    let found = some_limits app led.done first m led.goes in
-    let moved = logs_are_moves app found.0 first m led.done refl found.1 in
-    drawn lawful found.0 props inputs m moved.0 n moved.1 there
 
 pub elm_programs_show : (K : Types) → ((k : Keeping K.Value) (a : Pages K) → MarksAreRun (meaning_of_pages k a)) → ((k : Keeping K.Value) (a : Pages K) → FedFit (meaning_of_pages k a)) → ((k : Keeping K.Value) (a : Pages K) → ComponentsLast (meaning_of_pages k a))
     → ((k : Keeping K.Value) (a : Pages K) → CellsAreDrawn (meaning_of_pages k a))

@@ -2,6 +2,7 @@
 use Rattle.std.proofs.Common.{ℕ, true, nat_eq, List, [], ◌∷◌, ◌≡◌, refl, sym, ap, ◌∙◌, subst, inl, inr}
 use Rattle.std.proofs.lemmas.Bool.{eqb-true}
 use Rattle.std.specs.Prelude.{Option, Some, None, Contains, is_some}
+use Rattle.rt_lemmas.proofs.Options.{some_same as some_number}
 use Rattle.rt_model.specs.Lists.{at}
 use Rattle.rt_model.specs.Tree.{Types, Tree, Place, VComponent, Own, Root, Spot, component_at, spots, rendered, component_slot, one_slot}
 use Rattle.rt_model.specs.World.{Application}
@@ -91,9 +92,6 @@ module _ (K : Types) (may : K.Component → Type 0) (c : K.Component) (p : K.Pro
   wrapper_is CatcherTier is = let same : Root c p ≡ error_boundary c p = is in cc
   wrapper_is RootTier is = let same : Root c p ≡ Own c is.0 = is.1 in cc
   wrapper_is PlainTier is = absurd is
-
-some_number : (n m : ℕ) → Some n ≡ Some m → n ≡ m
-some_number n m h = cc
 
 module _ {K : Types} where
   -- in a tree that is one component nothing stands elsewhere

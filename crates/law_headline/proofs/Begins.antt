@@ -1,6 +1,7 @@
 -- Machines that moves reach: when work is open, when the build has begun, and the first entry of a unit.
-use Rattle.std.proofs.Common.{Bool, true, false, ◌&&◌, List, [], ◌∷◌, ◌++◌, ◌≡◌, ◌⊎◌, inl, inr, refl, sym, ap, ◌∙◌, subst, ℕ, ◌<◌}
+use Rattle.std.proofs.Common.{Bool, true, false, List, [], ◌∷◌, ◌++◌, ◌≡◌, ◌⊎◌, inl, inr, refl, sym, ap, ◌∙◌, subst, ℕ, ◌<◌}
 use Rattle.std.specs.Prelude.{Option, Some, None, if◌then◌else◌}
+use Rattle.rt_lemmas.proofs.Bools.{and_none as and_false}
 use Rattle.rt_model.specs.Tree.{Types}
 use Rattle.rt_model.specs.World.{Application, Firsts}
 use Rattle.rt_model.specs.Laws.{IsLawful}
@@ -30,10 +31,6 @@ use Rattle.law_moves.proofs.Called.{rest_level}
 use Rattle.law_headline.specs.Calm.{is_calm}
 use Rattle.law_headline.proofs.Calm.{take_level}
 use Rattle.law_headline.proofs.Levels.{take_unit, ended_level, ended_idle, polled_rests, effects_rest, heard_level, heard_unit}
-
-and_false : (a b : Bool) → b ≡ false → a && b ≡ false
-and_false true b h = h
-and_false false b h = refl
 
 module _ {K : Types} where
   ended_unit_same : (m : Machine K) (r : Option (Item K)) (rest : List (Item K)) (o : Outcome K) → (ended_by m r rest o).unit ≡ m.unit

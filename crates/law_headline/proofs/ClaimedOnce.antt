@@ -11,9 +11,8 @@ use Rattle.rt_model.specs.Document.{Forest, join_rows, count_of}
 use Rattle.rt_model.specs.Heard.{number_at}
 use Rattle.rt_model.specs.View.{child_view, nodes_view, tree_view, slots_view, slot_view, items_view}
 use Rattle.rt_model.specs.Caused.{Both}
-use Rattle.rt_model.proofs.Among.{Among, among_left, among_right, place_same}
+use Rattle.rt_model.proofs.Among.{Among, among_left, among_right, template_same}
 use Rattle.rt_model.proofs.SamePlaces.{template-true}
-use Rattle.rt_model.proofs.Conjunctions.{and-left}
 use Rattle.rt_model.proofs.ViewCounts.{count_join}
 use Rattle.law_moves.specs.Settings.{counted}
 use Rattle.law_moves.specs.Meets.{nodes_claims, child_claims, way_claims, tree_claims, slots_claims, slot_claims, items_claims}
@@ -36,9 +35,6 @@ here_sum {P = P} {Q = Q} {R = R} (suc m) (suc n) apart f g h k = absurd (apart (
 -- the place of a home, with the kind of its node, none where it is below a child
 abbrev pub Tag : Type 0
 Tag = Option Kind
-
-template_same : (t : Template) → same_template t t ≡ true
-template_same t = and-left (same_template t t) true (place_same (inside t [] ∷ []))
 
 inside_template : (t u : Template) (p q : List ℕ) (r s : Place) → inside t p ∷ r ≡ inside u q ∷ s → t ≡ u
 inside_template t u p q r s h = cc

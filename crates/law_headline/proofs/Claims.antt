@@ -1,6 +1,7 @@
 -- What the edits between two outputs claim is shown by the old one or by the new one.
 use Rattle.std.proofs.Common.{ℕ, zero, suc, ◌+◌, ◌≤◌, List, [], ◌∷◌, ◌++◌, ◌≡◌, sym, ap, arith}
 use Rattle.std.specs.Prelude.{Option, Some, None}
+use Rattle.rt_lemmas.proofs.Numbers.{least as no_more}
 use Rattle.rt_model.specs.Tree.{Types, TemplateNodes, no_nodes, element_node, text_node, slot_node, Template, same_template, Attribute, Tree, block, Slots, no_slots, more_slots, Slot, text_slot, placeholder_slot, component_slot, fragment_slot, Trees, no_trees, more_trees, item, Place, place_in}
 use Rattle.rt_model.specs.World.{Application}
 use Rattle.rt_model.specs.Values.{is_same_component}
@@ -12,9 +13,6 @@ use Rattle.rt_model.proofs.Maps.{by_test}
 use Rattle.rt_model.proofs.SamePlaces.{template-true}
 use Rattle.rt_model.proofs.ViewCounts.{count_join}
 use Rattle.law_moves.specs.Meets.{NodesMeet, nodes_claims, ChildBrings, ChildMeets, child_claims, way_claims, TreeMeets, SlotsMeet, SlotMeets, ItemsMeet, tree_claims, slots_claims, slot_claims, items_claims}
-
-no_more : (n : ℕ) → n ≤ n
-no_more n = omega arith
 
 module _ {K : Types} (app : Application K) (b : Both K) (child : ℕ → Type 0) (claims : ℕ → ℕ → ℕ) (each : (t : ℕ) → child t → ChildBrings b claims t) (n : ℕ) where
   child_claimed : (o p : Option ℕ) → p ≡ o → ChildMeets app b child o → child_claims app b claims n o ≤ count_of n (child_view b.old_child o) + count_of n (child_view b.new_child p)

@@ -1,6 +1,7 @@
 -- The ways up in a tree of scopes, before and after a change that moves no scope.
-use Rattle.std.proofs.Common.{ℕ, ◌+◌, Bool, true, false, List, [], ◌∷◌, ◌++◌, ◌≡◌, inl, inr, refl, sym, ap, ◌∙◌, subst, arith, length}
+use Rattle.std.proofs.Common.{ℕ, ◌+◌, true, List, [], ◌∷◌, ◌++◌, ◌≡◌, inl, inr, refl, sym, ap, ◌∙◌, subst, arith, length}
 use Rattle.std.specs.Prelude.{Option, Some, None, is_some}
+pub use Rattle.rt_lemmas.proofs.Bools.{contrary as off_itself}
 use Rattle.rt_model.specs.Lists.{at}
 use Rattle.rt_model.specs.Tree.{Types, Place, VComponent}
 use Rattle.rt_model.specs.State.{SideName, MainSide, ChildrenSide, FallbackSide, Side, Scope, State, Item, Feed, is_live, height_of}
@@ -24,9 +25,6 @@ stand_below (Some f) = Some f.2
 abbrev stand_height : Option Stand → ℕ
 stand_height None = 0
 stand_height (Some f) = f.1
-
-pub off_itself : {P : Type 0} (b : Bool) → b ≡ true → b ≡ false → P
-off_itself b e f = let absurdity : true ≡ false = sym e ∙ f in cc
 
 module _ {K : Types} where
   up_stand : (o : Option (Scope K)) → twig_up (twig o) ≡ stand_up (stand o)

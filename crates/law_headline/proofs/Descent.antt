@@ -1,10 +1,11 @@
 -- From a scope down to all that its unit meets: what is written makes its new nodes of its old ones.
 use Rattle.std.proofs.Common.{ℕ, zero, suc, ◌+◌, ◌≤◌, true, false, List, [], ◌≡◌, refl, sym, ap, ◌∙◌, subst, append-nil, arith}
 use Rattle.std.specs.Prelude.{length, Ok, Option, Some, None}
+use Rattle.rt_lemmas.proofs.Numbers.{at_most}
 use Rattle.rt_model.specs.Lists.{at}
 use Rattle.rt_model.specs.Tree.{Types, Tree}
 use Rattle.rt_model.specs.World.{Application}
-use Rattle.rt_model.specs.State.{SideName, MainSide, ChildrenSide, FallbackSide, same_side, Side, Scope, State, side_of}
+use Rattle.rt_model.specs.State.{SideName, same_side, Side, Scope, State, side_of}
 use Rattle.rt_model.specs.Document.{Forest, Empty, Edit, count_of, document_after}
 use Rattle.rt_model.specs.View.{tree_view, side_view, scope_view, nodes_of, view}
 use Rattle.rt_model.specs.Caused.{Written, writes, then_on, Both, tree_written, side_written, sides_written, written_within, written}
@@ -17,23 +18,15 @@ use Rattle.law_moves.specs.Sweeps.{between, Stays, SideMeets, under, MeetsDown, 
 use Rattle.law_headline.proofs.Changes.{document_brought}
 use Rattle.law_headline.proofs.Sweep.{of_to, is_written, claims_more, two_parts, gives_way, tree_performs}
 use Rattle.law_headline.proofs.Claims.{tree_claimed}
+use Rattle.law_headline.proofs.Ends.{side_is as same_side-true}
 
 -- nothing is written after it
 nothing_more : {w : Written} {f g : Forest} {m : ℕ → ℕ} → Performs w f g m → Performs (then_on w (writes [])) f g m
 nothing_more {w = w} {f = f} {g = g} {m = m} a =
     two_parts w (writes []) a.goes_on refl (subst (λ (es : List Edit). Brings es f g m) (sym (append-nil w.edits)) a.brings)
 
-at_most : {m n : ℕ} → n ≡ m → m ≤ n
-at_most h = omega arith
-
 within_both : {m n a b c d : ℕ} → m ≡ n → n ≤ a + b → c ≡ a → d ≡ b → m ≤ c + d
 within_both p q r t = omega arith
-
-same_side-true : (a c : SideName) → same_side a c ≡ true → a ≡ c
-same_side-true MainSide MainSide h = refl
-same_side-true ChildrenSide ChildrenSide h = refl
-same_side-true FallbackSide FallbackSide h = refl
-same_side-true _ _ h = cc
 
 module _ {K : Types} where
   -- what a scope shows is what its side's output shows

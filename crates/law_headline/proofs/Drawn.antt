@@ -1,7 +1,8 @@
 -- Numbers that were drawn, and what holds of each number that edits carry.
-use Rattle.std.proofs.Common.{ℕ, ◌+◌, ◌≤◌, ◌<◌, Bool, true, false, ◌||◌, List, [], ◌∷◌, ◌≡◌, refl, arith, nat_eq, subst}
+use Rattle.std.proofs.Common.{ℕ, ◌+◌, ◌≤◌, ◌<◌, true, false, List, [], ◌∷◌, ◌≡◌, refl, arith, nat_eq, subst}
 use Rattle.std.specs.List.{AllByRecursion}
 use Rattle.std.proofs.lemmas.Bool.{eqb-true}
+use Rattle.rt_lemmas.proofs.Bools.{not_either as or_none}
 use Rattle.rt_model.specs.Lists.{has}
 use Rattle.rt_model.proofs.Maps.{by_test, eq_same}
 use Rattle.law_moves.specs.Settings.{counted}
@@ -18,10 +19,6 @@ still_below (x ∷ xs) bound more h low = let less = low.0.1 in ((low.0.0, omega
 pub less_than : (xs : List ℕ) (bound : ℕ) → Below bound xs → AllByRecursion (λ (k : ℕ). k < bound) xs
 less_than [] bound low = tt
 less_than (x ∷ xs) bound low = (low.0.1, less_than xs bound low.1)
-
-or_none : (a b : Bool) → a ≡ false → b ≡ false → a || b ≡ false
-or_none false b h g = g
-or_none true b h g = h
 
 -- a number without a property isn't among numbers that have it
 pub never_among : (P : ℕ → Type 0) (n : ℕ) → (P n → ⊥) → (xs : List ℕ) → AllByRecursion P xs → has xs n ≡ false

@@ -2,6 +2,7 @@
 use Rattle.std.proofs.Common.{ℕ, Bool, true, false, List, [], ◌∷◌, ◌++◌, ◌≡◌, ◌⊎◌, inl, inr, refl, sym, ap, ◌∙◌, subst}
 use Rattle.std.specs.Prelude.{Option, Some, None, if◌then◌else◌, is_some}
 use Rattle.std.specs.List.{AllByRecursion}
+use Rattle.rt_lemmas.proofs.Bools.{contrary as boundary_not}
 use Rattle.rt_model.specs.Lists.{at}
 use Rattle.rt_model.specs.Tree.{Types, Tree, is_suspense_boundary}
 use Rattle.rt_model.specs.World.{Application}
@@ -14,9 +15,6 @@ use Rattle.law_moves.proofs.Lists.{every_among}
 use Rattle.law_moves.specs.Frames.{shown}
 use Rattle.law_headline.proofs.Did.{Matches, after_of, that_side, other_side, side_shows, Patch, renewed, agenda, RunDid, StepDid}
 use Rattle.law_headline.proofs.Lines.{clash, among_either, Ahead, NoStep, IsDropped, drop_items_of, agenda_of}
-
-boundary_not : {P : Type 0} (b : Bool) → b ≡ true → b ≡ false → P
-boundary_not b e f = let absurdity : true ≡ false = sym e ∙ f in cc
 
 module _ {K : Types} where
   -- a step of a run is left

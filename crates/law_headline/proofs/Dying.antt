@@ -1,6 +1,8 @@
 -- A rerun in which a fault ends the run: the last state keeps what it has to of the one in which the rerun began.
 use Rattle.std.proofs.Common.{ℕ, ◌≤◌, Bool, true, false, List, [], ◌∷◌, ◌≡◌, refl, sym, ap, ◌∙◌, subst, arith, nat_eq, inl, inr}
 use Rattle.std.specs.Prelude.{Option, Some, None, if◌then◌else◌}
+use Rattle.rt_lemmas.proofs.Bools.{never as not_true}
+pub use Rattle.rt_lemmas.proofs.Options.{none_is as not_some}
 use Rattle.rt_model.specs.Lists.{at}
 use Rattle.rt_model.specs.Tree.{Types, Tree, Place, Kind, component_at}
 use Rattle.rt_model.specs.World.{Application}
@@ -26,17 +28,11 @@ use Rattle.law_headline.proofs.Cut.{until_may_come, by_rerun}
 use Rattle.law_headline.proofs.Open.{OpenUnit}
 use Rattle.law_headline.proofs.Running.{Serving, live, before, begins_serving, goes_serving, serving_midway, ready_here, open_serving}
 
-pub not_some : {A P : Type 0} (a : A) → None ≡ Some a → P
-not_some a h = cc
-
 not_none : {A P : Type 0} (a : A) → Some a ≡ None → P
 not_none a h = cc
 
 not_bare : {A P : Type 0} (x : A) (xs : List A) → x ∷ xs ≡ [] → P
 not_bare x xs h = cc
-
-not_true : {P : Type 0} → false ≡ true → P
-not_true h = cc
 
 module _ {K : Types} where
   no_output : {P : Type 0} (side : Side K) (tree : Tree K) → side ≡ empty_side → side.output ≡ Some tree → P

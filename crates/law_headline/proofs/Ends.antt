@@ -1,6 +1,7 @@
 -- At the end of a unit the scopes from its root down through all that is fed meet what they were.
 use Rattle.std.proofs.Common.{ℕ, zero, suc, ◌+◌, ◌≤◌, Bool, true, false, ◌&&◌, [], ◌≡◌, refl, sym, ap, ◌∙◌, subst, arith, length}
 use Rattle.std.specs.Prelude.{Option, Some, None, is_some}
+use Rattle.rt_lemmas.proofs.Bools.{and_both as both_hold}
 use Rattle.rt_model.specs.Lists.{at}
 use Rattle.rt_model.specs.Tree.{Types, Tree, Place, VComponent, Spot, node_at, component_at, spots}
 use Rattle.rt_model.specs.World.{Application}
@@ -11,6 +12,7 @@ use Rattle.rt_model.specs.Run.{child_at, spots_of}
 use Rattle.rt_model.proofs.Among.{Among}
 use Rattle.rt_model.proofs.Conjunctions.{and-left, and-right}
 use Rattle.rt_model.proofs.WellNumbered.{FitsBelow}
+pub use Rattle.rt_model.proofs.Quiet.{side_same as side_itself}
 use Rattle.law_moves.proofs.Twigs.{height_found, live_found}
 use Rattle.law_moves.proofs.Lists.{some_number}
 use Rattle.law_moves.specs.Meets.{ChildMeets}
@@ -33,15 +35,6 @@ side_is ChildrenSide FallbackSide h = cc
 side_is FallbackSide MainSide h = cc
 side_is FallbackSide ChildrenSide h = cc
 side_is FallbackSide FallbackSide h = refl
-
-pub side_itself : (a : SideName) → same_side a a ≡ true
-side_itself MainSide = refl
-side_itself ChildrenSide = refl
-side_itself FallbackSide = refl
-
-both_hold : (a b : Bool) → a ≡ true → b ≡ true → a && b ≡ true
-both_hold true b f g = g
-both_hold false b f g = cc
 
 shows_it : (o : Option SideName) (a : SideName) → is_side o a ≡ true → o ≡ Some a
 shows_it None a h = cc

@@ -3,6 +3,7 @@ use Rattle.std.proofs.Common.{ℕ, Bool, true, false, ◌&&◌, ◌||◌, List, 
 use Rattle.std.specs.Prelude.{Option, Some, None, nat_lt, if◌then◌else◌}
 use Rattle.std.proofs.lemmas.Bool.{eqb-true}
 use Rattle.std.proofs.lemmas.Bool.Decides.{nat_tests}
+use Rattle.rt_lemmas.proofs.Numbers.{other_way as nat_unlike}
 use Rattle.rt_model.specs.Lists.{Text, same_numbers, same_option, earlier_text}
 use Rattle.rt_model.specs.Document.{DocAttribute, earlier_namespace, same_key, earlier_key, with_attribute, without_attribute, with_listener}
 use Rattle.law_headline.specs.Entries.{NoneNamed}
@@ -11,6 +12,7 @@ use Rattle.rt_model.proofs.SamePlaces.{numbers-true, option-true}
 use Rattle.rt_model.proofs.Among.{numbers_same}
 use Rattle.rt_model.proofs.Conjunctions.{and-left, and-right}
 use Rattle.rt_model.proofs.Members.{clash}
+use Rattle.rt_model.proofs.Quiet.{option_same as space_same}
 
 -- a total order of keys, with a test of their equality
 record Order {Q : Type 0} (eq lt : Q → Q → Bool) : Type 0 where
@@ -150,9 +152,6 @@ module _ {A Q : Type 0} (key : A → Q) (eq lt : Q → Q → Bool) (order : Orde
 nat_turned : (x y : ℕ) → nat_eq x y ≡ true → nat_eq y x ≡ true
 nat_turned x y h = grind (arith, nat_tests)
 
-nat_unlike : (x y : ℕ) → nat_eq x y ≡ false → nat_eq y x ≡ false
-nat_unlike x y h = grind (arith, nat_tests)
-
 nat_total : (x y : ℕ) → nat_eq x y ≡ false → nat_lt x y ≡ false → nat_lt y x ≡ true
 nat_total x y h k = grind (arith, nat_tests)
 
@@ -231,10 +230,6 @@ space_onward None (Some b) (Some c) h k = refl
 space_onward (Some a) None c h k = cc
 space_onward (Some a) (Some b) None h k = cc
 space_onward (Some a) (Some b) (Some c) h k = text_onward a b c h k
-
-space_same : (a : Option Text) → same_option same_numbers a a ≡ true
-space_same None = refl
-space_same (Some a) = numbers_same a
 
 space_order : Order (λ a b. same_option same_numbers a b) earlier_namespace
 space_order = record { decides = option-true; same = space_same; total = space_total; single = space_single; onward = space_onward }

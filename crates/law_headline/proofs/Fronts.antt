@@ -14,7 +14,7 @@ use Rattle.law_headline.specs.Carried.{HeadlinesCarryAnew}
 use Rattle.law_headline.proofs.FromTheStart.{units_carry_anew}
 
 -- the logs of reports and of further ones
-logs_joined : (done later : List Report) → logs_of (done ++ later) ≡ logs_of done ++ logs_of later
+pub logs_joined : (done later : List Report) → logs_of (done ++ later) ≡ logs_of done ++ logs_of later
 logs_joined [] later = refl
 logs_joined (r ∷ done) later = ap (λ (logs : List (List Entry)). r.log ∷ logs) (logs_joined done later)
 

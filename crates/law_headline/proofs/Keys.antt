@@ -1,6 +1,6 @@
 -- Attributes of one element that differ in name or namespace, as the node test has them.
 use Rattle.std.proofs.Common.{ℕ, zero, suc, Bool, true, false, ◌&&◌, ◌||◌, not, List, [], ◌∷◌, ◌++◌, ◌≡◌, refl, sym, ap, ◌∙◌}
-use Rattle.std.specs.Prelude.{Option, Some, None}
+use Rattle.std.specs.Prelude.{Option, None}
 use Rattle.rt_model.specs.Lists.{Text, same_numbers, same_option}
 use Rattle.rt_model.specs.Tree.{Types, TemplateAttribute, fixed, from_slot, AttributeValue, text_value, Attribute, attributes_in}
 use Rattle.rt_model.specs.Fits.{is_named, all_once, given_names, element_names, is_plain, plain_listeners, all_plain}
@@ -10,14 +10,7 @@ use Rattle.rt_model.proofs.SamePlaces.{numbers-true, option-true}
 use Rattle.rt_model.proofs.Among.{numbers_same}
 use Rattle.rt_model.proofs.Conjunctions.{and-left, and-right}
 use Rattle.rt_model.proofs.Members.{clash}
-
-space_same : (a : Option Text) → same_option same_numbers a a ≡ true
-space_same None = refl
-space_same (Some a) = numbers_same a
-
-not_true : (b : Bool) → not b ≡ true → b ≡ false
-not_true true h = cc
-not_true false h = refl
+use Rattle.rt_model.proofs.Quiet.{option_same as space_same}
 
 neither_left : (a b : Bool) → not (a || b) ≡ true → a ≡ false
 neither_left true b h = cc

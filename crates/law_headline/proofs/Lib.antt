@@ -20,7 +20,7 @@ mod Wrote
 pub mod EntriesCarry
 mod Faulted
 pub mod FromTheStart
-mod Fronts
+pub mod Fronts
 pub mod InRows
 pub mod Changes
 pub mod Altering

@@ -1,6 +1,7 @@
 -- The attributes and listeners of an element together, and what one more entry or one edit makes of them.
 use Rattle.std.proofs.Common.{ℕ, Bool, true, false, ◌&&◌, ◌||◌, List, [], ◌∷◌, ◌++◌, ◌≡◌, refl, sym, ap, ◌∙◌}
 use Rattle.std.specs.Prelude.{Option, Some, None, if◌then◌else◌}
+use Rattle.rt_lemmas.proofs.Bools.{neither as either_false}
 use Rattle.rt_model.specs.Lists.{Text, same_numbers, same_option, earlier_text}
 use Rattle.rt_model.specs.Tree.{Types, TemplateAttribute, fixed, from_slot, AttributeValue, text_value, no_value, listener, Attribute, attributes_in}
 use Rattle.rt_model.specs.Fits.{is_plain}
@@ -70,10 +71,6 @@ has_new (m ∷ ms) n =
     ∙ by_test (earlier_text n m)
     (λ d. ap (λ (l : List Text). has_text l n) (pick_true (n ∷ m ∷ ms) (m ∷ with_listener ms n) d) ∙ ap (λ (x : Bool). x || has_text (m ∷ ms) n) (numbers_same n))
     (λ d. ap (λ (l : List Text). has_text l n) (pick_false (n ∷ m ∷ ms) (m ∷ with_listener ms n) d) ∙ ap (λ (x : Bool). x || has_text (with_listener ms n) n) e ∙ has_new ms n))
-
-either_false : (a b : Bool) → a || b ≡ false → (a ≡ false) × (b ≡ false)
-either_false true b h = cc
-either_false false b h = (refl, h)
 
 -- another name doesn't come with a new one
 pub has_not_new : (all : List Text) (m n : Text) → same_numbers m n ≡ false → has_text all n ≡ false → has_text (with_listener all m) n ≡ false

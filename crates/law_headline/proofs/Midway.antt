@@ -3,6 +3,7 @@
 use Rattle.std.proofs.Common.{ℕ, zero, suc, ◌+◌, ◌≤◌, ◌<◌, Bool, true, false, ◌&&◌, [], ◌≡◌, refl, sym, ap, ◌∙◌, subst, arith, nat_eq, length}
 use Rattle.std.specs.Prelude.{Option, Some, None, if◌then◌else◌, is_some, nat_lt}
 use Rattle.std.proofs.lemmas.Bool.{eqb-true}
+use Rattle.rt_lemmas.proofs.Options.{some_same as one_side}
 use Rattle.rt_model.specs.Lists.{at}
 use Rattle.rt_model.specs.Tree.{Types, Tree, Place, Kind, VComponent, Spot, node_at, component_at, spots}
 use Rattle.rt_model.specs.World.{Application}
@@ -51,9 +52,6 @@ module _ {K : Types} (app : Application K) (first : State K) where
         → at v.scopes t ≡ Some x → at first.scopes t ≡ Some z → Among (side_of x a).children (p, u) → u < first.next_scope
         → Among (spots_of (side_of x a).output) (component_at p c) → Among (spots_of (side_of z a).output) (component_at p d)
         → is_same_component app d c ≡ true
-
-one_side : (a c : SideName) → Some a ≡ Some c → a ≡ c
-one_side a c e = cc
 
 here_less : {R : Type 0} (m n : ℕ) → m ≤ n → Here n R → Here m R
 here_less m n e h = let a = h.0 in (omega (arith, e, a), λ g. h.1 (omega (arith, e, g)))

@@ -1,30 +1,19 @@
 -- While a unit is open: how it began, and the work that was served since.
-use Rattle.std.proofs.Common.{ℕ, true, false, List, [], ◌∷◌, ◌≡◌, refl}
+use Rattle.std.proofs.Common.{ℕ, true, false, List, [], ◌∷◌, ◌≡◌}
 use Rattle.std.specs.Prelude.{None}
 use Rattle.rt_model.specs.Tree.{Types}
 use Rattle.rt_model.specs.World.{Application}
 use Rattle.rt_model.specs.Laws.{IsLawful}
 use Rattle.rt_model.specs.State.{State}
-use Rattle.rt_model.specs.Replay.{Entry, Build, Taken, Heard, Rerun, Poll, Effects, Made, Fed, Kept, Removed, Input, Machine}
+use Rattle.rt_model.specs.Replay.{Entry, Build, Input, Machine}
 use Rattle.rt_model.specs.Causes.{Limits}
 use Rattle.rt_model.specs.Told.{opens}
-use Rattle.law_moves.specs.Moves.{Move, Logged, serves_item, Inside, AtWork, IsLogged, Leads}
+use Rattle.law_moves.specs.Moves.{Move, Logged, Inside, AtWork, IsLogged, Leads}
 use Rattle.law_moves.specs.Reached.{Reached}
 use Rattle.law_moves.proofs.Insides.{inside_lasts}
+pub use Rattle.law_moves.proofs.Tellings.{served_opens_none as serves_opens_none}
 use Rattle.law_headline.proofs.Begins.{reached_on}
 use Rattle.law_headline.proofs.Drawn.{Below}
-
-pub serves_opens_none : (e : Entry) → serves_item e ≡ true → opens e ≡ false
-serves_opens_none Build h = cc
-serves_opens_none (Taken k) h = refl
-serves_opens_none (Heard s) h = refl
-serves_opens_none (Rerun s) h = cc
-serves_opens_none (Poll t) h = cc
-serves_opens_none (Effects s) h = cc
-serves_opens_none (Made s) h = refl
-serves_opens_none (Fed s) h = refl
-serves_opens_none (Kept s) h = refl
-serves_opens_none (Removed s) h = refl
 
 module _ {K : Types} (app : Application K) (lawful : IsLawful K app) (props : K.Props) (inputs : List (Input K)) (limits : Limits) where
   abbrev pub From : Machine K → Type 0

@@ -3,6 +3,7 @@ use Rattle.std.proofs.Common.{true, false, ◌&&◌, not, List, [], ◌∷◌, �
 use Rattle.std.proofs.lemmas.List.{append-nil}
 use Rattle.std.specs.Prelude.{Option, Some, None, Result, Ok, is_some, ◌≢◌}
 use Rattle.std.specs.List.{AllByRecursion}
+use Rattle.rt_lemmas.proofs.Options.{not_some as alive_of}
 use Rattle.rt_model.specs.Lists.{joined}
 use Rattle.rt_model.specs.Tree.{Types}
 use Rattle.rt_model.specs.World.{Application}
@@ -32,10 +33,6 @@ use Rattle.law_headline.proofs.Reruns.{reruns_bring}
 use Rattle.law_headline.specs.Sessions.{RanShows, RanToShows, RanIsHeadline, RanToIsCameTo, FinishedHold}
 use Rattle.law_headline.proofs.Begins.{reached_on}
 use Rattle.law_headline.proofs.UnitsShow.{Brings, Rest, Ends, rest_ends}
-
-alive_of : (o : Option Fault) → not (is_some o) ≡ true → o ≡ None
-alive_of None h = refl
-alive_of (Some fault) h = cc
 
 module _ {K : Types} where
   pub one_machine : (u v : Machine K) → Some u ≡ Some v → u ≡ v

@@ -25,7 +25,7 @@ stand_in_node : (t : ℕ) → HasNode (stand_in t)
 stand_in_node t = record { id = 0; content = DocPlaceholder; children = Empty; rest = Empty; is = refl }
 
 -- what is found in a list is found where more follows
-stays_first : (es fs : List (Place × ℕ)) (p : Place) (u : ℕ) → child_at es p ≡ Some u → child_at (es ++ fs) p ≡ Some u
+pub stays_first : (es fs : List (Place × ℕ)) (p : Place) (u : ℕ) → child_at es p ≡ Some u → child_at (es ++ fs) p ≡ Some u
 stays_first [] fs p u h = cc
 stays_first (e ∷ es) fs p u h =
     by_test (same_place e.0 p)

@@ -61,12 +61,12 @@ comes_after m f g h =
     (written_down (inserted_brings m h.id h.content h.children h.rest g)))
 
 -- where no place is refused, what is built is written whole
-whole_built : (stop : Option Place) (place : Place) (es : List Edit) → stop ≡ None → built_whole stop place es ≡ writes es
+pub whole_built : (stop : Option Place) (place : Place) (es : List Edit) → stop ≡ None → built_whole stop place es ≡ writes es
 whole_built None place es h = refl
 whole_built (Some p) place es h = cc
 
 -- a child is swept where no place is refused
-child_goes : (stop : Option Place) (place : Place) (on_way : Bool) (w : Written) → stop ≡ None → (if is_place place stop && not on_way then halts else w) ≡ w
+pub child_goes : (stop : Option Place) (place : Place) (on_way : Bool) (w : Written) → stop ≡ None → (if is_place place stop && not on_way then halts else w) ≡ w
 child_goes None place on_way w h = refl
 child_goes (Some p) place on_way w h = cc
 

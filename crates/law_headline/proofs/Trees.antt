@@ -1,8 +1,8 @@
 -- The scopes are a tree by their heights wherever moves lead.
-use Rattle.std.proofs.Common.{ℕ, ◌+◌, Bool, true, false, List, [], ◌∷◌, ◌≡◌, ◌||◌, refl, sym, ap, ◌∙◌, subst, arith, nat_eq}
+use Rattle.std.proofs.Common.{ℕ, ◌+◌, Bool, true, false, List, [], ◌∷◌, ◌≡◌, refl, sym, ap, ◌∙◌, subst, arith, nat_eq}
 use Rattle.std.specs.Prelude.{Option, Some, None, if◌then◌else◌}
 use Rattle.std.proofs.lemmas.Bool.{eqb-true}
-use Rattle.rt_model.specs.Lists.{at, has}
+use Rattle.rt_model.specs.Lists.{at}
 use Rattle.rt_model.specs.Tree.{Types, Place, VComponent}
 use Rattle.rt_model.specs.World.{Firsts, Application}
 use Rattle.rt_model.specs.Laws.{IsLawful}
@@ -21,6 +21,7 @@ use Rattle.law_moves.proofs.Everywhere.{reached_ready}
 use Rattle.law_moves.specs.Frames.{Stand, stand, shown, Keeps, Leaves, served_by, JoinsO}
 use Rattle.law_moves.proofs.Untouched.{stand_by, run_leaves, item_leaves, removal_leaves, make_joins}
 use Rattle.law_moves.specs.Trees.{IsTree}
+pub use Rattle.law_moves.proofs.Untouched.{no_member as apart_has}
 use Rattle.law_headline.proofs.Did.{same_scope}
 use Rattle.law_headline.proofs.Steps.{Ready, ready_of, Outlasts, reached_keep}
 
@@ -35,10 +36,6 @@ height_in (Some f) = f.1
 abbrev below_in : Option Stand → SideName
 below_in None = MainSide
 below_in (Some f) = f.2
-
--- a scope that is no other one
-pub apart_has : (s t : ℕ) → nat_eq s t ≡ false → has (s ∷ []) t ≡ false
-apart_has s t h = ap (λ (b : Bool). b || false) h
 
 no_child_of : {P : Type 0} (p : ℕ) (o : Option ℕ) → o ≡ Some p → o ≡ None → P
 no_child_of p o e f = none_some f e

@@ -2,6 +2,7 @@
 use Rattle.std.proofs.Common.{ℕ, Bool, true, false, ◌||◌, not, List, [], ◌∷◌, ◌++◌, ◌≡◌, ◌⊎◌, inl, inr, refl, sym, ap, ◌∙◌, subst, append_assoc, arith}
 use Rattle.std.proofs.lemmas.List.{append-nil}
 use Rattle.std.specs.Prelude.{Option, Some, None, Result, Ok, if◌then◌else◌}
+use Rattle.rt_lemmas.proofs.Bools.{first_of as drawn_number}
 use Rattle.rt_model.specs.Tree.{Types, node_at, spots}
 use Rattle.rt_model.specs.World.{Application}
 use Rattle.rt_model.specs.Laws.{IsLawful}
@@ -39,10 +40,6 @@ in_unit_to_end [] h = refl
 in_unit_to_end (Silent ∷ moves) h = in_unit_to_end moves h
 in_unit_to_end (Closed ∷ moves) h = absurd h
 in_unit_to_end (Logged e ∷ moves) h = (h.0, in_unit_to_end moves h.1)
-
-drawn_number : {P : Type 0} → P ⊎ ⊥ → P
-drawn_number (inl h) = h
-drawn_number (inr h) = absurd h
 
 module _ {K : Types} where
   not_open : (item : Item K) (later : List (Item K)) → [] ≡ item ∷ later → ⊥

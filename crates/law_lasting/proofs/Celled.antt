@@ -1,7 +1,7 @@
 -- What lasts of a cell: its owner and its value.
 use Rattle.std.proofs.Common.{ℕ, true, false, Bool, List, [], ◌∷◌, ◌++◌, ◌≡◌, ◌+◌, not, refl, sym, ap, ◌∙◌, subst, nat_eq}
-use Rattle.std.proofs.lemmas.Bool.{eqb-true}
 use Rattle.std.specs.Prelude.{Option, Some, None, if◌then◌else◌}
+use Rattle.rt_lemmas.proofs.Numbers.{other_way as other_way_round}
 use Rattle.rt_model.specs.Lists.{at, put, without, kept_by}
 use Rattle.rt_model.specs.Tree.{Types, Element, Place, Kind}
 use Rattle.rt_model.specs.World.{Cell, Error, Context, Command, Write, DropCell, NewCell, NewContext, Reset, ReadInto, Spawn, RemoveFuture, ClearErrors, World, Meaning, Application}
@@ -12,7 +12,7 @@ use Rattle.rt_model.specs.Run.{with_next, called_where, is_own, kept_call, body_
 use Rattle.rt_model.specs.Removal.{without_scope, gone}
 use Rattle.rt_model.specs.Replay.{Entry, Build, Taken, Heard, Rerun, Poll, Effects, Made, Fed, Kept, Removed, Input, EventAt, WakeOf, WriteOf, MarkOf, Drain, Machine, numbered}
 use Rattle.rt_model.specs.Causes.{Limits}
-use Rattle.rt_model.proofs.Maps.{by_test, pick_true, pick_false, eq_same, at_here, at_there, at_put_other, at_without_other}
+use Rattle.rt_model.proofs.Maps.{by_test, pick_true, pick_false, at_here, at_there, at_put_other, at_without_other}
 use Rattle.law_moves.specs.Moves.{Move, Silent, Closed, Logged, entries, Leads}
 use Rattle.law_moves.proofs.Logs.{logs_are_moves}
 use Rattle.law_behavior.specs.Along.{removed_in, NoneRemoves}
@@ -25,18 +25,12 @@ use Rattle.law_lasting.proofs.Told.{posts_same, tell_same, look_same, calls_same
 use Rattle.law_lasting.specs.CellsLast.{LeavesCell, AllLeave, FirstLeaves, TakenLeaves, NoneWritesOn, CellsStay, CellsLast, LoggedCellsLast}
 
 -- a list that is longer at its end still answers what it did
-at_longer : {A : Type 0} (es : List (ℕ × A)) (n m : ℕ) (x y : A) → at es n ≡ Some y → at (es ++ (m, x) ∷ []) n ≡ Some y
+pub at_longer : {A : Type 0} (es : List (ℕ × A)) (n m : ℕ) (x y : A) → at es n ≡ Some y → at (es ++ (m, x) ∷ []) n ≡ Some y
 at_longer [] n m x y h = cc
 at_longer (e ∷ es) n m x y h =
     by_test (nat_eq e.0 n)
     (λ q. at_here e.0 e.1 (es ++ (m, x) ∷ []) n q ∙ sym (at_here e.0 e.1 es n q) ∙ h)
     (λ q. at_there e.0 e.1 (es ++ (m, x) ∷ []) n q ∙ at_longer es n m x y (sym (at_there e.0 e.1 es n q) ∙ h))
-
-other_way_round : (a b : ℕ) → nat_eq a b ≡ false → nat_eq b a ≡ false
-other_way_round a b h =
-    by_test (nat_eq b a)
-    (λ q. let absurdity : true ≡ false = sym (eq_same a) ∙ ap (λ (c : ℕ). nat_eq a c) (sym (eqb-true b a q)) ∙ h in cc)
-    (λ q. q)
 
 module _ {K : Types} where
   pub changes_same : (w : State K) (s : ℕ) (f : Scope K → Scope K) (o : Option (Scope K)) → (changed_scope w s f o).cells ≡ w.cells

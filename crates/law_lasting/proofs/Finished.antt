@@ -1,7 +1,9 @@
 -- Where nothing is owed only an input is due, so the logs of finished sessions end at the same entries.
-use Rattle.std.proofs.Common.{ℕ, ◌+◌, Bool, true, false, ◌&&◌, not, List, [], ◌∷◌, ◌≡◌, refl, sym, ap, ◌∙◌, subst, arith}
+use Rattle.std.proofs.Common.{ℕ, ◌+◌, Bool, true, false, ◌&&◌, not, List, [], ◌∷◌, ◌≡◌, refl, sym, ap, ◌∙◌, subst}
 use Rattle.std.specs.Prelude.{Option, Some, None, if◌then◌else◌, is_some, length}
 use Rattle.std.specs.List.{AllByRecursion}
+use Rattle.rt_lemmas.proofs.Options.{some_same as the_same, not_some as none_of}
+use Rattle.rt_lemmas.proofs.Bools.{none_counted as no_more}
 use Rattle.rt_model.specs.Tree.{Types}
 use Rattle.rt_model.specs.World.{Application}
 use Rattle.rt_model.specs.State.{Fault, Item}
@@ -15,18 +17,6 @@ use Rattle.rt_model.proofs.Conjunctions.{and-left, and-right}
 use Rattle.rt_model.proofs.OneLogOnly.{same_entry-true, is_due-same, fork}
 use Rattle.rt_model.proofs.ToldReplayed.{first-of, log-replays}
 use Rattle.law_lasting.specs.OneFinish.{OneFinish, RowsAreSessions}
-
-the_same : {A : Type 0} (a b : A) → Some a ≡ Some b → a ≡ b
-the_same a b h = cc
-
-none_of : {A : Type 0} (o : Option A) → not (is_some o) ≡ true → o ≡ None
-none_of None h = refl
-none_of (Some a) h = cc
-
--- no more openings
-no_more : (b : Bool) (n : ℕ) → (if b then 1 else 0) + n ≡ 0 → (b ≡ false) × (n ≡ 0)
-no_more true n h = absurd (omega (arith, h))
-no_more false n h = (refl, omega (arith, h))
 
 module _ {K : Types} (app : Application K) where
   no_items : (items : List (Item K)) → no_work items ≡ true → items ≡ []

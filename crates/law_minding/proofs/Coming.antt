@@ -3,6 +3,7 @@ use Rattle.std.proofs.Common.{ℕ, ◌+◌, ◌≤◌, ◌<◌, Bool, true, fals
 use Rattle.std.specs.Prelude.{Option, Some, None, is_some}
 use Rattle.std.specs.List.{AllByRecursion}
 use Rattle.std.proofs.lemmas.Bool.{eqb-true}
+pub use Rattle.rt_lemmas.proofs.Numbers.{lt_true as tested_low, lt_false as not_low}
 use Rattle.rt_model.specs.Lists.{at}
 use Rattle.rt_model.specs.Laws.{IsLawful}
 use Rattle.rt_model.specs.Tree.{Types}
@@ -38,13 +39,6 @@ use Rattle.law_minding.proofs.Carried.{MaySpawn, AllSpawn, GoodCall, move_keeps}
 use Rattle.law_minding.proofs.Moved.{next_stands}
 use Rattle.law_minding.proofs.Numbers.{move_new}
 use Rattle.law_minding.proofs.Unpolled.{deeds_leave}
-
--- tests of numbers
-pub tested_low : (n m : ℕ) → nat_lt n m ≡ true → n < m
-tested_low n m q = grind (arith, q)
-
-pub not_low : (n m : ℕ) → nat_lt n m ≡ false → m ≤ n
-not_low n m q = grind (arith, q)
 
 module _ {K : Types} (last : World K) (t cell scope : ℕ) (held : CellRow K) (place : K.TaskState) where
   -- no context is spoken of

@@ -3,6 +3,7 @@ use Rattle.std.proofs.Common.{ℕ, ◌+◌, ◌≤◌, Bool, true, false, List, 
 use Rattle.std.specs.Prelude.{Option, Some, None, if◌then◌else◌, is_some, nat_lt}
 use Rattle.std.specs.List.{AllByRecursion}
 use Rattle.std.proofs.lemmas.Bool.{eqb-true}
+use Rattle.rt_lemmas.proofs.Numbers.{least}
 use Rattle.rt_model.specs.Lists.{at, put, without}
 use Rattle.rt_model.specs.Laws.{IsLawful}
 use Rattle.rt_model.specs.Tree.{Types, Element}
@@ -50,9 +51,6 @@ spawning t =
       removable = Free;
       causable = λ w c. Unit {0};
     }
-
-least : (n : ℕ) → n ≤ n
-least n = omega arith
 
 -- an entry that is due names what is live
 named_live : {K : Types} (app : Application K) (w : State K) (o : Option Entry) (e : Entry) → if_live w o ≡ Some e → names_live w e ≡ true

@@ -3,6 +3,7 @@ use Rattle.std.proofs.Common.{ℕ, ◌+◌, ◌≤◌, true, false, not, List, [
 use Rattle.std.specs.Prelude.{Option, Some, None, is_some, nat_lt}
 use Rattle.std.specs.List.{AllByRecursion}
 use Rattle.std.proofs.lemmas.Bool.{eqb-true}
+use Rattle.rt_lemmas.proofs.Numbers.{least}
 use Rattle.rt_model.specs.Lists.{at, put, without}
 use Rattle.rt_model.specs.Laws.{IsLawful}
 use Rattle.rt_model.specs.Tree.{Types}
@@ -50,9 +51,6 @@ making n =
       removable = Free;
       causable = λ w c. Unit {0};
     }
-
-least : (n : ℕ) → n ≤ n
-least n = omega arith
 
 module _ {K : Types} (n : ℕ) where
   -- the cell isn't there

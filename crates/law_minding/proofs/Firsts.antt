@@ -16,6 +16,7 @@ use Rattle.rt_model.specs.Causes.{Limits}
 use Rattle.rt_model.proofs.Maps.{by_test, pick_true, eq_same, at_here, at_there, at_put_here}
 use Rattle.rt_model.proofs.Tour.{all_fresh}
 use Rattle.rt_model.proofs.Frames.{commands_same}
+use Rattle.rt_model.proofs.RunFrames.{count_rises as count_low}
 use Rattle.law_moves.specs.Moves.{Logged, Moves}
 use Rattle.author_programs.specs.Came.{Came, came}
 use Rattle.author_formulas.specs.Looking.{MadeNothing}
@@ -40,10 +41,6 @@ at_new (e ∷ es) n x none =
     by_test (nat_eq e.0 n)
     (λ q. let absurdity : Some e.1 ≡ None = sym (at_here e.0 e.1 es n q) ∙ none in cc)
     (λ q. at_there e.0 e.1 (es ++ (n, x) ∷ []) n q ∙ at_new es n x (sym (at_there e.0 e.1 es n q) ∙ none))
-
-count_low : (n : ℕ) (ns : List ℕ) (k : ℕ) → CountUp n ns k → n ≤ k
-count_low n [] k h = omega (arith, h)
-count_low n (m ∷ ns) k h = let more : n + 1 ≤ k = count_low (n + 1) ns k h.1 in omega (arith, more)
 
 module _
     {K : Types} {F : Type 0} (a : Formulas K F) (app : Application K) (state : MemoTask K.Value F → K.TaskState)

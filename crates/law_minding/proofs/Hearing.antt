@@ -1,6 +1,7 @@
 -- Who hears of a source.
-use Rattle.std.proofs.Common.{ℕ, Bool, true, false, List, [], ◌∷◌, ◌++◌, ◌≡◌, ◌&&◌, ◌||◌, inl, inr, refl, ap, ◌∙◌, nat_eq}
+use Rattle.std.proofs.Common.{ℕ, true, false, List, [], ◌∷◌, ◌++◌, ◌≡◌, ◌&&◌, inl, inr, refl, ap, ◌∙◌, nat_eq}
 use Rattle.std.specs.List.{AllByRecursion}
+pub use Rattle.rt_lemmas.proofs.Bools.{neither, and_both, second_false as other_false}
 use Rattle.rt_model.specs.Lists.{has}
 use Rattle.rt_model.specs.Tree.{Types}
 use Rattle.rt_model.specs.World.{Source, Target, ScopeTarget, TaskTarget, same_source}
@@ -14,19 +15,6 @@ use Rattle.rt_model.proofs.SameTrees.{source_tests}
 use Rattle.law_behavior.specs.Hidden.{StandsIn}
 use Rattle.law_behavior.specs.Marking.{Targets}
 use Rattle.law_minding.specs.Waking.{is_task, hears, goes_with, loses, removal_wakes}
-
--- both tests, neither test, and the other one where one holds
-pub and_both : (a b : Bool) → a ≡ true → b ≡ true → a && b ≡ true
-and_both true b h g = g
-and_both false b h g = cc
-
-pub neither : (a b : Bool) → a || b ≡ false → (a ≡ false) × (b ≡ false)
-neither true b h = cc
-neither false b h = (refl, h)
-
-pub other_false : (a b : Bool) → a && b ≡ false → a ≡ true → b ≡ false
-other_false true b h q = h
-other_false false b h q = cc
 
 -- a number stands in a list behind others
 pub has_middle : (front back : List ℕ) (n : ℕ) → has (front ++ n ∷ back) n ≡ true

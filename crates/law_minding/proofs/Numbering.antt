@@ -1,6 +1,7 @@
 -- The numbers that the calls of a move give.
-use Rattle.std.proofs.Common.{ℕ, ◌≤◌, List, [], ◌∷◌, arith}
+use Rattle.std.proofs.Common.{List, [], ◌∷◌}
 use Rattle.std.specs.List.{AllByRecursion}
+use Rattle.rt_lemmas.proofs.Numbers.{least}
 use Rattle.rt_model.specs.Tree.{Types}
 use Rattle.rt_model.specs.World.{Firsts, Command, NewCell, NewContext, Application}
 use Rattle.law_behavior.specs.Deeds.{Deed, move_deeds}
@@ -9,9 +10,6 @@ use Rattle.law_minding.proofs.Numbers.{NewFrom, AllNew, AllOf, move_new}
 use Rattle.law_minding.proofs.Counting.{LowContext, contexts_count}
 use Rattle.law_minding.proofs.Under.{AllLow, AllUnder}
 use Rattle.law_minding.proofs.Below.{move_under}
-
-least : (n : ℕ) → n ≤ n
-least n = omega arith
 
 module _ {K : Types} (before behind : Firsts) where
   one_in : (c : Command K) → NewFrom {K = K} before.cells before.contexts c → LowContext {K = K} behind.contexts c → NumberedIn before behind c

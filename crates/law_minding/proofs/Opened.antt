@@ -2,7 +2,7 @@
 use Rattle.std.proofs.Common.{ℕ, ◌+◌, ◌≤◌, Bool, true, false, not, List, [], ◌∷◌, ◌++◌, ◌≡◌, refl, sym, ap, ◌∙◌, subst, nat_eq, arith}
 use Rattle.std.specs.Prelude.{Option, Some, None, if◌then◌else◌}
 use Rattle.std.specs.List.{AllByRecursion}
-use Rattle.std.proofs.lemmas.Bool.{eqb-true}
+use Rattle.rt_lemmas.proofs.Numbers.{least, eq_before as below}
 use Rattle.rt_model.specs.Lists.{at, put, without, kept_by}
 use Rattle.rt_model.specs.Laws.{IsLawful}
 use Rattle.rt_model.specs.Tree.{Types, Element, Place, Kind}
@@ -45,13 +45,6 @@ opening n =
       removable = Free;
       causable = λ w c. Unit {0};
     }
-
--- what is below a number isn't it
-below : (low high : ℕ) → low + 1 ≤ high → nat_eq low high ≡ false
-below low high h =
-    by_test (nat_eq low high)
-    (λ q. let e : low ≡ high = eqb-true low high q in absurd (omega (arith, e, h)))
-    (λ q. q)
 
 -- what isn't there isn't there when others are gone
 pub kept_none : {A : Type 0} (f : ℕ × A → Bool) (n : ℕ) (es : List (ℕ × A)) → at es n ≡ None → at (kept_by f es) n ≡ None
@@ -278,9 +271,6 @@ module _ {K : Types} (n : ℕ) where
           (deeds_open m.state.next (leads.0).state.next under (move_deeds app m move) (moves_number app lawful limits m leads.0 move leads.1))
           h in
           stays_free leads.0 v moves leads.2 low free
-
-least : (n : ℕ) → n ≤ n
-least n = omega arith
 
 pub next_is_free : {K : Types} (app : Application K) → NextIsFree app
 next_is_free app lawful limits props inputs m moves leads =

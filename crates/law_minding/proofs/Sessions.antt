@@ -18,6 +18,7 @@ use Rattle.rt_model.proofs.ToldReplayed.{First, first-of, log-replays, replay-ap
 use Rattle.law_moves.specs.Moves.{Move, Logged, entries, Moves, IsSettled, Leads}
 use Rattle.law_moves.proofs.Logs.{logs_are_moves}
 use Rattle.law_headline.proofs.Reports.{one_machine, settled_after}
+use Rattle.law_headline.proofs.Fronts.{logs_joined as both_logs}
 use Rattle.law_behavior.specs.Owed.{WakesArePolled}
 use Rattle.law_behavior.proofs.Leading.{within_split, quiet_alive}
 use Rattle.author_formulas.specs.Formulas.{Formulas, FormulasLook}
@@ -35,11 +36,6 @@ use Rattle.law_minding.specs.Coming.{FreshFrom}
 use Rattle.law_minding.proofs.Comers.{comers_stand}
 use Rattle.law_minding.proofs.Spawned.{fresh_are_kept}
 use Rattle.law_minding.proofs.Unpolled.{fresh_stay, fresh_is_owed}
-
--- the logs of reports and of further ones
-both_logs : (done later : List Report) → logs_of (done ++ later) ≡ logs_of done ++ logs_of later
-both_logs [] later = refl
-both_logs (r ∷ done) later = ap (λ (logs : List (List Entry)). r.log ∷ logs) (both_logs done later)
 
 module _ {K : Types} where
   quiet_of : (m : Machine K) → is_settled m ≡ true → is_quiet m ≡ true

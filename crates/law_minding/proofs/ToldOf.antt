@@ -1,97 +1,17 @@
 -- Which sources a removal tells.
-use Rattle.std.proofs.Common.{ℕ, Bool, true, false, ◌&&◌, not, List, [], ◌∷◌, ◌≡◌, inl, inr, refl, sym, ap, ◌∙◌, subst, nat_eq, nat_lt}
+use Rattle.std.proofs.Common.{ℕ, Bool, true, false, not, List, [], ◌∷◌, ◌≡◌, inl, inr, refl, sym, ap, ◌∙◌, nat_eq}
 use Rattle.std.specs.Prelude.{Option, Some, ◌⊎◌, if◌then◌else◌}
-use Rattle.std.proofs.lemmas.Bool.{eqb-true}
-use Rattle.rt_model.specs.Lists.{at, has, insert_number, kept_by}
+use Rattle.law_moves.proofs.Leaving.{kinds_stay, kinds_named}
+pub use Rattle.law_moves.proofs.Leaving.{contexts_named, cells_named}
+use Rattle.rt_model.specs.Lists.{at, has, kept_by}
 use Rattle.rt_model.specs.Tree.{Types}
-use Rattle.rt_model.specs.World.{Source, Cell, Error, Context}
+use Rattle.rt_model.specs.World.{Context}
 use Rattle.rt_model.specs.State.{CellRow, ContextRow}
 use Rattle.rt_model.specs.Commands.{names_source}
-use Rattle.rt_model.specs.Removal.{kinds_in, cell_sources, context_sources, cells_in, kinds_of_contexts}
-use Rattle.rt_model.proofs.Maps.{by_test, eq_same, at_here, at_there}
-use Rattle.rt_model.proofs.Members.{clash, or_left, or_right, by_either}
+use Rattle.rt_model.specs.Removal.{kinds_in, cells_in, kinds_of_contexts}
+use Rattle.rt_model.proofs.Maps.{by_test, at_here, at_there}
+use Rattle.rt_model.proofs.Members.{clash, or_left, or_right}
 use Rattle.law_minding.proofs.Polled.{cell_value}
-
--- a number that is inserted is there
-inserted : (ks : List ℕ) (k : ℕ) → has (insert_number ks k) k ≡ true
-inserted [] k = or_left (nat_eq k k) false (eq_same k)
-inserted (m ∷ ks) k = first (nat_eq m k) refl (inserted ks k)
-  where
-    second : (b : Bool) → has (insert_number ks k) k ≡ true → has (if b then k ∷ m ∷ ks else m ∷ insert_number ks k) k ≡ true
-    second true go = or_left (nat_eq k k) (has (m ∷ ks) k) (eq_same k)
-    second false go = or_right (nat_eq m k) (has (insert_number ks k) k) go
-
-    first : (b : Bool) → nat_eq m k ≡ b → has (insert_number ks k) k ≡ true
-        → has (if b then m ∷ ks else (if nat_lt k m then k ∷ m ∷ ks else m ∷ insert_number ks k)) k ≡ true
-    first true e go = or_left (nat_eq m k) (has ks k) e
-    first false e go = second (nat_lt k m) go
-
--- and what was there stays
-insert_keeps : (ks : List ℕ) (k j : ℕ) → has ks j ≡ true → has (insert_number ks k) j ≡ true
-insert_keeps [] k j h = clash h refl
-insert_keeps (m ∷ ks) k j h = first (nat_eq m k) (λ g. insert_keeps ks k j g)
-  where
-    second : (b : Bool) → (has ks j ≡ true → has (insert_number ks k) j ≡ true) → has (if b then k ∷ m ∷ ks else m ∷ insert_number ks k) j ≡ true
-    second true go = or_right (nat_eq k j) (has (m ∷ ks) j) h
-    second false go =
-        by_either (nat_eq m j) (has ks j) h
-        (λ q. or_left (nat_eq m j) (has (insert_number ks k) j) q)
-        (λ q. or_right (nat_eq m j) (has (insert_number ks k) j) (go q))
-
-    first : (b : Bool) → (has ks j ≡ true → has (insert_number ks k) j ≡ true)
-        → has (if b then m ∷ ks else (if nat_lt k m then k ∷ m ∷ ks else m ∷ insert_number ks k)) j ≡ true
-    first true go = h
-    first false go = second (nat_lt k m) go
-
-kind_stays : (b : Bool) (ks : List ℕ) (k j : ℕ) → has ks j ≡ true → has (if b then insert_number ks k else ks) j ≡ true
-kind_stays true ks k j h = insert_keeps ks k j h
-kind_stays false ks k j h = h
-
-kind_joins : (b : Bool) (ks : List ℕ) (k : ℕ) → b ≡ true → has (if b then insert_number ks k else ks) k ≡ true
-kind_joins true ks k h = inserted ks k
-kind_joins false ks k h = clash h refl
-
-kinds_stay : (s : ℕ) (xs : List Source) (ks : List ℕ) (j : ℕ) → has ks j ≡ true → has (kinds_in s xs ks) j ≡ true
-kinds_stay s [] ks j h = h
-kinds_stay s (Context k t ∷ xs) ks j h = kinds_stay s xs (if nat_eq t s then insert_number ks k else ks) j (kind_stays (nat_eq t s) ks k j h)
-kinds_stay s (Cell n ∷ xs) ks j h = kinds_stay s xs ks j h
-kinds_stay s (Error t ∷ xs) ks j h = kinds_stay s xs ks j h
-
--- the kind of a context that is named is among the kinds
-kinds_named : (s k : ℕ) (xs : List Source) (ks : List ℕ) → names_source xs (Context k s) ≡ true → has (kinds_in s xs ks) k ≡ true
-kinds_named s k [] ks h = clash h refl
-kinds_named s k (Cell n ∷ xs) ks h = kinds_named s k xs ks h
-kinds_named s k (Error t ∷ xs) ks h = kinds_named s k xs ks h
-kinds_named s k (Context j t ∷ xs) ks h =
-    by_either (nat_eq j k && nat_eq t s) (names_source xs (Context k s)) h
-    (
-    λ q.
-    by_test (nat_eq j k)
-    (
-    λ p.
-    let own : nat_eq t s ≡ true = sym (ap (λ (b : Bool). b && nat_eq t s) p) ∙ q in
-    kinds_stay s xs (if nat_eq t s then insert_number ks j else ks) k
-    (subst (λ (m : ℕ). has (if nat_eq t s then insert_number ks j else ks) m ≡ true) (eqb-true j k p) (kind_joins (nat_eq t s) ks j own))
-    )
-    (λ p. clash q (ap (λ (b : Bool). b && nat_eq t s) p))
-    )
-    (λ q. kinds_named s k xs (if nat_eq t s then insert_number ks j else ks) q)
-
--- so it is told of by kind
-pub contexts_named : (s k : ℕ) (ks : List ℕ) → has ks k ≡ true → names_source (context_sources s ks) (Context k s) ≡ true
-contexts_named s k [] h = clash h refl
-contexts_named s k (j ∷ ks) h =
-    by_either (nat_eq j k) (has ks k) h
-    (λ q. or_left (nat_eq j k && nat_eq s s) (names_source (context_sources s ks) (Context k s)) (ap (λ (b : Bool). b && nat_eq s s) q ∙ eq_same s))
-    (λ q. or_right (nat_eq j k && nat_eq s s) (names_source (context_sources s ks) (Context k s)) (contexts_named s k ks q))
-
--- and a cell by number
-pub cells_named : (ns : List ℕ) (n : ℕ) → has ns n ≡ true → names_source (cell_sources ns) (Cell n) ≡ true
-cells_named [] n h = clash h refl
-cells_named (m ∷ ns) n h =
-    by_either (nat_eq m n) (has ns n) h
-    (λ q. or_left (nat_eq m n) (names_source (cell_sources ns) (Cell n)) q)
-    (λ q. or_right (nat_eq m n) (names_source (cell_sources ns) (Cell n)) (cells_named ns n q))
 
 module _ {K : Types} where
   rows_stay : (s : ℕ) (es : List (ℕ × ContextRow K)) (ks : List ℕ) (k : ℕ) → has ks k ≡ true → has (kinds_of_contexts s es ks) k ≡ true

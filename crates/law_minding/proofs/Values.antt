@@ -2,6 +2,8 @@
 use Rattle.std.proofs.Common.{ℕ, ◌+◌, ◌≤◌, Bool, true, false, ◌||◌, not, List, [], ◌∷◌, ◌++◌, ◌≡◌, refl, sym, ap, ◌∙◌, subst, nat_eq, arith}
 use Rattle.std.specs.Prelude.{Option, Some, None, is_some, if◌then◌else◌}
 use Rattle.std.proofs.lemmas.Bool.{eqb-true}
+pub use Rattle.rt_lemmas.proofs.Numbers.{eq_past as apart}
+pub use Rattle.law_lasting.proofs.Celled.{at_longer}
 use Rattle.rt_model.specs.Lists.{at, put, without, join, kept_by}
 use Rattle.rt_model.specs.Tree.{Types}
 use Rattle.rt_model.specs.State.{Posted, Mark, Woken, SideName, MainSide, ChildrenSide, FallbackSide, Side, Scope, TaskRow, State, is_live, with_side, is_shown}
@@ -10,21 +12,6 @@ use Rattle.rt_model.specs.Next.{Work, RerunScope, PollTask, RunEffects, is_activ
 use Rattle.rt_model.specs.Replay.{mounted}
 use Rattle.rt_model.proofs.Maps.{by_test, pick_true, pick_false, at_here, at_there, at_put_here, at_put_other, at_without_other}
 use Rattle.law_minding.proofs.Polled.{error_value, context_value}
-
--- a list that is longer at its end still answers what it did
-pub at_longer : {A : Type 0} (es : List (ℕ × A)) (n m : ℕ) (x y : A) → at es n ≡ Some y → at (es ++ (m, x) ∷ []) n ≡ Some y
-at_longer [] n m x y h = cc
-at_longer (e ∷ es) n m x y h =
-    by_test (nat_eq e.0 n)
-    (λ q. at_here e.0 e.1 (es ++ (m, x) ∷ []) n q ∙ sym (at_here e.0 e.1 es n q) ∙ h)
-    (λ q. at_there e.0 e.1 (es ++ (m, x) ∷ []) n q ∙ at_longer es n m x y (sym (at_there e.0 e.1 es n q) ∙ h))
-
--- a number and what is from the next one on aren't the same
-pub apart : (low high : ℕ) → low + 1 ≤ high → nat_eq high low ≡ false
-apart low high h =
-    by_test (nat_eq high low)
-    (λ q. let e : high ≡ low = eqb-true high low q in absurd (omega (arith, e, h)))
-    (λ q. q)
 
 -- what is there stays there in longer lists, and where something else is put
 pub put_live : {A : Type 0} (es : List (ℕ × A)) (s : ℕ) (y : A) (r : ℕ) → is_some (at es r) ≡ true → is_some (at (put es s y) r) ≡ true

@@ -2,6 +2,7 @@
 use Rattle.std.proofs.Common.{ℕ, ◌+◌, Bool, true, false, ◌&&◌, not, List, [], ◌∷◌, ◌≡◌, refl, sym, ap, ◌∙◌, subst}
 use Rattle.std.specs.Prelude.{Option, Some, None, is_some, if◌then◌else◌}
 use Rattle.std.proofs.lemmas.List.{append-nil}
+use Rattle.rt_lemmas.proofs.Bools.{both_of as both_true}
 use Rattle.rt_model.specs.Lists.{at}
 use Rattle.rt_model.specs.Tree.{Types}
 use Rattle.rt_model.specs.World.{CallFault, Event, Meaning, Application}
@@ -16,11 +17,6 @@ use Rattle.law_moves.specs.Moves.{Move, Silent, Closed, Logged, IsSettled, AtWor
 use Rattle.law_moves.proofs.Items.{due_at_work}
 use Rattle.law_moves.proofs.Insides.{Lasts, alive_before, live_due, Holds, silent_holds, logged_holds}
 use Rattle.law_moves.proofs.Logs.{logs_are_moves}
-
-both_true : (b c : Bool) → b && c ≡ true → (b ≡ true) × (c ≡ true)
-both_true true true h = (refl, refl)
-both_true true false h = cc
-both_true false c h = cc
 
 by_both : {Q : Type 0} (b c : Bool) → (b && c ≡ true → Q) → (b && c ≡ false → Q) → Q
 by_both true true f g = f refl

@@ -32,7 +32,7 @@ use Rattle.law_moves.proofs.Underway.{reached_by}
 abbrev too_many : ℕ → Bool → Bool → Bool → Option Fault
 too_many units quiet spent owed = if quiet && spent && owed then Some (OutOfTurns units) else None
 
-named_of : (b : Bool) (e d : Entry) → (if b then Some e else None) ≡ Some d → b ≡ true
+pub named_of : (b : Bool) (e d : Entry) → (if b then Some e else None) ≡ Some d → b ≡ true
 named_of true e d h = refl
 named_of false e d h = cc
 

@@ -1,8 +1,9 @@
 -- A child is of the sort of the component at its slot: one of the application's, the same, or the same built-in one.
-use Rattle.std.proofs.Common.{ℕ, true, false, List, [], ◌∷◌, ◌++◌, ◌≡◌, ◌<◌, ◌⊎◌, refl, sym, ap, ◌∙◌, nat_eq, arith, inl, inr}
+use Rattle.std.proofs.Common.{ℕ, true, false, List, [], ◌∷◌, ◌++◌, ◌≡◌, ◌<◌, ◌⊎◌, refl, sym, ap, ◌∙◌, nat_eq, inl, inr}
 use Rattle.std.proofs.lemmas.Bool.{eqb-true}
 use Rattle.std.specs.Prelude.{Option, Some, None, is_some}
 use Rattle.std.specs.List.{AllByRecursion}
+use Rattle.rt_lemmas.proofs.Numbers.{eq_above as old_kid}
 use Rattle.rt_model.specs.Lists.{at}
 use Rattle.rt_model.specs.Tree.{Types, Place, same_place, VComponent, Own, Root, Fragment, ErrorBoundary, SuspenseBoundary, is_suspense_boundary, Spot}
 use Rattle.rt_model.specs.State.{SideName, MainSide, ChildrenSide, FallbackSide, Side, Scope, State, Item, Draw, Row, Feed, Make, Drop, side_of, with_side, empty_side, is_live}
@@ -40,9 +41,6 @@ kid_or_new (e ∷ xs) p n q t h =
       | inr g ↦ inr g
     ]
     )
-
-old_kid : (t n : ℕ) → t < n → nat_eq n t ≡ false
-old_kid t n h = grind (arith, h)
 
 module _ {K : Types} where
   some_sort : (a b : ComponentSort K) → Some a ≡ Some b → a ≡ b

@@ -3,6 +3,7 @@ use Rattle.std.proofs.Common.{ℕ, ◌+◌, ◌≤◌, true, false, List, [], �
 use Rattle.std.proofs.lemmas.Bool.{eqb-true}
 use Rattle.std.specs.Prelude.{Option, Some, None, is_some}
 use Rattle.std.specs.List.{AllByRecursion}
+use Rattle.rt_lemmas.proofs.Numbers.{eq_false as not_one}
 use Rattle.rt_model.specs.Lists.{at, put}
 use Rattle.rt_model.specs.Tree.{Types, Place, Kind, VComponent}
 use Rattle.rt_model.specs.World.{Source, Cell, Error, Context}
@@ -19,9 +20,6 @@ use Rattle.law_moves.proofs.Calm.{standing, error_of, context_of, holders_of, Un
 use Rattle.law_moves.proofs.Looks.{next_quiet}
 use Rattle.law_moves.proofs.Owed.{rows_of}
 use Rattle.law_moves.proofs.Alone.{Alone, Then}
-
-not_one : (a b : ℕ) → (a ≡ b → ⊥) → nat_eq a b ≡ false
-not_one a b h = by_test (nat_eq a b) (λ q. absurd (h (eqb-true a b q))) (λ q. q)
 
 module _ {K : Types} where
   -- work of which nothing is of this scope has no step of its run

@@ -1,6 +1,7 @@
 -- What comes next names what is live.
 use Rattle.std.proofs.Common.{inr, ℕ, ◌+◌, Bool, true, false, List, [], ◌∷◌, ◌≡◌, refl, sym, ap, ◌∙◌, subst, nat_eq}
 use Rattle.std.specs.Prelude.{Option, Some, None, is_some, if◌then◌else◌}
+use Rattle.rt_lemmas.proofs.Options.{some_same as some_number}
 use Rattle.rt_model.specs.Lists.{at, kept_by, has, drop_number, join}
 use Rattle.rt_model.specs.Tree.{Types}
 use Rattle.rt_model.specs.World.{Application}
@@ -21,9 +22,6 @@ use Rattle.law_moves.proofs.Calm.{leavings_by, live_by, quiet_calm}
 use Rattle.law_moves.proofs.Looks.{rest_quiet}
 use Rattle.law_moves.proofs.Moved.{reached_holds}
 use Rattle.law_moves.proofs.Moving.{Scheduled, calm_scheduled, Holding}
-
-some_number : (a b : ℕ) → Some a ≡ Some b → a ≡ b
-some_number a b h = cc
 
 -- the least of a list is one of it
 least_there : (earlier : ℕ → ℕ → Bool) (x : ℕ) (xs : List ℕ) → has (x ∷ xs) (least_from earlier x xs) ≡ true
@@ -46,7 +44,7 @@ effects_alone : (o : Option ℕ) (x : Work) → elim o as (λ z. Option Work) [ 
 effects_alone None x h = cc
 effects_alone (Some r) x h = (r, refl, cc)
 
-either_rerun : (b : Bool) (s t r : ℕ) → (if b then Some (RerunScope s) else Some (PollTask t)) ≡ Some (RerunScope r) → s ≡ r
+pub either_rerun : (b : Bool) (s t r : ℕ) → (if b then Some (RerunScope s) else Some (PollTask t)) ≡ Some (RerunScope r) → s ≡ r
 either_rerun true s t r h = cc
 either_rerun false s t r h = cc
 

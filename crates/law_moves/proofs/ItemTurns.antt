@@ -1,7 +1,7 @@
 -- One turn at an item of the open work.
 use Rattle.std.proofs.Common.{ℕ, Bool, true, false, List, [], ◌∷◌, ◌++◌, ◌≡◌, refl, sym, ap, ◌∙◌, subst, nat_eq, append_assoc}
 use Rattle.std.proofs.lemmas.List.{append-nil}
-use Rattle.std.specs.Prelude.{Option, Some, None, if◌then◌else◌}
+use Rattle.std.specs.Prelude.{Option, Some, None}
 use Rattle.rt_model.specs.Tree.{Types}
 use Rattle.rt_model.specs.World.{Application}
 use Rattle.rt_model.specs.Laws.{IsLawful}
@@ -24,10 +24,7 @@ use Rattle.law_moves.proofs.Served.{due_is_served}
 use Rattle.law_moves.specs.Turn.{again, and_then, turn_of, entries_at}
 use Rattle.law_moves.specs.Underway.{Works, Refused}
 use Rattle.law_moves.proofs.Underway.{works_now, works_on, works_stop}
-
-live_of : (b : Bool) (e d : Entry) → (if b then Some e else None) ≡ Some d → b ≡ true
-live_of true e d h = refl
-live_of false e d h = cc
+use Rattle.law_moves.proofs.Begins.{named_of as live_of}
 
 -- a way down of no step, or of one
 abbrev way_by : Bool → List ℕ

@@ -17,7 +17,7 @@ use Rattle.law_moves.proofs.Told.{tell_quiet, tell_marks}
 use Rattle.law_moves.proofs.Calm.{error_of, context_of, holders_of, cell_in, there_of, leavings_by, reads_by, held_stays, same_scope, HoldersLive, Unique, listed_then, listed_to, live_by, Calm, Quiet, quiet_then, quiet_refl, same_quiet, holders_by, holders_stay}
 
 -- a number joins an ascending list
-inserted : (ks : List ℕ) (k : ℕ) → has (insert_number ks k) k ≡ true
+pub inserted : (ks : List ℕ) (k : ℕ) → has (insert_number ks k) k ≡ true
 inserted [] k = or_left (nat_eq k k) false (eq_same k)
 inserted (m ∷ ks) k = first (nat_eq m k) refl (inserted ks k)
   where
@@ -30,7 +30,7 @@ inserted (m ∷ ks) k = first (nat_eq m k) refl (inserted ks k)
     first false q r = second (nat_lt k m) r
 
 -- and the others are still there
-insert_keeps : (ks : List ℕ) (k j : ℕ) → has ks j ≡ true → has (insert_number ks k) j ≡ true
+pub insert_keeps : (ks : List ℕ) (k j : ℕ) → has ks j ≡ true → has (insert_number ks k) j ≡ true
 insert_keeps [] k j h = clash h refl
 insert_keeps (m ∷ ks) k j h = first (nat_eq m k) (λ q. insert_keeps ks k j q)
   where
@@ -45,21 +45,21 @@ insert_keeps (m ∷ ks) k j h = first (nat_eq m k) (λ q. insert_keeps ks k j q)
     first true go = h
     first false go = second (nat_lt k m) go
 
-kind_stays : (b : Bool) (ks : List ℕ) (k j : ℕ) → has ks j ≡ true → has (if b then insert_number ks k else ks) j ≡ true
+pub kind_stays : (b : Bool) (ks : List ℕ) (k j : ℕ) → has ks j ≡ true → has (if b then insert_number ks k else ks) j ≡ true
 kind_stays true ks k j h = insert_keeps ks k j h
 kind_stays false ks k j h = h
 
-kinds_stay : (s : ℕ) (xs : List Source) (ks : List ℕ) (j : ℕ) → has ks j ≡ true → has (kinds_in s xs ks) j ≡ true
+pub kinds_stay : (s : ℕ) (xs : List Source) (ks : List ℕ) (j : ℕ) → has ks j ≡ true → has (kinds_in s xs ks) j ≡ true
 kinds_stay s [] ks j h = h
 kinds_stay s (Context k t ∷ xs) ks j h = kinds_stay s xs (if nat_eq t s then insert_number ks k else ks) j (kind_stays (nat_eq t s) ks k j h)
 kinds_stay s (Cell n ∷ xs) ks j h = kinds_stay s xs ks j h
 kinds_stay s (Error t ∷ xs) ks j h = kinds_stay s xs ks j h
 
-kind_joins : (b : Bool) (ks : List ℕ) (k : ℕ) → b ≡ true → has (if b then insert_number ks k else ks) k ≡ true
+pub kind_joins : (b : Bool) (ks : List ℕ) (k : ℕ) → b ≡ true → has (if b then insert_number ks k else ks) k ≡ true
 kind_joins true ks k h = inserted ks k
 kind_joins false ks k h = clash h refl
 
-kinds_named : (s k : ℕ) (xs : List Source) (ks : List ℕ) → names_source xs (Context k s) ≡ true → has (kinds_in s xs ks) k ≡ true
+pub kinds_named : (s k : ℕ) (xs : List Source) (ks : List ℕ) → names_source xs (Context k s) ≡ true → has (kinds_in s xs ks) k ≡ true
 kinds_named s k [] ks h = clash h refl
 kinds_named s k (Cell n ∷ xs) ks h = kinds_named s k xs ks h
 kinds_named s k (Error t ∷ xs) ks h = kinds_named s k xs ks h
@@ -78,14 +78,14 @@ kinds_named s k (Context j t ∷ xs) ks h =
     )
     (λ q. kinds_named s k xs (if nat_eq t s then insert_number ks j else ks) q)
 
-contexts_named : (s k : ℕ) (ks : List ℕ) → has ks k ≡ true → names_source (context_sources s ks) (Context k s) ≡ true
+pub contexts_named : (s k : ℕ) (ks : List ℕ) → has ks k ≡ true → names_source (context_sources s ks) (Context k s) ≡ true
 contexts_named s k [] h = clash h refl
 contexts_named s k (j ∷ ks) h =
     by_either (nat_eq j k) (has ks k) h
     (λ q. or_left (nat_eq j k && nat_eq s s) (names_source (context_sources s ks) (Context k s)) (ap (λ (b : Bool). b && nat_eq s s) q ∙ eq_same s))
     (λ q. or_right (nat_eq j k && nat_eq s s) (names_source (context_sources s ks) (Context k s)) (contexts_named s k ks q))
 
-cells_named : (ns : List ℕ) (n : ℕ) → has ns n ≡ true → names_source (cell_sources ns) (Cell n) ≡ true
+pub cells_named : (ns : List ℕ) (n : ℕ) → has ns n ≡ true → names_source (cell_sources ns) (Cell n) ≡ true
 cells_named [] n h = clash h refl
 cells_named (m ∷ ns) n h =
     by_either (nat_eq m n) (has ns n) h

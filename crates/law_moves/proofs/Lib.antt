@@ -3,7 +3,7 @@ mod Calm
 mod Told
 mod Tasks
 mod CalmCommands
-mod Leaving
+pub mod Leaving
 mod Again
 mod Looks
 mod Ran
@@ -25,7 +25,7 @@ mod Moved
 mod Sorted
 pub mod Settled
 pub mod Reported
-mod Due
+pub mod Due
 pub mod Limited
 mod Passed
 mod Rendered

@@ -4,6 +4,7 @@ use Rattle.std.specs.Prelude.{Option, Some, None, All, if◌then◌else◌}
 use Rattle.std.specs.List.{AllByRecursion}
 use Rattle.std.proofs.lemmas.Bool.{eqb-true}
 use Rattle.std.proofs.lemmas.List.Elements.{All-head, All-tail}
+pub use Rattle.rt_lemmas.proofs.Options.{some_same as some_number}
 use Rattle.rt_model.specs.Tree.{Types, Place, same_place, Kind, VComponent, Spot, node_at, component_at}
 use Rattle.rt_model.specs.World.{Application}
 use Rattle.rt_model.specs.State.{SideName, Item, Draw, Row, Feed, Make, Drop}
@@ -13,9 +14,6 @@ use Rattle.rt_model.proofs.Among.{Among, among_left, among_right, place_same}
 use Rattle.rt_model.proofs.SamePlaces.{same_place-true}
 use Rattle.rt_model.proofs.Places.{place_of, Apart, Distinct}
 use Rattle.law_moves.proofs.Woven.{Behind}
-
-pub some_number : (a b : ℕ) → Some a ≡ Some b → a ≡ b
-some_number a b h = cc
 
 pub all_among : {A : Type 0} (P : A → Type 0) (xs : List A) (x : A) → All P xs → Among xs x → P x
 all_among P [] x h g = absurd g

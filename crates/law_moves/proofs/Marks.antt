@@ -1,13 +1,13 @@
 -- Marks among what is posted, and tests of sources.
-use Rattle.std.proofs.Common.{ℕ, Bool, true, false, List, [], ◌∷◌, ◌++◌, ◌≡◌, ◌≤◌, ◌<◌, ◌⊎◌, ◌&&◌, not, refl, sym, ap, ◌∙◌, subst, nat_eq, arith, inl, inr}
-use Rattle.std.proofs.lemmas.Bool.{eqb-true}
+use Rattle.std.proofs.Common.{ℕ, Bool, true, false, List, [], ◌∷◌, ◌++◌, ◌≡◌, ◌≤◌, ◌<◌, ◌⊎◌, not, refl, ap, ◌∙◌, subst, nat_eq, arith, inl, inr}
 use Rattle.std.specs.Prelude.{if◌then◌else◌}
 use Rattle.std.specs.List.{AllByRecursion}
-use Rattle.rt_model.specs.World.{Source, Cell, Error, Context, same_source}
+use Rattle.rt_model.specs.World.{Source, same_source}
 use Rattle.rt_model.specs.State.{Posted, Mark}
 use Rattle.rt_model.specs.Commands.{same_posted, drop_posted, names_source}
-use Rattle.rt_model.proofs.Maps.{by_test, eq_same}
 use Rattle.rt_model.proofs.Members.{clash, or_left, or_right, by_either}
+use Rattle.rt_model.proofs.SameTrees.{source-same as source_same}
+pub use Rattle.rt_model.proofs.SameTrees.{source-true as source_is}
 use Rattle.law_moves.specs.Heeds.{HasMark}
 
 pub from_apart : (n m i : ℕ) → n ≤ i → m < n → nat_eq i m ≡ false
@@ -44,30 +44,6 @@ mark_stays (p ∷ ps) q s other h =
     kept_mark (not (same_posted p q)) p q s ps (λ e. ap (λ (x : Posted). not (same_posted x q)) e ∙ ap (λ (b : Bool). not b) other) (λ g. mark_stays ps q s other g) h
 
 -- sources
-
-pub source_same : (i : Source) → same_source i i ≡ true
-source_same (Cell n) = eq_same n
-source_same (Error s) = eq_same s
-source_same (Context k s) = ap (λ (b : Bool). b && nat_eq s s) (eq_same k) ∙ eq_same s
-
--- sources that the test finds equal are one
-pub source_is : (j i : Source) → same_source j i ≡ true → j ≡ i
-source_is (Cell a) (Cell b) h = ap (λ (k : ℕ). Cell k) (eqb-true a b h)
-source_is (Error a) (Error b) h = ap (λ (k : ℕ). Error k) (eqb-true a b h)
-source_is (Context k a) (Context l b) h =
-    by_test (nat_eq k l)
-    (
-    λ q.
-    let second : nat_eq a b ≡ true = sym (ap (λ (c : Bool). c && nat_eq a b) q) ∙ h in
-    ap (λ (m : ℕ). Context m a) (eqb-true k l q) ∙ ap (λ (m : ℕ). Context l m) (eqb-true a b second)
-    )
-    (λ q. clash h (ap (λ (c : Bool). c && nat_eq a b) q))
-source_is (Cell a) (Error b) h = cc
-source_is (Cell a) (Context l b) h = cc
-source_is (Error a) (Cell b) h = cc
-source_is (Error a) (Context l b) h = cc
-source_is (Context k a) (Cell b) h = cc
-source_is (Context k a) (Error b) h = cc
 
 -- what holds of each source that is named holds of all of them
 pub all_named : (P : Source → Type 0) (xs : List Source) → ((i : Source) → names_source xs i ≡ true → P i) → AllByRecursion (λ i. P i) xs

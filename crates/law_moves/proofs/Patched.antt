@@ -3,11 +3,12 @@ use Rattle.std.proofs.Common.{ℕ, ◌+◌, ◌<◌, true, false, List, [], ◌�
 use Rattle.std.specs.Prelude.{Option, Some, None}
 use Rattle.std.specs.List.{AllByRecursion}
 use Rattle.std.proofs.lemmas.Bool.{eqb-true}
+use Rattle.rt_lemmas.proofs.Numbers.{apart as not_same}
 use Rattle.rt_model.specs.Tree.{Types, Place, VComponent, Spot, component_at}
 use Rattle.rt_model.specs.World.{Application}
 use Rattle.rt_model.specs.State.{SideName, MainSide, ChildrenSide, FallbackSide, Side, State, Item, Draw, Row, Feed, Make, Drop, is_live, height_of}
 use Rattle.rt_model.specs.Run.{child_at, component_in, is_fed, kept_children, serves, drops_of, spots_of}
-use Rattle.rt_model.proofs.Maps.{by_test, eq_same}
+use Rattle.rt_model.proofs.Maps.{by_test}
 use Rattle.rt_model.proofs.Among.{Among, among_left, among_right}
 use Rattle.rt_model.proofs.Places.{Distinct}
 use Rattle.rt_model.proofs.Agendas.{kept_children_among}
@@ -26,9 +27,6 @@ by_names ChildrenSide MainSide f g = g (λ e. cc)
 by_names ChildrenSide FallbackSide f g = g (λ e. cc)
 by_names FallbackSide MainSide f g = g (λ e. cc)
 by_names FallbackSide ChildrenSide f g = g (λ e. cc)
-
-not_same : (s u : ℕ) → nat_eq s u ≡ false → s ≡ u → ⊥
-not_same s u q i = let absurdity : true ≡ false = sym (eq_same u) ∙ ap (λ (n : ℕ). nat_eq n u) (sym i) ∙ q in cc
 
 -- whether a side of a scope is this one
 pub by_side : {P : Type 0} (s u : ℕ) (b a : SideName) → ((s ≡ u) × (b ≡ a) → P) → ((s ≡ u → b ≡ a → ⊥) → P) → P

@@ -27,7 +27,7 @@ logs_more : (reports : List Report) (report : Report) → logs_of (reports ++ re
 logs_more [] report = refl
 logs_more (r ∷ reports) report = ap (λ (logs : List (List Entry)). r.log ∷ logs) (logs_more reports report)
 
-joined_more : {A : Type 0} (xss : List (List A)) (xs : List A) → joined (xss ++ xs ∷ []) ≡ joined xss ++ xs
+pub joined_more : {A : Type 0} (xss : List (List A)) (xs : List A) → joined (xss ++ xs ∷ []) ≡ joined xss ++ xs
 joined_more [] xs = append-nil xs
 joined_more (ys ∷ xss) xs = ap (λ (l : List _). ys ++ l) (joined_more xss xs) ∙ sym (append_assoc ys (joined xss) xs)
 

@@ -3,11 +3,13 @@ use Rattle.std.proofs.Common.{ℕ, Bool, true, false, not, ◌&&◌, ◌||◌, L
 use Rattle.std.proofs.lemmas.Bool.{eqb-true}
 use Rattle.std.specs.Prelude.{Option, Some, None, is_some, if◌then◌else◌}
 use Rattle.std.specs.List.{AllByRecursion, list_any}
+use Rattle.rt_lemmas.proofs.Bools.{neither}
+use Rattle.rt_lemmas.proofs.Options.{not_some as none_of, not_some as alive_of}
 use Rattle.rt_model.specs.Lists.{at, has, drop_number, join}
 use Rattle.rt_model.specs.Tree.{Types, VComponent, Own, Root, Fragment, ErrorBoundary, SuspenseBoundary, is_suspense_boundary, Element}
 use Rattle.rt_model.specs.World.{Meaning, Application}
 use Rattle.rt_model.specs.Laws.{IsLawful}
-use Rattle.rt_model.specs.State.{SideName, FallbackSide, RowStep, Posted, Mark, Woken, Fault, Scope, LastCall, State, Item, Draw, Row, Feed, Make, Drop, is_live, is_side, is_held}
+use Rattle.rt_model.specs.State.{SideName, FallbackSide, RowStep, Posted, Mark, Woken, Scope, LastCall, State, Item, Draw, Row, Feed, Make, Drop, is_live, is_side, is_held}
 use Rattle.rt_model.specs.Commands.{same_posted}
 use Rattle.rt_model.specs.Next.{Work, RerunScope, PollTask, is_before, scope_of_task, look_on, look, least, first_task, first_seen, chosen, found, paused, drop_then, drops, looked, or_effects, next_at_rest, next, owes}
 use Rattle.rt_model.specs.Boundary.{tree_or_placeholder}
@@ -29,26 +31,14 @@ use Rattle.law_moves.proofs.Owed.{rows_of, Called, BodyCurrent, FallbackCurrent,
 use Rattle.law_moves.proofs.Moved.{reached_holds}
 use Rattle.law_moves.proofs.Moving.{Holding}
 
-neither : (a b : Bool) → a || b ≡ false → (a ≡ false) × (b ≡ false)
-neither true b h = clash refl h
-neither false b h = (refl, h)
-
 posted_mark : (ps : List Posted) (s : ℕ) → HasMark ps s → list_any (λ p. same_posted p (Mark s)) ps ≡ true
 posted_mark [] s h = absurd h
 posted_mark (p ∷ ps) s (inl h) = or_left (same_posted p (Mark s)) (list_any (λ q. same_posted q (Mark s)) ps) (ap (λ (q : Posted). same_posted q (Mark s)) h ∙ eq_same s)
 posted_mark (p ∷ ps) s (inr h) = or_right (same_posted p (Mark s)) (list_any (λ q. same_posted q (Mark s)) ps) (posted_mark ps s h)
 
-no_least : (earlier : ℕ → ℕ → Bool) (xs : List ℕ) → least earlier xs ≡ None → xs ≡ []
+pub no_least : (earlier : ℕ → ℕ → Bool) (xs : List ℕ) → least earlier xs ≡ None → xs ≡ []
 no_least earlier [] h = refl
 no_least earlier (x ∷ xs) h = cc
-
-alive_of : (o : Option Fault) → not (is_some o) ≡ true → o ≡ None
-alive_of None h = refl
-alive_of (Some f) h = cc
-
-none_of : {A : Type 0} (o : Option A) → not (is_some o) ≡ true → o ≡ None
-none_of None h = refl
-none_of (Some a) h = cc
 
 some_work : (b : Bool) (s t : ℕ) → (if b then Some (RerunScope s) else Some (PollTask t)) ≡ None → ⊥
 some_work true s t h = cc

@@ -3,6 +3,7 @@ use Rattle.std.proofs.Common.{ℕ, zero, suc, ◌+◌, ◌≤◌, ◌<◌, true,
 use Rattle.std.specs.Prelude.{Option, Some, None, is_some}
 use Rattle.std.specs.List.{AllByRecursion}
 use Rattle.std.proofs.lemmas.Bool.{eqb-true}
+use Rattle.rt_lemmas.proofs.Options.{some_same as some_side}
 use Rattle.rt_model.specs.Lists.{at}
 use Rattle.rt_model.specs.Tree.{Types, Place, VComponent, Spot, node_at, component_at}
 use Rattle.rt_model.specs.State.{SideName, MainSide, ChildrenSide, FallbackSide, Side, Scope, State, Item, Draw, Row, Feed, Make, Drop, side_of, is_live, parent_of, height_of}
@@ -21,9 +22,6 @@ use Rattle.law_moves.proofs.Woods.{stands_wooded, children_know}
 use Rattle.law_moves.proofs.Twigs.{bare, twig, twig_up, twig_side, up, below, side_at, kids, slots, HasSlot, live_by, height_by, up_by, below_by, side_by, same_framed, side_found, by_scope, kid_up, up_height}
 use Rattle.law_moves.proofs.Woven.{owner, Fits, After, Stack, InSlot, Attached, HasKid, ToMake, Climb, Falls, Filled, Woven}
 use Rattle.law_moves.proofs.Lists.{some_number, every_among}
-
-some_side : (a b : SideName) → Some a ≡ Some b → a ≡ b
-some_side a b h = cc
 
 module _ {K : Types} where
   pub empty_spots : (b : SideName) → spots_of (twig_side {K = K} b None).output ≡ []

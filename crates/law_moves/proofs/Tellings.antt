@@ -20,7 +20,7 @@ use Rattle.law_moves.proofs.Settles.{silent_settles, closed_settles, settled_sta
 use Rattle.law_moves.proofs.Beginnings.{one_too_many, loud_goes_on}
 use Rattle.law_moves.proofs.Acceptance.{logged_accepted, accepted_within}
 
-served_opens_none : (e : Entry) → serves_item e ≡ true → opens e ≡ false
+pub served_opens_none : (e : Entry) → serves_item e ≡ true → opens e ≡ false
 served_opens_none Build h = cc
 served_opens_none (Taken k) h = refl
 served_opens_none (Heard s) h = refl

@@ -2,6 +2,7 @@
 use Rattle.std.proofs.Common.{ℕ, ◌+◌, Bool, true, false, ◌||◌, List, [], ◌∷◌, ◌++◌, ◌≡◌, inl, inr, refl, sym, ap, ◌∙◌, subst, nat_eq}
 use Rattle.std.specs.Prelude.{Option, Some, None, if◌then◌else◌}
 use Rattle.std.proofs.lemmas.Bool.{eqb-true}
+use Rattle.rt_lemmas.proofs.Bools.{neither}
 use Rattle.rt_model.specs.Lists.{at, put, without, drop_number, has}
 use Rattle.rt_model.specs.Tree.{Types, VComponent, Own, Root, Fragment, ErrorBoundary, SuspenseBoundary, Tree, Place, Kind, Element, rendered, failed, suspended, placeholder_tree, spots}
 use Rattle.rt_model.specs.World.{Scopes, Elements, at_end, before_render_kind, CallFault, Command, World, Meaning, Nothing, Application}
@@ -16,18 +17,13 @@ use Rattle.law_moves.specs.Frames.{Stand, Shown, those, stand, shown, Keeps, Lea
 use Rattle.law_moves.proofs.Commanded.{Level, level_trans, level_refl, level_rest, change_level, commands_level}
 use Rattle.law_moves.proofs.Called.{LevelO, stopped_level, told_level, next_level, once_level, where_level, kept_level, hooks_level, after_hooks_level, settled_answer_level, counted_level, called_back_level, unmarked_level, onward_level}
 
--- neither of two tests holds
-neither : (b c : Bool) → b || c ≡ false → (b ≡ false) × (c ≡ false)
-neither true c h = cc
-neither false c h = (refl, h)
-
 pub not_first : (s t : ℕ) (ns : List ℕ) → has (s ∷ ns) t ≡ false → nat_eq s t ≡ false
 not_first s t ns h = (neither (nat_eq s t) (has ns t) h).0
 
 pub not_later : (s t : ℕ) (ns : List ℕ) → has (s ∷ ns) t ≡ false → has ns t ≡ false
 not_later s t ns h = (neither (nat_eq s t) (has ns t) h).1
 
-no_member : (s t : ℕ) → nat_eq s t ≡ false → has (s ∷ []) t ≡ false
+pub no_member : (s t : ℕ) → nat_eq s t ≡ false → has (s ∷ []) t ≡ false
 no_member s t h = ap (λ (b : Bool). b || false) h
 
 module _ {K : Types} where

@@ -2,6 +2,7 @@
 use Rattle.std.proofs.Common.{ℕ, Bool, true, false, ◌&&◌, not, List, [], ◌∷◌, ◌≡◌, refl, sym, ap, ◌∙◌, subst}
 use Rattle.std.specs.Prelude.{Option, Some, None, if◌then◌else◌, is_some}
 use Rattle.std.specs.List.{AllByRecursion}
+pub use Rattle.rt_lemmas.proofs.Options.{some_same as machine_is}
 use Rattle.rt_model.specs.Lists.{at, kept_by}
 use Rattle.rt_model.specs.Tree.{Types}
 use Rattle.rt_model.specs.World.{Event, Application}
@@ -15,9 +16,6 @@ use Rattle.author_programs.specs.Cells.{Keeping}
 use Rattle.author_programs.specs.Pages.{Pages, meaning_of_pages}
 use Rattle.law_pages.specs.Updates.{Model, model_of, update, updates, Updated, EventHeard, EventsUpdate}
 use Rattle.law_pages.proofs.Listening.{heard_entries_update}
-
-pub machine_is : {A : Type 0} (a b : A) → Some a ≡ Some b → a ≡ b
-machine_is a b h = cc
 
 module _ {K : Types} (k : Keeping K.Value) (a : Pages K) where
   abbrev app : Application K

@@ -1,6 +1,7 @@
 -- From where nobody waits a log goes on without a listener's call, until an input is taken in.
-use Rattle.std.proofs.Common.{ℕ, ◌+◌, Bool, true, false, List, [], ◌∷◌, ◌++◌, ◌≡◌, refl, sym, ap, ◌∙◌, subst, nat_eq, arith}
+use Rattle.std.proofs.Common.{ℕ, ◌+◌, Bool, true, false, List, [], ◌∷◌, ◌++◌, ◌≡◌, refl, sym, ap, ◌∙◌, subst, nat_eq}
 use Rattle.std.specs.Prelude.{Option, Some, None, if◌then◌else◌}
+pub use Rattle.rt_lemmas.proofs.Bools.{none_counted as none_opens}
 use Rattle.rt_model.specs.Lists.{kept_by}
 use Rattle.rt_model.specs.Tree.{Types}
 use Rattle.rt_model.specs.World.{Application}
@@ -17,11 +18,6 @@ use Rattle.law_moves.specs.Moves.{Move, Silent, Closed, Logged, entries, Leads}
 use Rattle.law_moves.proofs.Insides.{live_due, made_due, fed_due, fed_change}
 use Rattle.law_lasting.specs.CellsLast.{TakenLeaves}
 use Rattle.law_pages.specs.Keeps.{IsNoCall, QuietFor}
-
--- what has none in all has none first, and none after
-pub none_opens : (b : Bool) (n : ℕ) → (if b then 1 else 0) + n ≡ 0 → (b ≡ false) × (n ≡ 0)
-none_opens true n h = absurd (omega (arith, h))
-none_opens false n h = (refl, omega (arith, h))
 
 -- nor has the end of it
 pub none_later : (xs ys : List Entry) → count_entries is_opening (xs ++ ys) ≡ 0 → count_entries is_opening ys ≡ 0

@@ -1,7 +1,8 @@
 -- The cells of one scope, whose values listeners read alone: report by report they are those of the fold, and the scope shows them.
-use Rattle.std.proofs.Common.{ℕ, ◌<◌, ◌≤◌, Bool, true, List, [], ◌∷◌, ◌≡◌, refl, sym, ap, ◌∙◌, subst, map, nat_lt, arith}
+use Rattle.std.proofs.Common.{ℕ, ◌<◌, Bool, true, List, [], ◌∷◌, ◌≡◌, refl, sym, ap, ◌∙◌, subst, map}
 use Rattle.std.specs.Prelude.{Option, Some, None, if◌then◌else◌, is_some}
 use Rattle.std.specs.List.{AllByRecursion}
+use Rattle.rt_lemmas.proofs.Numbers.{low_test as tests_low}
 use Rattle.rt_model.specs.Lists.{at, has}
 use Rattle.rt_model.specs.Tree.{Types}
 use Rattle.rt_model.specs.World.{Application}
@@ -12,12 +13,10 @@ use Rattle.rt_model.specs.Current.{AllCurrent}
 use Rattle.rt_model.specs.Told.{Told}
 use Rattle.rt_model.specs.Reports.{Report}
 use Rattle.law_behavior.specs.Along.{NoneRemoves}
-use Rattle.rt_model.proofs.Maps.{by_test}
 use Rattle.law_moves.specs.Sorts.{FedFit}
 use Rattle.law_moves.proofs.Limited.{some_limits}
 use Rattle.law_moves.proofs.Logs.{logs_are_moves}
 use Rattle.law_minding.specs.Numbering.{CellsAreDrawn}
-use Rattle.law_minding.proofs.Coming.{not_low}
 use Rattle.law_behavior.specs.Owed.{MarksAreRun}
 use Rattle.law_lasting.specs.ComponentsLast.{ComponentsLast}
 use Rattle.author_programs.specs.Cells.{Keeping}
@@ -86,9 +85,6 @@ own_cells_fold K k a props inputs limits taken reports ran =
     folds_of a inputs reports ran.told (reports_reduce K k a props inputs limits taken reports ran)
     (each_owns k a props inputs reports ran.told (ran.done).one_each (ran.recorded).accepted (ran.recorded).settled)
 
-tests_low : (n m : ℕ) → n < m → nat_lt n m ≡ true
-tests_low n m h = by_test (nat_lt n m) (λ q. q) (λ q. let high : m ≤ n = not_low n m q in absurd (omega (arith, high, h)))
-
 module _ {V : Type 0} where
   -- of a number that was drawn a model is read
   read_low : (m : List (ℕ × V)) (drawn n : ℕ) → n < drawn → read_in m drawn n ≡ at m n
@@ -100,7 +96,7 @@ module _ {V : Type 0} where
   reads_all m own drawn low (n ∷ ns) h = λ i. read_low m drawn n (low n h.0) i ∷ reads_all m own drawn low ns h.1 i
 
 -- the cells of a machine to which a log leads from the start of a session
-drawn_there : {K : Types} (app : Application K) → CellsAreDrawn app → IsLawful K app → (props : K.Props) (inputs : List (Input K)) (m : Machine K) → LedTo app props inputs m
+pub drawn_there : {K : Types} (app : Application K) → CellsAreDrawn app → IsLawful K app → (props : K.Props) (inputs : List (Input K)) (m : Machine K) → LedTo app props inputs m
     → (n : ℕ) → is_some (at m.state.cells n) ≡ true → n < m.state.next.cells
 drawn_there {K = K} app drawn lawful props inputs m led n there =
     let first : Machine K = start app props inputs in

@@ -1,8 +1,8 @@
 -- A scope whose hooks keep cells: each call of its body from then on is given hooks that do.
-use Rattle.std.proofs.Common.{ℕ, zero, suc, ◌+◌, Bool, true, false, ◌&&◌, not, List, [], ◌∷◌, ◌++◌, ◌≡◌, ◌⊎◌, inl, inr, refl, sym, ap, ◌∙◌, subst, nat_eq}
+use Rattle.std.proofs.Common.{ℕ, ◌+◌, Bool, true, false, ◌&&◌, not, List, [], ◌∷◌, ◌++◌, ◌≡◌, ◌⊎◌, inl, inr, refl, sym, ap, ◌∙◌, subst, nat_eq}
 use Rattle.std.proofs.lemmas.Bool.{eqb-true}
 use Rattle.std.specs.Prelude.{Option, Some, None, if◌then◌else◌, is_some}
-use Rattle.rt_model.specs.Lists.{at, put, without, nth, join}
+use Rattle.rt_model.specs.Lists.{at, put, without, join}
 use Rattle.rt_model.specs.Tree.{Types, VComponent, Place, Kind, Element}
 use Rattle.rt_model.specs.World.{Source, Cell, Error, Context, Hook, HookValue, Command, World, Meaning, Application}
 use Rattle.rt_model.specs.State.{SideName, ChildrenSide, Posted, Mark, Woken, Scope, LastCall, TaskRow, State, is_live, side_of, with_side, changed_scope, change, hooks_of, world_of}
@@ -21,15 +21,10 @@ use Rattle.law_behavior.proofs.Frames.{Free, permits, Frame, Called}
 use Rattle.law_behavior.proofs.Enduring.{Enduring, finely, kept_so}
 use Rattle.law_behavior.proofs.Commanded.{AllAllowed}
 use Rattle.law_behavior.proofs.Onwards.{moves_on, good_anyway, spares_all}
-use Rattle.law_behavior.proofs.Steadfast.{Of, Other, Bears, from_zero, draw_anyway, of_others, of_put, of_again, of_endures, all_allowed}
+use Rattle.law_behavior.proofs.Steadfast.{Of, Other, Bears, from_zero, draw_anyway, of_others, of_put, of_again, of_endures, all_allowed, nth_stays as nth_longer}
 use Rattle.author_programs.specs.Cells.{Keeping}
 use Rattle.author_programs.specs.Shows.{KeepAll}
 use Rattle.law_reduce.specs.Kept.{CellsAreKept}
-
-nth_longer : {A : Type 0} (xs : List A) (i : ℕ) (x y : A) → nth xs i ≡ Some x → nth (xs ++ y ∷ []) i ≡ Some x
-nth_longer [] i x y h = cc
-nth_longer (z ∷ xs) zero x y h = h
-nth_longer (z ∷ xs) (suc i) x y h = nth_longer xs i x y h
 
 module _ {K : Types} where
   -- what no post, tell or look changes

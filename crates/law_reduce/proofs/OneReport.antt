@@ -1,6 +1,7 @@
 -- In one report of a session of pages each cell that stays comes to have what the input makes of the values.
 use Rattle.std.proofs.Common.{ℕ, ◌+◌, Bool, true, false, ◌&&◌, not, List, [], ◌∷◌, ◌++◌, ◌≡◌, inl, inr, refl, sym, ap, ◌∙◌, subst}
 use Rattle.std.specs.Prelude.{Option, Some, None, if◌then◌else◌, is_some}
+use Rattle.rt_lemmas.proofs.Options.{not_some as none_of}
 use Rattle.rt_model.specs.Lists.{Text, at}
 use Rattle.rt_model.specs.Tree.{Types}
 use Rattle.rt_model.specs.World.{Cell, Event, Application}
@@ -38,10 +39,6 @@ use Rattle.rt_model.specs.Commands.{names_source}
 use Rattle.law_reduce.proofs.Calm.{none_opens, none_later, Calm, calm_moves}
 use Rattle.law_reduce.proofs.InTurn.{EventDone, first_done, all_done}
 use Rattle.law_reduce.proofs.Taking.{ready, Took, took, took_looked, take_is, hearers_emptied, Made, IsNoEvent, made_at_once}
-
-none_of : {A : Type 0} (o : Option A) → not (is_some o) ≡ true → o ≡ None
-none_of None h = refl
-none_of (Some a) h = cc
 
 module _ {K : Types} where
   no_items : (items : List (Item K)) → no_work items ≡ true → items ≡ []

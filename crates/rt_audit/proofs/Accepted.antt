@@ -3,6 +3,7 @@ use Rattle.std.proofs.Common.{ℕ, ◌+◌, ◌≤◌, Bool, true, false, ◌&&�
 use Rattle.std.specs.Prelude.{Option, Some, None, if◌then◌else◌, nat_lt}
 use Rattle.std.proofs.Math.Seq.{take-append_seam}
 use Rattle.std.proofs.lemmas.List.{take_all}
+use Rattle.rt_lemmas.proofs.Options.{some_same as some_is}
 use Rattle.rt_model.specs.Document as doc
 use Rattle.rt_model.specs.OneLog.{types}
 use Rattle.rt_model.specs.Tree.{Types}
@@ -143,9 +144,6 @@ module _ {P C Q V H T E L : Type 0} (app : Application (types C Q V H T E L)) (l
 pub record IsOwn (fault : model.Fault) : Type 0 where
   pub deep : (height : ℕ) → fault ≡ model.TooDeep height → ⊥
   pub spent : (units : ℕ) → fault ≡ model.OutOfTurns units → ⊥
-
-some_is : (a b : model.Fault) → Some a ≡ Some b → a ≡ b
-some_is a b h = cc
 
 not_deep : (limits : Limits) (o : Option ℕ) (fault : model.Fault) → IsOwn fault → depth_refused limits o ≡ Some fault → ⊥
 not_deep limits None fault own h = cc

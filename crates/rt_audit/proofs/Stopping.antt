@@ -1,6 +1,9 @@
 -- How a list is judged beside what is accepted: it goes on, it stops, or it is good.
 use Rattle.std.proofs.Common.{ℕ, zero, suc, ◌+◌, Bool, true, false, not, ◌&&◌, List, [], ◌∷◌, ◌++◌, ◌≡◌, refl, sym, ap, ◌∙◌, length, append-nil, arith}
 use Rattle.std.specs.Prelude.{Option, Some, None, if◌then◌else◌, is_some}
+use Rattle.rt_lemmas.proofs.Options.{some_same as same_some}
+use Rattle.rt_lemmas.proofs.Bools.{none_counted as none_first}
+pub use Rattle.rt_lemmas.proofs.Bools.{pick_true, pick_false}
 use Rattle.rt_model.specs.Tree.{Types}
 use Rattle.rt_model.specs.World.{Application}
 use Rattle.rt_model.specs.State.{Fault, State, Item}
@@ -28,17 +31,6 @@ further_some : {A : Type 0} (n : ℕ) (xs : List A) → is_some_entry (further (
 further_some n [] = refl
 further_some n (x ∷ xs) = further_some (suc n) xs
 
-pub pick_true : {A : Type 0} (b : Bool) (x y : A) → b ≡ true → (if b then x else y) ≡ x
-pick_true b x y h = ap (λ c. if c then x else y) h
-
-pub pick_false : {A : Type 0} (b : Bool) (x y : A) → b ≡ false → (if b then x else y) ≡ y
-pick_false b x y h = ap (λ c. if c then x else y) h
-
--- none of the entries is a build or an input
-none_first : (b : Bool) (k : ℕ) → (if b then 1 else 0) + k ≡ 0 → (b ≡ false) × (k ≡ 0)
-none_first true k h = absurd (omega (arith, h))
-none_first false k h = (refl, omega (arith, h))
-
 none_more : (front more : List Entry) → count_entries is_opening (front ++ more) ≡ 0 → (count_entries is_opening front ≡ 0) × (count_entries is_opening more ≡ 0)
 none_more [] more h = (refl, h)
 none_more (e ∷ front) more h =
@@ -47,9 +39,6 @@ none_more (e ∷ front) more h =
     let r = rest.0 in
     let zero_more : (if false then 1 else 0) + count_entries is_opening front ≡ 0 = omega (arith, r) in
     (ap (λ (b : Bool). (if b then 1 else 0) + count_entries is_opening front) one.0 ∙ zero_more, rest.1)
-
-same_some : {A : Type 0} (a b : A) → Some a ≡ Some b → a ≡ b
-same_some a b h = cc
 
 module _ {K : Types} (app : Application K) where
   abbrev by : ℕ → ℕ → Option (Machine K) → List Entry → (Machine K → Verdict) → Verdict

@@ -1,7 +1,7 @@
 -- An edit changes nothing outside the node that it names.
-use Rattle.std.proofs.Common.{◌≡◌, ◌≢◌, ℕ, Bool, true, false, not, cond, ◌&&◌, ◌||◌, nat_eq, List, [], ◌∷◌, ◌++◌, Some, None, Ok, is_some, refl, sym, ap, ◌∙◌, subst, arith}
-use Rattle.std.proofs.lemmas.Bool.Decides.{nat_tests}
+use Rattle.std.proofs.Common.{◌≡◌, ◌≢◌, ℕ, Bool, true, false, not, cond, ◌&&◌, ◌||◌, nat_eq, List, [], ◌∷◌, ◌++◌, Some, None, Ok, is_some, refl, sym, ap, ◌∙◌, subst}
 use Rattle.std.proofs.lemmas.Bool.{false≢true}
+use Rattle.rt_lemmas.proofs.Numbers.{not_zero as tests_false, is_zero as tests_true}
 use Rattle.rt_edits.specs.Nodes.{Parts, parts_of, numbers, numbers_below, has, found, changed, changed_below, changed_in}
 use Rattle.rt_edits.specs.Document.{named, carried, instead, apply}
 use Rattle.rt_edits.specs.Laws.{DiffersAt, Here, Below, ChangesOnly}
@@ -76,7 +76,7 @@ differs number change nodes h =
     children_alike after other (sym d.3 ∙ ap parts_of (changed_below-Element number change [] None [] [] nodes) ∙ parts_of-Element [] None [] [] (changed number change nodes)) in
     subst (λ (xs : List DocNode). DiffersAt number nodes xs) new (subst (λ (xs : List DocNode). DiffersAt number xs d.1) old d.4)
 
-found_has : (number : ℕ) (nodes : List DocNode) → is_some (found number nodes) ≡ has number (numbers nodes)
+pub found_has : (number : ℕ) (nodes : List DocNode) → is_some (found number nodes) ≡ has number (numbers nodes)
 found_has number nodes =
     ap is_some (sym (found_below-Element number [] None [] [] nodes)) ∙ found_has_below number (kinds.Element [] None [] [] nodes) ∙ ap (has number) (numbers_below-Element [] None [] [] nodes)
 
@@ -84,12 +84,6 @@ there : (root some : Bool) → root ≡ false → not root && not some ≡ false
 there true some e h = cc
 there false true e h = refl
 there false false e h = cc
-
-tests_true : (n : ℕ) → n ≡ 0 → nat_eq n 0 ≡ true
-tests_true n e = grind (arith, nat_tests)
-
-tests_false : (n : ℕ) → n ≢ 0 → nat_eq n 0 ≡ false
-tests_false n e = grind (arith, nat_tests)
 
 -- an edit that is made changes nothing outside the node that it names
 pub elsewhere : (edit : Edit) (old new : List DocNode) → apply edit old ≡ Ok new → ChangesOnly edit old new

@@ -1,29 +1,19 @@
 -- Where a change is made, by the parts of a list of nodes.
-use Rattle.std.proofs.Common.{◌≡◌, ◌≢◌, ℕ, zero, ◌+◌, ◌<◌, Bool, true, false, ◌||◌, nat_eq, List, [], ◌∷◌, ◌++◌, length, refl, sym, ap, ◌∙◌, take, drop, slice_index_or, slice_set, remove, suc, add-one, drop-cons, arith, append_assoc}
+use Rattle.std.proofs.Common.{◌≡◌, ◌≢◌, ℕ, zero, ◌+◌, ◌<◌, true, false, ◌||◌, nat_eq, List, [], ◌∷◌, ◌++◌, length, refl, sym, ap, ◌∙◌, take, drop, slice_index_or, slice_set, remove, suc, add-one, drop-cons, arith, append_assoc}
 use Rattle.std.specs.List.{splice}
-use Rattle.std.proofs.lemmas.Bool.Decides.{nat_tests}
 use Rattle.std.proofs.lemmas.List.Folds.{list_any-append}
 use Rattle.std.proofs.lemmas.List.{take-append-drop, set_split}
+pub use Rattle.rt_lemmas.proofs.Bools.{neither}
+use Rattle.rt_lemmas.proofs.Numbers.{eq_true as is_there, eq_other as is_other}
 use Rattle.rt_edits.specs.Nodes.{numbers, numbers_below, has, changed, changed_below}
 use Rattle.rt_edits.specs.Changing.{with_first}
 use Rattle.rt_values.specs.declared.element.ElementId.{ElementId}
 use Rattle.rt_edits.specs.declared.doc_node.DocKind.{DocKind}
 use Rattle.rt_edits.specs.declared.doc_node.DocNode.{DocNode}
 
--- of a test that fails both sides do
-pub neither : (a b : Bool) → a || b ≡ false → (a ≡ false) × (b ≡ false)
-neither true b h = cc
-neither false b h = (refl, h)
-
 pub numbers-append : (xs ys : List DocNode) → numbers (xs ++ ys) ≡ numbers xs ++ numbers ys
 numbers-append [] ys = refl
 numbers-append (x ∷ xs) ys = ap (λ (ns : List ℕ). x.id.0 ∷ (numbers_below x.kind ++ ns)) (numbers-append xs ys) ∙ ap (λ (ns : List ℕ). x.id.0 ∷ ns) (sym (append_assoc (numbers_below x.kind) (numbers xs) (numbers ys)))
-
-is_there : (a b : ℕ) → a ≡ b → nat_eq a b ≡ true
-is_there a b e = grind (arith, nat_tests)
-
-is_other : (a b : ℕ) → a ≢ b → nat_eq a b ≡ false
-is_other a b ne = grind (arith, nat_tests)
 
 -- what an element and the nodes beside it have
 pub has-cons : (number : ℕ) (x : DocNode) (xs : List DocNode) → has number (numbers (x ∷ xs)) ≡ nat_eq x.id.0 number || (has number (numbers_below x.kind) || has number (numbers xs))

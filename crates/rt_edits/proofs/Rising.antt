@@ -2,6 +2,8 @@
 use Rattle.std.proofs.Common.{◌≡◌, ℕ, ◌+◌, ◌<◌, ◌≤◌, Bool, true, false, cond, ◌||◌, nat_eq, nat_lt, max, List, [], ◌∷◌, ◌++◌, Option, Some, None, length, drop, slice_index_or, refl, ap, ◌∙◌, arith}
 use Rattle.std.specs.List.{list_any}
 use Rattle.std.proofs.lemmas.Bool.Decides.{nat_tests}
+use Rattle.rt_lemmas.proofs.Numbers.{lt_true as below, eq_below as unlike}
+use Rattle.rt_lemmas.proofs.Bools.{not_either as or_none}
 use Rattle.rt_edits.specs.Nodes.{numbers, numbers_below, has, times, rising, rising_on, greatest}
 use Rattle.rt_edits.specs.Document.{is_barred}
 use Rattle.rt_edits.specs.declared.doc_node.DocNode.{DocNode}
@@ -29,20 +31,10 @@ pub greatest_next : (nodes : List DocNode) (i : ℕ) (node : DocNode) → i < le
 greatest_next nodes i node h e =
     ap greatest (numbers_next nodes i node h e) ∙ ap (λ (n : ℕ). max node.id.0 n) (greatest-append (numbers_below node.kind) (numbers (drop (i + 1) nodes)))
 
-unlike : (a b : ℕ) → a < b → nat_eq a b ≡ false
-unlike a b h = grind (arith, nat_tests)
-
-or_none : (a b : Bool) → a ≡ false → b ≡ false → a || b ≡ false
-or_none true b e f = e
-or_none false b e f = f
-
 -- a number above all others isn't among them
 above_all : (number : ℕ) (all : List ℕ) → greatest all < number → has number all ≡ false
 above_all number [] h = refl
 above_all number (other ∷ all) h = or_none (nat_eq other number) (has number all) (unlike other number (omega arith)) (above_all number all (omega arith))
-
-below : (a b : ℕ) → nat_lt a b ≡ true → a < b
-below a b h = grind (arith, nat_tests)
 
 one_more : (k other rest : ℕ) → rest ≤ 1 → (k ≤ other → rest ≡ 0) → cond (nat_eq other k) 1 0 + rest ≤ 1
 one_more k other rest h f = grind (arith, nat_tests)

@@ -1,7 +1,7 @@
 -- How often each number stands in a document after a change.
 use Rattle.std.proofs.Common.{◌≡◌, ℕ, ◌+◌, Bool, true, false, cond, ◌||◌, nat_eq, List, [], ◌∷◌, ◌++◌, Option, Some, None, is_some, refl, sym, ap, ◌∙◌, subst, arith}
-use Rattle.std.proofs.lemmas.Bool.Decides.{nat_tests}
 use Rattle.std.proofs.lemmas.List.Folds.{list_any-append}
+pub use Rattle.rt_lemmas.proofs.Numbers.{eq_is as equal_numbers}
 use Rattle.rt_edits.specs.Nodes.{numbers, numbers_below, numbers_in, has, times, found, found_below, found_in, either, changed, changed_below, changed_in}
 use Rattle.rt_edits.specs.declared.doc_node.DocNode.{DocNode}
 use Rattle.rt_edits.specs.declared.doc_node.DocKind.{DocKind, Element', Text, Placeholder, Row_of-DocNode, end_of-DocNode, more_of-DocNode, items-the_row-DocNode}
@@ -24,11 +24,11 @@ stands-cons number x xs = ap (λ (n : ℕ). cond (nat_eq x.id.0 number) 1 0 + n)
 abbrev pub node_of : ℕ → DocKind → DocNode
 node_of number kind = record { id = record { 0 = number }; kind = kind }
 
-some_or : (first later : Option DocKind) → is_some (either first later) ≡ is_some first || is_some later
+pub some_or : (first later : Option DocKind) → is_some (either first later) ≡ is_some first || is_some later
 some_or None later = refl
 some_or (Some kind) later = refl
 
-some_cond : (here : Bool) (kind : DocKind) (first later : Option DocKind) → is_some (cond here (Some kind) (either first later)) ≡ here || (is_some first || is_some later)
+pub some_cond : (here : Bool) (kind : DocKind) (first later : Option DocKind) → is_some (cond here (Some kind) (either first later)) ≡ here || (is_some first || is_some later)
 some_cond true kind first later = refl
 some_cond false kind first later = some_or first later
 
@@ -46,9 +46,6 @@ mutual
   found_has_in number (more_of-DocNode id kind rest) =
       some_cond (nat_eq id.0 number) kind (found_below number kind) (found_in number rest)
       ∙ ap (λ b. nat_eq id.0 number || b) (ap (λ b. b || is_some (found_in number rest)) (found_has_below number kind) ∙ ap (λ b. has number (numbers_below kind) || b) (found_has_in number rest) ∙ sym (list_any-append (λ other. nat_eq other number) (numbers_below kind) (numbers_in rest)))
-
-pub equal_numbers : (a b : ℕ) → nat_eq a b ≡ true → a ≡ b
-equal_numbers a b h = grind (arith, nat_tests)
 
 -- what a change adds and takes away: the numbers of what it puts there, and those of the node
 abbrev pub Exchanges : ℕ → (DocNode → List DocNode) → DocKind → List ℕ → List ℕ → Type 0

@@ -1,19 +1,15 @@
 -- Tokens give the nodes back that they were made of.
 use Rattle.std.proofs.Common.{◌≡◌, Bool, true, ◌&&◌, ℕ, List, [], ◌∷◌, ◌++◌, Option, Some, None, if◌then◌else◌, refl, sym, ap, ◌∙◌, append_assoc, append-nil}
 use Rattle.rt_model.specs.Document.{DocAttribute, DocElement, DocText, DocPlaceholder, Forest, Empty, Node, join_rows}
-use Rattle.rt_model.specs.Lists.{Text, same_numbers, same_option}
+use Rattle.rt_model.specs.Lists.{Text, same_numbers}
 use Rattle.rt_model.proofs.Among.{numbers_same}
+use Rattle.rt_model.proofs.Quiet.{option_same as space-self}
 use Rattle.rt_html.specs.Tokens.{plain, tokens, Token, Opens, Shuts, Says, Holds, Shut, Reading, read_on, read_all, same_name, whole, nodes_of_tokens}
 
 -- a row before no row
 pub join-none : (f : Forest) → join_rows f Empty ≡ f
 join-none Empty = refl
 join-none (Node number content children rest) = ap (λ r. Node number content children r) (join-none rest)
-
--- a name is the same as itself
-space-self : (namespace : Option Text) → same_option same_numbers namespace namespace ≡ true
-space-self None = refl
-space-self (Some namespace) = numbers_same namespace
 
 name-self : (namespace : Option Text) (tag : Text) (behind : Forest) → same_name namespace tag (record { namespace = namespace; tag = tag; behind = behind }) ≡ true
 name-self namespace tag behind = ap (λ b. b && same_numbers tag tag) (space-self namespace) ∙ numbers_same tag

@@ -3,17 +3,12 @@ use Rattle.std.proofs.Common.{◌≡◌, ◌≢◌, ℕ, ◌+◌, Bool, true, fa
 use Rattle.std.proofs.lemmas.Bool.{ne_eqb}
 use Rattle.std.proofs.lemmas.Bool.Decides.{nat_tests}
 use Rattle.std.proofs.lemmas.List.Elements.{filter-append}
+pub use Rattle.rt_lemmas.proofs.Lists.{append_nil as nil}
+pub use Rattle.rt_lemmas.proofs.Numbers.{eq_same as same_number}
 use Rattle.rt_inbox.specs.declared.message.Post.{Post}
 use Rattle.rt_inbox.specs.declared.message.Msg.{Msg}
 use Rattle.rt_inbox.specs.Merge.{of_poster, numbered, HasPosted}
 use Rattle.rt_inbox.specs.Rule.{Entry, times, AllPosted}
-
-pub same_number : (p : ℕ) → nat_eq p p ≡ true
-same_number p = grind (arith, nat_tests)
-
-pub nil : {A : Type 0} (xs : List A) → xs ++ [] ≡ xs
-nil [] = refl
-nil (x ∷ xs) = ap (λ ys. x ∷ ys) (nil xs)
 
 pub of_poster-append : (p : ℕ) (xs ys : List Msg) → of_poster p (xs ++ ys) ≡ of_poster p xs ++ of_poster p ys
 of_poster-append p xs ys = filter-append (λ (m : Msg). nat_eq m.poster p) xs ys

@@ -1,6 +1,7 @@
 -- What is computed of memos and resources only looks, and each source polls them as they are defined.
 use Rattle.std.proofs.Common.{ℕ, Bool, true, false, List, [], ◌∷◌, ◌≡◌, ◌&&◌, refl}
 use Rattle.std.specs.Prelude.{Option, Some, None}
+use Rattle.rt_lemmas.proofs.Bools.{never as no}
 use Rattle.rt_model.specs.Program.{Program, done, read, consume_context}
 use Rattle.rt_model.proofs.Conjunctions.{and-left, and-right}
 use Rattle.author_programs.specs.Sequence.{go_on}
@@ -12,12 +13,6 @@ use Rattle.rt_language.specs.Expressions.{Deriving, SourceTypes, AnotherCall, Ev
 use Rattle.rt_language.specs.Formulas.{looks, all_look, computed_of, only}
 use Rattle.rt_language.specs.Laws.{ExpressionsLook, SourcesPollMemos}
 use Rattle.rt_language.proofs.Lawful.{value}
-
-no : {P : Type 0} → false ≡ true → P
-no e = absurd (apart e)
-  where
-    apart : false ≡ true → ⊥
-    apart h = cc
 
 done_looks : {A : Type 0} (a : A) → Looks {K = SourceTypes} (done a)
 unfolding Looks

@@ -1,7 +1,8 @@
 -- The application of every source is lawful: its tests decide, and equal props mean the same.
-use Rattle.std.proofs.Common.{ℕ, true, List, ◌≡◌, refl, ap, nat_eq}
+use Rattle.std.proofs.Common.{true, List, ◌≡◌, refl, ap, nat_eq}
 use Rattle.std.specs.Prelude.{ℤ, pos, negsuc}
 use Rattle.std.proofs.lemmas.Bool.{eqb-true}
+use Rattle.rt_lemmas.proofs.Numbers.{eq_is as place-true}
 use Rattle.rt_model.specs.Laws.{Tests}
 use Rattle.rt_model.specs.Program.{body_means}
 use Rattle.rt_model.proofs.Maps.{eq_same}
@@ -52,9 +53,6 @@ doing-true a b h =
 
 doing-same : (a : Doing) → same_doing a a ≡ true
 doing-same a = both (eq_same a.action) (values.1 a.arguments)
-
-place-true : (a b : ℕ) → nat_eq a b ≡ true → a ≡ b
-place-true a b h = eqb-true a b h
 
 -- the laws
 pub sources_are_lawful : SourcesAreLawful

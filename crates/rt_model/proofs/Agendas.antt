@@ -1,6 +1,7 @@
 -- What a patch keeps of the numbers and children of a side, and which numbers it draws.
 use Rattle.std.proofs.Common.{ℕ, Bool, true, false, List, [], ◌∷◌, ◌++◌, ◌≡◌, ◌<◌, ◌&&◌, ◌||◌, ◌⊎◌, refl, sym, ap, ◌∙◌, subst, arith, inl, inr}
 use Rattle.std.specs.Prelude.{Some, if◌then◌else◌}
+use Rattle.rt_lemmas.proofs.Bools.{or_all as or_true}
 use Rattle.rt_model.specs.Tree.{Types, VComponent, Tree, Place, same_place, Kind, same_kind, Spot, node_at, component_at}
 use Rattle.rt_model.specs.World.{Application}
 use Rattle.rt_model.specs.State.{SideName, Item, Draw, Feed, Make}
@@ -49,10 +50,6 @@ number_new (e ∷ es) p k n all h =
     by_test (is_here e p k)
     (λ q. subst (λ (i : ℕ). 0 < i) (sym (pick_true e.2 (number_at (es ++ (p, k, n) ∷ []) p k) q)) (all e.0 e.1 e.2 (inl refl)))
     (λ q. subst (λ (i : ℕ). 0 < i) (sym (pick_false e.2 (number_at (es ++ (p, k, n) ∷ []) p k) q)) (number_new es p k n (λ r l i g. all r l i (inr g)) h))
-
-or_true : (b : Bool) → b || true ≡ true
-or_true true = refl
-or_true false = refl
 
 among_if : {A : Type 0} (b : Bool) (x : A) (xs : List A) (y : A) → Among (if b then x ∷ xs else xs) y → (x ≡ y) ⊎ Among xs y
 among_if true x xs y (inl h) = inl h

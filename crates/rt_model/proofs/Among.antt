@@ -3,6 +3,7 @@ use Rattle.std.proofs.Common.{ℕ, Bool, true, false, ◌&&◌, ◌||◌, List, 
 use Rattle.std.specs.Prelude.{Option, Some, None}
 use Rattle.std.specs.List.{AllByRecursion}
 use Rattle.std.proofs.lemmas.List.Elements.{All-from_recursion, All-contains}
+use Rattle.rt_lemmas.proofs.Bools.{and_both as both}
 use Rattle.rt_model.specs.Lists.{same_numbers, same_option, same_list}
 use Rattle.rt_model.specs.Tree.{TemplateAttribute, fixed, from_slot, TemplateNodes, no_nodes, element_node, text_node, slot_node, Template, same_attribute, same_nodes, same_template, Step, inside, item, Place, same_step, same_place, Kind, an_element, a_static_text, a_text, a_placeholder, an_empty_fragment, same_kind}
 use Rattle.rt_model.proofs.Maps.{eq_same}
@@ -55,9 +56,6 @@ module _ {A : Type 0} where
   option_same : (same : A → A → Bool) → Reflects same → (o : Option A) → same_option same o o ≡ true
   option_same same f None = refl
   option_same same f (Some a) = f a
-
-both : (a b : Bool) → a ≡ true → b ≡ true → a && b ≡ true
-both a b p q = ap (λ (x : Bool). x && b) p ∙ q
 
 pub numbers_same : (a : List ℕ) → same_numbers a a ≡ true
 numbers_same [] = refl

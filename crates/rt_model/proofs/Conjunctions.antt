@@ -1,10 +1,2 @@
 -- What a conjunction of tests says of both.
-use Rattle.std.proofs.Common.{Bool, true, false, ◌&&◌, ◌≡◌, refl}
-
-pub and-left : (a b : Bool) → a && b ≡ true → a ≡ true
-and-left true b h = refl
-and-left false b h = cc
-
-pub and-right : (a b : Bool) → a && b ≡ true → b ≡ true
-and-right true b h = h
-and-right false b h = cc
+pub use Rattle.rt_lemmas.proofs.Bools.{and_left as and-left, and_right as and-right}

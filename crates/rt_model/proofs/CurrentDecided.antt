@@ -2,6 +2,7 @@
 use Rattle.std.proofs.Common.{ℕ, Bool, true, false, ◌&&◌, List, [], ◌∷◌, ◌≡◌, refl, sym, ap, ◌∙◌}
 use Rattle.std.specs.Prelude.{Option, Some, None}
 use Rattle.std.specs.List.{AllByRecursion}
+use Rattle.rt_lemmas.proofs.Bools.{never}
 use Rattle.rt_model.specs.Lists.{at, same_list}
 use Rattle.rt_model.specs.Tree.{Types, Tree, VComponent, Own, Root, Fragment, ErrorBoundary, SuspenseBoundary, Element, rendered, failed, suspended}
 use Rattle.rt_model.specs.World.{Source, same_source, Meaning, Application}
@@ -20,9 +21,6 @@ Decides b P = (b ≡ true → P) × (P → b ≡ true)
 
 two : (a b : Bool) {P Q : Type 0} → Decides a P → Decides b Q → Decides (a && b) (P × Q)
 two a b d e = (λ h. (d.0 (and-left a b h), e.0 (and-right a b h)), λ h. both (d.1 h.0) (e.1 h.1))
-
-never : {P : Type 0} → false ≡ true → P
-never h = cc
 
 itself : (b : Bool) → Decides b (b ≡ true)
 itself b = (λ h. h, λ h. h)

@@ -1,6 +1,7 @@
 -- Equal givens and equal reads give a program the same meaning.
 use Rattle.std.proofs.Common.{ℕ, zero, suc, Bool, true, false, List, [], ◌∷◌, ◌+◌, ◌≡◌, ◌<◌, ◌≤◌, refl, ap, ◌∙◌, nat_lt, nat_eq, arith}
 use Rattle.std.specs.Prelude.{Option, Some, None, if◌then◌else◌, is_some, length}
+use Rattle.rt_lemmas.proofs.Numbers.{lt_true as tested_low, lt_false as tested_high}
 use Rattle.rt_model.specs.Lists.{at, nth}
 use Rattle.rt_model.specs.Tree.{Types, CapturedError}
 use Rattle.rt_model.specs.World.{Source, Cell, Error, Context, at_end, Contexts, Cells, Tasks, Errors, CounterAtEnd, OtherHook, Hook, HookValue, HookEffect, Given, Values, World, Meaning}
@@ -11,12 +12,6 @@ use Rattle.rt_model.proofs.Maps.{by_test, at_here, at_there}
 -- a number below the next one that isn't the last drawn was drawn before it
 below_last : (n m : ℕ) → n < m + 1 → nat_eq m n ≡ false → n < m
 below_last n m low other = grind (arith, low, other)
-
-tested_low : (n m : ℕ) → nat_lt n m ≡ true → n < m
-tested_low n m q = grind (arith, q)
-
-tested_high : (n m : ℕ) → nat_lt n m ≡ false → m ≤ n
-tested_high n m q = grind (arith, q)
 
 nothing_between : {P : Type 0} (n m : ℕ) → m ≤ n → n < m → P
 nothing_between n m high low = absurd (apart high low)

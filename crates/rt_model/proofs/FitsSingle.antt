@@ -2,6 +2,7 @@
 use Rattle.std.proofs.Common.{ℕ, zero, suc, ◌+◌, ◌≤◌, ◌<◌, Bool, true, false, ◌&&◌, ◌||◌, not, List, [], ◌∷◌, ◌++◌, length, ◌≡◌, refl, sym, ap, subst, ◌∙◌, nat_eq, arith}
 use Rattle.std.specs.Prelude.{Option, Some, None, nat_lt}
 use Rattle.std.proofs.lemmas.Bool.{eqb-true, ltb-true, ltb-false}
+use Rattle.rt_lemmas.proofs.Bools.{both_true}
 use Rattle.rt_model.specs.Lists.{Text, same_numbers, same_list}
 use Rattle.rt_model.specs.Tree.{Types, TemplateAttribute, fixed, from_slot, TemplateNodes, no_nodes, element_node, text_node, slot_node, Template, Attribute, Tree, block, Slots, no_slots, more_slots, Slot, text_slot, placeholder_slot, component_slot, fragment_slot, Trees, no_trees, more_trees, attributes_in, slots_among, attribute_slots, node_slots, paths_of}
 use Rattle.rt_model.specs.World.{Application}
@@ -59,9 +60,6 @@ not_or false c d f h = f h
 named_front : (a : Text × Option Text) (xs ys : List (Text × Option Text)) → not (is_named a (xs ++ ys)) ≡ true → not (is_named a xs) ≡ true
 named_front a [] ys h = refl
 named_front a (x ∷ xs) ys h = not_or (same_name a x) (is_named a (xs ++ ys)) (is_named a xs) (λ g. named_front a xs ys g) h
-
-both_true : {a b : Bool} → a ≡ true → b ≡ true → a && b ≡ true
-both_true p q = rw (p, q) refl
 
 once_front : (xs ys : List (Text × Option Text)) → all_once (xs ++ ys) ≡ true → all_once xs ≡ true
 once_front [] ys h = refl

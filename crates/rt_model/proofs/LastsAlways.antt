@@ -3,6 +3,7 @@ use Rattle.std.proofs.Common.{ℕ, zero, suc, Bool, true, false, List, [], ◌�
 use Rattle.std.specs.Prelude.{Option, Some, None, if◌then◌else◌, is_some}
 use Rattle.std.specs.List.{AllByRecursion}
 use Rattle.std.proofs.lemmas.Bool.{eqb-true}
+use Rattle.rt_lemmas.proofs.Bools.{never as absurd_bool}
 use Rattle.rt_model.specs.Lists.{at}
 use Rattle.rt_model.specs.Tree.{Types, VComponent, Place, Root}
 use Rattle.rt_model.specs.World.{Scopes, at_end, Application}
@@ -21,9 +22,6 @@ use Rattle.rt_model.proofs.RunFrames.{rises_refl, rises_trans, run_later}
 use Rattle.rt_model.proofs.StepFrames.{none_by_shape, Follows, IsGone, removed_gone}
 use Rattle.rt_model.proofs.MachineFrames.{by_order, parent_or, settled_later, step_follows}
 use Rattle.rt_model.proofs.OneLogOnly.{same_entry-true, fork}
-
-absurd_bool : {P : Type 0} → false ≡ true → P
-absurd_bool h = cc
 
 pub inj_entry : {d e : Entry} → Some d ≡ Some e → d ≡ e
 inj_entry h = cc

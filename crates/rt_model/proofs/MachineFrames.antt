@@ -1,7 +1,8 @@
 -- What each entry of a log leaves as it was.
 use Rattle.std.proofs.Common.{ℕ, zero, suc, Bool, true, false, List, [], ◌∷◌, ◌++◌, ◌≡◌, ◌≤◌, ◌<◌, ◌+◌, not, refl, sym, ap, ◌∙◌, arith, subst, nat_eq, nat_lt}
-use Rattle.std.proofs.lemmas.Bool.{eqb-true}
 use Rattle.std.specs.Prelude.{Option, Some, None, if◌then◌else◌}
+use Rattle.rt_lemmas.proofs.Numbers.{eq_is as same_of, eq_over as not_same, eq_before as not_same_above}
+use Rattle.rt_lemmas.proofs.Options.{some_is as inj_some}
 use Rattle.rt_model.specs.Lists.{at, put}
 use Rattle.rt_model.specs.Tree.{Types, VComponent, Place, Kind}
 use Rattle.rt_model.specs.World.{Scopes, Elements, Firsts, at_end, CallFault, Event, Meaning, Application}
@@ -23,16 +24,6 @@ use Rattle.rt_model.proofs.Frames.{shape, shape_steady, with_put, change_same, p
 use Rattle.rt_model.proofs.RunFrames.{rises_refl, tasks_from, later_goes, later_calls, Later, later_refl, later_trans, after_next, later_same, LaterO, change_later, called, next_later, run_later, step_later, from_later, once_later}
 use Rattle.rt_model.proofs.StepFrames.{look_same, rest_same, Follows, follows_later, follows_trans, follows_refl, removed_follows}
 
--- numbers that differ
-not_same : (n t : ℕ) → t < n → nat_eq n t ≡ false
-not_same n t l = grind (arith, l)
-
-not_same_above : (n t : ℕ) → n + 1 ≤ t → nat_eq n t ≡ false
-not_same_above n t l = grind (arith, l)
-
-same_of : (n t : ℕ) → nat_eq n t ≡ true → n ≡ t
-same_of n t h = eqb-true n t h
-
 pub by_order : {P : Type 0} (t n : ℕ) → (t < n → P) → (n ≤ t → P) → P
 by_order t n f g =
     by_test (nat_lt t n)
@@ -42,9 +33,6 @@ by_order t n f g =
 abbrev height_at : Option (Option ℕ × ℕ) → ℕ
 height_at None = 0
 height_at (Some p) = p.1
-
-inj_some : {a b : ℕ} → Some a ≡ Some b → a ≡ b
-inj_some h = cc
 
 module _ {K : Types} where
   abbrev pub parent_or : Option (Scope K) → Option ℕ

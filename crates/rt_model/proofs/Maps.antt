@@ -1,7 +1,8 @@
 -- What stands under a number after a change of a list of pairs.
-use Rattle.std.proofs.Common.{ℕ, Bool, true, false, List, [], ◌∷◌, ◌++◌, ◌≡◌, refl, sym, ap, ◌∙◌, nat_eq, arith}
+use Rattle.std.proofs.Common.{ℕ, Bool, true, false, List, [], ◌∷◌, ◌++◌, ◌≡◌, refl, sym, ap, ◌∙◌, nat_eq}
 use Rattle.std.specs.Prelude.{Option, Some, None, if◌then◌else◌}
 use Rattle.std.proofs.lemmas.Bool.{eqb-true}
+pub use Rattle.rt_lemmas.proofs.Numbers.{eq_same}
 use Rattle.rt_model.specs.Lists.{at, put, without}
 
 pub pick_true : {A : Type 0} {b : Bool} (x y : A) → b ≡ true → (if b then x else y) ≡ x
@@ -9,9 +10,6 @@ pick_true x y e = ap (λ (z : Bool). if z then x else y) e
 
 pub pick_false : {A : Type 0} {b : Bool} (x y : A) → b ≡ false → (if b then x else y) ≡ y
 pick_false x y e = ap (λ (z : Bool). if z then x else y) e
-
-pub eq_same : (n : ℕ) → nat_eq n n ≡ true
-eq_same n = grind (arith)
 
 -- by what a test says
 pub by_test : {P : Type 0} (b : Bool) → (b ≡ true → P) → (b ≡ false → P) → P

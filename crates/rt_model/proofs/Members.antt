@@ -1,28 +1,15 @@
 -- Tests that hold, and which numbers a list has after one joins or leaves it.
-use Rattle.std.proofs.Common.{ℕ, Bool, true, false, List, [], ◌∷◌, ◌++◌, ◌≡◌, ◌⊎◌, inl, inr, ◌||◌, refl, sym, ap, ◌∙◌, nat_eq, arith}
+use Rattle.std.proofs.Common.{ℕ, Bool, true, false, List, [], ◌∷◌, ◌++◌, ◌≡◌, ◌⊎◌, inl, inr, ◌||◌, refl, sym, ap, ◌∙◌, nat_eq}
 use Rattle.std.proofs.lemmas.Bool.{eqb-true}
 use Rattle.std.specs.Prelude.{if◌then◌else◌}
+pub use Rattle.rt_lemmas.proofs.Bools.{or_right, clash, or_left}
+pub use Rattle.rt_lemmas.proofs.Numbers.{other_way as turned_round}
 use Rattle.rt_model.specs.Lists.{drop_number, has, join}
 use Rattle.rt_model.proofs.Maps.{by_test, pick_true, pick_false, eq_same}
-
--- a test has one value
-pub clash : {P : Type 0} {b : Bool} → b ≡ true → b ≡ false → P
-clash h g = cc
-
--- either test
-pub or_left : (a b : Bool) → a ≡ true → a || b ≡ true
-or_left a b h = ap (λ (c : Bool). c || b) h
-
-pub or_right : (a b : Bool) → b ≡ true → a || b ≡ true
-or_right true b h = refl
-or_right false b h = h
 
 pub by_either : {P : Type 0} (a b : Bool) → a || b ≡ true → (a ≡ true → P) → (b ≡ true → P) → P
 by_either true b h f g = f refl
 by_either false b h f g = g h
-
-pub turned_round : (a b : ℕ) → nat_eq a b ≡ false → nat_eq b a ≡ false
-turned_round a b h = grind (arith, h)
 
 -- numbers
 
@@ -44,14 +31,14 @@ number_stays (x ∷ xs) n s other h =
     (λ g. or_right (nat_eq x s) (has (drop_number xs n) s) (number_stays xs n s other g))
     )
 
-has_first : (xs ys : List ℕ) (s : ℕ) → has xs s ≡ true → has (xs ++ ys) s ≡ true
+pub has_first : (xs ys : List ℕ) (s : ℕ) → has xs s ≡ true → has (xs ++ ys) s ≡ true
 has_first [] ys s h = clash h refl
 has_first (x ∷ xs) ys s h =
     by_either (nat_eq x s) (has xs s) h
     (λ g. or_left (nat_eq x s) (has (xs ++ ys) s) g)
     (λ g. or_right (nat_eq x s) (has (xs ++ ys) s) (has_first xs ys s g))
 
-has_last : (xs : List ℕ) (s : ℕ) → has (xs ++ s ∷ []) s ≡ true
+pub has_last : (xs : List ℕ) (s : ℕ) → has (xs ++ s ∷ []) s ≡ true
 has_last [] s = or_left (nat_eq s s) false (eq_same s)
 has_last (x ∷ xs) s = or_right (nat_eq x s) (has (xs ++ s ∷ []) s) (has_last xs s)
 

@@ -1,6 +1,8 @@
 -- After every accepted log the state is well numbered.
 use Rattle.std.proofs.Common.{ℕ, zero, suc, Bool, true, false, List, [], ◌∷◌, ◌≡◌, ◌<◌, ◌&&◌, ◌⊎◌, not, refl, sym, ap, ◌∙◌, subst, arith, nat_eq, inl, inr}
 use Rattle.std.specs.Prelude.{Option, Some, None, if◌then◌else◌, is_some}
+use Rattle.rt_lemmas.proofs.Bools.{first_of as drawn_number}
+use Rattle.rt_lemmas.proofs.Options.{not_some as no_fault}
 use Rattle.rt_model.specs.Lists.{at}
 use Rattle.rt_model.specs.Tree.{Types, VComponent, Root, Place, same_place, node_at, spots}
 use Rattle.rt_model.specs.World.{at_end, Scopes, CallFault, Event, Meaning, Application}
@@ -261,10 +263,6 @@ module _ {K : Types} (app : Application K) (lawful : IsLawful K app) where
   pub start_sound : (props : K.Props) (inputs : List (Input K)) → Sound (start app props inputs)
   start_sound props inputs = record { rooted = start_rooted app props inputs; stands = λ q. start_stands props inputs; awaits = λ q. inr refl }
 
-drawn_number : {P : Type 0} → P ⊎ ⊥ → P
-drawn_number (inl h) = h
-drawn_number (inr h) = absurd h
-
 -- a child that is found in a slot is among the children
 pub child_among : (cs : List (Place × ℕ)) (p : Place) (t : ℕ) → child_at cs p ≡ Some t → Among cs (p, t)
 child_among [] p t h = cc
@@ -278,10 +276,6 @@ child_among (e ∷ cs) p t h =
 
     found : {n : ℕ} → Some n ≡ Some t → n ≡ t
     found q = cc
-
-no_fault : (o : Option Fault) → not (is_some o) ≡ true → o ≡ None
-no_fault None h = refl
-no_fault (Some f) h = cc
 
 module _ {K : Types} where
   none_left : (work : List (Item K)) → no_work work ≡ true → work ≡ []

@@ -2,14 +2,12 @@
 use Rattle.std.proofs.Common.{ℕ, zero, suc, Bool, true, false, List, [], ◌∷◌, ◌+◌, ◌≡◌, refl, ap, nat_lt, nat_eq}
 use Rattle.std.specs.Prelude.{Option, Some, None, if◌then◌else◌, length}
 use Rattle.std.proofs.lemmas.Bool.{eqb-true}
+use Rattle.rt_lemmas.proofs.Bools.{clash as bool_apart}
 use Rattle.rt_model.specs.Lists.{at, nth}
 use Rattle.rt_model.specs.Tree.{Types}
 use Rattle.rt_model.specs.World.{Source, Cell, Error, Context, Scopes, Tasks, Cells, Contexts, Elements, Errors, Renders, Firsts, last_number, at_end, CallFault, CounterAtEnd, OtherHook, Hook, HookValue, HookEffect, World, Meaning}
 use Rattle.rt_model.specs.Program.{Program, done, current_scope, parent_scope, current_task, rendering, generation, read, error, consume_context, has_context, new_context, run_in, reset_and_run_in, leave, new_cell, write, drop_cell, spawn, remove_future, wake, set_active, queue_effect, after_suspense_resolved, freeze, provide, needs_update, captured, throw, clear_errors, hook_is_new, use_hook, use_effect, Call, first_fault, faults, noted_at, noted, value_in, parent_in, nearest_boundary, error_in, noted_error, own_context, Found, found_at, no_further, further_up, looked_up, look_up, look_here, own_scope_or, past_hook, kind_of, hook_value, hook_stands, hooked, drew_cell, drew_context, drew_task, drew_error, exec, begun, body_means, call_means}
 use Rattle.rt_model.specs.Laws.{IsRefusal, IsFault, Refuses}
-
-bool_apart : {P : Type 0} {b : Bool} → b ≡ true → b ≡ false → P
-bool_apart p q = cc
 
 last_ends : (n : ℕ) → Some n ≡ Some last_number → at_end n ≡ true
 last_ends n h = ap (λ (m : ℕ). at_end m) (inj_number h)

@@ -34,7 +34,7 @@ rises_trans f g h a b =
     let t : f.errors ≤ h.errors = omega (arith, a.errors, b.errors) in
     record { tasks = p; cells = q; contexts = r; elements = s; errors = t }
 
-count_rises : (n : ℕ) (xs : List ℕ) (k : ℕ) → CountUp n xs k → n ≤ k
+pub count_rises : (n : ℕ) (xs : List ℕ) (k : ℕ) → CountUp n xs k → n ≤ k
 count_rises n [] k h = omega (arith, h)
 count_rises n (x ∷ xs) k h = let more : n + 1 ≤ k = count_rises (n + 1) xs k h.1 in omega (arith, more)
 

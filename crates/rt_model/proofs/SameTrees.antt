@@ -2,6 +2,7 @@
 use Rattle.std.proofs.Common.{ℕ, Bool, true, ◌&&◌, List, [], ◌∷◌, ◌≡◌, refl, ap, nat_eq}
 use Rattle.std.specs.Prelude.{Option, Some, None}
 use Rattle.std.proofs.lemmas.Bool.{eqb-true}
+pub use Rattle.rt_lemmas.proofs.Bools.{both_true as both}
 use Rattle.rt_model.specs.Lists.{same_numbers, same_option, same_list}
 use Rattle.rt_model.specs.Tree.{Types, same_template, CapturedError, AttributeValue, text_value, no_value, listener, Attribute, Tree, block, Slots, no_slots, more_slots, Slot, text_slot, placeholder_slot, component_slot, fragment_slot, Trees, no_trees, more_trees, VComponent, Own, Root, Fragment, ErrorBoundary, SuspenseBoundary, Element, rendered, failed, suspended}
 use Rattle.rt_model.specs.World.{Source, Cell, Error, Context, same_source, Application}
@@ -11,10 +12,6 @@ use Rattle.rt_model.proofs.Maps.{eq_same}
 use Rattle.rt_model.proofs.Conjunctions.{and-left, and-right}
 use Rattle.rt_model.proofs.Among.{numbers_same, template_same}
 use Rattle.rt_model.proofs.SamePlaces.{numbers-true, template-true}
-
--- two tests that hold hold together
-pub both : {a b : Bool} → a ≡ true → b ≡ true → (a && b) ≡ true
-both p q = rw (p, q) refl
 
 module _ {A : Type 0} (same : A → A → Bool) where
   -- options that the test finds equal are equal, where it is right of values
@@ -61,7 +58,7 @@ error-true a b h =
 error-same : (a : CapturedError) → same_error a a ≡ true
 error-same a = both (eq_same a.serial) (numbers_same a.text)
 
-source-true : (a b : Source) → same_source a b ≡ true → a ≡ b
+pub source-true : (a b : Source) → same_source a b ≡ true → a ≡ b
 source-true (Cell a) (Cell b) h = ap Cell (eqb-true a b h)
 source-true (Error a) (Error b) h = ap Error (eqb-true a b h)
 source-true (Context k a) (Context j b) h =
@@ -70,7 +67,7 @@ source-true (Context k a) (Context j b) h =
     λ t. Context (kind t) (scope t)
 source-true _ _ h = cc
 
-source-same : (a : Source) → same_source a a ≡ true
+pub source-same : (a : Source) → same_source a a ≡ true
 source-same (Cell a) = eq_same a
 source-same (Error a) = eq_same a
 source-same (Context k a) = both (eq_same k) (eq_same a)

@@ -1,6 +1,7 @@
 -- Reports are told of just the logs that replay accepts.
 use Rattle.std.proofs.Common.{Bool, true, false, ◌&&◌, ◌||◌, not, List, [], ◌∷◌, ◌++◌, ◌≡◌, refl, sym, ap, ◌∙◌}
 use Rattle.std.specs.Prelude.{Option, Some, None, if◌then◌else◌}
+use Rattle.rt_lemmas.proofs.Options.{some_same as some-is}
 use Rattle.rt_model.specs.Lists.{joined}
 use Rattle.rt_model.specs.Tree.{Types}
 use Rattle.rt_model.specs.World.{Application}
@@ -12,10 +13,6 @@ use Rattle.rt_model.specs.Causes.{Limits, refusal, replay_within}
 use Rattle.rt_model.specs.Headline.{last_machine}
 use Rattle.rt_model.specs.Finished.{ToldIsReplayed}
 use Rattle.rt_model.proofs.FaultsOnce.{open_gate}
-
--- the same value
-some-is : {A : Type 0} (a b : A) → Some a ≡ Some b → a ≡ b
-some-is a b h = cc
 
 module _ {K : Types} (app : Application K) where
   -- a unit's close leaves the replay

@@ -1,6 +1,8 @@
 -- A log that goes on within the limits to its end leaves no other one that comes to a refusal.
 use Rattle.std.proofs.Common.{Bool, true, false, ◌&&◌, not, List, [], ◌∷◌, ◌≡◌, refl, sym, ap, ◌∙◌, subst, nat_eq, ℕ}
 use Rattle.std.specs.Prelude.{Option, Some, None, is_some, if◌then◌else◌}
+use Rattle.rt_lemmas.proofs.Bools.{not_true as is_false, and_none as ends_false}
+use Rattle.rt_lemmas.proofs.Options.{not_some as none_of, none_of as none_next}
 use Rattle.rt_model.specs.Lists.{first_of}
 use Rattle.rt_model.specs.Tree.{Types}
 use Rattle.rt_model.specs.World.{Application}
@@ -14,10 +16,6 @@ use Rattle.rt_model.proofs.OneLogOnly.{is_due-same}
 use Rattle.rt_model.proofs.Conjunctions.{and-left, and-right}
 use Rattle.rt_model.proofs.FaultsOnce.{open_gate}
 
-none_of : {A : Type 0} (o : Option A) → not (is_some o) ≡ true → o ≡ None
-none_of None h = refl
-none_of (Some a) h = cc
-
 no_items : {K : Types} (work : List (Item K)) → no_work work ≡ true → work ≡ []
 no_items [] h = refl
 no_items (i ∷ rest) h = cc
@@ -25,15 +23,6 @@ no_items (i ∷ rest) h = cc
 no_ears : {K : Types} (ls : List (Listener K)) → no_listener ls ≡ true → ls ≡ []
 no_ears [] h = refl
 no_ears (l ∷ ls) h = cc
-
-is_false : (b : Bool) → not b ≡ true → b ≡ false
-is_false false h = refl
-is_false true h = cc
-
--- a conjunction that ends in false
-ends_false : (a d : Bool) → d ≡ false → (a && d) ≡ false
-ends_false true d h = h
-ends_false false d h = refl
 
 module _ {K : Types} (app : Application K) (limits : Limits) where
   only : (m v u : Machine K) (log other : List Entry)
@@ -62,10 +51,6 @@ module _ {K : Types} (app : Application K) (limits : Limits) where
       let heads : e ≡ f = is_due-same app (due app m) e f o.1 c.1 in
       let rest : replay_within app limits (Some (step app m e)) fs ≡ Some u = subst (λ (x : Entry). replay_within app limits (Some (step app m x)) fs ≡ Some u) (sym heads) c.2 in
       only (step app m e) v u es fs o.2 rest d r
-
-none_next : {A : Type 0} (o : Option A) → is_some o ≡ false → o ≡ None
-none_next None h = refl
-none_next (Some a) h = cc
 
 module _ {K : Types} (app : Application K) where
   any_of : (v : Machine K) (d : Option Fault) (b : Bool) → d ≡ None → b ≡ true

@@ -2,6 +2,7 @@
 use Rattle.std.proofs.Common.{ℕ, zero, suc, ◌+◌, ◌≤◌, ◌<◌, [], ◌≡◌, refl, sym, ap, ◌∙◌, nat_eq, length, arith}
 use Rattle.std.specs.Prelude.{Option, Some, None, Contains}
 use Rattle.std.proofs.lemmas.Bool.{eqb-true}
+use Rattle.rt_lemmas.proofs.Options.{some_is as same_some}
 use Rattle.rt_model.specs.Lists.{at}
 use Rattle.rt_model.specs.Tree.{Types, Tree, Place, Kind, Spot, node_at, component_at, spots}
 use Rattle.rt_model.specs.State.{SideName, Side, Scope, State, side_of, parent_of}
@@ -13,9 +14,6 @@ use Rattle.rt_model.proofs.SamePlaces.{number_stands}
 use Rattle.rt_model.proofs.Places.{place_of, spots_distinct}
 use Rattle.rt_model.proofs.ViewCounts.{one_if, passes, shown, total, tree_count, Shows, some, few}
 use Rattle.rt_model.proofs.WellNumbered.{WellNumbered}
-
-same_some : {A : Type 0} {a b : A} → Some a ≡ Some b → a ≡ b
-same_some h = cc
 
 module _ {K : Types} (w : State K) (good : WellNumbered w) (i : ℕ) where
   -- the scope that so many steps up lead to

@@ -1,11 +1,7 @@
 -- Fronts of texts that were put, one after the other.
 use Rattle.std.proofs.Common.{◌≡◌, List, [], ◌∷◌, ◌++◌, ℕ, Some, None, refl, ap, sym, ◌∙◌, append_assoc, append-nil}
 use Rattle.show_streams.specs.Writes.{AddsFront, Begins, Puts, grown}
-
--- nothing is put
-pub grown_none : (old : Puts) → grown old [] ≡ old
-grown_none None = refl
-grown_none (Some puts) = ap Some (append-nil puts)
+pub use Rattle.show_streams.proofs.OnePut.{grown_none}
 
 -- what is put twice is put at once
 pub grown_both : (old : Puts) (a b : List (List ℕ)) → grown (grown old a) b ≡ grown old (a ++ b)

@@ -3,6 +3,7 @@ use Rattle.std.proofs.Common.{◌≡◌, ℕ, ◌+◌, ◌<◌, ◌≤◌, suc, 
 use Rattle.std.proofs.Math.Seq.{take-suc}
 use Rattle.std.proofs.lemmas.List.{take_all}
 use Rattle.std.specs.Prelude.{◌&&◌, IfSome}
+use Rattle.rt_lemmas.proofs.Bools.{and_false}
 use Rattle.rt_html.specs.Spelling.{are_namable, piece_html}
 use Rattle.rt_html.specs.declared.error.HtmlError.{HtmlError}
 use Rattle.rt_html.specs.declared.error.HtmlError.TheVariants as spellings
@@ -59,10 +60,6 @@ putting : {A : Type 0} (texts others : List Text) (spelt other : Bool) (old new 
 putting texts others spelt other old new before after result same alike puts =
     subst (λ (t : List Text). PutsTexts t other old new before after result) (sym same)
     (subst (λ (b : Bool). PutsTexts texts b old new before after result) (sym alike) puts)
-
-and_false : (x : Bool) → (x && false) ≡ false
-and_false true = refl
-and_false false = refl
 
 module _ {K : Types} (w : State K) where
   -- a live scope has one piece, and another one has none

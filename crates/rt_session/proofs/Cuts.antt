@@ -1,8 +1,9 @@
 -- Drains whose messages, with others behind them, are a merge of the posts: they hold fronts, and can be lengthened to a cut.
-use Rattle.std.proofs.Common.{◌≡◌, ℕ, ◌+◌, ◌<◌, ◌≤◌, Bool, true, false, List, [], ◌∷◌, ◌++◌, map, length, refl, sym, ap, ◌∙◌, subst, append_assoc, append-nil, nat_eq, arith}
+use Rattle.std.proofs.Common.{◌≡◌, ℕ, ◌+◌, ◌<◌, ◌≤◌, Bool, true, false, List, [], ◌∷◌, ◌++◌, map, length, refl, sym, ap, ◌∙◌, subst, append_assoc, nat_eq, arith}
 use Rattle.std.proofs.lemmas.List.{map-append}
 use Rattle.std.specs.List.{AllByRecursion}
 use Rattle.std.specs.Prelude.{if◌then◌else◌, Option, Some}
+pub use Rattle.law_moves.proofs.Sessions.{joined_more as joined-one}
 use Rattle.rt_inbox.specs.Merge as inbox
 use Rattle.rt_inbox.specs.declared.message.Msg.{Msg}
 use Rattle.rt_inbox.specs.declared.message.Post.{Post}
@@ -39,10 +40,6 @@ all_both F (x ∷ xs) ys h k = (h.0, all_both F xs ys h.1 k)
 pub joined-append : {A : Type 0} (xss yss : List (List A)) → joined (xss ++ yss) ≡ joined xss ++ joined yss
 joined-append [] yss = refl
 joined-append (xs ∷ xss) yss = ap (λ l. xs ++ l) (joined-append xss yss) ∙ sym (append_assoc xs (joined xss) (joined yss))
-
--- one more
-pub joined-one : {A : Type 0} (xss : List (List A)) (xs : List A) → joined (xss ++ xs ∷ []) ≡ joined xss ++ xs
-joined-one xss xs = joined-append xss (xs ∷ []) ∙ ap (λ l. joined xss ++ l) (append-nil xs)
 
 pub joined-map : {A B : Type 0} (f : A → B) (xss : List (List A)) → map f (joined xss) ≡ joined (map (map f) xss)
 joined-map f [] = refl

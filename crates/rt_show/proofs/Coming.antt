@@ -15,7 +15,7 @@ use Rattle.show_streams.specs.Writes.{Puts}
 pub asks : (words : List (List ℕ)) (wish : Wish) → wish_of words ≡ Some wish → reads_source wish ≡ true → AskForSource words
 asks words wish asked reads = record { wish = wish; asked = asked; reads = reads }
 
-asked_known : (words : List (List ℕ)) (wish : Wish) → wish_of words ≡ Some wish → wish_of words ≢ None
+pub asked_known : (words : List (List ℕ)) (wish : Wish) → wish_of words ≡ Some wish → wish_of words ≢ None
 asked_known words wish asked unknown = absurd (cc (sym asked ∙ unknown))
 
 -- the source may be read where it is asked for

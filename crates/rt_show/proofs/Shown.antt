@@ -1,5 +1,5 @@
 -- A status says what the program came to.
-use Rattle.std.proofs.Common.{◌≡◌, ◌≢◌, ◌≤◌, ◌++◌, ℕ, true, List, length, Option, Some, None, Result, Ok, Err, refl, sym, ◌∙◌, inl, inr, subst, arith}
+use Rattle.std.proofs.Common.{◌≡◌, ◌≤◌, ◌++◌, ℕ, true, List, length, Option, Some, None, Result, Ok, Err, refl, sym, ◌∙◌, inl, inr, subst, arith}
 use Rattle.std.proofs.lemmas.Option.{none-some}
 use Rattle.rt_model.specs.Lists.{joined}
 use Rattle.rt_model.specs.Reports.{logs_of}
@@ -20,6 +20,7 @@ use Rattle.show_words.specs.Words.{wish_of, reads_source, AskForSource}
 use Rattle.show_words.specs.Runs.{DescribedBy, Chooses, IsRefused, IsUnfit, IsSafe, IsEndedText, HasCome, SafeInput, CanBeDone}
 use Rattle.lang_sources.specs.declared.reading.TheConstants.{SOURCE_LIMIT}
 use Rattle.rt_show.specs.Statuses.{Comes, Ended, ReadsAsked, Shows}
+use Rattle.rt_show.proofs.Coming.{asked_known as known_asked}
 use Rattle.show_words.specs.Outs.{status_of}
 use Rattle.show_words.specs.declared.words.Wish.{Wish}
 use Rattle.show_words.specs.declared.words.Wish.TheVariants.{Run, Make, Screen, Audit}
@@ -27,10 +28,6 @@ use Rattle.show_words.specs.declared.reason.Stop.{Stop}
 use Rattle.show_words.specs.declared.reason.Stop.TheVariants as stops
 use Rattle.show_runs.proofs.Viewing.{came_before}
 use Rattle.show_streams.specs.Writes.{Puts}
-
--- words that ask for something are known
-known_asked : (words : List (List ℕ)) (wish : Wish) → wish_of words ≡ Some wish → wish_of words ≢ None
-known_asked words wish asked unknown = absurd (cc (sym asked ∙ unknown))
 
 -- an input that tells its bytes isn't described by what these don't say
 not_described : (said : Source) (bytes : List ℕ) (left after : Option (List ℕ)) → left ≡ Some bytes → DescribedBy said left after → ((other : Source) → Describes bytes other → ⊥) → ⊥

@@ -1,6 +1,7 @@
 -- A task that is polled at once.
 use Rattle.std.proofs.Common.{ℕ, Bool, true, false, ◌&&◌, List, [], ◌≡◌, inl, refl, sym, ap, ◌∙◌, subst}
 use Rattle.std.specs.Prelude.{Option, Some, None, Err, is_some, if◌then◌else◌}
+use Rattle.rt_lemmas.proofs.Options.{some_same as some_fault}
 use Rattle.rt_model.specs.Asides.{Advanced, left_of}
 use Rattle.rt_model.specs.Laws.{IsLawful}
 use Rattle.rt_model.specs.Lists.{at}
@@ -33,9 +34,6 @@ use Rattle.rt_vdom.specs.declared.dom.VirtualDom.{VirtualDom}
 use Rattle.run_answers.specs.declared.poll.Poll.{Poll}
 use Rattle.run_answers.specs.declared.refusal.DomFault.{DomFault}
 use Rattle.run_answers.specs.declared.refusal.DomFault.TheVariants as refusals
-
-some_fault : (a b : model.Fault) → Some a ≡ Some b → a ≡ b
-some_fault a b h = cc
 
 module _ {K : Types} (app : Application K) where
   pub polled_none : (w : model.State K) (t : ℕ) → is_active w t ≡ false → replay.polled_now app w t ≡ model.Done w []

@@ -1,6 +1,7 @@
 -- What a call writes that processes events, and what shows after it.
-use Rattle.std.proofs.Common.{Bool, List, [], ◌∷◌, ◌≡◌, refl, subst, map}
+use Rattle.std.proofs.Common.{Bool, List, ◌≡◌, subst, map}
 use Rattle.std.specs.Prelude.{Ok}
+use Rattle.rt_lemmas.proofs.Lists.{none_mapped}
 use Rattle.rt_edits.specs.declared.edit.Edit.{Edit}
 use Rattle.tree_edits.specs.Documents.{edit_of}
 use Rattle.rt_model.specs.Causes as causes
@@ -16,10 +17,6 @@ use Rattle.run_reports.specs.declared.limits.Limits.{Limits}
 use Rattle.run_rounds.specs.Rounds.{RanBy, StoppedBy}
 use Rattle.rt_vdom.specs.Runs.{HoldsBy, SilentBy, StillBy}
 use Rattle.rt_vdom.proofs.Ran.{one_document}
-
-none_mapped : {A B : Type 0} (f : A → B) (xs : List A) → map f xs ≡ [] → xs ≡ []
-none_mapped f [] h = refl
-none_mapped f (x ∷ xs) h = cc
 
 module _ {C Q V H T E L : Type 0} (app : Application (types C Q V H T E L)) (limits : causes.Limits)
     (w : model.State (types C Q V H T E L)) where

@@ -2,7 +2,7 @@
 use Rattle.std.proofs.Common.{ℕ, suc, ◌+◌, ◌<◌, ◌≤◌, Bool, true, false, ◌&&◌, List, [], ◌∷◌, ◌++◌, ◌≡◌, ◌≢◌, nat_eq, length, get_or, drop, map, take, refl, sym, ap, ◌∙◌, arith, append_assoc, append-nil}
 use Rattle.std.proofs.lemmas.List.{drop_more, map-append}
 use Rattle.std.proofs.Math.Seq.{take-suc}
-use Rattle.std.proofs.lemmas.Grind.{common_steps}
+use Rattle.rt_lemmas.proofs.Lists.{drop_all as drop-all}
 use Rattle.rt_model.specs.Lists.{same_numbers}
 use Rattle.rt_model.specs.Tree as model
 use Rattle.rt_model.specs.Tree.{inside, item}
@@ -14,9 +14,6 @@ use Rattle.run_places.specs.declared.place.Step.{Step}
 use Rattle.run_places.specs.declared.place.Step.TheVariants as steps
 use Rattle.tree_nodes.specs.declared.place.Step.{Step as Told}
 use Rattle.run_named.specs.Named.{path_after, path_from, slot_after, slot_at, slot_from, step_in, steps_at, steps_from}
-
-pub drop-all : {A : Type 0} (xs : List A) (i : ℕ) → length xs ≤ i → drop i xs ≡ []
-drop-all xs i end = grind (arith, common_steps, end)
 
 one_step : (k : ℕ) (s : model.Step) (rest : model.Place) → steps_at k s ++ steps_from (slot_after k s) rest ≡ steps_from k (s ∷ rest)
 one_step k (inside t p) rest = refl

@@ -4,6 +4,7 @@ use Rattle.std.specs.Prelude.{Option, None, Some, slice_set, if◌then◌else◌
 use Rattle.std.proofs.lemmas.Bool.{eqb-true, eqb-false, ne_eqb}
 use Rattle.std.proofs.lemmas.List.{drop_more}
 use Rattle.std.proofs.lemmas.Grind.{common_steps}
+use Rattle.rt_lemmas.proofs.Lists.{set_here}
 use Rattle.rt_model.specs.Lists.{at}
 use Rattle.rt_model.proofs.Maps.{by_test}
 use Rattle.run_places.specs.Drawn.{Agrees, filled, moved}
@@ -20,11 +21,6 @@ at_joined (e ∷ es) i n s = by (nat_eq e.0 s) (at_joined es i n s)
         → (if b then Some e.1 else at (es ++ (i, n) ∷ []) s) ≡ elim (if b then Some e.1 else at es s) as (λ _. Option ℕ) [ None ↦ (if nat_eq i s then Some n else None) | Some m ↦ Some m ]
     by true h = refl
     by false h = h
-
-set_here : (xs : List (Option ℕ)) (i : ℕ) (v : Option ℕ) → i < length xs → get_or (slice_set xs i v) i None ≡ v
-set_here [] i v within = absurd (omega arith)
-set_here (x ∷ xs) zero v within = refl
-set_here (x ∷ xs) (suc i) v within = set_here xs i v (omega (arith, within))
 
 set_there : (xs : List (Option ℕ)) (i s : ℕ) (v : Option ℕ) → nat_eq i s ≡ false → get_or (slice_set xs i v) s None ≡ get_or xs s None
 set_there [] i s v other = refl

@@ -3,6 +3,7 @@ use Rattle.std.proofs.Common.{ℕ, zero, suc, ◌+◌, ◌<◌, ◌≤◌, true,
 use Rattle.std.specs.Prelude.{slice_get, Some, None}
 use Rattle.std.proofs.lemmas.Bool.{cases_lt}
 use Rattle.std.proofs.lemmas.Grind.{common_steps}
+use Rattle.rt_lemmas.proofs.Lists.{within_get as past_end}
 use Rattle.rt_model.specs.Tree as model
 use Rattle.rt_model.proofs.Maps.{pick_true, pick_false}
 use Rattle.run_places.specs.declared.nodes.NodeAt.{NodeAt}
@@ -19,12 +20,6 @@ up_to P n before own i low =
       | inl less ↦ before i less
       | inr past ↦ subst (λ m. P m) (let e : n ≡ i = omega (arith, low, past) in e) own
     ]
-
--- past the end stands nothing
-past_end : {A : Type 0} (xs : List A) (i : ℕ) (x : A) → slice_get xs i ≡ Some x → i < length xs
-past_end [] i x h = cc h
-past_end (y ∷ xs) zero x h = omega arith
-past_end (y ∷ xs) (suc i) x h = let more = past_end xs i x h in omega (arith, more)
 
 -- the node at an index is the first one at its place
 pub first_node : (nodes : List NodeAt) (i : ℕ) (x : NodeAt) → slice_get nodes i ≡ Some x → node_index nodes (node_of x).0 (node_of x).1 ≡ Some i → IsFirstNodes nodes i

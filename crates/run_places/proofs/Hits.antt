@@ -1,6 +1,8 @@
 -- The first node or component of a place is the first one at an index that its key names.
 use Rattle.std.proofs.Common.{ℕ, zero, suc, ◌+◌, Bool, true, false, ◌&&◌, List, [], ◌∷◌, ◌++◌, ◌≡◌, nat_eq, length, map, refl, sym, ap, ◌∙◌, arith, append_assoc}
 use Rattle.std.specs.Prelude.{slice_get, Option, Some, None, if◌then◌else◌}
+use Rattle.rt_lemmas.proofs.Numbers.{eq_same as itself}
+use Rattle.rt_lemmas.proofs.Lists.{one_longer}
 use Rattle.rt_model.specs.Tree as model
 use Rattle.rt_model.specs.Tree.{Place, same_place, same_kind}
 use Rattle.rt_model.proofs.Maps.{by_test, pick_true, pick_false}
@@ -46,9 +48,6 @@ kind-back kinds.EmptyFragment = refl
 kind-apart : (k l : Kind) → kind_of k ≡ kind_of l → k ≡ l
 kind-apart k l h = sym (kind-back k) ∙ ap (λ m. kind_back m) h ∙ kind-back l
 
-itself : (n : ℕ) → nat_eq n n ≡ true
-itself n = grind (arith)
-
 -- a node of the place has the key of the place
 own_key : (n : NodeAt) (place : List Step) (kind : Kind) → is_node (place_of place) (kind_of kind) (Some n) ≡ true → nat_eq (node_key n) (place_key place kind) ≡ true
 own_key n place kind h =
@@ -59,10 +58,6 @@ own_key n place kind h =
 nth_joined : {A : Type 0} (front : List A) (x : A) (rest : List A) → slice_get (front ++ x ∷ rest) (length front) ≡ Some x
 nth_joined [] x rest = refl
 nth_joined (y ∷ ys) x rest = nth_joined ys x rest
-
-one_longer : {A : Type 0} (xs : List A) (x : A) → length (xs ++ x ∷ []) ≡ length xs + 1
-one_longer [] x = refl
-one_longer (y ∷ xs) x = let longer : length (xs ++ x ∷ []) ≡ length xs + 1 = one_longer xs x in omega (arith, longer)
 
 module _ (place : List Step) (kind : Kind) where
   found_from : (front rest : List NodeAt)
@@ -251,11 +246,6 @@ seat_whole n (x ∷ xs) p (suc m) apart h =
     )
 
 -- where each is the first one at its place nothing stands twice
-
-get_mapped : {A B : Type 0} (f : A → B) (xs : List A) (i : ℕ) (x : A) → slice_get xs i ≡ Some x → slice_get (map f xs) i ≡ Some (f x)
-get_mapped f [] i x h = cc h
-get_mapped f (y ∷ xs) zero x h = let same : y ≡ x = cc h in ap Some (ap f same)
-get_mapped f (y ∷ xs) (suc i) x h = get_mapped f xs i x h
 
 pub firsts_apart : (nodes : List NodeAt) → ((i : ℕ) → IsFirstNodes nodes i) → Apart nodes
 firsts_apart nodes first i j x here there =

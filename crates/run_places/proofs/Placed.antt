@@ -1,7 +1,9 @@
 -- The number under a node's index is the one at its place, since no two spots of a tree have one place.
-use Rattle.std.proofs.Common.{ℕ, ◌+◌, Bool, true, false, ◌&&◌, List, [], ◌∷◌, ◌++◌, ◌≡◌, nat_eq, get_or, refl, sym, ap, ◌∙◌, arith}
+use Rattle.std.proofs.Common.{ℕ, ◌+◌, Bool, true, ◌&&◌, List, [], ◌∷◌, ◌++◌, ◌≡◌, nat_eq, get_or, refl, sym, ap, ◌∙◌}
 use Rattle.std.specs.Prelude.{Option, None, Some, if◌then◌else◌, slice_get}
-use Rattle.std.proofs.lemmas.Bool.{eqb-true, true≢false}
+use Rattle.std.proofs.lemmas.Bool.{eqb-true}
+use Rattle.rt_lemmas.proofs.Numbers.{apart as other_index}
+pub use Rattle.rt_lemmas.proofs.Options.{by_option}
 use Rattle.rt_model.specs.Lists.{at, or_else}
 use Rattle.rt_model.specs.Tree.{Types, Place, Kind, Spot, same_place, same_kind}
 use Rattle.rt_model.specs.World.{Application}
@@ -13,19 +15,6 @@ use Rattle.rt_model.proofs.Maps.{by_test, pick_true, pick_false}
 use Rattle.rt_model.proofs.SamePlaces.{same_place-true, same_kind-true}
 use Rattle.run_places.specs.Drawn.{NodesFollow, SeatsFollow, moved, nodes_in, seats_in}
 use Rattle.run_places.specs.Places.{placed, seated}
-
-pub by_option : {A : Type 0} {R : Type 0} (o : Option A) → (o ≡ None → R) → ((a : A) → o ≡ Some a → R) → R
-by_option None f g = f refl
-by_option (Some a) f g = g a refl
-
-same_index : (i j : ℕ) → i ≡ j → nat_eq i j ≡ true
-same_index i j same = ap (λ n. nat_eq i n) (sym same) ∙ itself i
-  where
-    itself : (n : ℕ) → nat_eq n n ≡ true
-    itself n = grind (arith)
-
-other_index : (i j : ℕ) → nat_eq i j ≡ false → i ≡ j → ⊥
-other_index i j h same = true≢false (sym (same_index i j same) ∙ h)
 
 -- what one entry gives, by what stands under its index
 pub placed_one : (nodes : List (Place × Kind)) (i n : ℕ) (rest : List (ℕ × ℕ)) (q : Place × Kind) → slice_get nodes i ≡ Some q → placed nodes ((i, n) ∷ rest) ≡ (q.0, q.1, n) ∷ placed nodes rest

@@ -1,6 +1,7 @@
 -- The pieces of a template, node by node; a walk of the definitions is one over the pieces.
 use Rattle.std.proofs.Common.{ℕ, ◌+◌, List, [], ◌∷◌, ◌++◌, ◌≡◌, refl, sym, ap, ◌∙◌, map}
 use Rattle.std.specs.Prelude.{Option}
+pub use Rattle.rt_lemmas.proofs.Lists.{append_nil as nil-right, append_append as append-append}
 use Rattle.tree_nodes.specs.declared.template.TemplateAttribute.{TemplateAttribute}
 use Rattle.tree_nodes.specs.declared.template.TemplateNode.{TemplateNode}
 use Rattle.tree_nodes.specs.declared.template.TemplateNode.TheVariants as nodes
@@ -14,14 +15,6 @@ use Rattle.tree_mirror.proofs.SealedNodes.{below, before_out, before_Element, be
 use Rattle.run_places.specs.declared.piece.Piece.{Piece}
 use Rattle.run_places.specs.Pieces.{Met, met_element, met_text, met_slot, all_met, piece_of, node_met, row_met}
 use Rattle.run_places.specs.Spots.{met_spots, all_met_spots}
-
-pub nil-right : {A : Type 0} (xs : List A) → xs ++ [] ≡ xs
-nil-right [] = refl
-nil-right (x ∷ xs) = ap (λ ys. x ∷ ys) (nil-right xs)
-
-pub append-append : {A : Type 0} (xs ys zs : List A) → (xs ++ ys) ++ zs ≡ xs ++ (ys ++ zs)
-append-append [] ys zs = refl
-append-append (x ∷ xs) ys zs = ap (λ rs. x ∷ rs) (append-append xs ys zs)
 
 pub pieces-append : (a b : List Piece) → map piece_of (a ++ b) ≡ map piece_of a ++ map piece_of b
 pieces-append [] b = refl

@@ -1,6 +1,7 @@
 -- What a walk has found after events, part by part, and after the events of two trees.
-use Rattle.std.proofs.Common.{ℕ, ◌+◌, List, [], ◌∷◌, ◌++◌, ◌≡◌, length, map, refl, sym, ap, ◌∙◌, subst, arith, append_assoc, append-nil}
+use Rattle.std.proofs.Common.{ℕ, ◌+◌, List, [], ◌∷◌, ◌++◌, ◌≡◌, length, map, refl, sym, ap, ◌∙◌, subst, append-nil}
 use Rattle.std.specs.Prelude.{Some, slice_get}
+use Rattle.rt_lemmas.proofs.Lists.{one_longer, append_append as joined}
 use Rattle.rt_model.specs.Tree.{Types, VComponent, Tree, Place, Kind, Spot, spots}
 use Rattle.rt_model.specs.World.{Application}
 use Rattle.rt_model.specs.Values.{is_same_component}
@@ -15,13 +16,6 @@ use Rattle.run_work.proofs.EventSpots.{come-old, come-new, pairing-old, pairing-
 use Rattle.run_work.proofs.Matched.{come-matched, pairing-matched}
 use Rattle.run_work.proofs.Agreed.{IsAgreed, all-agreed, agreed-drops, agreed-work, drop_in, work_in}
 use Rattle.run_work.proofs.Followed.{each_known, followed, nodes_follow, seat_goes, seats_follow}
-
-joined : {A : Type 0} (xs ys zs : List A) → (xs ++ ys) ++ zs ≡ xs ++ (ys ++ zs)
-joined xs ys zs = append_assoc xs ys zs
-
-one_longer : {A : Type 0} (xs : List A) (x : A) → length (xs ++ x ∷ []) ≡ length xs + 1
-one_longer [] x = refl
-one_longer (y ∷ xs) x = let longer : length (xs ++ x ∷ []) ≡ length xs + 1 = one_longer xs x in omega (arith, longer)
 
 module _ {K : Types} where
   pub after-append : (g : Ground K) (es fs : List (Event K)) (o : Out K) → after g (es ++ fs) o ≡ after g fs (after g es o)

@@ -1,7 +1,8 @@
 -- What becomes of a place in the events of two trees is what the definitions say of it, who compare all places.
 use Rattle.std.proofs.Common.{ℕ, true, false, List, [], ◌∷◌, ◌++◌, ◌≡◌, inl, inr, refl, sym, ap, ◌∙◌, subst}
-use Rattle.std.specs.Prelude.{All, Option, Some, None}
+use Rattle.std.specs.Prelude.{All, Some}
 use Rattle.std.proofs.lemmas.List.Elements.{All-head, All-tail}
+pub use Rattle.rt_lemmas.proofs.Options.{by_option}
 use Rattle.rt_model.specs.Tree.{Types, VComponent, Place, Kind, same_place, Spot, node_at, component_at}
 use Rattle.rt_model.specs.World.{Application}
 use Rattle.rt_model.specs.Values.{is_same_component}
@@ -16,11 +17,6 @@ use Rattle.run_work.specs.Events.{Event, stays, goes, comes, fed, left, made}
 use Rattle.run_work.proofs.Flats.{flat, old_in, new_in}
 use Rattle.run_work.proofs.Branches.{AllIn, among_either}
 use Rattle.run_work.proofs.Matched.{among-flat, IsMatched}
-
--- by whether there is one
-pub by_option : {A : Type 0} {R : Type 0} (o : Option A) → (o ≡ None → R) → ((a : A) → o ≡ Some a → R) → R
-by_option None f g = f refl
-by_option (Some a) f g = g a refl
 
 module _ {K : Types} where
   -- what all of a list are, each is

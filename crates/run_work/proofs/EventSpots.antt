@@ -1,19 +1,13 @@
 -- The events of two trees side by side have the old tree's spots in order, and the new tree's.
 use Rattle.std.proofs.Common.{ℕ, zero, suc, ◌+◌, Bool, true, List, [], ◌∷◌, ◌++◌, ◌≡◌, map, refl, sym, ap, ◌∙◌, append-nil}
-use Rattle.rt_model.specs.Tree.{Types, Template, same_template, Tree, block, Slots, no_slots, more_slots, Slot, text_slot, placeholder_slot, component_slot, fragment_slot, Trees, no_trees, more_trees, VComponent, item, inside, Place, Spot, node_at, component_at, spots, slots_spots, slot_spots, item_spots}
+use Rattle.rt_model.specs.Tree.{Types, same_template, Tree, block, Slots, no_slots, more_slots, Slot, text_slot, placeholder_slot, component_slot, fragment_slot, Trees, no_trees, more_trees, VComponent, item, Place, Spot, node_at, component_at, spots, slots_spots, slot_spots, item_spots}
 use Rattle.rt_model.proofs.Maps.{by_test, pick_true, pick_false}
-use Rattle.rt_model.proofs.SamePlaces.{same_place-true}
+pub use Rattle.rt_model.proofs.SamePlaces.{template-true}
 use Rattle.run_work.specs.Events.{Event, stays, fed, left, made, walk, gone, come, changed, pairing, both_slots, pair_slots, pair_items}
 use Rattle.run_work.proofs.Flats.{flat, flat-append, walk-flat, old_in, new_in, spots-walk}
 
 and-same : (b : Bool) → b ≡ true → true ≡ true
 and-same b h = refl
-
--- templates that the test finds equal are equal
-pub template-true : (t u : Template) → same_template t u ≡ true → t ≡ u
-template-true t u h =
-    let places : inside t [] ∷ [] ≡ inside u [] ∷ [] = same_place-true (inside t [] ∷ []) (inside u [] ∷ []) (simp h refl) in
-    cc places
 
 module _ {K : Types} where
   -- spots that go are the old ones

@@ -1,5 +1,6 @@
 -- What becomes of places, by the marks of two trees, is what the walk side by side finds.
 use Rattle.std.proofs.Common.{ℕ, zero, suc, ◌+◌, Bool, true, false, List, [], ◌∷◌, ◌++◌, ◌≡◌, map, refl, sym, ap, subst}
+use Rattle.rt_lemmas.proofs.Bools.{clash as one_answer}
 use Rattle.rt_model.specs.Tree.{Types, TemplateNodes, no_nodes, element_node, text_node, slot_node, Template, same_template, Tree, block, Slots, no_slots, more_slots, Slot, text_slot, placeholder_slot, component_slot, fragment_slot, Trees, no_trees, more_trees, VComponent, item, Place, an_element, a_static_text, place_in, Spot, node_at, component_at, spots, slots_spots, slot_spots, item_spots}
 use Rattle.rt_model.specs.World.{Application}
 use Rattle.rt_model.specs.Values.{is_same_component}
@@ -10,10 +11,6 @@ use Rattle.run_work.specs.Events.{Event, walk, pairing, both_slots, pair_slots, 
 use Rattle.tree_marks.specs.Marks.{Mark, stays, slot_goes, slot_way, tree_way, come_in, go_out, lone, gone, come, changed, template_marks, tree_marks, slots_marks, slot_marks, items_marks}
 use Rattle.run_work.specs.Marked.{event_at, events_in}
 use Rattle.run_work.proofs.Joins.{both_joined, none_more}
-
--- a test has one answer
-one_answer : {P : Type 0} {b : Bool} → b ≡ true → b ≡ false → P
-one_answer p q = cc
 
 module _ {K : Types} where
   gone_events : (ss : List (Spot K)) → events_in (map gone ss) ≡ map event.gone ss

@@ -2,6 +2,7 @@
 use Rattle.std.proofs.Common.{ℕ, zero, suc, ◌+◌, ◌<◌, ◌≤◌, true, false, List, [], ◌∷◌, ◌≡◌, ◌⊎◌, inl, inr, length, get_or, refl, sym, ap, ◌∙◌, subst, arith, nat_eq}
 use Rattle.std.specs.Prelude.{Option, Some, None, slice_get, slice_set, replicate}
 use Rattle.std.proofs.lemmas.Bool.{eqb-true, true≢false, cases_lt}
+use Rattle.rt_lemmas.proofs.Lists.{set_here, within_get}
 use Rattle.rt_model.specs.Tree.{Types, VComponent, Place, Kind, Spot, node_at, component_at}
 use Rattle.rt_model.specs.World.{Application}
 use Rattle.rt_model.specs.Run.{component_in, has_node, is_fed}
@@ -14,12 +15,6 @@ use Rattle.run_work.specs.Events.{Event, stays, goes, comes, fed, left, made}
 use Rattle.run_work.proofs.Flats.{flat, old_in, new_in}
 use Rattle.run_work.proofs.Branches.{AllIn}
 use Rattle.run_work.proofs.Agreed.{IsAgreed, by_option, found-component, from-flat}
-
--- where a list says that something stands after one thing was put in
-set_here : (to : List (Option ℕ)) (i : ℕ) (v : Option ℕ) → i < length to → get_or (slice_set to i v) i None ≡ v
-set_here [] i v within = absurd (omega arith)
-set_here (x ∷ to) zero v within = refl
-set_here (x ∷ to) (suc i) v within = set_here to i v (omega (arith, within))
 
 set_there : (to : List (Option ℕ)) (i s : ℕ) (v : Option ℕ) → (i ≡ s → ⊥) → get_or (slice_set to i v) s None ≡ get_or to s None
 set_there [] i s v other = refl
@@ -125,11 +120,6 @@ at_known f (y ∷ xs) (suc m) i x h g = at_known f xs m i x h g
 long_none : (n : ℕ) → length {A = Option ℕ} (replicate n None) ≡ n
 long_none zero = refl
 long_none (suc n) = ap suc (long_none n)
-
-within_get : {A : Type 0} (xs : List A) (i : ℕ) (x : A) → slice_get xs i ≡ Some x → i < length xs
-within_get [] i x h = cc h
-within_get (y ∷ xs) zero x h = omega arith
-within_get (y ∷ xs) (suc i) x h = let low : i < length xs = within_get xs i x h in omega (arith, low)
 
 module _ {K : Types} where
   -- a node among spots has an index among their nodes

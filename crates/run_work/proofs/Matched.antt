@@ -1,18 +1,14 @@
 -- No place that goes is one that comes as the same kind, no component that is left is like the one that is made in its place, and one that is fed is like the old one.
 use Rattle.std.proofs.Common.{ℕ, zero, suc, ◌+◌, Bool, true, false, List, [], ◌∷◌, ◌++◌, ◌≡◌, inl, inr, ◌≤◌, map, refl, sym, ap, ◌∙◌, subst, append-nil}
-use Rattle.rt_model.specs.Tree.{Types, TemplateNodes, no_nodes, element_node, text_node, slot_node, Template, same_template, Tree, block, Slots, no_slots, more_slots, Slot, text_slot, placeholder_slot, component_slot, fragment_slot, Trees, no_trees, more_trees, VComponent, inside, item, Place, Kind, an_element, a_static_text, a_text, a_placeholder, an_empty_fragment, Spot, node_at, component_at, place_in, spots, slots_spots, item_spots}
+use Rattle.rt_model.specs.Tree.{Types, TemplateNodes, no_nodes, element_node, text_node, slot_node, Template, same_template, Tree, block, Slots, no_slots, more_slots, Slot, text_slot, placeholder_slot, component_slot, fragment_slot, Trees, no_trees, more_trees, VComponent, item, Place, Kind, an_element, a_static_text, a_text, a_placeholder, an_empty_fragment, Spot, node_at, component_at, place_in, spots, slots_spots, item_spots}
 use Rattle.rt_model.proofs.Maps.{by_test, pick_true, pick_false}
-use Rattle.rt_model.proofs.Among.{Among, among_left, among_right, place_same}
-use Rattle.rt_model.proofs.Conjunctions.{and-left}
+use Rattle.rt_model.proofs.Among.{Among, among_left, among_right}
 use Rattle.rt_model.proofs.Places.{place_of}
+pub use Rattle.rt_model.proofs.Among.{template_same as template-same}
 use Rattle.run_work.specs.Events.{Event, stays, goes, comes, fed, left, made, walk, gone, come, changed, pairing, both_slots, pair_slots, pair_items}
 use Rattle.run_work.proofs.Flats.{flat, old_in, new_in}
 use Rattle.run_work.proofs.EventSpots.{both-old, both-new, pairing-old, pairing-new, items-old, items-new, template-true}
 use Rattle.run_work.proofs.Branches.{AllIn, among_either, all-one, Begins, FromItem, Stands, heads-of_begins, heads-of_deeper, begins-of_stands, apart_later, apart_templates, apart_items, apart_own, walk-stands, spots-stand, slots-begin, items-from}
-
--- the test finds a template equal to itself
-pub template-same : (t : Template) → same_template t t ≡ true
-template-same t = and-left (same_template t t) true (place_same (inside t [] ∷ []))
 
 module _ {K : Types} where
   -- where an event is

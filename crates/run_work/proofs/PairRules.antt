@@ -50,10 +50,10 @@ some_left (x ∷ xs) (suc i) low = some_left xs i (omega (arith, low))
 
 -- templates that are one are the same in the definitions, and others aren't
 
-template_tested : (u v : CodeTemplate) → u ≡ v → same_template (template_of u) (template_of v) ≡ true
+pub template_tested : (u v : CodeTemplate) → u ≡ v → same_template (template_of u) (template_of v) ≡ true
 template_tested u v h = ap (λ w. same_template (template_of u) (template_of w)) (sym h) ∙ template_same (template_of u)
 
-template_untested : (u v : CodeTemplate) → (u ≡ v → ⊥) → same_template (template_of u) (template_of v) ≡ false
+pub template_untested : (u v : CodeTemplate) → (u ≡ v → ⊥) → same_template (template_of u) (template_of v) ≡ false
 template_untested u v other = by (same_template (template_of u) (template_of v)) refl
   where
     by : (c : Bool) → c ≡ same_template (template_of u) (template_of v) → same_template (template_of u) (template_of v) ≡ false

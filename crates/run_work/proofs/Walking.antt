@@ -1,6 +1,7 @@
 -- A walk through a template, node by node of code; and lists, one thing after another.
-use Rattle.std.proofs.Common.{ℕ, zero, suc, ◌+◌, ◌<◌, List, [], ◌∷◌, ◌++◌, ◌≡◌, length, get_or, drop, map, refl, sym, ap, ◌∙◌, arith, append-nil}
+use Rattle.std.proofs.Common.{ℕ, ◌+◌, List, [], ◌∷◌, ◌++◌, ◌≡◌, refl, sym, ap, ◌∙◌, append-nil}
 use Rattle.std.specs.Prelude.{Option}
+pub use Rattle.rt_lemmas.proofs.Lists.{next_drop, map_append as mapped}
 use Rattle.tree_nodes.specs.declared.template.TemplateAttribute.{TemplateAttribute}
 use Rattle.tree_nodes.specs.declared.template.TemplateNode.{TemplateNode}
 use Rattle.tree_nodes.specs.declared.template.TemplateNode.TheVariants as nodes
@@ -11,18 +12,6 @@ use Rattle.tree_mirror.specs.Mirror.{all_before, before_step}
 use Rattle.tree_mirror.specs.Sealed.{node_before, nodes_of}
 use Rattle.tree_mirror.proofs.SealedNodes.{below, before_out, before_Element, before_Text, before_Dynamic}
 use Rattle.tree_marks.specs.Marks.{Mark, template_marks}
-
-pub mapped : {A B : Type 0} (f : A → B) (xs ys : List A) → map f (xs ++ ys) ≡ map f xs ++ map f ys
-mapped f [] ys = refl
-mapped f (x ∷ xs) ys = ap (λ zs. f x ∷ zs) (mapped f xs ys)
-
-next_suc : {A : Type 0} (xs : List A) (i : ℕ) (x : A) → i < length xs → x ≡ get_or xs i x → drop i xs ≡ x ∷ drop (suc i) xs
-next_suc [] i x low is = absurd (omega (arith, low))
-next_suc (y ∷ xs) zero x low is = ap (λ z. z ∷ xs) (sym is)
-next_suc (y ∷ xs) (suc i) x low is = next_suc xs i x (omega (arith, low)) is
-
-pub next_drop : {A : Type 0} (xs : List A) (i : ℕ) (x : A) → i < length xs → x ≡ get_or xs i x → drop i xs ≡ x ∷ drop (i + 1) xs
-next_drop xs i x low is = next_suc xs i x low is ∙ ap (λ n. x ∷ drop n xs) (let e : suc i ≡ i + 1 = omega arith in e)
 
 module _ {K : Types} (node : Place → Kind → Mark K) (whole : Template) (above : Place) (slot : ℕ → Place → List (Mark K)) where
   -- one level before others: what it gives, then what they give

@@ -1,14 +1,10 @@
 -- One line more.
 use Rattle.std.proofs.Common.{◌≡◌, ℕ, ◌+◌, Bool, true, false, List, [], ◌∷◌, ◌++◌, length, map, take, drop, refl, sym, ap, ◌∙◌, append_assoc, append-nil, arith}
+use Rattle.rt_lemmas.proofs.Lists.{take_front as cut-front}
 use Rattle.rt_model.specs.Document.{Edit}
 use Rattle.rt_model.specs.Reports.{Report}
 use Rattle.show_answers.specs.Streamed.{AreAnswered, answer, edit_lines_in, refusal, streamed, things}
 use Rattle.show_answers.specs.Told.{Form, Told, ToldEdit, ToldReport}
-
--- a list in front of another one, cut behind it
-cut-front : {X : Type 0} (xs ys : List X) → take (length xs) (xs ++ ys) ≡ xs
-cut-front [] ys = refl
-cut-front (x ∷ xs) ys = ap (λ l. x ∷ l) (cut-front xs ys)
 
 cut-behind : {X : Type 0} (xs ys : List X) → drop (length xs) (xs ++ ys) ≡ ys
 cut-behind [] ys = refl

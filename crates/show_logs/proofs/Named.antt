@@ -2,6 +2,7 @@
 use Rattle.std.proofs.Common.{ℕ, ◌^◌, ◌<◌, Bool, true, false, List, ◌≡◌, sym, ◌∙◌, bytes_eq, arith}
 use Rattle.std.proofs.lemmas.Slice.Eq.{bytes_eq-Decides}
 use Rattle.std.specs.Prelude.{codes, Option, Some, None, Result, Ok, Err, IfOk}
+use Rattle.rt_lemmas.proofs.Options.{some_same}
 use Rattle.serde_json.specs.Data.{Data}
 use Rattle.serde_json.specs.Find.{as_str}
 use Rattle.rt_model.specs.Replay.{Entry, Build, Taken, Heard, Rerun, Poll, Effects, Made, Fed, Kept, Removed}
@@ -52,9 +53,6 @@ pub build_word : (word : List ℕ) (build : Bool) → build ≡ bytes_eq word (c
 build_word word build is holds =
     let zero_small : 0 < 2 ^ 64 = omega arith in
     record { text = (bytes_eq-Decides word (codes "build")).0 (sym is ∙ holds); small = zero_small }
-
-some_same : (a b : List ℕ) → Some a ≡ Some b → a ≡ b
-some_same a b h = cc
 
 -- what is read of a text is read of its value
 pub text_reads : {X : Type 0} (d : Data) (word : List ℕ) (answer : Result (Option Noted) X) → as_str d ≡ Some word → IfOk answer (ReadsWord word)

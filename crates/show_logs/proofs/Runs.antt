@@ -7,6 +7,7 @@ use Rattle.std.specs.Cmp.Lexicographic.{slice_cmp}
 use Rattle.std.specs.declared.alloc.Global.{Global}
 use Rattle.std.proofs.lemmas.List.{length-map}
 use Rattle.std.specs.Map.{remove_entry}
+use Rattle.rt_lemmas.proofs.Options.{some_same, none_is}
 use Rattle.serde_json.specs.Data.{Data, Items, Members, object, member}
 use Rattle.serde_json.specs.Find.{get, as_array}
 use Rattle.serde_json.specs.Read.{read}
@@ -30,12 +31,6 @@ use Rattle.show_logs.specs.Reading.{ReadsLists, ReadsLog}
 use Rattle.show_logs.specs.Runs.{Gathers, ReadsRun, ReadsBytes}
 use Rattle.show_logs.specs.declared.reading.Run.{Run}
 use Rattle.show_logs.proofs.Items.{counted}
-
-some_same : {A : Type 0} (a b : A) → Some a ≡ Some b → a ≡ b
-some_same a b h = cc
-
-none_is : {A : Type 0} {P : Type 0} (a : A) → None ≡ Some a → P
-none_is a h = cc
 
 -- the members that are left when one was taken out by its key
 pub members_left : (key : List ℕ) (test : String Global → Bool) (es : List (String Global × Value))

@@ -2,6 +2,7 @@
 use Rattle.std.proofs.Common.{◌≡◌, ℕ, ◌+◌, Bool, true, false, List, [], ◌∷◌, ◌++◌, length, map, refl, sym, ap, ◌∙◌, subst, arith}
 use Rattle.std.proofs.lemmas.List.{length-append, length-map, map-append}
 use Rattle.std.specs.Prelude.{Option, Some, None}
+use Rattle.rt_lemmas.proofs.Options.{some_same}
 use Rattle.lang_minding.specs.Kept.{SourcesKeepMemos}
 use Rattle.lang_script.specs.Applications.{meaning_of_script}
 use Rattle.law_minding.specs.Sessions.{MemosKept}
@@ -31,9 +32,6 @@ use Rattle.show_stream.specs.Streams.{IsFaulted, IsTold, inputs_in, marks_of}
 use Rattle.show_stream.specs.UnderWay.{IsAt}
 use Rattle.show_stream.specs.declared.streaming.Streaming.{Streaming}
 use Rattle.tree_edits.specs.Documents.{edit_of}
-
-some_same : {X : Type 0} (x y : X) → Some x ≡ Some y → x ≡ y
-some_same x y is = cc
 
 -- a new sink's edits come behind those that were written
 pub carries_on : (old new : Option (List Edit)) (wrote own : List Edit) → old ≡ Some [] → new ≡ Some own → Carries old new (Some wrote) (Some (wrote ++ own))

@@ -1,6 +1,7 @@
 -- Line after line, and where the program stops.
 use Rattle.std.proofs.Common.{◌≡◌, ℕ, ◌<◌, ◌≤◌, Bool, true, false, List, [], ◌∷◌, ◌++◌, Result, Ok, Err, refl, sym, ap, ◌∙◌, subst, inl, inr, append_assoc, append-nil, arith}
 use Rattle.std.specs.Prelude.{codes, Option, Some, None}
+use Rattle.rt_lemmas.proofs.Options.{some_same}
 use Rattle.rt_model.specs.Lists.{Text}
 use Rattle.show_answers.specs.Told.{Form}
 use Rattle.show_lines.proofs.Cutting.{lines_cut}
@@ -32,9 +33,6 @@ nothing_held held left none = ap (λ (h : Held). preceded (unread h) left) none 
 pub first_read : (first : List ℕ) (start now : Option (List ℕ)) → ReadsLine (Some first) start now → IsReading first [] start now
 first_read first None now reads = reads
 first_read first (Some all) now reads = (reads.0, reads.1, lines_cut first all reads.0 reads.2)
-
-some_same : {X : Type 0} (x y : X) → Some x ≡ Some y → x ≡ y
-some_same x y is = cc is
 
 -- one line more
 pub next_read : (first : List ℕ) (lines : List (List ℕ)) (bytes : List ℕ) (start now next : Option (List ℕ))

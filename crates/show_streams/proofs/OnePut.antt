@@ -6,7 +6,7 @@ use Rattle.show_streams.specs.Writes.{Puts, Writes, grown}
 use Rattle.show_streams.specs.declared.out.OutError.TheVariants as errors
 
 -- nothing was put besides
-grown_none : (old : Puts) → grown old [] ≡ old
+pub grown_none : (old : Puts) → grown old [] ≡ old
 grown_none None = refl
 grown_none (Some puts) = ap Some (append-nil puts)
 

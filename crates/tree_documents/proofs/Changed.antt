@@ -1,12 +1,12 @@
 -- A change of one node, and the same change at the mirror.
-use Rattle.std.proofs.Common.{◌≡◌, ℕ, Bool, true, false, cond, ◌||◌, nat_eq, List, [], ◌∷◌, ◌++◌, Option, Some, None, is_some, refl, sym, ap, ◌∙◌}
-use Rattle.std.proofs.lemmas.List.Folds.{list_any-append}
+use Rattle.std.proofs.Common.{◌≡◌, ℕ, Bool, true, false, cond, nat_eq, List, [], ◌∷◌, ◌++◌, Option, Some, None, is_some, refl, sym, ap, ◌∙◌}
 use Rattle.rt_values.specs.declared.element.ElementId.{ElementId}
 use Rattle.rt_edits.specs.Nodes as code
-use Rattle.rt_edits.specs.Nodes.{numbers, numbers_below, numbers_in, has, found, found_below, found_in, either, changed_below, changed_in}
+use Rattle.rt_edits.specs.Nodes.{numbers_below, numbers_in, has, found, found_below, found_in, either, changed_below, changed_in}
 use Rattle.rt_edits.specs.declared.doc_node.DocNode.{DocNode}
 use Rattle.rt_edits.specs.declared.doc_node.DocKind.{DocKind, Element', Text, Placeholder, Row_of-DocNode, end_of-DocNode, more_of-DocNode, items-the_row-DocNode}
 use Rattle.rt_edits.proofs.Times.{node_of, found_has_below, equal_numbers}
+pub use Rattle.rt_edits.proofs.Elsewhere.{found_has}
 use Rattle.rt_model.specs.Document.{Forest, Node, Content, changed, is_in}
 use Rattle.tree_edits.specs.Documents.{content_of, forest_below, forest_in, forest_of}
 use Rattle.tree_documents.proofs.Forests.{forest_row, below_Element}
@@ -97,20 +97,3 @@ module _ (i : ℕ) (f : ℕ → Content → Forest → Forest → Forest) (chang
       (found i xs) refl refl refl h (change_below x.kind) (change_nodes xs)
 
 -- a number that doesn't stand isn't found
-
-some_or : (a b : Option DocKind) → is_some (either a b) ≡ is_some a || is_some b
-some_or None b = refl
-some_or (Some kind) b = refl
-
-some_cond : (here : Bool) (kind : DocKind) (a b : Option DocKind)
-    → is_some (cond here (Some kind) (either a b)) ≡ here || (is_some a || is_some b)
-some_cond true kind a b = refl
-some_cond false kind a b = some_or a b
-
-pub found_has : (i : ℕ) (nodes : List DocNode) → is_some (found i nodes) ≡ has i (numbers nodes)
-found_has i [] = refl
-found_has i (x ∷ xs) =
-    some_cond (nat_eq x.id.0 i) x.kind (found_below i x.kind) (found i xs) ∙
-    ap (λ b. nat_eq x.id.0 i || (b || is_some (found i xs))) (found_has_below i x.kind) ∙
-    ap (λ b. nat_eq x.id.0 i || (has i (numbers_below x.kind) || b)) (found_has i xs) ∙
-    ap (λ b. nat_eq x.id.0 i || b) (sym (list_any-append (λ other. nat_eq other i) (numbers_below x.kind) (numbers xs)))

@@ -8,16 +8,13 @@ use Rattle.std.specs.Option.{option_map}
 use Rattle.std.specs.List.{enumerate_from, list_all}
 use Rattle.std.specs.Str.{bytes_eq}
 use Rattle.std.specs.Cmp.Lexicographic.{pointwise}
+use Rattle.rt_lemmas.proofs.Bools.{and_false, and_true}
 use Rattle.tree_nodes.specs.Met.{Met, AtElement, AtAttribute, AtText, AtSlot}
 use Rattle.tree_nodes.specs.Names.{distinct, names_in}
 use Rattle.tree_nodes.specs.BlockTest.{Sought, met_fits, met_as}
 use Rattle.tree_nodes.specs.Slots.{Slot, node_slots, attr_slots, same_slot}
 use Rattle.tree_fits.specs.Walk.{walked, ends}
 use Rattle.tree_fits.specs.declared.walk.Seen.{Seen}
-
-and_false : (a : Bool) → (a && false) ≡ false
-and_false true = refl
-and_false false = refl
 
 -- whether the slots are the ones at the paths from the k-th on
 abbrev rest_is : List Slot → List (List ℕ) → ℕ → Bool
@@ -44,10 +41,6 @@ rest_is-none paths k within = elim (leb_tells (length paths) k) [
       let ne : k ≢ length paths = omega arith in
       ap (λ ps. pointwise same_slot [] (enumerate_from k ps)) e ∙ sym (ne_eqb k (length paths) ne)
 ]
-
-and_true : (a : Bool) → (a && true) ≡ a
-and_true true = refl
-and_true false = refl
 
 -- what is met and fits by itself, or does not
 kept : (s : Sought) (ms : List Met) (n m : ℕ) (seen : Seen) (t N A R : Bool) → ends n m (walked s ms seen) ≡ (N && (A && R))

@@ -1,8 +1,9 @@
 -- Names of one attribute after another.
-use Rattle.std.proofs.Common.{◌≡◌, ℕ, suc, ◌+◌, ◌<◌, List, [], ◌∷◌, ◌++◌, length, get_or, drop, true, false, refl, sym, ◌∙◌, ap, add-one, drop-cons}
+use Rattle.std.proofs.Common.{◌≡◌, ℕ, ◌+◌, ◌<◌, List, [], ◌∷◌, ◌++◌, length, get_or, drop, true, false, refl, ◌∙◌, ap}
 use Rattle.std.specs.Prelude.{Bool, ◌&&◌, not}
 use Rattle.std.specs.List.{list_any}
 use Rattle.std.proofs.lemmas.List.Folds.{list_any-append}
+pub use Rattle.rt_lemmas.proofs.Lists.{next_drop as drop-next}
 use Rattle.tree_nodes.specs.Names.{Name, same_name, distinct, fresh, names_of, names_in}
 use Rattle.tree_nodes.specs.declared.template.TemplateAttribute.{TemplateAttribute}
 
@@ -16,10 +17,6 @@ distinct-append [] ys = refl
 distinct-append (x ∷ xs) ys =
     ap (λ b. not (list_any (same_name x) (xs ++ ys)) && b) (distinct-append xs ys) ∙
     and_assoc (not (list_any (same_name x) (xs ++ ys))) (fresh xs ys) (distinct ys)
-
--- the items from the k-th on
-pub drop-next : {A : Type 0} (xs : List A) (k : ℕ) (x : A) → k < length xs → x ≡ get_or xs k x → drop k xs ≡ x ∷ drop (k + 1) xs
-drop-next xs k x within read = rw (add-one, drop-cons xs k x) (ap (λ y. y ∷ drop (suc k) xs) (sym read))
 
 -- the names of the attributes from the k-th on
 pub names_in-drop : (slots : List (List Name)) (attrs : List TemplateAttribute) (k : ℕ) (x : TemplateAttribute) → k < length attrs → x ≡ get_or attrs k x

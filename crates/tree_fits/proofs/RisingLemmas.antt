@@ -1,14 +1,15 @@
 -- Names that ascend, attribute by attribute; no two of them are the same.
 use Rattle.std.proofs.Common.{◌≡◌, ℕ, ◌+◌, ◌<◌, ◌≤◌, List, [], ◌∷◌, ◌++◌, length, get_or, drop, map, true, false, refl, sym, ◌∙◌, ap}
 use mathlib.Core.Bool.{true≢false}
-use Rattle.std.specs.Prelude.{Bool, ◌&&◌, ◌||◌, not, Option, Some, None, is_some, if◌then◌else◌, option_and_then, option_map}
-use Rattle.std.specs.declared.cmp.Ordering.{Ordering}
-use Rattle.std.specs.declared.cmp.Ordering.TheVariants.{Less, Equal, Greater}
+use Rattle.std.specs.Prelude.{Bool, ◌&&◌, not, Option, Some, None, is_some, if◌then◌else◌, option_and_then, option_map}
+use Rattle.std.specs.declared.cmp.Ordering.TheVariants.{Less}
 use Rattle.std.specs.Ordering.{is_lt, is_eq, nat_cmp}
 use Rattle.std.specs.Cmp.Lexicographic.{slice_cmp, nat_list_cmp_total}
 use Rattle.std.specs.List.{list_any}
 use Rattle.std.proofs.Math.ListN.{drop_of_length-le}
 use Rattle.std.proofs.lemmas.Map.Text.{is_eq-slice_cmp}
+use Rattle.rt_lemmas.proofs.Bools.{not_either as neither}
+use Rattle.rt_lemmas.proofs.Orders.{less}
 use Rattle.tree_nodes.specs.Names.{Name, same_name, same_namespace, distinct, name_of, names_of, names_in}
 use Rattle.tree_nodes.specs.declared.attribute.Attribute.{Attribute}
 use Rattle.tree_nodes.specs.declared.template.TemplateAttribute.{TemplateAttribute}
@@ -72,14 +73,6 @@ module _ {P C Q V H T E L : Type 0} where
 made : {A : Type 0} (b : Bool) (o : Option A) → is_some (if b then o else None) ≡ true → (b ≡ true) × (is_some o ≡ true)
 made true o some = (refl, some)
 made false o some = absurd (true≢false (sym some))
-
-less : (r : Ordering) → is_lt r ≡ true → r ≡ Less
-less Less is = refl
-less Equal is = absurd (true≢false (sym is))
-less Greater is = absurd (true≢false (sym is))
-
-neither : (a b : Bool) → a ≡ false → b ≡ false → (a || b) ≡ false
-neither a b p q = ap (λ c. c || b) p ∙ q
 
 -- a text that comes before another one isn't that one
 other : (m n : Name) → slice_cmp nat_cmp m.0 n.0 ≡ Less → same_name m n ≡ false

@@ -1,6 +1,7 @@
 -- A component that is fed by value keeps its output where it is equal.
-use Rattle.std.proofs.Common.{Bool, true, false, ◌&&◌, ◌≡◌, refl, sym, ap, ◌∙◌, subst}
+use Rattle.std.proofs.Common.{Bool, true, ◌≡◌, ap, ◌∙◌, subst}
 use Rattle.std.specs.Prelude.{Option, IsTrue, ◌↔◌}
+use Rattle.rt_lemmas.proofs.Bools.{and_left, and_right, agree}
 use Rattle.tree_nodes.specs.declared.vnode.VComponent.{VComponent as CodeComponent}
 use Rattle.tree_mirror.specs.Sealed.{component_of}
 use Rattle.rt_model.specs.OneLog.{types}
@@ -12,20 +13,6 @@ use Rattle.rt_model.specs.Values.{same_call, same_element, keeps_output}
 use Rattle.rt_model.proofs.SameTrees.{both, option_tests, element_tests}
 use Rattle.tree_mirror.specs.One.{is_by_value}
 use Rattle.tree_mirror.proofs.Components.{components_are_one}
-
-and_left : (a b : Bool) → a && b ≡ true → a ≡ true
-and_left true b h = refl
-and_left false b h = cc
-
-and_right : (a b : Bool) → a && b ≡ true → b ≡ true
-and_right true b h = h
-and_right false b h = cc
-
--- two tests of one thing agree
-pub agree : (b c : Bool) → (b ≡ true → c ≡ true) → (c ≡ true → b ≡ true) → b ≡ c
-agree true c f g = sym (f refl)
-agree false true f g = g refl
-agree false false f g = refl
 
 module _ {K : Types} (app : Application K) (lawful : IsLawful K app) where
   elements : Tests (Element K) (λ a b. same_element app a b)

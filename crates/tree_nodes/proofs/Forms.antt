@@ -1,7 +1,8 @@
 -- What is written of a template tells it from all others.
-use Rattle.std.proofs.Common.{ℕ, suc, ◌+◌, ◌<◌, ◌≤◌, Bool, true, false, List, get_or, [], ◌∷◌, ◌++◌, ◌≡◌, refl, sym, ap, ◌∙◌, map, length, take, drop, add-one, drop-cons, arith}
+use Rattle.std.proofs.Common.{ℕ, suc, ◌+◌, ◌<◌, Bool, true, false, List, [], ◌∷◌, ◌++◌, ◌≡◌, refl, sym, ap, ◌∙◌, map, length, take, drop, arith}
 use Rattle.std.specs.Prelude.{Option, Some, None, IsTrue, ◌↔◌, if◌then◌else◌, nat_lt}
-use Rattle.std.proofs.lemmas.Grind.{common_steps}
+use Rattle.rt_lemmas.proofs.Lists.{append_nil as nil-right, append_append as append-append}
+pub use Rattle.rt_lemmas.proofs.Lists.{next_drop as next_node, drop_all as none_left}
 use Rattle.tree_nodes.specs.Forms.{all_in_form, all_paths_in_form, attribute_in_form, attributes_in_form, empty_form, form_of, form_step, form_then, marked, node_in_form, nodes_in_form, paths_in_form, roots_in_form, small_marked, space_in_form, text_in_form, texted, wide_marked}
 use Rattle.tree_nodes.specs.declared.written.Form.{Form}
 use Rattle.tree_nodes.specs.declared.template.TemplateAttribute.{TemplateAttribute}
@@ -13,17 +14,9 @@ use Rattle.tree_nodes.specs.declared.template.TemplateNode.TheViews.{out-Templat
 use Rattle.tree_nodes.specs.declared.template.TemplateNode.TheFolds.{fold-roll-TemplateNode, ind-TemplateNode, map-TemplateNode}
 use Rattle.tree_nodes.specs.declared.template.TemplateParts.{TemplateParts}
 
-nil-right : {A : Type 0} (xs : List A) → xs ++ [] ≡ xs
-nil-right [] = refl
-nil-right (x ∷ xs) = ap (λ ys. x ∷ ys) (nil-right xs)
-
 -- nothing more is written
 pub then_nothing : (f : Form) → form_then f empty_form ≡ f
 then_nothing f = λ i. record f { marks = nil-right f.marks i; wides = nil-right f.wides i }
-
-append-append : {A : Type 0} (xs ys zs : List A) → (xs ++ ys) ++ zs ≡ xs ++ (ys ++ zs)
-append-append [] ys zs = refl
-append-append (x ∷ xs) ys zs = ap (λ rs. x ∷ rs) (append-append xs ys zs)
 
 -- one mark more
 pub small_then : (f rest : Form) (m : ℕ) → nat_lt m 255 ≡ true → form_then (record f { marks = f.marks ++ m ∷ [] }) rest ≡ form_then f (marked m rest)
@@ -79,20 +72,6 @@ node_Text text rest = ap (λ n. node_in_form n rest) (sym (nodes.rolls-Text text
 
 pub node_Dynamic : (id : ℕ) (rest : Form) → node_in_form (nodes.Dynamic id) rest ≡ marked 2 (marked id rest)
 node_Dynamic id rest = ap (λ n. node_in_form n rest) (sym (nodes.rolls-Dynamic id)) ∙ node_rolled (TemplateNode-F.Dynamic id) rest
-
--- what is left of a list begins with the item that comes next
-pub next_node : {A : Type 0} (xs : List A) (i : ℕ) (x : A) → i < length xs → x ≡ get_or xs i x → drop i xs ≡ x ∷ drop (i + 1) xs
-next_node xs i x low is =
-    let e : drop i xs ≡ get_or xs i x ∷ drop (i + 1) xs = rw (add-one, drop-cons xs i x) refl in
-    e ∙ ap (λ y. y ∷ drop (i + 1) xs) (sym is)
-
--- the same of what stands there, whatever is read past the end
-pub next_at : {A : Type 0} (xs : List A) (i : ℕ) (d : A) → i < length xs → drop i xs ≡ get_or xs i d ∷ drop (i + 1) xs
-next_at xs i d low = rw (add-one, drop-cons xs i d) refl
-
--- nothing is left past the end
-pub none_left : {A : Type 0} (xs : List A) (i : ℕ) → length xs ≤ i → drop i xs ≡ []
-none_left xs i past = grind (arith, common_steps)
 
 -- what was written comes back
 

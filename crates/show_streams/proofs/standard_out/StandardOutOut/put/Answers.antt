@@ -1,12 +1,10 @@
 -- Nothing failed so far, and a failure is counted.
-use Rattle.std.proofs.Common.{◌≡◌, ℕ, ◌<◌, ◌≤◌, Ok, sym, subst, arith}
+use Rattle.std.proofs.Common.{ℕ, ◌<◌, ◌≤◌, Ok, sym, subst}
 use Rattle.std.specs.Prelude.{IsErrOf}
+use Rattle.rt_lemmas.proofs.Numbers.{at_most as same_count}
 use Rattle.show_streams.specs.declared.out.OutError.TheVariants as errors
 use Rattle.show_streams.proofs.OnePut.{untold}
 use Rattle.show_streams.proofs.standard_out.StandardOutOut.put.Goals as goal
-
-same_count : {before now : ℕ} → now ≡ before → before ≤ now
-same_count is = omega (arith, is)
 
 pub returns-then-done-bytes : goal.returns-then-done-bytes
 returns-then-done-bytes g c = record {
