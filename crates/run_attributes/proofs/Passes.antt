@@ -1,6 +1,7 @@
--- The elements of a template with their numbers, and the passes over them, one by one; they are those of the definitions.
-use Rattle.std.proofs.Common.{ℕ, ◌+◌, List, [], ◌∷◌, ◌++◌, ◌≡◌, refl, sym, ap, ◌∙◌, map}
-use Rattle.std.specs.Prelude.{Option}
+-- The elements of a template that have an attribute slot, with their numbers, and the passes over them, one by one; the passes are those of the
+-- definitions, since an element of static entries alone writes nothing.
+use Rattle.std.proofs.Common.{ℕ, ◌+◌, Bool, true, false, List, [], ◌∷◌, ◌++◌, ◌≡◌, refl, sym, ap, ◌∙◌, map}
+use Rattle.std.specs.Prelude.{Option, if◌then◌else◌}
 use Rattle.std.specs.List.{slice_index_or}
 use Rattle.std.proofs.lemmas.List.{append_assoc}
 use Rattle.tree_nodes.specs.declared.attribute.Attribute.{Attribute}
@@ -27,14 +28,41 @@ use Rattle.run_places.proofs.Walks.{row_is}
 use Rattle.run_attributes.specs.declared.given.Entries.{Entries}
 use Rattle.run_attributes.specs.declared.given.Pass.{Pass}
 use Rattle.run_attributes.specs.declared.given.Pass.TheVariants as passes
-use Rattle.run_attributes.specs.Given.{edits_of, pass_of, entry_written, entries_written, element_written, elements_written, AreWritten, block_written, entries_of, elements_met, template_elements, piece_elements, pieces_elements}
+use Rattle.run_attributes.specs.Given.{edits_of, pass_of, any_slot, slotted, entry_is_slot, slot_among, entry_written, entries_written, element_written, elements_written, AreWritten, block_written, entries_of, elements_met, template_elements, piece_elements, pieces_elements}
 use Rattle.run_attributes.proofs.Contents.{slot_given}
 use Rattle.run_attributes.proofs.Slots.{left_is, come_is, nil-right, edits-append}
 
-pub element_Element : (numbers : List (Place × Kind × ℕ)) (above : Place) (template : CodeTemplate) (path : List ℕ) (attrs : List CodeEntry)
+-- entries of an element
+
+pub slot_Static : (name : Text) (namespace : Option Text) (value : Text) → entry_is_slot (entries.Static name namespace value) ≡ false
+unfolding entry_is_slot
+slot_Static name namespace value = refl
+
+pub slot_Dynamic : (id : ℕ) → entry_is_slot (entries.Dynamic id) ≡ true
+unfolding entry_is_slot
+slot_Dynamic id = refl
+
+among_is : (es : List CodeEntry) → slot_among es ≡ any_slot (map attribute_in es)
+unfolding entry_is_slot
+among_is [] = refl
+among_is (entries.Static name namespace value ∷ es) = among_is es
+among_is (entries.Dynamic id ∷ es) = refl
+
+-- an element with an attribute slot is one of them
+pub element_Slotted : (numbers : List (Place × Kind × ℕ)) (above : Place) (template : CodeTemplate) (path : List ℕ) (attrs : List CodeEntry) → slot_among attrs ≡ true
     → piece_elements numbers above template (pieces.Element path attrs) ≡ (number_at numbers (at_path (template_of template) above path) an_element, map attribute_in attrs) ∷ []
 unfolding piece_elements
-element_Element numbers above template path attrs = refl
+element_Slotted numbers above template path attrs some =
+    let one : List (ℕ × List TemplateAttribute) = (number_at numbers (at_path (template_of template) above path) an_element, map attribute_in attrs) ∷ [] in
+    ap (λ (b : Bool). (if b then one else []) ++ []) (sym (among_is attrs) ∙ some)
+
+-- one of static entries alone isn't
+pub element_Static : (numbers : List (Place × Kind × ℕ)) (above : Place) (template : CodeTemplate) (path : List ℕ) (attrs : List CodeEntry) → slot_among attrs ≡ false
+    → piece_elements numbers above template (pieces.Element path attrs) ≡ []
+unfolding piece_elements
+element_Static numbers above template path attrs none =
+    let one : List (ℕ × List TemplateAttribute) = (number_at numbers (at_path (template_of template) above path) an_element, map attribute_in attrs) ∷ [] in
+    ap (λ (b : Bool). (if b then one else []) ++ []) (sym (among_is attrs) ∙ none)
 
 pub element_Text : (numbers : List (Place × Kind × ℕ)) (above : Place) (template : CodeTemplate) (path : List ℕ) → piece_elements numbers above template (pieces.Text path) ≡ []
 unfolding piece_elements
@@ -49,7 +77,8 @@ elements_are : (numbers : List (Place × Kind × ℕ)) (above : Place) (template
 unfolding piece_elements
 elements_are numbers above template [] = refl
 elements_are numbers above template (pieces.Element path attrs ∷ ps) =
-    ap (λ es. (number_at numbers (at_path (template_of template) above path) an_element, map attribute_in attrs) ∷ es) (elements_are numbers above template ps)
+    let own : List (ℕ × List TemplateAttribute) = slotted (number_at numbers (at_path (template_of template) above path) an_element) (map attribute_in attrs) in
+    (λ i. nil-right own i ++ elements_are numbers above template ps i)
 elements_are numbers above template (pieces.Text path ∷ ps) = elements_are numbers above template ps
 elements_are numbers above template (pieces.Slot id path ∷ ps) = elements_are numbers above template ps
 
@@ -64,21 +93,21 @@ pub elements-append : (a b : List Entries) → map entries_of (a ++ b) ≡ map e
 elements-append [] b = refl
 elements-append (x ∷ a) b = ap (λ es. entries_of x ∷ es) (elements-append a b)
 
--- one more element
+-- one more element with an attribute slot
 pub element_more : (numbers : List (Place × Kind × ℕ)) (above place : Place) (template : CodeTemplate) (path : List ℕ) (attrs more : List CodeEntry) (piece : Piece) (n : ℕ)
-    → n ≡ number_at numbers place an_element → place ≡ at_path (template_of template) above path → more ≡ attrs → piece ≡ pieces.Element path attrs
+    → slot_among attrs ≡ true → n ≡ number_at numbers place an_element → place ≡ at_path (template_of template) above path → more ≡ attrs → piece ≡ pieces.Element path attrs
     → (old new : List Entries) → new ≡ old ++ record { number = n; entries = more } ∷ []
     → map entries_of new ≡ map entries_of old ++ piece_elements numbers above template piece
-element_more numbers above place template path attrs more piece n numbered there same is old new added =
+element_more numbers above place template path attrs more piece n some numbered there same is old new added =
     let own : (n, map attribute_in more) ∷ [] ≡ piece_elements numbers above template piece =
     (λ i. (numbered i, map attribute_in (same i)) ∷ [])
     ∙ ap (λ (q : Place). (number_at numbers q an_element, map attribute_in attrs) ∷ []) there
-    ∙ sym (ap (λ (x : Piece). piece_elements numbers above template x) is ∙ element_Element numbers above template path attrs) in
+    ∙ sym (ap (λ (x : Piece). piece_elements numbers above template x) is ∙ element_Slotted numbers above template path attrs some) in
     ap (λ (es : List Entries). map entries_of es) added
     ∙ elements-append old (record { number = n; entries = more } ∷ [])
     ∙ ap (λ (es : List (ℕ × List TemplateAttribute)). map entries_of old ++ es) own
 
-pub ruleset elements = (elements_out, element_Element, element_Text, element_Slot, elements-append, nil-right, on_Inside, path_Whole)
+pub ruleset elements = (elements_out, slot_Static, slot_Dynamic, element_Text, element_Slot, elements-append, nil-right, on_Inside, path_Whole)
 
 module _ {P C Q V H T E L : Type 0} where
   pub written_Static : (pass : Pass) (new old : List (List (Attribute P C Q V H T E L))) (number : ℕ) (name : Text) (namespace : Option Text) (value : Text)
@@ -108,11 +137,27 @@ over-append : (of : ℕ → ℕ → List doc.Edit) (a b : List (ℕ × List Temp
 over-append of [] b = refl
 over-append of (e ∷ a) b = ap (λ xs. element_pass of e.0 e.1 ++ xs) (over-append of a b) ∙ sym (append_assoc (element_pass of e.0 e.1) (over of a) (over of b))
 
+-- an element of static entries alone writes nothing, whichever pass it is
+no_slot : (of : ℕ → ℕ → List doc.Edit) (n : ℕ) (es : List TemplateAttribute) → any_slot es ≡ false → element_pass of n es ≡ []
+no_slot of n [] none = refl
+no_slot of n (model.fixed name namespace value ∷ es) none = no_slot of n es none
+no_slot of n (model.from_slot k ∷ es) none = cc
+
+over_one : (of : ℕ → ℕ → List doc.Edit) (n : ℕ) (es : List TemplateAttribute) (any : Bool) → any_slot es ≡ any
+    → element_pass of n es ≡ over of (if any then (n, es) ∷ [] else [])
+over_one of n es true some = sym (nil-right (element_pass of n es))
+over_one of n es false none = no_slot of n es none
+
+-- so a pass over it is one over it where it has an attribute slot
+over-slotted : (of : ℕ → ℕ → List doc.Edit) (n : ℕ) (es : List TemplateAttribute) → element_pass of n es ≡ over of (slotted n es)
+over-slotted of n es = over_one of n es (any_slot es) refl
+
 elements-joined : (numbers : List (Place × Kind × ℕ)) (above : Place) (whole : Template) (a b : List Met)
     → elements_met numbers above whole (a ++ b) ≡ elements_met numbers above whole a ++ elements_met numbers above whole b
 elements-joined numbers above whole [] b = refl
 elements-joined numbers above whole (met_element path attributes ∷ a) b =
-    ap (λ es. (number_at numbers (at_path whole above path) an_element, attributes) ∷ es) (elements-joined numbers above whole a b)
+    let own : List (ℕ × List TemplateAttribute) = slotted (number_at numbers (at_path whole above path) an_element) attributes in
+    ap (λ es. own ++ es) (elements-joined numbers above whole a b) ∙ sym (append_assoc own (elements_met numbers above whole a) (elements_met numbers above whole b))
 elements-joined numbers above whole (met_text path ∷ a) b = elements-joined numbers above whole a b
 elements-joined numbers above whole (met_slot k path ∷ a) b = elements-joined numbers above whole a b
 
@@ -120,10 +165,13 @@ pass_by_elements : (numbers : List (Place × Kind × ℕ)) (above : Place) (whol
     → attribute_pass of (λ u j. number_at numbers (place_in whole above u j) an_element) up i ns ≡ over of (elements_met numbers above whole (all_met up i ns))
 pass_by_elements numbers above whole of up i no_nodes = refl
 pass_by_elements numbers above whole of up i (element_node tag namespace attributes children rest) =
-    ap (λ xs. element_pass of (number_at numbers (place_in whole above up i) an_element) attributes ++ xs)
-    ((λ k. pass_by_elements numbers above whole of (up ++ i ∷ []) 0 children k ++ pass_by_elements numbers above whole of up (i + 1) rest k) ∙
-    sym (over-append of (elements_met numbers above whole (all_met (up ++ i ∷ []) 0 children)) (elements_met numbers above whole (all_met up (i + 1) rest))) ∙
-    ap (λ es. over of es) (sym (elements-joined numbers above whole (all_met (up ++ i ∷ []) 0 children) (all_met up (i + 1) rest))))
+    let number : ℕ = number_at numbers (place_in whole above up i) an_element in
+    let inner : List (ℕ × List TemplateAttribute) = elements_met numbers above whole (all_met (up ++ i ∷ []) 0 children) in
+    let after : List (ℕ × List TemplateAttribute) = elements_met numbers above whole (all_met up (i + 1) rest) in
+    (λ k. over-slotted of number attributes k ++ (pass_by_elements numbers above whole of (up ++ i ∷ []) 0 children k ++ pass_by_elements numbers above whole of up (i + 1) rest k)) ∙
+    ap (λ xs. over of (slotted number attributes) ++ xs) (sym (over-append of inner after)) ∙
+    sym (over-append of (slotted number attributes) (inner ++ after)) ∙
+    ap (λ es. over of (slotted number attributes ++ es)) (sym (elements-joined numbers above whole (all_met (up ++ i ∷ []) 0 children) (all_met up (i + 1) rest)))
 pass_by_elements numbers above whole of up i (text_node text rest) = pass_by_elements numbers above whole of up (i + 1) rest
 pass_by_elements numbers above whole of up i (slot_node k rest) = pass_by_elements numbers above whole of up (i + 1) rest
 

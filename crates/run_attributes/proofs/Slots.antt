@@ -1,6 +1,7 @@
 -- What one attribute slot writes, attribute by attribute, and that it is what the definitions say.
 use Rattle.std.proofs.Common.{ℕ, Bool, true, false, ◌&&◌, ◌||◌, List, [], ◌∷◌, ◌++◌, ◌≡◌, refl, sym, ap, ◌∙◌, map}
 use Rattle.std.specs.Prelude.{Option, Some, None, if◌then◌else◌, is_some}
+pub use Rattle.rt_lemmas.proofs.Lists.{append_nil as nil-right}
 use Rattle.tree_nodes.specs.declared.attribute.Attribute.{Attribute}
 use Rattle.tree_nodes.specs.declared.attribute.AttributeValue.{AttributeValue}
 use Rattle.tree_nodes.specs.declared.attribute.AttributeValue.TheVariants as values
@@ -118,10 +119,6 @@ module _ {P C Q V H T E L : Type 0} where
   unfolding come_of
   come_is [] old number = refl
   come_is (a ∷ new) old number = ap (λ xs. come_of number old a ++ xs) (come_is new old number)
-
-pub nil-right : {A : Type 0} (xs : List A) → xs ++ [] ≡ xs
-nil-right [] = refl
-nil-right (x ∷ xs) = ap (λ ys. x ∷ ys) (nil-right xs)
 
 pub edits-append : (a b : List Edit) → edits_of (a ++ b) ≡ edits_of a ++ edits_of b
 edits-append [] b = refl

@@ -1,5 +1,5 @@
 -- What a change of what the attribute slots give writes, part by part.
-use Rattle.std.specs.Prelude.{ℕ, Bool, ◌||◌, ◌&&◌, false, List, [], ◌∷◌, ◌++◌, map, Option, Some, None, if◌then◌else◌, ◌≡◌}
+use Rattle.std.specs.Prelude.{ℕ, Bool, ◌||◌, ◌&&◌, true, false, List, [], ◌∷◌, ◌++◌, map, Option, Some, None, if◌then◌else◌, ◌≡◌}
 use Rattle.std.specs.List.{slice_index_or}
 use Rattle.std.specs.Borrow.{Bor}
 use Rattle.tree_nodes.specs.declared.attribute.Attribute.{Attribute}
@@ -36,19 +36,38 @@ edits_of edits = map edit_of edits
 abbrev pub entries_of : Entries → ℕ × List TemplateAttribute
 entries_of element = (element.number, map attribute_in element.entries)
 
--- the elements among what is met, each with its number
+-- one of the entries of an element is an attribute slot
+abbrev pub any_slot : List TemplateAttribute → Bool
+any_slot [] = false
+any_slot (fixed name namespace value ∷ rest) = any_slot rest
+any_slot (from_slot id ∷ rest) = true
+
+-- an element with its number, where it has an attribute slot: no other one writes
+abbrev pub slotted : ℕ → List TemplateAttribute → List (ℕ × List TemplateAttribute)
+slotted number attributes = if any_slot attributes then (number, attributes) ∷ [] else []
+
+-- an entry of code is an attribute slot
+unfoldable pub entry_is_slot : CodeEntry → Bool
+entry_is_slot entry = any_slot (attribute_in entry ∷ [])
+
+-- one of several is
+abbrev pub slot_among : List CodeEntry → Bool
+slot_among [] = false
+slot_among (entry ∷ rest) = entry_is_slot entry || slot_among rest
+
+-- the elements with an attribute slot among what is met, each with its number
 abbrev pub elements_met : List (Place × Kind × ℕ) → Place → Template → List Met → List (ℕ × List TemplateAttribute)
 elements_met numbers above whole [] = []
 elements_met numbers above whole (met_element path attributes ∷ ms) =
-    (number_at numbers (at_path whole above path) an_element, attributes) ∷ elements_met numbers above whole ms
+    slotted (number_at numbers (at_path whole above path) an_element) attributes ++ elements_met numbers above whole ms
 elements_met numbers above whole (met_text path ∷ ms) = elements_met numbers above whole ms
 elements_met numbers above whole (met_slot k path ∷ ms) = elements_met numbers above whole ms
 
--- the elements of a template
+-- the elements of a template that have an attribute slot
 unfoldable pub template_elements : List (Place × Kind × ℕ) → Place → CodeTemplate → List (ℕ × List TemplateAttribute)
 template_elements numbers above template = elements_met numbers above (template_of template) (all_met [] 0 (nodes_of template.roots))
 
--- the element that a piece is, if it is one
+-- the element that a piece is, if it is one with an attribute slot
 unfoldable pub piece_elements : List (Place × Kind × ℕ) → Place → CodeTemplate → Piece → List (ℕ × List TemplateAttribute)
 piece_elements numbers above template piece = elements_met numbers above (template_of template) (piece_of piece ∷ [])
 
@@ -154,7 +173,7 @@ module _ {P C Q V H T E L : Type 0} where
   -- edits are those of a matched block
   pub record AreWritten (edits : List Edit) (numbers : List (Place × Kind × ℕ)) (above : Place)
       (new old : VNode P C Q V H T E L) : Type 0 where
-    -- its elements, however they were found
+    -- its elements with an attribute slot, however they were found
     pub elements : List Entries
     pub are : map entries_of elements ≡ template_elements numbers above new.template
     pub written : edits_of edits ≡ passes_written new.dynamic_attrs old.dynamic_attrs elements

@@ -3,7 +3,7 @@
 ghost use Rattle.std.specs.Prelude.{◌≡◌, ◌++◌, map, IfOk, OnOk};
 ghost use Rattle.run_places.specs.Places.{side_of};
 ghost use Rattle.run_places.specs.Trails.{place_on};
-ghost use Rattle.run_attributes.specs.Given.{AreWritten, block_written, edits_of, element_written, elements_written, entries_of, entry_written, pass_of, piece_elements, template_elements};
+ghost use Rattle.run_attributes.specs.Given.{AreWritten, block_written, edits_of, element_written, elements_written, entries_of, entry_is_slot, entry_written, pass_of, piece_elements, slot_among, template_elements};
 
 use crate::content::attributes_in;
 use crate::slot::{come, left};
@@ -81,7 +81,7 @@ fn passes_written<P: Parts>(
     Ok(edits)
 }
 
-// The elements of a template, depth first, each with its number.
+// The elements of a template that have an attribute slot, depth first, each with its number.
 #[tactic(auto, using(crate::proofs::Passes::elements))]
 fn elements_in<P: Parts>(
     alloc: Global,
@@ -100,6 +100,8 @@ fn elements_in<P: Parts>(
     Ok(elements)
 }
 
+// An element joins them, where it has an attribute slot: no other one writes, so none is asked for
+// its number.
 #[tactic(auto, using(crate::proofs::Passes::elements))]
 fn add_element<P: Parts>(
     alloc: Global,
@@ -114,6 +116,10 @@ fn add_element<P: Parts>(
 {
     match piece {
         Piece::Element { path, attrs } => {
+            let given = attrs.as_slice();
+            if !has_slot(given) {
+                return Ok(());
+            }
             let path = Path::Whole(path.as_slice());
             let place = Trail::Inside(&*above, template, &path);
             let number = side.number_on(&place, Kind::Element);
@@ -122,6 +128,33 @@ fn add_element<P: Parts>(
         }
         Piece::Text { path: _ } => Ok(()),
         Piece::Slot { id: _, path: _ } => Ok(()),
+    }
+}
+
+// Whether one of the entries of an element is an attribute slot.
+#[tactic(auto, using(crate::proofs::Passes::elements))]
+fn has_slot(entries: &[TemplateAttribute]) -> bool
+    ensures { result ≡ slot_among entries.now }
+{
+    for entry in entries {
+        if is_slot(entry) {
+            return true;
+        }
+    }
+    false
+}
+
+#[tactic(auto, using(crate::proofs::Passes::elements))]
+fn is_slot(entry: &TemplateAttribute) -> bool
+    ensures { result ≡ entry_is_slot entry.now }
+{
+    match entry {
+        TemplateAttribute::Static {
+            name: _,
+            namespace: _,
+            value: _,
+        } => false,
+        TemplateAttribute::Dynamic { id: _ } => true,
     }
 }
 
