@@ -1,11 +1,13 @@
 -- Rows that stay: what a look, a removal and a tidying do to those that have a value.
 use Rattle.std.proofs.Common.{◌≡◌, ℕ, zero, suc, ◌+◌, ◌-◌, ◌<◌, ◌≤◌, List, [], ◌∷◌, ◌++◌, length, get_or, Bor, drop, cond, not, nat_eq, Bool, true, false, Option, Some, None, refl, ap, subst, sym, ◌∙◌, arith}
-use Rattle.std.specs.Prelude.{◌&&◌, slice_set, is_some, IfSome, OnErr, Result, Ok, Err}
+use Rattle.std.specs.Prelude.{slice_set, is_some, IfSome, OnErr, Result, Ok, Err}
 use Rattle.std.specs.List.{filter}
 use Rattle.std.specs.Slice.{IsGetResult}
 use Rattle.std.proofs.lemmas.List.{drop_more}
+use Rattle.rt_lemmas.proofs.Bools.{and_false as and-false, true_and as and-true}
+use Rattle.rt_lemmas.proofs.Numbers.{eq_true as eq-true, eq_above as eq-past, eq_below as eq-before}
 use Rattle.rt_model.specs.Lists.{at, without}
-use Rattle.rt_model.proofs.Maps.{by_test, eq_same, pick_false, pick_true}
+use Rattle.rt_model.proofs.Maps.{by_test, pick_false, pick_true}
 use Rattle.run_table.specs.Found.{Ascends}
 use Rattle.run_table.proofs.Rows.{drop-all}
 use Rattle.run_table.specs.Stands.{and_live, live, Rises, has_value, IsLast}
@@ -14,24 +16,6 @@ use Rattle.run_table.specs.Stands.{and_live, live, Rises, has_value, IsLast}
 pub refused : {X E P : Type 0} (r : Result X E) → P → OnErr r P
 refused (Ok x) p = tt
 refused (Err e) p = p
-
-and-true : (b : Bool) → b ≡ (b && true)
-and-true true = refl
-and-true false = refl
-
-and-false : (b : Bool) → (b && false) ≡ false
-and-false true = refl
-and-false false = refl
-
--- whether numbers are the same
-eq-past : (n m : ℕ) → n < m → nat_eq m n ≡ false
-eq-past n m low = grind (arith, low)
-
-eq-before : (m n : ℕ) → m < n → nat_eq m n ≡ false
-eq-before m n low = grind (arith, low)
-
-eq-true : (m n : ℕ) → m ≡ n → nat_eq m n ≡ true
-eq-true m n same = ap (λ (k : ℕ). nat_eq m k) (sym same) ∙ eq_same m
 
 module _ {A : Type 0} where
   -- numbers that rise from one on rise from any below it on

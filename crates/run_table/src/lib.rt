@@ -1,6 +1,7 @@
 //! Values under numbers, which contracts see as the list of pairs that the definitions speak of.
 #![tactic(auto)]
 
+mod firsts;
 mod shelf;
 mod table;
 

@@ -5,23 +5,28 @@ ghost use Rattle.std.specs.Fn.{FnOnceReturnsAtMut};
 ghost use Rattle.rt_model.specs.Lists.{at, put, without};
 ghost use Rattle.run_table.specs.Found.{IsFirst, IsTaken, Ascends};
 
+use crate::firsts::{first_row, relisted};
 use rt_values::OutOfMemory;
 use std::alloc::Global;
+use std::collections::BTreeMap;
 use std::marker::Model;
 use std::mem;
 
 /// Values under numbers, in the order in which they came. While the numbers rise, a look for one is a
-/// binary search.
+/// binary search. Once they don't, it is listed where each stands first, until a row goes.
 #[derive(Drop)]
 pub struct Table<T> {
     rows: Vec<(u64, T)>,
     rising: bool,
+    /// Whether the first row of each number is listed.
+    listed: bool,
+    firsts: BTreeMap<u64, usize>,
 }
 
 impl<T> Model for Table<T> {
     ghost use Rattle.std.specs.Prelude.{List, ℕ};
     ghost use Rattle.std.specs.Coded.{coded_list, coded×, coded_ℕ};
-    ghost use Rattle.run_table.specs.Found.{AscendsIf};
+    ghost use Rattle.run_table.specs.Found.{IsMarked};
 
     ghost Value = { List (ℕ × T) };
 
@@ -29,7 +34,7 @@ impl<T> Model for Table<T> {
 
     ghost view = { λ table. table.rows.items };
 
-    ghost invariant = { λ table. AscendsIf table.rising table.rows.items };
+    ghost invariant = { λ table. IsMarked table.rising table.listed table.firsts table.rows.items };
 }
 
 impl<T> Table<T> {
@@ -40,6 +45,8 @@ impl<T> Table<T> {
         Table {
             rows: Vec::new(alloc),
             rising: true,
+            listed: false,
+            firsts: BTreeMap::new(alloc),
         }
     }
 
@@ -58,7 +65,8 @@ impl<T> Table<T> {
         self.rising
     }
 
-    /// The first value under a number. A binary search, or a walk where the numbers don't rise.
+    /// The first value under a number. A binary search, and where the numbers don't rise as it is listed,
+    /// or a walk.
     #[inline(always)]
     pub fn get(&self, number: u64) -> Option<&T>
         ensures value { option_copied result ≡ at self.now number }
@@ -82,7 +90,7 @@ impl<T> Table<T> {
         if self.rising {
             near(rows, number)
         } else {
-            walk(rows, number)
+            first_row(rows, self.listed, &self.firsts, number)
         }
     }
 }
@@ -98,6 +106,9 @@ impl<T: Drop> Table<T> {
             None => true,
         };
         self.rows.push((number, value))?;
+        let lost = self.rising && !rising;
+        let rows = self.rows.as_slice();
+        self.listed = relisted(rows, number, self.listed, lost, &mut self.firsts);
         self.rising = rising;
         Ok(())
     }
@@ -166,6 +177,7 @@ impl<T: Drop> Table<T> {
         ensures others { self.new ≡ without self.old number }
     {
         let index = self.index_of(number)?;
+        self.listed = false;
         let (_number, value) = self.rows.remove(index);
         Some(value)
     }
@@ -176,6 +188,7 @@ impl<T: Drop> Table<T> {
         ensures others { self.new ≡ without self.old number }
     {
         let index = self.index_of(number)?;
+        self.listed = false;
         let (_number, value) = self.rows.remove(index);
         self.remove_each(number);
         Some(value)
@@ -188,6 +201,7 @@ impl<T: Drop> Table<T> {
         ensures left { IfNone result (self.new ≡ self.old) }
     {
         let index = self.index_of(number)?;
+        self.listed = false;
         let (_number, value) = self.rows.remove(index);
         Some(value)
     }
@@ -213,6 +227,7 @@ impl<T: Drop> Table<T> {
         requires within { index < length self.old }
         ensures others { self.new ≡ remove self.old index }
     {
+        self.listed = false;
         let _row = self.rows.remove(index);
     }
 
@@ -328,21 +343,4 @@ fn search<T>(rows: &[(u64, T)], number: u64) -> Option<usize>
     ensures absent { IfNone result (at rows.now number ≡ None) }
 {
     rows.binary_search_by_key(&number, |row| row.0).ok()
-}
-
-// The index of the first row of a number, whatever their order.
-#[inline(never)]
-fn walk<T>(rows: &[(u64, T)], number: u64) -> Option<usize>
-    ensures within { IfSome result (λ index. index < length rows.now) }
-    ensures first { IfSome result (λ index. IsFirst rows.now number index) }
-    ensures own { IfSome result (λ index.
-        (row : ℕ × T) → (get_or rows.now index row).0 ≡ number) }
-    ensures absent { IfNone result (at rows.now number ≡ None) }
-{
-    for index in 0..rows.len() {
-        if rows[index].0 == number {
-            return Some(index);
-        }
-    }
-    None
 }

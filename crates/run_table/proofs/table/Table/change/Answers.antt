@@ -1,12 +1,17 @@
 use Rattle.std.proofs.Common.{rules}
 use Rattle.run_table.proofs.Rows.{put-value, value-was}
 use Rattle.run_table.proofs.Ascending.{ascends-value}
+use Rattle.run_table.proofs.Listed.{listed-value}
 use Rattle.run_table.proofs.table.Table.change.Goals as goal
 
 pub invariant_of-self : goal.invariant_of-self
 invariant_of-self g c =
-    λ rising.
-    ascends-value c.self.inside.rows.items c.in-Some.index c.index_mut.result.now c.change.new.arg2 (rw c.self.view_is c.in-Some.ensures.within) c.index_mut.ensures.value (c.self.invariant rising)
+    let rows = c.self.inside.rows.items in
+    record {
+      ascends = λ rising. ascends-value rows c.in-Some.index c.index_mut.result.now c.change.new.arg2 (rw c.self.view_is c.in-Some.ensures.within) c.index_mut.ensures.value (c.self.invariant.ascends rising);
+      lists =
+          λ listed. listed-value rows c.in-Some.index c.index_mut.result.now c.change.new.arg2 c.self.inside.firsts (rw c.self.view_is c.in-Some.ensures.within) c.index_mut.ensures.value (c.self.invariant.lists listed);
+    }
 
 pub returns-in-Some-clause-changed : goal.returns-in-Some-clause-changed
 returns-in-Some-clause-changed g c =

@@ -7,9 +7,13 @@ use Rattle.run_table.proofs.table.Table.take_each.Goals as goal
 
 pub invariant_of-self : goal.invariant_of-self
 invariant_of-self g c =
-    λ rising.
-    rw c.remove-number.ensures.items
-    (ascends-removed c.self.inside.rows.items c.in_ok-index.index (rw c.self.view_is c.in_ok-index.ensures.within) (c.self.invariant rising))
+    record {
+      ascends =
+          λ rising.
+          rw c.remove-number.ensures.items
+          (ascends-removed c.self.inside.rows.items c.in_ok-index.index (rw c.self.view_is c.in_ok-index.ensures.within) (c.self.invariant.ascends rising));
+      lists = λ listed. absurd (cc listed);
+    }
 
 pub returns-in_err-index-clause-others : goal.returns-in_err-index-clause-others
 returns-in_err-index-clause-others g c =

@@ -6,9 +6,13 @@ use Rattle.run_table.proofs.table.Table.take_first.Goals as goal
 
 pub invariant_of-self : goal.invariant_of-self
 invariant_of-self g c =
-    λ rising.
-    rw c.remove-number.ensures.items
-    (ascends-removed c.self.inside.rows.items c.in_ok-index.index (rw c.self.view_is c.in_ok-index.ensures.within) (c.self.invariant rising))
+    record {
+      ascends =
+          λ rising.
+          rw c.remove-number.ensures.items
+          (ascends-removed c.self.inside.rows.items c.in_ok-index.index (rw c.self.view_is c.in_ok-index.ensures.within) (c.self.invariant.ascends rising));
+      lists = λ listed. absurd (cc listed);
+    }
 
 pub returns-clause-within : goal.returns-clause-within
 returns-clause-within g c =

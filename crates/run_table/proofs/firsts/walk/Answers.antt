@@ -1,5 +1,5 @@
 use Rattle.run_table.proofs.Rows.{first-past}
-use Rattle.run_table.proofs.table.walk.Goals as goal
+use Rattle.run_table.proofs.firsts.walk.Goals as goal
 
 pub loop-index-preserved : goal.loop-index-preserved
 loop-index-preserved g c =
