@@ -7,12 +7,10 @@ use Rattle.std.specs.List.{filter, slice_get, AllByRecursion}
 use Rattle.std.specs.List.Sorted.{IsStrictlySortedBy}
 use Rattle.std.specs.Map.{keys_of}
 use Rattle.std.proofs.lemmas.Map.Keys.{sorted_head, sorted_tail}
+use Rattle.rt_lemmas.proofs.Options.{some_is as some_same}
 use Rattle.rt_values.specs.declared.names.ScopeId.{ScopeId}
 use Rattle.rt_cells.specs.declared.numbered.Held.{Held}
 use Rattle.rt_cells.specs.Held.{is_of, numbers_of, without, without_scope}
-
-some_same : {x y : ℕ} → Some x ≡ Some y → x ≡ y
-some_same same = cc same
 
 none_first : (numbers : List ℕ) → None ≡ slice_get numbers 0 → numbers ≡ []
 none_first [] is = refl

@@ -1,10 +1,10 @@
 -- Only equal names tie in the orders, and the orders are total.
-use Rattle.std.proofs.Common.{◌≡◌, ℕ, refl, ap}
-use Rattle.std.specs.declared.cmp.Ordering.{Ordering}
-use Rattle.std.specs.declared.cmp.Ordering.TheVariants.{Less, Equal, Greater}
-use Rattle.std.specs.Ordering.{nat_cmp, ordering_then}
+use Rattle.std.proofs.Common.{◌≡◌, ℕ, ap}
+use Rattle.std.specs.declared.cmp.Ordering.TheVariants.{Equal}
+use Rattle.std.specs.Ordering.{nat_cmp}
 use Rattle.std.specs.Cmp.{IsTotalOrder, then_total, on_total, nat_cmp_total}
 use Rattle.std.specs.FinMap.{nat_cmp-IsAntisymmetric}
+use Rattle.rt_lemmas.proofs.Orders.{both_tie as then_parts}
 use Rattle.rt_values.specs.declared.names.ScopeId.{ScopeId}
 use Rattle.rt_cells.specs.declared.sources.Reader.{Reader}
 use Rattle.rt_cells.specs.declared.sources.Reader.TheVariants as reader
@@ -38,12 +38,6 @@ place_total = place_laws.total-law
 
 pub scope_exact : (x y : ScopeId) → scope_cmp x y ≡ Equal → x ≡ y
 scope_exact x y e = ap (λ (n : ℕ). record { 0 = n }) (nat_cmp-IsAntisymmetric x.0 y.0 e)
-
--- two orders in turn tie only where both do
-then_parts : (r s : Ordering) → ordering_then r s ≡ Equal → (r ≡ Equal) × (s ≡ Equal)
-then_parts Less s e = absurd (cc e)
-then_parts Equal s e = (refl, e)
-then_parts Greater s e = absurd (cc e)
 
 pub reader_exact : (x y : Reader) → reader_cmp x y ≡ Equal → x ≡ y
 reader_exact (reader.Scope x) (reader.Scope y) e = ap reader.Scope (scope_exact x y e)

@@ -1,5 +1,5 @@
 -- What stands under a number where numbers ascend, once another thing went.
-use Rattle.std.proofs.Common.{◌≡◌, ℕ, List, [], ◌∷◌, Bool, true, false, cond, ◌||◌, nat_eq, Option, None, Some, refl, sym, ap, ◌∙◌, arith}
+use Rattle.std.proofs.Common.{◌≡◌, ℕ, List, [], ◌∷◌, Bool, true, false, cond, ◌||◌, nat_eq, Option, None, Some, refl, sym, ap, ◌∙◌}
 use mathlib.Core.Bool.{true≢false}
 use Rattle.std.specs.declared.cmp.Ordering.TheVariants.{Less, Equal, Greater}
 use Rattle.std.specs.Ordering.{is_eq, nat_cmp}
@@ -8,17 +8,10 @@ use Rattle.std.specs.List.{list_any, AllByRecursion}
 use Rattle.std.specs.List.Sorted.{IsStrictlySortedBy}
 use Rattle.std.specs.Map.{keys_of}
 use Rattle.std.proofs.lemmas.Bool.{eqb-true}
-use Rattle.std.proofs.lemmas.Bool.Decides.{nat_tests}
 use Rattle.std.proofs.lemmas.Map.Keys.{sorted_head, sorted_tail}
+pub use Rattle.rt_lemmas.proofs.Numbers.{ties_back, ties}
 use Rattle.rt_cells.specs.declared.numbered.Held.{Held}
 use Rattle.rt_cells.specs.Held.{held_at, without}
-
--- equal numbers are those that compare as equal
-pub ties : (a b : ℕ) → is_eq (nat_cmp a b) ≡ nat_eq a b
-ties a b = grind (arith, nat_tests)
-
-pub ties_back : (a b : ℕ) → is_eq (nat_cmp a b) ≡ nat_eq b a
-ties_back a b = grind (arith, nat_tests)
 
 -- of two tests that don't hold both, either may come first
 either_first : {A : Type 0} (a b : Bool) (x o : Option A) → (a ≡ true → b ≡ true → x ≡ None) → cond a x (cond b None o) ≡ cond b None (cond a x o)

@@ -1,5 +1,5 @@
 -- The distinct items of a list in order: what they are, and that a sort and a `dedup` give them.
-use Rattle.std.proofs.Common.{◌≡◌, List, [], ◌∷◌, Bool, true, false, ◌||◌, refl, sym, ap, ◌∙◌}
+use Rattle.std.proofs.Common.{◌≡◌, List, [], ◌∷◌, Bool, true, ◌||◌, refl, sym, ap, ◌∙◌}
 use Rattle.std.specs.declared.cmp.Ordering.{Ordering}
 use Rattle.std.specs.declared.cmp.Ordering.TheVariants.{Less, Equal, Greater}
 use Rattle.std.specs.Ordering.{eq_by_cmp, match_ordering, ordering_reverse}
@@ -12,17 +12,9 @@ use Rattle.std.proofs.lemmas.List.Kept.{Contains-dedup, Contains-from_dedup, IsS
 use Rattle.std.proofs.lemmas.List.Sorted.{list_any-IsPermutation}
 use Rattle.std.proofs.lemmas.Map.Keys.{sorted_head, sorted_tail}
 use Rattle.std.proofs.lemmas.Map.Views.{Contains-from_any, list_any-from_Contains}
+use Rattle.rt_lemmas.proofs.Bools.{or_swapped as swapped, or_twice as twice}
 use Rattle.rt_cells.specs.Reads.{in_order}
 use Rattle.rt_cells.proofs.Sorted.{same_list, below_all}
-
-twice : (b r : Bool) → (b || r) ≡ (b || (b || r))
-twice true r = refl
-twice false r = refl
-
-swapped : (a b r : Bool) → (a || (b || r)) ≡ (b || (a || r))
-swapped true true r = refl
-swapped true false r = refl
-swapped false b r = refl
 
 module _ {K : Type 0} {R : K → K → Ordering} (o : IsTotalOrder R) where
   all_inserted : (P : K → Type 0) (xs : List K) (k : K) → AllByRecursion P xs → P k → AllByRecursion P (insert_key R xs k)

@@ -10,16 +10,13 @@ use Rattle.std.specs.List.{filter, AllByRecursion}
 use Rattle.std.specs.List.Sorted.{IsStrictlySortedBy}
 use Rattle.std.specs.Map.{keys_of}
 use Rattle.std.specs.BTreeMap.{insert_entry}
-use Rattle.std.proofs.lemmas.Bool.Decides.{nat_tests, eqb_tells}
+use Rattle.std.proofs.lemmas.Bool.Decides.{eqb_tells}
 use Rattle.std.proofs.lemmas.Map.Keys.{sorted_head, sorted_tail}
+use Rattle.rt_lemmas.proofs.Numbers.{ties_back as tie}
 use Rattle.rt_values.specs.declared.names.ScopeId.{ScopeId}
 use Rattle.rt_cells.specs.declared.numbered.Held.{Held}
 use Rattle.rt_cells.specs.Held.{held_at, without}
 use Rattle.rt_cells.specs.Index.{IsIndexed}
-
--- equal numbers are those that compare as equal
-tie : (a b : ℕ) → is_eq (nat_cmp a b) ≡ nat_eq b a
-tie a b = grind (arith, nat_tests)
 
 module _ {X : Type 0} where
   there : (hit : Bool) (thing : Held X) (found : Option (Held X)) → IsSome found → IsSome (cond hit (Some thing) found)

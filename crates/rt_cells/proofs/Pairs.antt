@@ -101,7 +101,7 @@ module _ {A B : Type 0} (P : A → A → Ordering) (Q : B → B → Ordering) wh
   abbrev lexical : A × B → A × B → Ordering
   lexical = then_cmp (on (λ pair. pair.0) P) (on (λ pair. pair.1) Q)
 
-  abbrev begins : A → A × B → Bool
+  abbrev pub begins : A → A × B → Bool
   begins a pair = is_eq (P a pair.0)
 
 module _ {A B : Type 0} (P : A → A → Ordering) (Q : B → B → Ordering) (first_total : IsTotalOrder P) where
@@ -126,7 +126,7 @@ module _ {A B : Type 0} (P : A → A → Ordering) (Q : B → B → Ordering) (f
     scan_first pairs sorted = scan (lexical P Q) (a, least) (begins P Q a) starts convex pairs sorted
 
   module _ (second_total : IsTotalOrder Q) (exact : (x y : B) → Q x y ≡ Equal → x ≡ y) (a : A) where
-    seconds_rise : (x y : A × B) → begins P Q a x ≡ true → begins P Q a y ≡ true → lexical P Q x y ≡ Less → Q x.1 y.1 ≡ Less
+    pub seconds_rise : (x y : A × B) → begins P Q a x ≡ true → begins P Q a y ≡ true → lexical P Q x y ≡ Less → Q x.1 y.1 ≡ Less
     seconds_rise x y at_x at_y less =
         let tie : P x.0 y.0 ≡ Equal = sym (first_total.congr a x.0 y.0 ((Equal-is (P a x.0)).0 at_x)) ∙ (Equal-is (P a y.0)).0 at_y in
         sym (ap (λ r. ordering_then r (Q x.1 y.1)) tie) ∙ less

@@ -1,5 +1,5 @@
 -- Who reads what: each reader with its sources, and the readers of a source.
-use Rattle.std.specs.Prelude.{ℕ, Bool, true, false, List, [], ◌∷◌, map, nat_lt, Option, None, Some}
+use Rattle.std.specs.Prelude.{ℕ, Bool, false, List, [], ◌∷◌, map, Option}
 use Rattle.std.specs.declared.cmp.Ordering.{Ordering}
 use Rattle.std.specs.Option.{unwrap_or}
 use Rattle.std.specs.Ordering.{is_eq}
@@ -34,11 +34,6 @@ reads_of reader reads = unwrap_or (sources_at reader reads) []
 -- The readers of a source, ascending.
 abbrev pub readers_of : Source → List (Reader × List Source) → List Reader
 readers_of source reads = map (λ read. read.0) (filter (λ read. has source read.1) reads)
-
--- A number is past another one, where there is one.
-abbrev pub comes_after : Option ℕ → ℕ → Bool
-comes_after None number = true
-comes_after (Some former) number = nat_lt former number
 
 -- A scope reads the source.
 abbrev pub is_read_by : ℕ → Source → List (Reader × List Source) → Bool

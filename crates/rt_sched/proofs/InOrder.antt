@@ -16,7 +16,7 @@ NoneBefore-front p [] r h = tt
 NoneBefore-front p (q ∷ l) r h = (h.0, NoneBefore-front p l r h.1)
 
 -- one in the middle
-NoneBefore-middle : (p : Place) (l : List Place) (k : Place) (r : List Place) → NoneBefore p (l ++ k ∷ r) → place_before k p ≡ false
+pub NoneBefore-middle : (p : Place) (l : List Place) (k : Place) (r : List Place) → NoneBefore p (l ++ k ∷ r) → place_before k p ≡ false
 NoneBefore-middle p [] k r h = h.0
 NoneBefore-middle p (q ∷ l) k r h = NoneBefore-middle p l k r h.1
 

@@ -15,7 +15,7 @@ use Rattle.rt_sched.proofs.RollLemmas.{order_in_with_last, order_in_without, own
 use Rattle.rt_sched.proofs.Waits.{order_in_absent}
 
 -- ---- the scopes' lists as orders
-has_scope_waits : (n : ℕ) (es : List (ScopeOrder × ℕ)) → AllTagged es → has_scope n (orders_of es) ≡ waits n es
+pub has_scope_waits : (n : ℕ) (es : List (ScopeOrder × ℕ)) → AllTagged es → has_scope n (orders_of es) ≡ waits n es
 has_scope_waits n [] t = refl
 has_scope_waits n (e ∷ es) t = rw t.0 (ap (λ b. eqb n e.0.id.0 || b) (has_scope_waits n es t.1))
 
@@ -59,7 +59,7 @@ orders_all (p ∷ ps) es s t =
     orders_all ps (with_waiting p.0 p.1 es) s.1 (tagged_with_waiting p.0 p.1 es s.0 t) ∙ ap (all_seen (orders_of ps)) (orders_with_waiting p.0 p.1 es s.0 t)
 
 -- ---- an entered scope
-same_id : (o p : ScopeOrder) → same_order o p ≡ true → eqb o.id.0 p.id.0 ≡ true
+pub same_id : (o p : ScopeOrder) → same_order o p ≡ true → eqb o.id.0 p.id.0 ≡ true
 same_id o p h = (and_parts (eqb o.height p.height) (eqb o.id.0 p.id.0) h).1
 
 pub has_order_stands : (o : ScopeOrder) (es : List (ScopeOrder × ℕ)) → AllTagged es → has_order o (orders_of es) ≡ true → stands_under o.id.0 o es ≡ true
@@ -85,7 +85,7 @@ stands_has_order o (e ∷ es) t =
 pub entered_order : (o : ScopeOrder) (es : List (ScopeOrder × ℕ)) → AllTagged es → AllUnder es es → has_order o (orders_of es) ≡ true → order_in o.id.0 es ≡ Some o
 entered_order o es t u h = stands_order o.id.0 o es es u (has_order_stands o es t h)
 
-order_in_tagged : (n : ℕ) (o : ScopeOrder) (es : List (ScopeOrder × ℕ)) → AllTagged es → order_in n es ≡ Some o → o.id.0 ≡ n
+pub order_in_tagged : (n : ℕ) (o : ScopeOrder) (es : List (ScopeOrder × ℕ)) → AllTagged es → order_in n es ≡ Some o → o.id.0 ≡ n
 order_in_tagged n o [] t h = absurd cc
 order_in_tagged n o (e ∷ es) t k =
     (elim (eqb n e.1) as (λ b. eqb n e.1 ≡ b → cond b (Some e.0) (order_in n es) ≡ Some o → o.id.0 ≡ n) [

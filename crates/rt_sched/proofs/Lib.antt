@@ -1,4 +1,6 @@
+pub mod After
 pub mod BatchLemmas
+pub mod Firsts
 pub mod InOrder
 pub mod KeptLemmas
 pub mod Least

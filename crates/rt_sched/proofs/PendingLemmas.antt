@@ -5,16 +5,13 @@ use Rattle.std.specs.Option.{is_some}
 use Rattle.std.specs.Result.{OnOk}
 use Rattle.std.specs.Ordering.{nat_cmp, is_eq}
 use Rattle.std.specs.BTreeMap.{BTreeMap, get}
+use Rattle.rt_lemmas.proofs.Bools.{cond_or}
 use Rattle.rt_sched.specs.Lines.{Row, waits, with_last, without_waiting}
 use Rattle.rt_sched.specs.Pending.{ArePending}
 use Rattle.rt_sched.specs.declared.order.ScopeOrder.{ScopeOrder}
 use Rattle.rt_sched.proofs.BatchLemmas.{tagged_with_last, tagged_filter}
 use Rattle.rt_sched.proofs.RollLemmas.{waits_with_last, waits_without}
 use Rattle.rt_sched.proofs.Seats.{seat_test}
-
-cond_or : (b c : Bool) → cond b true c ≡ (b || c)
-cond_or true c = refl
-cond_or false c = refl
 
 -- what holds where a call went through gives what follows from it
 pub on_ok : {T F : Type 0} (r : Result T F) (P Q : Type 0) → OnOk r P → (P → Q) → OnOk r Q

@@ -1,5 +1,5 @@
 -- A line whose first places are counted anew.
-use Rattle.std.proofs.Common.{◌≡◌, ℕ, Bool, true, false, cond, ◌||◌, List, [], ◌∷◌, ◌++◌, ◌<◌, ◌≤◌, ◌+◌, length, map, eqb, refl, ap, ◌∙◌, sym, subst, ⊎_elim, arith, Option, Some, None}
+use Rattle.std.proofs.Common.{◌≡◌, ℕ, true, false, cond, ◌||◌, List, [], ◌∷◌, ◌++◌, ◌<◌, ◌≤◌, ◌+◌, length, map, eqb, refl, ap, ◌∙◌, sym, subst, ⊎_elim, arith, Option, Some}
 use Rattle.std.proofs.lemmas.Grind.{common_steps}
 use Rattle.std.proofs.lemmas.Bool.{or_cases, or_parts, or_right, or_left, or_from, eqb-true, eq-eqb, ne_eqb, eqb-false, both_ways, cases_Bool}
 use Rattle.std.proofs.lemmas.Bool.Decides.{nat_tests}
@@ -8,19 +8,20 @@ use Rattle.std.proofs.lemmas.Map.Keys.{IsDistinct-cons}
 use Rattle.std.specs.List.{IsDistinct, AllByRecursion}
 use Rattle.std.specs.Set.{is_member as among}
 use Rattle.std.specs.Cmp.{nat_cmp_total, eq_by_cmp_equiv}
-use Rattle.std.specs.Option.{is_some}
 use Rattle.std.specs.Ordering.{nat_cmp, eq_by_cmp}
 use Rattle.std.specs.BTreeMap.{BTreeMap, get, keys}
+use Rattle.rt_lemmas.proofs.Bools.{or_swapped as or_swap}
+use Rattle.rt_lemmas.proofs.Numbers.{eqb_turned as eqb_flip}
 use Rattle.rt_sched.specs.Order.{order_before}
 use Rattle.rt_sched.specs.Places.{place_before, same_place, IsInOrder, NoneBefore, with_place, has_place}
-use Rattle.rt_sched.specs.Lines.{waits, who_waits, has_number, IsLine, AllArrivedBelow, AllOnce, standing, place_of}
+use Rattle.rt_sched.specs.Lines.{waits, who_waits, has_number, IsLine, AllArrivedBelow, AllOnce, standing}
 use Rattle.rt_sched.specs.declared.order.ScopeOrder.{ScopeOrder}
 use Rattle.rt_sched.specs.declared.place.Place.{Place}
 use Rattle.rt_sched.specs.declared.line.Seat.{Seat}
 use Rattle.rt_sched.proofs.PlaceLemmas.{same_place_is, same_place_itself}
 use Rattle.rt_sched.proofs.InOrder.{in_order_with_place}
 use Rattle.rt_sched.proofs.Waits.{placed_waits, waiting_place, below_with_place, below_more}
-use Rattle.rt_sched.proofs.Seats.{is_member}
+use Rattle.rt_sched.proofs.Seats.{is_member, is_some_place}
 
 -- no order of these places is before o
 abbrev pub NoneAfter : ScopeOrder → List Place → Type 0
@@ -43,16 +44,6 @@ pub record IsRenumbering (stand : ℕ → Option Place) (done rest : List Place)
   pub stands : (n : ℕ) (p : Place) → stand n ≡ Some p → (has_place p (done ++ rest) ≡ true) × (p.number ≡ n)
   pub seated : (p : Place) → has_place p (done ++ rest) ≡ true → stand p.number ≡ Some p
 
-is_some_place : (o : Option Seat) (p : Place) → place_of o ≡ Some p → is_some o ≡ true
-is_some_place None p e = absurd cc
-is_some_place (Some s) p e = refl
-
--- ---- a place in the middle
-or_swap : (a b c : Bool) → (a || (b || c)) ≡ (b || (a || c))
-or_swap true true c = refl
-or_swap true false c = refl
-or_swap false b c = refl
-
 has_place_middle_or : (p : Place) (l : List Place) (x : Place) (r : List Place) → has_place p (l ++ x ∷ r) ≡ (same_place p x || has_place p (l ++ r))
 has_place_middle_or p [] x r = refl
 has_place_middle_or p (q ∷ l) x r = ap (λ b. same_place p q || b) (has_place_middle_or p l x r) ∙ or_swap (same_place p q) (same_place p x) (has_place p (l ++ r))
@@ -60,9 +51,6 @@ has_place_middle_or p (q ∷ l) x r = ap (λ b. same_place p q || b) (has_place_
 waits_middle_or : (n : ℕ) (l : List Place) (x : Place) (r : List Place) → waits n (who_waits (l ++ x ∷ r)) ≡ (eqb n x.number || waits n (who_waits (l ++ r)))
 waits_middle_or n [] x r = refl
 waits_middle_or n (q ∷ l) x r = ap (λ b. eqb n q.number || b) (waits_middle_or n l x r) ∙ or_swap (eqb n q.number) (eqb n x.number) (waits n (who_waits (l ++ r)))
-
-eqb_flip : (m n : ℕ) → eqb m n ≡ eqb n m
-eqb_flip m n = grind (arith, nat_tests)
 
 once_middle : (l : List Place) (x : Place) (r : List Place) → AllOnce (l ++ x ∷ r) → waits x.number (who_waits (l ++ r)) ≡ false
 once_middle [] x r s = s.0

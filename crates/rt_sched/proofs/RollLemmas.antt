@@ -3,17 +3,13 @@ use Rattle.std.proofs.Common.{◌≡◌, ℕ, Bool, true, false, cond, not, ◌|
 use Rattle.std.proofs.lemmas.Bool.{or_parts, or_cases, or_right, or_left, or_from, and_parts, eqb-true, eq-eqb, ne_eqb, eqb-false, both_ways, false_from_ne_true}
 use Rattle.std.specs.List.{filter}
 use Rattle.std.specs.Option.{is_some}
+use Rattle.rt_lemmas.proofs.Bools.{or_swapped as or_swap}
 use Rattle.rt_sched.specs.Order.{order_before, same_order}
 use Rattle.rt_sched.specs.Lines.{Row, has_number, Joins, Leaves, waits, with_last, with_waiting, without_waiting, order_in, first_under}
 use Rattle.rt_sched.specs.Rosters.{AreLines, HasMembers, AllUnder, stands_under, all_waiting, without_under}
 use Rattle.rt_sched.specs.declared.order.ScopeOrder.{ScopeOrder}
 use Rattle.rt_sched.proofs.PlaceLemmas.{same_order_is}
 use Rattle.rt_sched.proofs.Waits.{order_in_absent}
-
-or_swap : (a b c : Bool) → (a || (b || c)) ≡ (b || (a || c))
-or_swap true true c = refl
-or_swap true false c = refl
-or_swap false b c = refl
 
 -- ---- one more waits
 pub waits_with_last : (m n : ℕ) (o : ScopeOrder) (es : List (ScopeOrder × ℕ)) → waits m (with_last o n es) ≡ (eqb m n || waits m es)
@@ -40,7 +36,7 @@ order_in_with_last m n o (e ∷ es) h =
           ∙ cond_swap (eqb m e.1) (eqb m n) (Some e.0) (Some o) (order_in m es) (λ a b. eqb-false n e.1 parts.0 (sym (eqb-true m n b) ∙ eqb-true m e.1 a))
     ]
 
-same_order_itself : (o : ScopeOrder) → same_order o o ≡ true
+pub same_order_itself : (o : ScopeOrder) → same_order o o ≡ true
 same_order_itself o = rw (eq-eqb o.height o.height refl, eq-eqb o.id.0 o.id.0 refl) refl
 
 -- ---- who stands under an order

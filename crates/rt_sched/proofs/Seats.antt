@@ -1,11 +1,12 @@
 -- Where members stand, when one seat changes.
-use Rattle.std.proofs.Common.{◌≡◌, ℕ, Bool, true, false, cond, not, ◌||◌, List, eqb, refl, ap, ◌∙◌, sym, ⊎_elim, arith, Option, Some, None}
+use Rattle.std.proofs.Common.{◌≡◌, ℕ, Bool, true, false, cond, not, List, eqb, refl, ap, ◌∙◌, sym, ⊎_elim, arith, Option, Some, None}
 use Rattle.std.proofs.lemmas.Bool.{eqb-true, cases_Bool, both_ways}
 use Rattle.std.proofs.lemmas.Bool.Decides.{nat_tests}
 use Rattle.std.proofs.lemmas.Map.Made.{is_some-lookup}
 use Rattle.std.specs.Option.{is_some}
 use Rattle.std.specs.Ordering.{nat_cmp, is_eq}
 use Rattle.std.specs.BTreeMap.{BTreeMap, get, keys}
+use Rattle.rt_lemmas.proofs.Bools.{cond_or}
 use Rattle.rt_sched.specs.Lines.{has_number, Joins, Leaves, place_of, standing}
 use Rattle.rt_sched.specs.declared.place.Place.{Place}
 use Rattle.rt_sched.specs.declared.line.Seat.{Seat}
@@ -37,10 +38,6 @@ stood_same m m' n w e none q =
 is_some_cond : (b : Bool) (w s : Option Seat) → is_some (cond b w s) ≡ cond b (is_some w) (is_some s)
 is_some_cond true w s = refl
 is_some_cond false w s = refl
-
-cond_or : (b c : Bool) → cond b true c ≡ (b || c)
-cond_or true c = refl
-cond_or false c = refl
 
 -- who is a member when the seat of n becomes w
 members_now : (m m' : BTreeMap ℕ Seat) (n : ℕ) (w : Option Seat) → ((q : ℕ) → get nat_cmp m' q ≡ cond (is_eq (nat_cmp n q)) w (get nat_cmp m q))
@@ -76,7 +73,7 @@ pub in_line : (o : Option Place) → false ≡ not (is_some o) → (x : Place) �
 in_line None e = absurd (both_ways true (sym e) refl)
 in_line (Some x) e = (x, refl)
 
-is_some_place : (o : Option Seat) (p : Place) → place_of o ≡ Some p → is_some o ≡ true
+pub is_some_place : (o : Option Seat) (p : Place) → place_of o ≡ Some p → is_some o ≡ true
 is_some_place None p e = absurd cc
 is_some_place (Some s) p e = refl
 

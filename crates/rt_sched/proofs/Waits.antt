@@ -3,21 +3,14 @@ use Rattle.std.proofs.Common.{◌≡◌, ℕ, Bool, true, false, cond, not, ◌|
 use Rattle.std.proofs.lemmas.Bool.{or_parts, or_cases, or_right, or_left, or_from, eqb-true, eq-eqb, ne_eqb, both_ways}
 use Rattle.std.proofs.lemmas.Bool.Decides.{nat_tests}
 use Rattle.std.specs.Option.{option_map}
+use Rattle.rt_lemmas.proofs.Bools.{or_swapped as or_swap}
+use Rattle.rt_lemmas.proofs.Numbers.{eqb_turned as eqb_flip}
 use Rattle.rt_sched.specs.Order.{order_before, same_order}
 use Rattle.rt_sched.specs.Places.{place_before, same_place, with_place, has_place, without_place, first_place, first_place_under}
 use Rattle.rt_sched.specs.Lines.{waits, who_waits, first_order, first_under, with_last, without_waiting, order_in, AllArrivedBelow, AllOnce}
 use Rattle.rt_sched.specs.declared.order.ScopeOrder.{ScopeOrder}
 use Rattle.rt_sched.specs.declared.place.Place.{Place}
 use Rattle.rt_sched.proofs.PlaceLemmas.{same_place_is, same_place_itself}
-
--- ---- tests
-or_swap : (a b c : Bool) → (a || (b || c)) ≡ (b || (a || c))
-or_swap true true c = refl
-or_swap true false c = refl
-or_swap false b c = refl
-
-eqb_flip : (m n : ℕ) → eqb m n ≡ eqb n m
-eqb_flip m n = grind (arith, nat_tests)
 
 -- ---- a place and who stands there
 pub placed_waits : (p : Place) (ps : List Place) → has_place p ps ≡ true → waits p.number (who_waits ps) ≡ true

@@ -60,6 +60,16 @@ abbrev pub first_order : List (ScopeOrder × ℕ) → Option ScopeOrder
 first_order [] = None
 first_order (e ∷ es) = Some e.0
 
+-- the first that waits, with its order, if any does
+abbrev pub first_in : List (ScopeOrder × ℕ) → Option (ScopeOrder × ℕ)
+first_in [] = None
+first_in (e ∷ es) = Some e
+
+-- those that wait behind a number, none where it doesn't wait
+abbrev pub behind : ℕ → List (ScopeOrder × ℕ) → List (ScopeOrder × ℕ)
+behind n [] = []
+behind n (e ∷ es) = if n == e.1 then es else behind n es
+
 -- the orders of those that wait
 abbrev pub orders_of : List (ScopeOrder × ℕ) → List ScopeOrder
 orders_of es = map (λ e. e.0) es

@@ -47,3 +47,8 @@ first_place (p ∷ ps) = Some p
 abbrev pub first_place_under : ScopeOrder → List Place → Option Place
 first_place_under o [] = None
 first_place_under o (p ∷ ps) = if same_order o p.order then Some p else first_place_under o ps
+
+-- the places from the first on that p comes before
+abbrev pub after_place : Place → List Place → List Place
+after_place p [] = []
+after_place p (q ∷ qs) = if place_before p q then q ∷ qs else after_place p qs

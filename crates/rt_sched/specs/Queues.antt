@@ -57,12 +57,34 @@ all_seen (o ∷ os) seen = all_seen os (with_scope o seen)
 abbrev pub without_tasks_of : ℕ → List (ScopeOrder × ℕ) → List (ScopeOrder × ℕ)
 without_tasks_of n es = filter (λ e. not (n == e.0.id.0)) es
 
+-- the order of the scope with this number, if it is among these
+abbrev pub scope_order : ℕ → List ScopeOrder → Option ScopeOrder
+scope_order n [] = None
+scope_order n (o ∷ os) = if n == o.id.0 then Some o else scope_order n os
+
+-- the first of these scopes, if there is one
+abbrev pub first_scope : List ScopeOrder → Option ScopeOrder
+first_scope [] = None
+first_scope (o ∷ os) = Some o
+
+-- the first task of a scope, if any is of it
+abbrev pub first_task_of : ℕ → List (ScopeOrder × ℕ) → Option Task
+first_task_of n [] = None
+first_task_of n (e ∷ es) = if n == e.0.id.0 then Some (record { 0 = e.1 }) else first_task_of n es
+
 -- the lesser of the first seen scope and the first queued task, the task on equal order
 abbrev pub next_work : List ScopeOrder → List (ScopeOrder × ℕ) → Option Work
 next_work [] [] = None
 next_work (o ∷ os) [] = Some (RerunScope o)
 next_work [] (e ∷ es) = Some (PollTask (record { 0 = e.1 }))
 next_work (o ∷ os) (e ∷ es) = if order_before o e.0 then Some (RerunScope o) else Some (PollTask (record { 0 = e.1 }))
+
+-- the lesser of a seen scope and a queued task, the task on equal order
+abbrev pub lesser_work : Option ScopeOrder → Option (ScopeOrder × ℕ) → Option Work
+lesser_work None None = None
+lesser_work (Some o) None = Some (RerunScope o)
+lesser_work None (Some e) = Some (PollTask (record { 0 = e.1 }))
+lesser_work (Some o) (Some e) = if order_before o e.0 then Some (RerunScope o) else Some (PollTask (record { 0 = e.1 }))
 
 -- the seen scopes once the next work is taken
 abbrev pub seen_after : List ScopeOrder → List (ScopeOrder × ℕ) → List ScopeOrder

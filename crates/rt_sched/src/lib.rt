@@ -1,6 +1,7 @@
 //! What runs next: marked scopes and woken tasks by height and number, effects last.
 #![tactic(auto)]
 
+mod asked;
 mod compared;
 mod dirty;
 mod effects;

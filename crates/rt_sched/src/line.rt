@@ -4,7 +4,7 @@ ghost use Rattle.std.specs.Prelude.{◌≡◌, ◌∷◌, [], ◌^◌, ◌-◌, 
 ghost use Rattle.std.specs.Ordering.{nat_cmp};
 ghost use Rattle.std.specs.BTreeMap.{get, keys};
 ghost use Rattle.rt_sched.specs.Places.{IsInOrder};
-ghost use Rattle.rt_sched.specs.Lines.{Row, IsLine, standing, StandsAt, has_number, Joins, Leaves, waits, with_waiting, without_waiting, order_in, orders_of, first_under, first_order, who_waits};
+ghost use Rattle.rt_sched.specs.Lines.{Row, IsLine, standing, StandsAt, has_number, Joins, Leaves, waits, with_waiting, without_waiting, order_in, orders_of, first_in, first_under, first_order, behind, who_waits};
 ghost use Rattle.rt_sched.specs.Due.{NoneEarlier};
 
 use crate::order::ScopeOrder;
@@ -136,6 +136,30 @@ impl Line {
         ensures least { IfSome result (λ order. NoneEarlier order (orders_of self.now.waiting)) }
     {
         Some(self.tree.first()?.order)
+    }
+
+    /// The first that waits, with its order.
+    pub fn first(&self) -> Option<(ScopeOrder, u64)>
+        ensures first { result ≡ first_in self.now.waiting }
+    {
+        let place = self.tree.first()?;
+        Some((place.order, place.number))
+    }
+
+    /// The first that waits behind a number, with its order. `None` where the number doesn't wait.
+    pub fn first_behind(&self, number: u64) -> Option<(ScopeOrder, u64)>
+        ensures first { result ≡ first_in (behind number self.now.waiting) }
+    {
+        let own = place_at(&self.seats, number)?;
+        let place = self.tree.first_after(&own)?;
+        Some((place.order, place.number))
+    }
+
+    /// Whether a number waits.
+    pub fn has(&self, number: u64) -> bool
+        ensures waiting { result ≡ waits number self.now.waiting }
+    {
+        place_at(&self.seats, number).is_some()
     }
 
     /// The first that waits under an order.

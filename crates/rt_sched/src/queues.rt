@@ -18,9 +18,9 @@ use std::marker::Model;
 /// Marks, wakes and effects that wait for their turn.
 #[derive(Drop)]
 pub struct Queues<E> {
-    scopes: Roll,
-    tasks: Roll,
-    effects: Effects<E>,
+    pub(crate) scopes: Roll,
+    pub(crate) tasks: Roll,
+    pub(crate) effects: Effects<E>,
 }
 
 impl<E> Model for Queues<E> {
@@ -215,6 +215,22 @@ impl<E: Drop> Queues<E> {
             let (_, number) = self.tasks.pop_first()?;
             Some(Work::PollTask(Task(number)))
         }
+    }
+
+    /// A scope is seen no more, as where it is passed over. What is posted of it stays.
+    pub fn unsee_scope(&mut self, id: ScopeId)
+        ensures unseen { self.new
+            ≡ record self.old { seen = without_scope id.0 self.old.seen } }
+    {
+        self.scopes.withdraw(id.0);
+    }
+
+    /// A task is queued no more, as where it is passed over. What is posted of it stays.
+    pub fn unqueue_task(&mut self, task: Task)
+        ensures unqueued { self.new
+            ≡ record self.old { queued = without_waiting task.0 self.old.queued } }
+    {
+        self.tasks.withdraw(task.0);
     }
 
     /// Drops the marks of a scope, as its run begins.

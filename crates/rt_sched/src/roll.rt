@@ -1,7 +1,7 @@
 //! Who is entered, and of these who is ready and who is posted. Room in all lines is taken when one
 //! is entered.
 ghost use Rattle.std.specs.Prelude.{◌≡◌, ◌∷◌, [], ◌↔◌, IsTrue, MatchOption, IfSome, OnOk, OnErr, Some, false};
-ghost use Rattle.rt_sched.specs.Lines.{Row, Joins, Leaves, has_number, waits, with_waiting, without_waiting, order_in, orders_of, first_order};
+ghost use Rattle.rt_sched.specs.Lines.{Row, Joins, Leaves, has_number, waits, with_waiting, without_waiting, order_in, orders_of, behind, first_in, first_order, first_under};
 ghost use Rattle.rt_sched.specs.Due.{NoneEarlier};
 ghost use Rattle.rt_sched.specs.Rosters.{Roster, AreLines, HasMembers, SameMembers, stands_under, all_waiting, without_under};
 
@@ -117,6 +117,48 @@ impl Roll {
         self.ready.first_order()
     }
 
+    /// The first that is ready, with its order.
+    pub fn first(&self) -> Option<(ScopeOrder, u64)>
+        ensures first { result ≡ first_in self.now.ready }
+    {
+        self.ready.first()
+    }
+
+    /// The first that is ready behind a number. `None` where the number isn't ready.
+    pub fn first_behind(&self, number: u64) -> Option<(ScopeOrder, u64)>
+        ensures first { result ≡ first_in (behind number self.now.ready) }
+    {
+        self.ready.first_behind(number)
+    }
+
+    /// The first that is posted, with its order.
+    pub fn first_posted(&self) -> Option<(ScopeOrder, u64)>
+        ensures first { result ≡ first_in self.now.posted }
+    {
+        self.posted.first()
+    }
+
+    /// The first that is posted behind a number. `None` where the number isn't posted.
+    pub fn posted_behind(&self, number: u64) -> Option<(ScopeOrder, u64)>
+        ensures first { result ≡ first_in (behind number self.now.posted) }
+    {
+        self.posted.first_behind(number)
+    }
+
+    /// The first that was entered under an order.
+    pub fn entered_under(&self, order: &ScopeOrder) -> Option<u64>
+        ensures first { result ≡ first_under order.now self.now.entered }
+    {
+        self.entered.first_under(order)
+    }
+
+    /// Whether a number is ready.
+    pub fn is_ready(&self, number: u64) -> bool
+        ensures ready { result ≡ waits number self.now.ready }
+    {
+        self.ready.has(number)
+    }
+
     /// The order under which a number is entered, if it is.
     pub fn order_of(&self, number: u64) -> Option<ScopeOrder>
         ensures order { result ≡ order_in number self.now.entered }
@@ -132,6 +174,14 @@ impl Roll {
             Some(entered) => *order == entered,
             None => false,
         }
+    }
+
+    /// A number isn't ready any more. Where it is posted it stays so.
+    pub fn withdraw(&mut self, number: u64)
+        ensures withdrawn { self.new
+            ≡ record self.old { ready = without_waiting number self.old.ready } }
+    {
+        self.ready.remove(number);
     }
 
     /// A number is neither ready nor posted.
@@ -174,6 +224,13 @@ impl Roll {
         ensures none { IsTrue result ↔ (self.now.ready ≡ []) }
     {
         self.ready.is_empty()
+    }
+
+    /// Whether none is posted.
+    pub fn none_posted(&self) -> bool
+        ensures none { IsTrue result ↔ (self.now.posted ≡ []) }
+    {
+        self.posted.is_empty()
     }
 
     /// Whether none is ready or posted.

@@ -1,7 +1,7 @@
 //! A balanced tree of places. Its nodes are made by others and handed in and out, so that no change
 //! takes memory.
 ghost use Rattle.std.specs.Prelude.{◌≡◌, ◌∷◌, ◌++◌, [], MatchOption, IfSome, IsTrue, ◌↔◌, is_some};
-ghost use Rattle.rt_sched.specs.Places.{IsInOrder, first_place, first_place_under, has_place, with_place, without_place};
+ghost use Rattle.rt_sched.specs.Places.{IsInOrder, after_place, first_place, first_place_under, has_place, with_place, without_place};
 ghost use Rattle.rt_sched.specs.Tree.{height_of};
 
 use crate::order::ScopeOrder;
@@ -100,6 +100,23 @@ impl Tree {
                     node.right.first_under(order)
                 } else {
                     node.left.first_under(order).or(Some(node.place))
+                }
+            }
+        }
+    }
+
+    /// The first of the places that one comes before.
+    pub fn first_after(&self, place: &Place) -> Option<Place>
+        requires in_order { IsInOrder self.now }
+        ensures first { result ≡ first_place (after_place place.now self.now) }
+    {
+        match &self.root {
+            Root::Leaf => None,
+            Root::Fork(node) => {
+                if place.is_before(&node.place) {
+                    node.left.first_after(place).or(Some(node.place))
+                } else {
+                    node.right.first_after(place)
                 }
             }
         }

@@ -1,6 +1,7 @@
 -- How many different numbers a list has: no more than a list that has each of them.
-use Rattle.std.proofs.Common.{ℕ, suc, ◌+◌, ◌≤◌, Bool, true, false, List, [], ◌∷◌, ◌≡◌, length, refl, sym, ap, ◌∙◌, nat_eq, arith}
+use Rattle.std.proofs.Common.{ℕ, suc, ◌+◌, ◌≤◌, true, false, List, [], ◌∷◌, ◌≡◌, length, refl, sym, ap, ◌∙◌, nat_eq, arith}
 use Rattle.std.proofs.lemmas.Bool.{eqb-true}
+use Rattle.rt_lemmas.proofs.Bools.{agree as same_test}
 use Rattle.rt_model.specs.Lists.{drop_number, has}
 use Rattle.rt_model.proofs.Maps.{by_test, pick_true, pick_false, eq_same}
 use Rattle.rt_model.proofs.Members.{by_either, clash, or_left, or_right, number_stays, number_left, turned_round}
@@ -12,12 +13,6 @@ different_in n ns h = pick_true (different ns) (suc (different ns)) h
 
 different_out : (n : ℕ) (ns : List ℕ) → has ns n ≡ false → different (n ∷ ns) ≡ suc (different ns)
 different_out n ns h = pick_false (different ns) (suc (different ns)) h
-
--- a test is the same where it holds of both or of none
-same_test : (a b : Bool) → (a ≡ true → b ≡ true) → (b ≡ true → a ≡ true) → a ≡ b
-same_test true b f g = sym (f refl)
-same_test false true f g = clash (g refl) refl
-same_test false false f g = refl
 
 -- another number stands where it stood
 other_stays : (ns : List ℕ) (s n : ℕ) → nat_eq s n ≡ false → has (drop_number ns s) n ≡ has ns n

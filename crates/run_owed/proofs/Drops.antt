@@ -9,7 +9,7 @@ use Rattle.rt_model.proofs.Members.{clash, or_left, or_right}
 use Rattle.run_owed.specs.Lists.{EachOnce}
 
 -- one that would go anyway goes first
-number_first : (xs : List ℕ) (n i : ℕ) → i < length xs → get_or xs i 0 ≡ n → drop_number (remove xs i) n ≡ drop_number xs n
+pub number_first : (xs : List ℕ) (n i : ℕ) → i < length xs → get_or xs i 0 ≡ n → drop_number (remove xs i) n ≡ drop_number xs n
 number_first [] n i within own = absurd (omega arith)
 number_first (x ∷ xs) n zero within own = grind (arith, common_steps)
 number_first (x ∷ xs) n (suc i) within own = grind (arith, common_steps, number_first xs n i)

@@ -11,3 +11,4 @@ pub mod Gone
 pub mod Rolls
 pub mod Ordered
 pub mod Joined
+pub mod Owners

@@ -3,13 +3,7 @@ use Rattle.std.proofs.Common.{ℕ, Bool, true, false, List, [], ◌∷◌, ◌++
 use Rattle.std.proofs.lemmas.Grind.{common_steps}
 use Rattle.rt_model.specs.Lists.{has}
 use Rattle.rt_model.proofs.Members.{by_either, clash, or_left, or_right}
-
-pub has_first : (xs ys : List ℕ) (s : ℕ) → has xs s ≡ true → has (xs ++ ys) s ≡ true
-has_first [] ys s h = clash h refl
-has_first (x ∷ xs) ys s h =
-    by_either (nat_eq x s) (has xs s) h
-    (λ g. or_left (nat_eq x s) (has (xs ++ ys) s) g)
-    (λ g. or_right (nat_eq x s) (has (xs ++ ys) s) (has_first xs ys s g))
+pub use Rattle.rt_model.proofs.Members.{has_first}
 
 pub has_second : (xs ys : List ℕ) (s : ℕ) → has ys s ≡ true → has (xs ++ ys) s ≡ true
 has_second [] ys s h = h

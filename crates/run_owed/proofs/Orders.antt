@@ -1,8 +1,12 @@
 -- What stands in order, as numbers come and go.
-use Rattle.std.proofs.Common.{◌≡◌, ◌++◌, ◌&&◌, ◌||◌, ◌+◌, ◌-◌, ◌<◌, ◌≤◌, ℕ, suc, Bool, true, false, List, [], ◌∷◌, length, get_or, drop, refl, ap, sym, ◌∙◌, nat_eq, nat_lt, not, arith}
+use Rattle.std.proofs.Common.{◌≡◌, ◌++◌, ◌&&◌, ◌+◌, ◌-◌, ◌<◌, ◌≤◌, ℕ, suc, Bool, true, false, List, [], ◌∷◌, length, get_or, drop, refl, ap, sym, ◌∙◌, nat_eq, nat_lt, arith}
 use Rattle.std.specs.Prelude.{Some, None, if◌then◌else◌}
 use Rattle.std.proofs.lemmas.Bool.{eqb-true}
 use Rattle.std.proofs.lemmas.List.{drop_all, drop_more}
+use Rattle.rt_lemmas.proofs.Bools.{neither, not_either, both_of as both, second_false as second_not}
+pub use Rattle.rt_lemmas.proofs.Bools.{not_true}
+use Rattle.rt_lemmas.proofs.Numbers.{eq_true as is_same, lt_true as low_test, lt_false as not_low, high_test}
+pub use Rattle.rt_lemmas.proofs.Lists.{none_most as empty_read}
 use Rattle.rt_model.specs.Lists.{drop_number, has, or_else}
 use Rattle.rt_model.specs.Next.{least, least_from}
 use Rattle.rt_model.proofs.Maps.{by_test, eq_same, none_some, pick_false}
@@ -12,41 +16,9 @@ use Rattle.run_owed.proofs.Members.{has_only}
 
 -- tests
 
-low_test : (n m : ℕ) → nat_lt n m ≡ true → n < m
-low_test n m q = grind (arith, q)
-
-not_low : (n m : ℕ) → nat_lt n m ≡ false → m ≤ n
-not_low n m q = grind (arith, q)
-
-high_test : (n m : ℕ) → m ≤ n → nat_lt n m ≡ false
-high_test n m h = by_test (nat_lt n m) (λ q. let low : n < m = low_test n m q in absurd (omega (arith, low, h))) (λ q. q)
-
-is_same : (n m : ℕ) → n ≡ m → nat_eq n m ≡ true
-is_same n m h = ap (λ k. nat_eq n k) (sym h) ∙ eq_same n
-
-neither : (a b : Bool) → a || b ≡ false → (a ≡ false) × (b ≡ false)
-neither true b h = clash refl h
-neither false b h = (refl, h)
-
-not_either : (a b : Bool) → a ≡ false → b ≡ false → a || b ≡ false
-not_either true b h k = clash refl h
-not_either false b h k = k
-
-both : (a b : Bool) → a && b ≡ true → (a ≡ true) × (b ≡ true)
-both true b h = (refl, h)
-both false b h = clash h refl
-
 not_both : (a b : Bool) → (a ≡ true → b ≡ false) → a && b ≡ false
 not_both true b f = f refl
 not_both false b f = refl
-
-second_not : (a b : Bool) → a && b ≡ false → a ≡ true → b ≡ false
-second_not true b h q = h
-second_not false b h q = clash q refl
-
-pub not_true : (b : Bool) → not b ≡ true → b ≡ false
-not_true true h = sym h
-not_true false h = refl
 
 -- the order of heights and numbers
 
@@ -116,10 +88,6 @@ last_read (n ∷ m ∷ ms) d some =
 pub first_read : (ns : List ℕ) (d : ℕ) → 0 < length ns → Some (get_or ns 0 d) ≡ first_number ns
 first_read [] d some = absurd (omega (arith, some))
 first_read (n ∷ ns) d some = refl
-
-pub empty_read : (ns : List ℕ) → length ns ≤ 0 → ns ≡ []
-empty_read [] none = refl
-empty_read (n ∷ ns) none = absurd (omega (arith, none))
 
 module _ (rank : ℕ → ℕ × ℕ) where
   -- a number comes before none of these

@@ -2,3 +2,4 @@ pub mod Lists
 pub mod Orders
 pub mod Changes
 pub mod Rooms
+pub mod Owners

@@ -1,5 +1,5 @@
 -- Lists of numbers: each once, how many different ones, the front; and the scopes and tasks of what is posted.
-use Rattle.std.specs.Prelude.{ℕ, suc, false, List, [], ◌∷◌, ◌≡◌, if◌then◌else◌}
+use Rattle.std.specs.Prelude.{ℕ, suc, false, nat_eq, List, [], ◌∷◌, ◌≡◌, if◌then◌else◌}
 use Rattle.rt_model.specs.Lists.{at, has, join, or_else}
 use Rattle.rt_model.specs.State.{Posted, Mark, Woken}
 
@@ -52,3 +52,8 @@ numbers_of (e ∷ es) = e.0 ∷ numbers_of es
 abbrev pub values_of : {A : Type 0} → (A → ℕ) → List (ℕ × A) → List (ℕ × ℕ)
 values_of value [] = []
 values_of value (e ∷ es) = (e.0, value e.1) ∷ values_of value es
+
+-- the numbers that were entered with a value
+abbrev pub numbers_with : ℕ → List (ℕ × ℕ) → List ℕ
+numbers_with v [] = []
+numbers_with v (e ∷ es) = if nat_eq e.1 v then e.0 ∷ numbers_with v es else numbers_with v es

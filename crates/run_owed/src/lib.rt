@@ -2,6 +2,7 @@
 //! live scope and task has its place from its making on, so that nothing here is refused later.
 #![tactic(auto)]
 
+mod entered;
 mod lists;
 mod numbers;
 mod order;

@@ -1,17 +1,17 @@
 //! Marks and wakes that are posted, scopes that were seen, and tasks that are queued.
-ghost use Rattle.std.specs.Prelude.{◌≡◌, ◌↔◌, ◌++◌, ◌∷◌, [], IsTrue, OnOk, OnErr, true, false, if◌then◌else◌};
+ghost use Rattle.std.specs.Prelude.{◌≡◌, ◌↔◌, ◌++◌, ◌∷◌, [], IsTrue, IfOk, OnOk, OnErr, true, false, if◌then◌else◌};
 ghost use Rattle.rt_model.specs.Lists.{has, drop_number, join, without};
 ghost use Rattle.rt_model.specs.Next.{least};
 ghost use Rattle.rt_model.specs.State.{Mark, Woken};
 ghost use Rattle.rt_model.specs.Commands.{drop_posted};
-ghost use Rattle.run_owed.specs.Lists.{front, marks_in, numbers_of, once_each, wakes_in};
+ghost use Rattle.run_owed.specs.Lists.{front, marks_in, numbers_of, numbers_with, once_each, wakes_in};
 ghost use Rattle.run_owed.specs.Orders.{InOrder, scope_rank, sooner, task_rank};
 
 use crate::lists::stays;
 use crate::order::{comes_before, first_of, last_of};
 use crate::roll::Roll;
 use crate::told::Told;
-use rt_values::OutOfMemory;
+use rt_values::{List, OutOfMemory};
 use std::alloc::Global;
 use std::marker::Model;
 
@@ -54,8 +54,8 @@ impl Owed {
     {
         Owed {
             told: Told::new(),
-            scopes: Roll::new(alloc),
-            tasks: Roll::new(alloc),
+            scopes: Roll::new(alloc, false),
+            tasks: Roll::new(alloc, true),
             seen_in_order: true,
             queue_in_order: true,
         }
@@ -118,6 +118,14 @@ impl Owed {
     {
         self.tasks.leave(task);
         self.queue_in_order = stays(self.queue_in_order, self.tasks.waiting(), task);
+    }
+
+    /// The entered tasks of a scope, in order. Where tasks were entered by rising numbers and none was
+    /// taken back, no others are gone through.
+    pub fn tasks_of(&self, alloc: Global, scope: u64) -> Result<List<u64>, OutOfMemory>
+        ensures tasks { IfOk result (λ tasks. tasks ≡ numbers_with scope self.now.tasks) }
+    {
+        self.tasks.with_value(alloc, scope)
     }
 
     /// Posts a mark of an entered scope. It takes no memory.

@@ -1,14 +1,14 @@
 //! Numbers that are entered with values, and which of them are posted and which wait.
-ghost use Rattle.std.specs.Prelude.{◌≡◌, ◌==◌, ◌++◌, ◌∷◌, [], length, OnOk, OnErr, true, false};
+ghost use Rattle.std.specs.Prelude.{◌≡◌, ◌==◌, ◌++◌, ◌∷◌, [], length, IfOk, OnOk, OnErr, true, false};
 ghost use Rattle.rt_model.specs.Lists.{has, drop_number, join, without};
-ghost use Rattle.run_owed.specs.Lists.{front, held, numbers_of};
+ghost use Rattle.run_owed.specs.Lists.{front, held, numbers_of, numbers_with};
 ghost use Rattle.run_owed.specs.Orders.{InOrder, plain_rank};
 
+use crate::entered::Entered;
 use crate::lists::{drop_from, has_number, narrowed, take_out, widen};
 use crate::numbers::Numbers;
 use crate::order::last_of;
-use rt_values::OutOfMemory;
-use run_table::Table;
+use rt_values::{List, OutOfMemory};
 use std::alloc::Global;
 use std::marker::Model;
 
@@ -16,7 +16,7 @@ use std::marker::Model;
 /// and what waits. There is room for each entered number in both.
 #[derive(Drop)]
 pub(crate) struct Roll {
-    entered: Table<u64>,
+    entered: Entered,
     posted: Vec<u64>,
     /// Whether the posted ones surely rise.
     rising: bool,
@@ -39,12 +39,12 @@ impl Model for Roll {
 }
 
 impl Roll {
-    /// Nothing is entered.
-    pub(crate) fn new(alloc: Global) -> Roll
+    /// Nothing is entered. The mark says whether values are scopes by which numbers will be looked for.
+    pub(crate) fn new(alloc: Global, listed: bool) -> Roll
         ensures { result ≡ record { entered = []; posted = []; waiting = [] } }
     {
         Roll {
-            entered: Table::new(alloc),
+            entered: Entered::new(alloc, listed),
             posted: Vec::new(alloc),
             rising: true,
             waiting: Numbers::new(alloc),
@@ -71,10 +71,7 @@ impl Roll {
     pub(crate) fn take_back(&mut self)
         ensures { self.new ≡ record self.old { entered = front self.old.entered } }
     {
-        let count = self.entered.as_slice().len();
-        if 0 < count {
-            self.entered.remove_at(count - 1);
-        }
+        self.entered.take_back();
     }
 
     /// A number is entered no more. Where it is posted or waits it goes on so.
@@ -96,9 +93,16 @@ impl Roll {
         ensures { result ≡ held self.now.entered number }
     {
         match self.entered.get(number) {
-            Some(value) => *value,
+            Some(value) => value,
             None => 0,
         }
+    }
+
+    /// The numbers that were entered with a value, in order.
+    pub(crate) fn with_value(&self, alloc: Global, value: u64) -> Result<List<u64>, OutOfMemory>
+        ensures { IfOk result (λ numbers. numbers ≡ numbers_with value self.now.entered) }
+    {
+        self.entered.numbers_with(alloc, value)
     }
 
     /// An entered number is posted, once.

@@ -1,12 +1,14 @@
 -- The cells that code keeps, as the model's list.
-use Rattle.std.proofs.Common.{◌≡◌, ℕ, inl, inr, Bool, true, false, List, [], ◌∷◌, ◌++◌, refl, ap, sym, ◌∙◌, cond, arith, nat_eq}
+use Rattle.std.proofs.Common.{◌≡◌, ℕ, Bool, true, false, List, [], ◌∷◌, ◌++◌, refl, ap, sym, ◌∙◌, cond, arith, nat_eq}
 use Rattle.std.specs.Prelude.{not, Option, Some, None, option_map, is_some, if◌then◌else◌}
 use Rattle.std.specs.List.{filter}
 use Rattle.std.specs.Map.{lookup, set_value}
 use Rattle.std.specs.BTreeMap.{is_at}
-use Rattle.std.specs.Ordering.{is_eq, nat_cmp}
-use Rattle.std.proofs.lemmas.Bool.Decides.{nat_tests, eqb_tells}
+use Rattle.std.specs.Ordering.{nat_cmp}
 use Rattle.std.proofs.lemmas.Grind.{common_steps}
+use Rattle.rt_lemmas.proofs.Numbers.{ties_back as tie}
+pub use Rattle.rt_lemmas.proofs.Numbers.{eq_is as same-number}
+pub use Rattle.rt_lemmas.proofs.Options.{none_of as none_is, some_of as some_is}
 use Rattle.rt_values.specs.declared.names.ScopeId.{ScopeId}
 use Rattle.rt_cells.specs.declared.numbered.Held.{Held}
 use Rattle.rt_cells.specs.declared.sources.Target.{Target}
@@ -22,20 +24,6 @@ use Rattle.run_records.specs.Kept.{each}
 use Rattle.run_state.specs.Mirror.{Unkept, cell_of, contexts_of, state_of}
 use Rattle.run_state.specs.declared.state.State.{State}
 use Rattle.run_state.proofs.Each.{at-each, put-each, without-each, append-each, found-each, some-mapped}
-
-tie : (a b : ℕ) → is_eq (nat_cmp a b) ≡ nat_eq b a
-tie a b = grind (arith, nat_tests)
-
-pub same-number : (x n : ℕ) → nat_eq x n ≡ true → x ≡ n
-same-number x n h = elim (eqb_tells x n) as (λ _. x ≡ n) [ inl p ↦ p.1 | inr p ↦ absurd (cc (sym p.0 ∙ h)) ]
-
-pub some_is : {A : Type 0} (o : Option A) → is_some o ≡ true → (a : A) × (o ≡ Some a)
-some_is None is = absurd (cc is)
-some_is (Some a) is = (a, refl)
-
-pub none_is : {A : Type 0} (o : Option A) → is_some o ≡ false → o ≡ None
-none_is None is = refl
-none_is (Some a) is = absurd (cc is)
 
 module _ {V : Type 0} where
   pub held-found : (cs : List (ℕ × Held V)) (n : ℕ) → held_at n cs ≡ at cs n

@@ -2,6 +2,7 @@
 use Rattle.std.proofs.Common.{◌≡◌, ℕ, zero, suc, inl, inr, ◌-◌, ◌&&◌, Bool, true, false, List, refl, ap, sym, ◌∙◌, arith}
 use Rattle.std.specs.Prelude.{nat_eq, Option, Some, None, is_some, if◌then◌else◌}
 use Rattle.std.proofs.lemmas.Bool.Decides.{eqb_tells}
+pub use Rattle.rt_lemmas.proofs.Numbers.{is_zero}
 use Rattle.rt_model.specs.Lists.{at}
 use Rattle.rt_model.specs.Tree.{Types}
 use Rattle.rt_model.specs.State as model
@@ -15,10 +16,6 @@ one-less (suc n) isnt = omega arith
 
 pub no-steps : (n : ℕ) → nat_eq n 0 ≡ true → n ≡ 0
 no-steps n is = elim (eqb_tells n 0) as (λ _. n ≡ 0) [ inl p ↦ p.1 | inr p ↦ absurd (cc (sym p.0 ∙ is)) ]
-
--- a number told to be 0, or not to be
-pub is_zero : (n : ℕ) → n ≡ 0 → nat_eq n 0 ≡ true
-is_zero n is = elim (eqb_tells n 0) as (λ _. nat_eq n 0 ≡ true) [ inl p ↦ p.0 | inr p ↦ absurd (p.1 is) ]
 
 pub not_zero : (n : ℕ) → (n ≡ 0 → ⊥) → nat_eq n 0 ≡ false
 not_zero n isnt = elim (eqb_tells n 0) as (λ _. nat_eq n 0 ≡ false) [ inl p ↦ absurd (isnt p.1) | inr p ↦ p.0 ]

@@ -1,14 +1,15 @@
 -- Reactive contexts as the cells keep them, and the model's list: made, changed, gone with their scope.
-use Rattle.std.proofs.Common.{◌≡◌, ℕ, Bool, true, false, cond, List, [], ◌∷◌, ◌++◌, map, nat_eq, refl, ap, sym, subst, ◌∙◌, arith}
+use Rattle.std.proofs.Common.{◌≡◌, ℕ, Bool, true, false, cond, List, [], ◌∷◌, ◌++◌, map, nat_eq, refl, ap, sym, subst, ◌∙◌}
 use Rattle.std.specs.Prelude.{Option, Some, None, option_map, if◌then◌else◌}
 use Rattle.std.specs.declared.cmp.Ordering.TheVariants.{Less}
 use Rattle.std.specs.Ordering.{is_eq, nat_cmp}
 use Rattle.std.specs.List.{AllByRecursion}
 use Rattle.std.specs.List.Sorted.{IsStrictlySortedBy}
 use Rattle.std.specs.Map.{keys_of}
-use Rattle.std.proofs.lemmas.Bool.Decides.{nat_tests}
 use Rattle.std.proofs.lemmas.List.{map-append}
 use Rattle.std.proofs.lemmas.Map.Keys.{sorted_head, sorted_tail}
+use Rattle.rt_lemmas.proofs.Options.{some_is as some_same}
+use Rattle.rt_lemmas.proofs.Numbers.{eq_turned}
 use Rattle.rt_cells.specs.declared.numbered.Held.{Held}
 use Rattle.rt_cells.specs.declared.sources.Source.{Source}
 use Rattle.rt_cells.specs.declared.sources.Target.{Target}
@@ -56,12 +57,6 @@ less_apart a b less = sym (ties a b) ∙ ap is_eq less
 
 pub apart_less : (a b : ℕ) → nat_cmp a b ≡ Less → nat_eq b a ≡ false
 apart_less a b less = sym (ties_back a b) ∙ ap is_eq less
-
-eq_turned : (a b : ℕ) → nat_eq a b ≡ nat_eq b a
-eq_turned a b = grind (arith, nat_tests)
-
-some_same : {A : Type 0} {x y : A} → Some x ≡ Some y → x ≡ y
-some_same is = cc is
 
 module _ {C Q V H T E L : Type 0} where
   -- a reactive context with these sources

@@ -6,8 +6,8 @@ use Rattle.std.proofs.lemmas.Bool.{eqb-true, ne_eqb}
 use Rattle.std.specs.List.{list_any}
 use Rattle.std.specs.Prelude.{not, ◌||◌, Option, Some, None, remove, if◌then◌else◌}
 use Rattle.rt_model.specs.Lists.{at, has}
-use Rattle.rt_model.proofs.Maps.{eq_same}
 use Rattle.rt_model.proofs.Members.{by_either, clash, or_left, or_right}
+pub use Rattle.rt_model.proofs.Members.{has_first as has_more, has_last as has_end}
 use Rattle.run_state.specs.Holders.{others}
 use Rattle.run_state.specs.Mounts.{Way, covers, hides}
 use Rattle.run_state.proofs.Each.{drop-all}
@@ -55,16 +55,6 @@ module _ (ways new : List (ℕ × Way)) (fresh more : List ℕ) (hidden : List (
       q
       )
       )
-
--- a number among more of them
-pub has_more : (ns ms : List ℕ) (s : ℕ) → has ns s ≡ true → has (ns ++ ms) s ≡ true
-has_more [] ms s h = clash h refl
-has_more (n ∷ ns) ms s h =
-    by_either (nat_eq n s) (has ns s) h (λ q. or_left (nat_eq n s) (has (ns ++ ms) s) q) (λ q. or_right (nat_eq n s) (has (ns ++ ms) s) (has_more ns ms s q))
-
-pub has_end : (ns : List ℕ) (s : ℕ) → has (ns ++ s ∷ []) s ≡ true
-has_end [] s = or_left (nat_eq s s) false (eq_same s)
-has_end (n ∷ ns) s = or_right (nat_eq n s) (has (ns ++ s ∷ []) s) (has_end ns s)
 
 pub has_left : (ns : List ℕ) (i n s : ℕ) → get_or ns i 0 ≡ n → nat_eq n s ≡ false → has ns s ≡ true → has (remove ns i) s ≡ true
 has_left [] i n s own other h = clash h refl

@@ -1,7 +1,8 @@
 -- Lists of numbered values, each value put through a change.
-use Rattle.std.proofs.Common.{◌≡◌, ℕ, suc, Bool, true, false, List, [], ◌∷◌, ◌++◌, length, get_or, drop, refl, ap, sym, ◌∙◌, arith, ◌<◌, ◌+◌, ◌≤◌}
+use Rattle.std.proofs.Common.{◌≡◌, ℕ, suc, Bool, true, false, List, [], ◌∷◌, ◌++◌, get_or, refl, ap, sym, ◌∙◌, arith, ◌<◌, ◌+◌}
 use Rattle.std.specs.Prelude.{nat_eq, slice_set, Option, Some, None, option_map, is_some, if◌then◌else◌}
 use Rattle.std.proofs.lemmas.Grind.{common_steps}
+pub use Rattle.rt_lemmas.proofs.Lists.{drop_all as drop-all}
 use Rattle.rt_model.specs.Lists.{at, put, without}
 use Rattle.run_records.specs.Kept.{each}
 use Rattle.tree_nodes.specs.declared.vnode.VNode.{VNode}
@@ -40,10 +41,6 @@ module _ {P C Q V H T E L : Type 0} where
   pub some-output : (output : Option (VNode P C Q V H T E L)) → is_some (output_of output) ≡ is_some output
   some-output None = refl
   some-output (Some tree) = refl
-
--- past the end nothing is left
-pub drop-all : {A : Type 0} (es : List A) (i : ℕ) → length es ≤ i → drop i es ≡ []
-drop-all es i end = grind (arith, common_steps)
 
 pub ruleset eaches = (at-each, live-each)
 

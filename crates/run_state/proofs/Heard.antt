@@ -8,6 +8,7 @@ use Rattle.std.specs.List.{list_any}
 use Rattle.std.proofs.lemmas.Bool.{eqb-true}
 use Rattle.std.proofs.lemmas.List.{map-append}
 use Rattle.std.proofs.lemmas.List.Folds.{list_any-append}
+use Rattle.rt_lemmas.proofs.Bools.{or_none, or_all, or_assoc}
 use Rattle.rt_values.specs.declared.names.ScopeId.{ScopeId}
 use Rattle.rt_cells.specs.declared.numbered.Held.{Held}
 use Rattle.rt_cells.specs.declared.sources.Source.{Source}
@@ -38,14 +39,6 @@ read_found xs found = elim found as (λ _. List world.Source) [ None ↦ [] | So
 none_found : (found : Option (Held Target)) → read_found [] found ≡ []
 none_found None = refl
 none_found (Some x) = refl
-
-or_none : (a : Bool) → (a || false) ≡ a
-or_none true = refl
-or_none false = refl
-
-or_all : (a : Bool) → (a || true) ≡ true
-or_all true = refl
-or_all false = refl
 
 module _ (kept : List (ℕ × Held Target)) (order : List Reading) (before after : List (Reader × List Source)) where
   -- where the reads of contexts are the same
@@ -206,10 +199,6 @@ pub heard_more : {V : Type 0} (old new : tracked.State V) (order later : List Re
 heard_more old new order later n x own same there told more h =
     subst (λ (es : List (ℕ × Held Target)). AreHeard es later new.reads) (sym same)
     (heard_read old.contexts order later old.reads new.reads n x own there told more h)
-
-or_assoc : (a b c : Bool) → ((a || b) || c) ≡ (a || (b || c))
-or_assoc true b c = refl
-or_assoc false b c = refl
 
 -- a source is among others and several more
 all_names : (ys xs : List Source) (y : Source)

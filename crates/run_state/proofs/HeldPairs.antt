@@ -1,104 +1,41 @@
--- The boundaries that a task holds, met by their pairs: one after another, and let go.
-use Rattle.std.proofs.Common.{◌≡◌, ℕ, ◌<◌, ◌≤◌, ◌+◌, Bool, true, false, List, [], ◌∷◌, ◌++◌, ◌&&◌, length, get_or, drop, nat_eq, refl, sym, ap, subst, ◌∙◌, arith}
-use Rattle.std.specs.Prelude.{⊤, Option, Some, None, is_some, nat_lt, not, ◌||◌, if◌then◌else◌}
-use Rattle.std.specs.List.{list_any}
-use Rattle.std.proofs.lemmas.Bool.{eqb-true, ltb-true, ltb-false}
+-- The boundaries that a task holds, met by their pairs: marked, and let go.
+use Rattle.std.proofs.Common.{◌≡◌, ℕ, Bool, true, false, cond, List, [], ◌∷◌, ◌++◌, ◌&&◌, map, nat_eq, refl, sym, ap, ◌∙◌, arith}
+use Rattle.std.specs.Prelude.{Option, Some, None, is_some, not, if◌then◌else◌}
+use Rattle.std.specs.Ordering.{eq_by_cmp, nat_cmp}
+use Rattle.std.specs.Cmp.{Equal-is}
+use Rattle.std.specs.FinMap.{nat_cmp-IsAntisymmetric}
+use Rattle.std.specs.BTreeMap.{is_at}
+use Rattle.std.specs.List.{filter, list_any}
+use Rattle.std.specs.List.Sorted.{IsStrictlySortedBy}
+use Rattle.std.proofs.lemmas.Bool.{eqb-true}
 use Rattle.std.proofs.lemmas.Grind.{common_steps}
-use Rattle.std.proofs.lemmas.List.{drop_more}
-use Rattle.rt_cells.specs.Reads.{comes_after}
+use Rattle.std.proofs.lemmas.List.Kept.{IsStrictlySortedBy-filter}
+use Rattle.rt_lemmas.proofs.Bools.{neither, and_false, and_true}
+use Rattle.rt_cells.specs.Index.{passes}
+use Rattle.rt_cells.proofs.Linked.{any_and}
+use Rattle.rt_cells.proofs.Pairs.{any-filter, any_same}
 use Rattle.rt_model.specs.Lists.{at, has, kept_by, put}
 use Rattle.rt_model.specs.Tree.{Types}
 use Rattle.rt_model.specs.State as model
 use Rattle.rt_model.specs.State.{change, changed_scope, holds}
 use Rattle.rt_model.specs.Commands.{holding, released}
-use Rattle.rt_model.proofs.Maps.{at_put_here, at_put_other, by_test, eq_same, pick_false, pick_true}
-use Rattle.rt_model.proofs.Members.{by_either, or_left, or_right}
+use Rattle.rt_model.proofs.Maps.{at_put_here, by_test, eq_same, pick_false, pick_true}
 use Rattle.run_records.specs.Kept.{scope_of}
 use Rattle.run_records.specs.declared.rest.Scope.{Scope}
 use Rattle.run_owed.specs.Lists.{EachOnce, numbers_of}
 use Rattle.run_owed.proofs.Tables.{numbers_has, numbers_put}
 use Rattle.run_table.specs.Found.{Ascends}
-use Rattle.run_state.specs.Effects.{AreListed, has_pair, holds_at, is_pair}
-use Rattle.run_state.specs.Holders.{lesser_held, lesser_of, next_held, others, unpaired}
+use Rattle.run_state.specs.Effects.{AreListed, has_rank, holds_at, rank_cmp}
 use Rattle.run_state.specs.Mirror.{scopes_of}
-use Rattle.run_state.proofs.Each.{drop-all, live-each}
-use Rattle.run_state.proofs.Marks.{marks_after, next_mark, no_mark, passing_there, rises, rises_each}
-
--- a number that was found, and is no higher than another
-abbrev AtMost : Option ℕ → ℕ → Type 0
-AtMost None n = ⊥
-AtMost (Some m) n = m ≤ n
-
-lesser_most : (found : Option ℕ) (n : ℕ) → AtMost (lesser_of found n) n
-lesser_most None n = omega arith
-lesser_most (Some m) n = by_test (nat_lt m n) (λ q. subst (λ o. AtMost o n) (sym (pick_true (Some m) (Some n) q)) (below (ltb-true m n q))) (λ q. subst (λ o. AtMost o n) (sym (pick_false (Some m) (Some n) q)) (same n))
-  where
-    below : m < n → m ≤ n
-    below low = omega (arith, low)
-
-    same : (k : ℕ) → k ≤ k
-    same k = omega arith
-
-lesser_stays : (found : Option ℕ) (n m : ℕ) → AtMost found m → AtMost (lesser_of found n) m
-lesser_stays None n m low = absurd low
-lesser_stays (Some k) n m low = by_test (nat_lt k n) (λ q. subst (λ o. AtMost o m) (sym (pick_true (Some k) (Some n) q)) low) (λ q. subst (λ o. AtMost o m) (sym (pick_false (Some k) (Some n) q)) (through (ltb-false k n q)))
-  where
-    through : n ≤ k → n ≤ m
-    through high = omega (arith, high, low)
-
--- a pair of others stays
-pub others_pair : (pairs : List (ℕ × ℕ)) (task t s : ℕ) → nat_eq task t ≡ false → has_pair pairs t s ≡ true → has_pair (others pairs task) t s ≡ true
-others_pair [] task t s apart there = there
-others_pair (p ∷ ps) task t s apart there =
-    by_test (nat_eq p.0 task)
-    (
-    λ q.
-    ap (λ (b : Bool). has_pair (if not b then p ∷ others ps task else others ps task) t s) q
-    ∙ others_pair ps task t s apart (by_either (is_pair p t s) (has_pair ps t s) there (λ r. absurd (cc (sym (left (nat_eq p.0 t) (nat_eq p.1 s) r) ∙ ap (λ (n : ℕ). nat_eq n t) (eqb-true p.0 task q) ∙ apart))) (λ r. r))
-    )
-    (
-    λ q.
-    ap (λ (b : Bool). has_pair (if not b then p ∷ others ps task else others ps task) t s) q
-    ∙ by_either (is_pair p t s) (has_pair ps t s) there
-    (λ r. or_left (is_pair p t s) (has_pair (others ps task) t s) r)
-    (λ r. or_right (is_pair p t s) (has_pair (others ps task) t s) (others_pair ps task t s apart r))
-    )
-  where
-    left : (a b : Bool) → (a && b) ≡ true → a ≡ true
-    left true b h = refl
-    left false b h = h
-
--- so does one of another scope
-pub unpaired_pair : (pairs : List (ℕ × ℕ)) (scope t s : ℕ) → nat_eq scope s ≡ false → has_pair pairs t s ≡ true → has_pair (unpaired pairs scope) t s ≡ true
-unpaired_pair [] scope t s apart there = there
-unpaired_pair (p ∷ ps) scope t s apart there =
-    by_test (nat_eq p.1 scope)
-    (
-    λ q.
-    ap (λ (b : Bool). has_pair (if not b then p ∷ unpaired ps scope else unpaired ps scope) t s) q
-    ∙ unpaired_pair ps scope t s apart (by_either (is_pair p t s) (has_pair ps t s) there (λ r. absurd (cc (sym (right (nat_eq p.0 t) (nat_eq p.1 s) r) ∙ ap (λ (n : ℕ). nat_eq n s) (eqb-true p.1 scope q) ∙ apart))) (λ r. r))
-    )
-    (
-    λ q.
-    ap (λ (b : Bool). has_pair (if not b then p ∷ unpaired ps scope else unpaired ps scope) t s) q
-    ∙ by_either (is_pair p t s) (has_pair ps t s) there
-    (λ r. or_left (is_pair p t s) (has_pair (unpaired ps scope) t s) r)
-    (λ r. or_right (is_pair p t s) (has_pair (unpaired ps scope) t s) (unpaired_pair ps scope t s apart r))
-    )
-  where
-    right : (a b : Bool) → (a && b) ≡ true → b ≡ true
-    right true b h = h
-    right false b h = absurd (cc h)
+use Rattle.run_state.proofs.Each.{live-each}
+use Rattle.run_state.proofs.Risen.{rises, rises_each}
+use Rattle.run_state.proofs.Ranked.{rank_exact}
+use Rattle.run_state.proofs.Told.{named, rising, same_named}
 
 -- holders without a task have it no more, and the same once more
 holds_none : (hs : List (ℕ × ℕ)) (t : ℕ) → list_any (λ h. nat_eq h.0 t) (kept_by (λ h. not (nat_eq h.0 t)) hs) ≡ false
 holds_none [] t = refl
 holds_none (h ∷ hs) t = grind (arith, common_steps, holds_none hs t)
-
-neither : (a b : Bool) → (a || b) ≡ false → (a ≡ false) × (b ≡ false)
-neither false false h = (refl, refl)
-neither false true h = absurd (cc h)
-neither true b h = absurd (cc h)
 
 -- where a task is none of them all are kept
 kept_free : (hs : List (ℕ × ℕ)) (t : ℕ) → list_any (λ h. nat_eq h.0 t) hs ≡ false → kept_by (λ h. not (nat_eq h.0 t)) hs ≡ hs
@@ -111,23 +48,6 @@ kept_twice : (hs : List (ℕ × ℕ)) (t : ℕ) → kept_by (λ h. not (nat_eq h
 kept_twice [] t = refl
 kept_twice (h ∷ hs) t = grind (arith, common_steps, kept_twice hs t)
 
--- a pair that isn't the task's
-pub not_own : (p : ℕ × ℕ) (t s : ℕ) → nat_eq p.0 t ≡ false → is_pair p t s ≡ false
-not_own p t s apart = ap (λ (b : Bool). b && nat_eq p.1 s) apart
-
--- the task's own
-pub own_pair : (p : ℕ × ℕ) (t s : ℕ) → nat_eq p.0 t ≡ true → is_pair (t, p.1) t s ≡ false → is_pair p t s ≡ false
-own_pair p t s own apart = ap (λ (n : ℕ). nat_eq n t && nat_eq p.1 s) (eqb-true p.0 t own) ∙ apart
-
--- one more pair is gone through
-pub fewer_left : (held : List (ℕ × ℕ)) (i t s : ℕ) → i < length held → has_pair (drop i held) t s ≡ true → is_pair (get_or held i (0, 0)) t s ≡ false → has_pair (drop (i + 1) held) t s ≡ true
-fewer_left held i t s within there apart =
-    by_either (is_pair (get_or held i (0, 0)) t s) (has_pair (drop (i + 1) held) t s) (sym (ap (λ ps. has_pair ps t s) (drop_more held i (0, 0) within)) ∙ there)
-    (λ q. absurd (cc (sym q ∙ apart))) (λ q. q)
-
-pub none_left : (held : List (ℕ × ℕ)) (i t s : ℕ) → length held ≤ i → has_pair (drop i held) t s ≡ false
-none_left held i t s end = ap (λ ps. has_pair ps t s) (drop-all held i end)
-
 module _ {K : Types} where
   -- a scope that a task holds no more
   abbrev let_off : ℕ → model.Scope K → model.Scope K
@@ -135,110 +55,6 @@ module _ {K : Types} where
 
   holds_found : ℕ → Option (model.Scope K) → Bool
   holds_found t found = elim found [ None ↦ false | Some x ↦ holds x t ]
-
-  -- all marks of what a task holds
-  pub all_held : (t : ℕ) (es : List (ℕ × model.Scope K)) → marks_after (λ x. holds x t) None es ≡ holding es t
-  all_held t [] = refl
-  all_held t (e ∷ es) = ap (λ (ms : List model.Posted). if holds e.1 t then model.Mark e.0 ∷ ms else ms) (all_held t es)
-
-  module _ (scopes : List (ℕ × model.Scope K)) (t : ℕ) (after : Option ℕ) where
-    -- what was found comes after and is held
-    abbrev IsFine : Option ℕ → Type 0
-    IsFine None = ⊤
-    IsFine (Some b) = (comes_after after b ≡ true) × (holds_at scopes b t ≡ true)
-
-    fine_lesser : (found : Option ℕ) (n : ℕ) → IsFine found → comes_after after n ≡ true → holds_at scopes n t ≡ true → IsFine (lesser_of found n)
-    fine_lesser None n fine past own = (past, own)
-    fine_lesser (Some m) n fine past own = by_test (nat_lt m n) (λ q. subst IsFine (sym (pick_true (Some m) (Some n) q)) fine) (λ q. subst IsFine (sym (pick_false (Some m) (Some n) q)) (past, own))
-
-    parts : (a b c : Bool) → (a && (b && c)) ≡ true → (a ≡ true) × (b ≡ true) × (c ≡ true)
-    parts true true c h = (refl, refl, h)
-    parts true false c h = absurd (cc h)
-    parts false b c h = absurd (cc h)
-
-    all_parts : (a b c : Bool) → a ≡ true → b ≡ true → c ≡ true → (a && (b && c)) ≡ true
-    all_parts a b c p q r = λ i. p i && (q i && r i)
-
-    abbrev fits : ℕ × ℕ → Bool
-    fits p = nat_eq p.0 t && (comes_after after p.1 && holds_at scopes p.1 t)
-
-    -- the lesser counts, where the scope of a pair is live and the task holds it
-    pub lesser_kept : (found : Option ℕ) (p : ℕ × ℕ) (x : model.Scope K) → nat_eq p.0 t ≡ true → comes_after after p.1 ≡ true → at scopes p.1 ≡ Some x → holds x t ≡ true
-        → lesser_held scopes t after found p ≡ lesser_of found p.1
-    unfolding holds_found
-    lesser_kept found p x own past here held =
-        pick_true (lesser_of found p.1) found
-        (all_parts (nat_eq p.0 t) (comes_after after p.1) (holds_at scopes p.1 t) own past (ap (λ (o : Option (model.Scope K)). holds_found t o) here ∙ held))
-
-    -- what was found stays, where the task doesn't hold the scope of a pair
-    free_stays : (found : Option ℕ) (p : ℕ × ℕ) → holds_at scopes p.1 t ≡ false → lesser_held scopes t after found p ≡ found
-    free_stays found p free = pick_false (lesser_of found p.1) found (none (nat_eq p.0 t) (comes_after after p.1) (holds_at scopes p.1 t) free)
-      where
-        none : (a b c : Bool) → c ≡ false → (a && (b && c)) ≡ false
-        none true true c q = q
-        none true false c q = refl
-        none false b c q = refl
-
-    pub lesser_free : (found : Option ℕ) (p : ℕ × ℕ) (x : model.Scope K) → at scopes p.1 ≡ Some x → holds x t ≡ false → lesser_held scopes t after found p ≡ found
-    unfolding holds_found
-    lesser_free found p x here free = free_stays found p (ap (λ (o : Option (model.Scope K)). holds_found t o) here ∙ free)
-
-    -- or where that is gone
-    pub lesser_gone : (found : Option ℕ) (p : ℕ × ℕ) → at scopes p.1 ≡ None → lesser_held scopes t after found p ≡ found
-    unfolding holds_found
-    lesser_gone found p gone = free_stays found p (ap (λ (o : Option (model.Scope K)). holds_found t o) gone)
-
-    fine_one : (found : Option ℕ) (p : ℕ × ℕ) → IsFine found → IsFine (lesser_held scopes t after found p)
-    fine_one found p fine =
-        by_test (fits p)
-        (
-        λ q.
-        let own = parts (nat_eq p.0 t) (comes_after after p.1) (holds_at scopes p.1 t) q in
-        subst IsFine (sym (pick_true (lesser_of found p.1) found q)) (fine_lesser found p.1 fine own.1 own.2)
-        )
-        (λ q. subst IsFine (sym (pick_false (lesser_of found p.1) found q)) fine)
-
-    fine_all : (ps : List (ℕ × ℕ)) (found : Option ℕ) → IsFine found → IsFine (next_held scopes t after found ps)
-    fine_all [] found fine = fine
-    fine_all (p ∷ ps) found fine = fine_all ps (lesser_held scopes t after found p) (fine_one found p fine)
-
-    most_one : (found : Option ℕ) (p : ℕ × ℕ) (m : ℕ) → AtMost found m → AtMost (lesser_held scopes t after found p) m
-    most_one found p m low =
-        by_test (fits p)
-        (λ q. subst (λ o. AtMost o m) (sym (pick_true (lesser_of found p.1) found q)) (lesser_stays found p.1 m low))
-        (λ q. subst (λ o. AtMost o m) (sym (pick_false (lesser_of found p.1) found q)) low)
-
-    most_all : (ps : List (ℕ × ℕ)) (found : Option ℕ) (m : ℕ) → AtMost found m → AtMost (next_held scopes t after found ps) m
-    most_all [] found m low = low
-    most_all (p ∷ ps) found m low = most_all ps (lesser_held scopes t after found p) m (most_one found p m low)
-
-    -- what is found is no higher than any that is paired, held and comes after
-    most_paired : (ps : List (ℕ × ℕ)) (found : Option ℕ) (m : ℕ) → has_pair ps t m ≡ true → comes_after after m ≡ true → holds_at scopes m t ≡ true → AtMost (next_held scopes t after found ps) m
-    most_paired [] found m there past own = absurd (cc there)
-    most_paired (p ∷ ps) found m there past own =
-        by_either (is_pair p t m) (has_pair ps t m) there
-        (
-        λ q.
-        let both = two (nat_eq p.0 t) (nat_eq p.1 m) q in
-        let same : p.1 ≡ m = eqb-true p.1 m both.1 in
-        most_all ps (lesser_held scopes t after found p) m
-        (
-        subst (λ o. AtMost o m)
-        (
-        sym
-        (
-        pick_true (lesser_of found p.1) found
-        (all_parts (nat_eq p.0 t) (comes_after after p.1) (holds_at scopes p.1 t) both.0 (ap (λ (n : ℕ). comes_after after n) same ∙ past) (ap (λ (n : ℕ). holds_at scopes n t) same ∙ own))
-        )
-        )
-        (subst (λ (n : ℕ). AtMost (lesser_of found p.1) n) same (lesser_most found p.1))
-        )
-        )
-        (λ q. most_paired ps (lesser_held scopes t after found p) m q past own)
-      where
-        two : (a b : Bool) → (a && b) ≡ true → (a ≡ true) × (b ≡ true)
-        two true b h = (refl, h)
-        two false b h = absurd (cc h)
 
   -- what a change of one boundary leaves
   module _ (w : model.State K) (b t : ℕ) where
@@ -267,26 +83,13 @@ module _ {K : Types} where
         by None e = refl
         by (Some x) e = one_released w.scopes x e
 
-    pub let_fewer : (s : ℕ) → holds_at (change w b (λ x. let_off t x)).scopes s t ≡ true → (holds_at w.scopes s t ≡ true) × (is_pair (t, b) t s ≡ false)
+    pub let_free : holds_at (change w b (λ x. let_off t x)).scopes b t ≡ false
     unfolding holds_found
-    let_fewer s q = by (at w.scopes b) refl q
+    let_free = by (at w.scopes b) refl
       where
-        apart : nat_eq b s ≡ false → is_pair (t, b) t s ≡ false
-        apart p = ap (λ (c : Bool). nat_eq t t && c) p ∙ none (nat_eq t t)
-          where
-            none : (c : Bool) → (c && false) ≡ false
-            none true = refl
-            none false = refl
-
-        by : (o : Option (model.Scope K)) → at w.scopes b ≡ o → holds_at (changed_scope w b (λ x. let_off t x) o).scopes s t ≡ true → (holds_at w.scopes s t ≡ true) × (is_pair (t, b) t s ≡ false)
-        by None e r =
-            by_test (nat_eq b s)
-            (λ p. absurd (cc (sym r ∙ ap (λ (n : ℕ). holds_at w.scopes n t) (sym (eqb-true b s p)) ∙ ap (λ (o : Option (model.Scope K)). holds_found t o) e)))
-            (λ p. (r, apart p))
-        by (Some x) e r =
-            by_test (nat_eq b s)
-            (λ p. absurd (cc (sym r ∙ ap (λ (o : Option (model.Scope K)). holds_found t o) (at_put_here w.scopes b (let_off t x) s p) ∙ holds_none x.holders t)))
-            (λ p. (sym (ap (λ (o : Option (model.Scope K)). holds_found t o) (at_put_other w.scopes b (let_off t x) s p)) ∙ r, apart p))
+        by : (o : Option (model.Scope K)) → at w.scopes b ≡ o → holds_at (changed_scope w b (λ x. let_off t x) o).scopes b t ≡ false
+        by None e = ap (λ (o : Option (model.Scope K)). holds_found t o) e
+        by (Some x) e = ap (λ (o : Option (model.Scope K)). holds_found t o) (at_put_here w.scopes b (let_off t x) b (eq_same b)) ∙ holds_none x.holders t
 
     pub let_numbers : numbers_of (change w b (λ x. let_off t x)).scopes ≡ numbers_of w.scopes
     let_numbers = by (at w.scopes b) refl
@@ -324,61 +127,119 @@ module _ {K : Types} where
           (λ q. none s (at es s) (sym (numbers_has es s) ∙ ap (λ (n : ℕ). has (numbers_of es) n) (sym (eqb-true e.0 s q)) ∙ once.0))
           (λ q. sym (ap (λ (o : Option (model.Scope K)). holds_found t o) (pick_false (Some e.1) (at es s) q)) ∙ free s)
 
-  -- once a task's boundaries are let go its pairs go
-  pub pairs_gone : (es : List (ℕ × model.Scope K)) (effects held fewer : List (ℕ × ℕ)) (t : ℕ) → fewer ≡ others held t → ((s : ℕ) → holds_at es s t ≡ false)
+  -- a pair of a task and a scope goes, which the task doesn't hold
+  pub pair_gone : (es : List (ℕ × model.Scope K)) (effects held fewer : List (ℕ × ℕ)) (t b : ℕ)
+      → ((h n : ℕ) → has_rank fewer h n ≡ cond (is_at (rank_cmp (t, b)) (h, n)) false (has_rank held h n)) → holds_at es b t ≡ false
       → AreListed es effects held → AreListed es effects fewer
-  pairs_gone es effects held fewer t is free h =
-      subst (λ (ps : List (ℕ × ℕ)). AreListed es effects ps) (sym is)
-      (record {
+  pair_gone es effects held fewer t b left free h =
+      record {
         each = h.each;
         pairs = λ s u q.
-            by_test (nat_eq t u)
-            (λ p. absurd (cc (sym q ∙ ap (λ (n : ℕ). holds_at es s n) (sym (eqb-true t u p)) ∙ free s)))
-            (λ p. others_pair held t u s p (h.pairs s u q));
-      })
+            by_test (is_at (rank_cmp (t, b)) (u, s))
+            (
+            λ p.
+            let same : (t, b) ≡ (u, s) = rank_exact (t, b) (u, s) ((Equal-is (rank_cmp (t, b) (u, s))).0 p) in
+            absurd (cc (sym q ∙ ap (λ (r : ℕ × ℕ). holds_at es r.1 r.0) (sym same) ∙ free))
+            )
+            (λ p. left u s ∙ ap (λ c. cond c false (has_rank held u s)) p ∙ h.pairs s u q);
+      }
 
--- a pair that is put at the end
-pub pair_more : (held : List (ℕ × ℕ)) (t s : ℕ) → has_pair (held ++ (t, s) ∷ []) t s ≡ true
-pair_more [] t s = or_left (nat_eq t t && nat_eq s s) false (λ i. eq_same t i && eq_same s i)
-pair_more (p ∷ ps) t s = or_right (is_pair p t s) (has_pair (ps ++ (t, s) ∷ []) t s) (pair_more ps t s)
-
-pair_keeps : (held : List (ℕ × ℕ)) (p : ℕ × ℕ) (t s : ℕ) → has_pair held t s ≡ true → has_pair (held ++ p ∷ []) t s ≡ true
-pair_keeps [] p t s there = absurd (cc there)
-pair_keeps (q ∷ qs) p t s there =
-    by_either (is_pair q t s) (has_pair qs t s) there
-    (λ r. or_left (is_pair q t s) (has_pair (qs ++ p ∷ []) t s) r)
-    (λ r. or_right (is_pair q t s) (has_pair (qs ++ p ∷ []) t s) (pair_keeps qs p t s r))
-
-module _ {K : Types} where
-  pub pairs_more : (es : List (ℕ × model.Scope K)) (effects held more : List (ℕ × ℕ)) (p : ℕ × ℕ) → more ≡ held ++ p ∷ [] → AreListed es effects held → AreListed es effects more
-  pairs_more es effects held more p is h =
-      subst (λ (ps : List (ℕ × ℕ)). AreListed es effects ps) (sym is) (record { each = h.each; pairs = λ s t q. pair_keeps held p t s (h.pairs s t q) })
-
-module _ {P C Q V H T E L : Type 0} (rows : List (ℕ × Scope P C Q V H T E L)) (held : List (ℕ × ℕ)) (t : ℕ) (after : Option ℕ)
-    (paired : (s : ℕ) → holds_at (scopes_of rows) s t ≡ true → has_pair held t s ≡ true) (up : Ascends rows) where
-  next_is : (b : ℕ) → Some b ≡ next_held (scopes_of rows) t after None held → (comes_after after b ≡ true) × (holds_at (scopes_of rows) b t ≡ true)
-  next_is b is = subst (IsFine (scopes_of rows) t after) (sym is) (fine_all (scopes_of rows) t after held None tt)
-
-  -- the next boundary has the next mark
-  pub held_marked : (b : ℕ) → Some b ≡ next_held (scopes_of rows) t after None held
-      → marks_after (λ x. holds x t) after (scopes_of rows) ≡ model.Mark b ∷ marks_after (λ x. holds x t) (Some b) (scopes_of rows)
-  held_marked b is =
-      next_mark (λ x. holds x t) after b (scopes_of rows) (rises_each scope_of rows (rises rows up)) (next_is b is).0 (next_is b is).1
-      (λ m past low. by_test (holds_at (scopes_of rows) m t) (λ q. absurd (no_lower m low (subst (λ o. AtMost o m) (sym is) (most_paired (scopes_of rows) t after held None m (paired m q) past q)))) (λ q. q))
+  -- one more pair
+  pub pair_more : (es : List (ℕ × model.Scope K)) (effects held more : List (ℕ × ℕ)) (t b : ℕ)
+      → ((h n : ℕ) → has_rank more h n ≡ cond (is_at (rank_cmp (t, b)) (h, n)) true (has_rank held h n)) → AreListed es effects held → AreListed es effects more
+  pair_more es effects held more t b joins h =
+      record {
+        each = h.each;
+        pairs = λ s u q. joins u s ∙ either (is_at (rank_cmp (t, b)) (u, s)) (has_rank held u s) (h.pairs s u q);
+      }
     where
-      no_lower : (m : ℕ) → m < b → b ≤ m → ⊥
-      no_lower m low high = omega (arith, low, high)
+      either : (c o : Bool) → o ≡ true → cond c true o ≡ true
+      either true o q = refl
+      either false o q = q
 
-  -- and is entered
-  pub held_entered : (entered : List ℕ) (b : ℕ) → numbers_of rows ≡ entered → Some b ≡ next_held (scopes_of rows) t after None held → has entered b ≡ true
-  held_entered entered b are is =
-      ap (λ (ns : List ℕ). has ns b) (sym are)
-      ∙ numbers_has rows b
-      ∙ sym (live-each scope_of rows b)
-      ∙ passing_there (λ x. holds x t) (scopes_of rows) b (next_is b is).1
+-- the marks of those of some numbers that pass
+abbrev pub marks_of : (ℕ → Bool) → List ℕ → List model.Posted
+marks_of p [] = []
+marks_of p (n ∷ ns) = (if p n then model.Mark n ∷ [] else []) ++ marks_of p ns
 
-  -- where there is none no mark is left
-  pub held_none_left : None ≡ next_held (scopes_of rows) t after None held → marks_after (λ x. holds x t) after (scopes_of rows) ≡ []
-  held_none_left is =
-      no_mark (λ x. holds x t) after (scopes_of rows) (rises_each scope_of rows (rises rows up))
-      (λ m past. by_test (holds_at (scopes_of rows) m t) (λ q. absurd (subst (λ o. AtMost o m) (sym is) (most_paired (scopes_of rows) t after held None m (paired m q) past q))) (λ q. q))
+marks_kept : (p : ℕ → Bool) (ns : List ℕ) → marks_of p ns ≡ map (λ n. model.Mark n) (filter p ns)
+marks_kept p [] = refl
+marks_kept p (n ∷ ns) =
+    elim (p n) as (λ b. ((if b then model.Mark n ∷ [] else []) ++ marks_of p ns) ≡ map (λ n. model.Mark n) (cond b (n ∷ filter p ns) (filter p ns))) [
+      | true ↦ ap (λ (ms : List model.Posted). model.Mark n ∷ ms) (marks_kept p ns)
+      | false ↦ marks_kept p ns
+    ]
+
+both : (a b : Bool) → (a ≡ true → b ≡ true) → (a && b) ≡ a
+both true b so = so refl
+both false b so = refl
+
+-- a number passes as one that ties with it
+alike : (p : ℕ → Bool) (q n : ℕ) → (p n && eq_by_cmp nat_cmp q n) ≡ (eq_by_cmp nat_cmp q n && p q)
+alike p q n =
+    elim (eq_by_cmp nat_cmp q n) as (λ b. eq_by_cmp nat_cmp q n ≡ b → (p n && b) ≡ (b && p q)) [
+      | true ↦ λ tie. and_true (p n) ∙ ap p (sym (nat_cmp-IsAntisymmetric q n ((Equal-is (nat_cmp q n)).0 tie)))
+      | false ↦ λ _. and_false (p n)
+    ] refl
+
+module _ {K : Types} (t : ℕ) where
+  -- the marks of the scopes that the task holds, by their numbers
+  named_marks : (es : List (ℕ × model.Scope K)) → map (λ n. model.Mark n) (named (λ x. holds x t) es) ≡ holding es t
+  named_marks [] = refl
+  named_marks (e ∷ es) =
+      elim (holds e.1 t) as (λ b. map (λ n. model.Mark n) (map (λ d. d.0) (cond b (e ∷ filter (λ d. holds d.1 t) es) (filter (λ d. holds d.1 t) es))) ≡ (if b then model.Mark e.0 ∷ holding es t else holding es t)) [
+        | true ↦ ap (λ (ms : List model.Posted). model.Mark e.0 ∷ ms) (named_marks es)
+        | false ↦ named_marks es
+      ]
+
+  held_passes : (es : List (ℕ × model.Scope K)) (s : ℕ) → holds_at es s t ≡ passes (λ x. holds x t) (at es s)
+  held_passes es s = by (at es s)
+    where
+      by : (o : Option (model.Scope K)) → elim o as (λ _. Bool) [ None ↦ false | Some x ↦ holds x t ] ≡ passes (λ x. holds x t) o
+      by None = refl
+      by (Some x) = refl
+
+module _ {P C Q V H T E L : Type 0} (rows : List (ℕ × Scope P C Q V H T E L)) (held : List (ℕ × ℕ)) (t : ℕ) (up : Ascends rows) where
+  abbrev own : ℕ → Bool
+  own s = holds_at (scopes_of rows) s t
+
+  -- of numbers that are just those paired with the task, those that it holds are marked
+  pub held_posted : (ns : List ℕ) → ((s : ℕ) → own s ≡ true → has_rank held t s ≡ true) → IsStrictlySortedBy nat_cmp ns
+      → ((s : ℕ) → list_any (is_at (nat_cmp s)) ns ≡ has_rank held t s) → marks_of own ns ≡ holding (scopes_of rows) t
+  held_posted ns paired sorted members =
+      marks_kept own ns
+      ∙ ap (map (λ n. model.Mark n))
+      (same_named (λ x. holds x t) (scopes_of rows) (filter own ns) (rising (scopes_of rows) (rises_each scope_of rows (rises rows up))) (IsStrictlySortedBy-filter nat_cmp own ns sorted)
+      (λ q. any-filter (eq_by_cmp nat_cmp q) own ns
+      ∙ any_same _ _ (λ n. alike own q n) ns
+      ∙ any_and (eq_by_cmp nat_cmp q) (own q) ns
+      ∙ ap (λ b. own q && b) (members q)
+      ∙ both (own q) (has_rank held t q) (paired q)
+      ∙ held_passes t (scopes_of rows) q))
+      ∙ named_marks t (scopes_of rows)
+
+module _ {K : Types} (t : ℕ) where
+  -- what is held is there
+  held_there : (o : Option (model.Scope K)) → elim o as (λ _. Bool) [ None ↦ false | Some x ↦ holds x t ] ≡ true → is_some o ≡ true
+  held_there None q = absurd (cc q)
+  held_there (Some y) q = refl
+
+-- a scope that the task holds is entered
+pub held_entered : {P C Q V H T E L : Type 0} (rows : List (ℕ × Scope P C Q V H T E L)) (t b : ℕ) (entered : List ℕ) → numbers_of rows ≡ entered → holds_at (scopes_of rows) b t ≡ true
+    → has entered b ≡ true
+held_entered rows t b entered are own =
+    ap (λ (ns : List ℕ). has ns b) (sym are)
+    ∙ numbers_has rows b
+    ∙ sym (live-each scope_of rows b)
+    ∙ held_there t (at (scopes_of rows) b) own
+
+module _ {K : Types} (scopes : List (ℕ × model.Scope K)) (t s : ℕ) where
+  -- whether a scope that was found is held
+  pub found_held : (x : model.Scope K) → at scopes s ≡ Some x → holds x t ≡ holds_at scopes s t
+  unfolding holds_found
+  found_held x here = sym (ap (λ (o : Option (model.Scope K)). holds_found t o) here)
+
+  -- one that is gone isn't
+  pub gone_free : at scopes s ≡ None → false ≡ holds_at scopes s t
+  unfolding holds_found
+  gone_free gone = sym (ap (λ (o : Option (model.Scope K)). holds_found t o) gone)

@@ -7,7 +7,7 @@ use Rattle.rt_model.proofs.Maps.{by_test}
 use Rattle.rt_model.proofs.Members.{by_either, or_left, or_right}
 use Rattle.run_records.specs.Kept.{scope_of}
 use Rattle.run_records.specs.declared.rest.Scope.{Scope}
-use Rattle.run_state.specs.Effects.{IsListed, has_pair}
+use Rattle.run_state.specs.Effects.{IsListed, has_rank}
 use Rattle.run_state.specs.Holders.{others}
 
 -- a scope's holders are those before, or one more that is paired with it
@@ -40,7 +40,7 @@ module _ {P C Q V H T E L : Type 0} where
 
 module _ {P C Q V H T E L U X : Type 0} where
   pub one_more_holder : (done : Result U X) (effects held : List (ℕ × ℕ)) (s task origin : ℕ) (x y : Scope P C Q V H T E L)
-      → OnOk done (y ≡ record x { rest = record (x.rest) { holders = (x.rest).holders ++ (task, origin) ∷ [] } }) → OnErr done (y ≡ x) → has_pair held task s ≡ true
+      → OnOk done (y ≡ record x { rest = record (x.rest) { holders = (x.rest).holders ++ (task, origin) ∷ [] } }) → OnErr done (y ≡ x) → has_rank held task s ≡ true
       → IsListed effects held s (scope_of x) → IsListed effects held s (scope_of y)
   one_more_holder (Err e) effects held s task origin x y ok same paired h = subst (λ (z : Scope P C Q V H T E L). IsListed effects held s (scope_of z)) (sym same) h
   one_more_holder (Ok u) effects held s task origin x y ok same paired h =
@@ -49,6 +49,6 @@ module _ {P C Q V H T E L U X : Type 0} where
         queues = h.queues;
         holders = λ t q.
             by_test (nat_eq task t)
-            (λ p. ap (λ (n : ℕ). has_pair held n s) (sym (eqb-true task t p)) ∙ paired)
+            (λ p. ap (λ (n : ℕ). has_rank held n s) (sym (eqb-true task t p)) ∙ paired)
             (λ p. h.holders t (holds_more (x.rest).holders (task, origin) t q p));
       })

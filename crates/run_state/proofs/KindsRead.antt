@@ -10,6 +10,7 @@ use Rattle.std.specs.FinMap.{nat_cmp-IsAntisymmetric}
 use Rattle.std.specs.List.{list_any}
 use Rattle.std.specs.List.Sorted.{IsStrictlySortedBy}
 use Rattle.std.proofs.lemmas.Bool.{eqb-true}
+use Rattle.rt_lemmas.proofs.Bools.{and_false as both_false, or_none, and_true as both_true, or_assoc}
 use Rattle.rt_cells.specs.declared.numbered.Held.{Held}
 use Rattle.rt_cells.specs.declared.sources.Source.{Source}
 use Rattle.rt_cells.specs.declared.sources.Source.TheVariants as sources
@@ -42,7 +43,7 @@ use Rattle.run_state.specs.Readers.{AreHeard, AreKnown, read_by, read_in}
 use Rattle.run_state.specs.Sources.{read_into}
 use Rattle.run_state.proofs.Contexts.{Rising}
 use Rattle.run_state.proofs.Known.{has_is}
-use Rattle.run_state.proofs.Marks.{rises, rises_each}
+use Rattle.run_state.proofs.Risen.{rises, rises_each}
 use Rattle.run_state.proofs.Told.{lookup_at, rising}
 
 -- a number is among numbers
@@ -85,22 +86,6 @@ turned true true c = refl
 turned true false c = refl
 turned false true c = refl
 turned false false c = refl
-
-both_true : (b : Bool) → (b && true) ≡ b
-both_true true = refl
-both_true false = refl
-
-both_false : (b : Bool) → (b && false) ≡ false
-both_false true = refl
-both_false false = refl
-
-or_none : (b : Bool) → (b || false) ≡ b
-or_none true = refl
-or_none false = refl
-
-or_assoc : (a b c : Bool) → ((a || b) || c) ≡ (a || (b || c))
-or_assoc true b c = refl
-or_assoc false b c = refl
 
 -- of what some entry passes an entry of a key passes
 entry_of : {X : Type 0} (p : X → Bool) (es : List (ℕ × X)) → list_any (λ e. p e.1) es ≡ true → (t : ℕ) × (list_any (λ e. p e.1 && eq_by_cmp nat_cmp t e.0) es ≡ true)

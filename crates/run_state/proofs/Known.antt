@@ -1,9 +1,9 @@
 -- What the cells know of what scopes have read, as scopes change, come and go.
-use Rattle.std.proofs.Common.{◌≡◌, ℕ, Bool, true, false, cond, List, [], ◌∷◌, ◌++◌, ◌&&◌, ◌||◌, map, nat_eq, refl, sym, ap, subst, ◌∙◌, arith}
+use Rattle.std.proofs.Common.{◌≡◌, ℕ, Bool, true, false, cond, List, [], ◌∷◌, ◌++◌, ◌&&◌, ◌||◌, map, nat_eq, refl, sym, ap, subst, ◌∙◌}
 use Rattle.std.specs.Prelude.{Option, Some, None, is_some, if◌then◌else◌}
 use Rattle.std.specs.BTreeMap.{is_at}
 use Rattle.std.specs.Ordering.{is_eq, nat_cmp}
-use Rattle.std.proofs.lemmas.Bool.Decides.{nat_tests}
+use Rattle.rt_lemmas.proofs.Numbers.{ties_back, ties}
 use Rattle.rt_cells.specs.declared.sources.Source.{Source}
 use Rattle.rt_cells.specs.declared.sources.Source.TheVariants as sources
 use Rattle.rt_cells.specs.declared.sources.Reader.{Reader}
@@ -29,12 +29,6 @@ use Rattle.run_places.specs.declared.side.SideName.TheVariants as sides
 use Rattle.run_state.specs.Readers.{AreKnown, read_by}
 use Rattle.run_state.specs.Sides.{more_number, side_put}
 use Rattle.run_state.proofs.Stays.{same_changed, same_come, same_numbered, seen_changed, seen_gone}
-
-ties : (a b : ℕ) → is_eq (nat_cmp a b) ≡ nat_eq a b
-ties a b = grind (arith, nat_tests)
-
-ties_back : (a b : ℕ) → is_eq (nat_cmp a b) ≡ nat_eq b a
-ties_back a b = grind (arith, nat_tests)
 
 -- sources tie where they are the same
 pub same_is : (x y : Source) → is_eq (source_cmp x y) ≡ same_source (source_of y) (source_of x)

@@ -6,6 +6,7 @@ use Rattle.std.proofs.lemmas.Map.Keys.{sorted_head}
 use Rattle.std.specs.BTreeMap.{is_at}
 use Rattle.std.specs.List.Sorted.{IsStrictlySortedBy}
 use Rattle.std.specs.Cmp.{Equal-is}
+use Rattle.rt_lemmas.proofs.Numbers.{eq_true, lt_false, high_test as false_lt, eq_above as eq_false, eq_apart}
 use Rattle.rt_model.specs.Lists.{at, has}
 use Rattle.rt_model.specs.Tree.{Types}
 use Rattle.rt_model.specs.State as model
@@ -16,21 +17,6 @@ use Rattle.rt_model.proofs.Members.{by_either, or_left, or_right}
 use Rattle.run_owed.specs.Lists.{EachOnce, numbers_of}
 use Rattle.run_state.specs.Effects.{AreListed, comes_up, effects_at, has_effects, has_rank, queues_some, rank_cmp}
 use Rattle.run_state.proofs.Ranked.{behind_first, rank_exact, rank_less}
-
-lt_false : (a b : ℕ) → nat_lt a b ≡ false → b ≤ a
-lt_false a b h = grind (arith, h)
-
-false_lt : (a b : ℕ) → b ≤ a → nat_lt a b ≡ false
-false_lt a b h = grind (arith, h)
-
-eq_false : (a b : ℕ) → a < b → nat_eq b a ≡ false
-eq_false a b h = grind (arith, h)
-
-eq_true : (a b : ℕ) → a ≡ b → nat_eq a b ≡ true
-eq_true a b h = ap (λ (n : ℕ). nat_eq a n) (sym h) ∙ eq_same a
-
-eq_apart : (a b : ℕ) → nat_lt a b ≡ false → nat_eq a b ≡ false → b < a
-eq_apart a b h g = grind (arith, h, g)
 
 -- an order by two numbers, the second one where the first ones are equal
 abbrev by_two : ℕ → ℕ → ℕ → ℕ → Bool
@@ -61,10 +47,6 @@ false_two a b s t (inr h) =
     ap (λ (c : Bool). c || (nat_eq a b && nat_lt s t)) (false_lt a b (omega (arith, h.0)))
     ∙ ap (λ (c : Bool). c && nat_lt s t) (eq_true a b (sym h.0))
     ∙ false_lt s t h.1
-
-both_false : (b : Bool) → (b && false) ≡ false
-both_false true = refl
-both_false false = refl
 
 -- where neither the first is before the second nor the second before the third
 through : (x y z a b c : ℕ) → (y < x) ⊎ ((y ≡ x) × (b ≤ a)) → (z < y) ⊎ ((z ≡ y) × (c ≤ b)) → by_two x z a c ≡ false

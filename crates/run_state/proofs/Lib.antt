@@ -6,8 +6,9 @@ pub mod Known
 pub mod Ranked
 pub mod Listing
 pub mod Rereads
+pub mod Risen
+pub mod MetRanks
 pub mod ReadAnew
-pub mod Marks
 pub mod HeldPairs
 pub mod HolderLists
 pub mod Drops

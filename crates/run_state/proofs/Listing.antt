@@ -16,12 +16,10 @@ use Rattle.run_records.specs.declared.rest.Scope.{Scope}
 use Rattle.run_places.specs.declared.side.Side.{Side}
 use Rattle.run_places.specs.declared.side.SideName.{SideName}
 use Rattle.run_places.specs.declared.side.SideName.TheVariants as sides
-use Rattle.run_state.specs.Effects.{AreListed, IsListed, has_pair, has_rank, holds_at, queues_at, queues_some, rank_cmp}
-use Rattle.run_state.specs.Holders.{unpaired}
+use Rattle.run_state.specs.Effects.{AreListed, IsListed, has_rank, holds_at, queues_at, queues_some, rank_cmp}
 use Rattle.run_state.specs.Sides.{more_number, side_put}
 use Rattle.run_state.proofs.Each.{at-each, put-each}
 use Rattle.run_state.proofs.Ranked.{rank_exact}
-use Rattle.run_state.proofs.HeldPairs.{unpaired_pair}
 use Rattle.run_state.proofs.Stays.{same_changed, same_come, same_numbered, seen_gone}
 use Rattle.run_state.proofs.Unchanged.{put-same}
 
@@ -171,7 +169,8 @@ module _ {P C Q V H T E L : Type 0} where
       listed_same (each scope_of old) (each scope_of new) effects held (same_numbered (λ o. listed_found o) old new s side e live made (λ x. listed_number side e x)) h
 
   -- a scope goes, and with it its pairs
-  pub listed_gone : (old new : List (ℕ × Scope P C Q V H T E L)) (s : ℕ) (effects held fewer : List (ℕ × ℕ)) → new ≡ without old s → fewer ≡ unpaired held s
+  pub listed_gone : (old new : List (ℕ × Scope P C Q V H T E L)) (s : ℕ) (effects held fewer : List (ℕ × ℕ)) → new ≡ without old s
+      → ((t n : ℕ) → nat_eq s n ≡ false → has_rank fewer t n ≡ has_rank held t n)
       → AreListed (each scope_of old) effects held → AreListed (each scope_of new) effects fewer
   listed_gone old new s effects held fewer is left h =
       record {
@@ -183,14 +182,12 @@ module _ {P C Q V H T E L : Type 0} where
       one true n k q = absurd (cc q)
       one false n k q = h.each n k q
 
-      other : (n t : ℕ) → (if nat_eq s n then false else holds_at (each scope_of old) n t) ≡ true → has_pair fewer t n ≡ true
+      other : (n t : ℕ) → (if nat_eq s n then false else holds_at (each scope_of old) n t) ≡ true → has_rank fewer t n ≡ true
       other n t q =
           by_test (nat_eq s n)
           (λ p. absurd (cc (sym (pick_true false (holds_at (each scope_of old) n t) p) ∙ q)))
           (
-          λ p.
-          ap (λ (ps : List (ℕ × ℕ)). has_pair ps t n) left
-          ∙ unpaired_pair held s t n p (h.pairs n t (sym (pick_false false (holds_at (each scope_of old) n t) p) ∙ q))
+          λ p. left t n p ∙ h.pairs n t (sym (pick_false false (holds_at (each scope_of old) n t) p) ∙ q)
           )
 
   -- a change of a scope that stays listed
@@ -226,7 +223,7 @@ module _ {P C Q V H T E L : Type 0} where
                 by_test (nat_eq s n)
                 (
                 λ p.
-                ap (λ (m : ℕ). has_pair held t m) (sym (eqb-true s n p))
+                ap (λ (m : ℕ). has_rank held t m) (sym (eqb-true s n p))
                 ∙ now.holders t (sym (ap (λ o. holds_found t o) (at_put_here (each scope_of old) s (scope_of made.0) n p)) ∙ q)
                 )
                 (λ p. h.pairs n t (sym (ap (λ o. holds_found t o) (at_put_other (each scope_of old) s (scope_of made.0) n p)) ∙ q));

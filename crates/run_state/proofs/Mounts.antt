@@ -4,6 +4,7 @@ use Rattle.std.specs.Prelude.{is_some, Option, Some, None, Result, Ok, Err, OnOk
 use Rattle.std.specs.List.{list_any}
 use Rattle.std.proofs.lemmas.Bool.{eqb-true, or_parts}
 use Rattle.std.proofs.lemmas.List.{drop_more}
+use Rattle.rt_lemmas.proofs.Bools.{or_none as set_before, or_all as set_after, or_assoc as set_twice}
 use Rattle.rt_model.specs.Lists.{at, has, or_else, put}
 use Rattle.rt_model.specs.OneLog.{types}
 use Rattle.rt_model.specs.Tree.{Types}
@@ -68,11 +69,6 @@ module _ {K : Types} where
         (λ i. live-each bare scopes s i && shown_from (each bare scopes) (height_bare s i) s)
         ∙ ap (λ b. is_some (at scopes s) && b) (from_bare (height_of scopes s) s)
 
--- a flag that is set twice, and a number that is the first or one of the others
-set_twice : (m a b : Bool) → ((m || a) || b) ≡ (m || (a || b))
-set_twice true a b = refl
-set_twice false a b = refl
-
 first_or_rest : (q h t : Bool) → ((h && t) || ((q || false) && t)) ≡ ((q || h) && t)
 first_or_rest true true true = refl
 first_or_rest true true false = refl
@@ -99,15 +95,6 @@ later_one e es n x none there =
     none
     )
     (λ q. at_there e.0 e.1 es n q ∙ there)
-
--- no flag more, and one more
-set_before : (m : Bool) → (m || false) ≡ m
-set_before true = refl
-set_before false = refl
-
-set_after : (m : Bool) → (m || true) ≡ true
-set_after true = refl
-set_after false = refl
 
 module _ {K : Types} where
   -- a scope that isn't mounted is fresh, or doesn't show

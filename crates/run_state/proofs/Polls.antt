@@ -2,6 +2,7 @@
 use Rattle.std.proofs.Common.{◌≡◌, ℕ, Bool, true, false, List, [], ◌∷◌, refl, ap, sym, ◌∙◌}
 use Rattle.std.specs.declared.snapshot.Snapshot.{Snapshot}
 use Rattle.std.specs.Prelude.{nat_eq, Option, Some, None, IfSome, IfNone, option_map, if◌then◌else◌}
+use Rattle.rt_lemmas.proofs.Options.{some_same as some_own}
 use Rattle.rt_model.specs.Lists.{at, put, or_else}
 use Rattle.rt_model.specs.OneLog.{types}
 use Rattle.rt_model.specs.State as model
@@ -21,9 +22,6 @@ if_some (Some a) f = f a refl
 pub if_none : {A F : Type 0} (o : Option A) → (o ≡ None → F) → IfNone o F
 if_none None f = f refl
 if_none (Some a) f = tt
-
-some_own : {A : Type 0} (a b : A) → Some a ≡ Some b → a ≡ b
-some_own {A = A} a b is = ap (λ (o : Option A). elim o as (λ _. A) [ None ↦ a | Some x ↦ x ]) is
 
 put_step : {A : Type 0} (e : ℕ × A) (es : List (ℕ × A)) (n : ℕ) (a : A) (b : Bool) → nat_eq e.0 n ≡ b
     → (at es n ≡ Some a → put es n a ≡ es) → (if b then Some e.1 else at es n) ≡ Some a → (if b then (n, a) ∷ es else e ∷ put es n a) ≡ e ∷ es

@@ -1,5 +1,6 @@
 -- Pairs of a height and a number, in their order.
-use Rattle.std.proofs.Common.{◌≡◌, ◌⊎◌, inl, inr, ℕ, ◌<◌, ◌≤◌, List, [], ◌∷◌, true, refl, ap, ◌∙◌, arith}
+use Rattle.std.proofs.Common.{◌≡◌, ◌⊎◌, inl, inr, ℕ, ◌+◌, ◌<◌, ◌≤◌, Bool, List, [], ◌∷◌, true, false, nat_eq, refl, ap, ◌∙◌, arith}
+use Rattle.std.specs.Prelude.{if◌then◌else◌}
 use Rattle.std.specs.declared.cmp.Ordering.{Ordering}
 use Rattle.std.specs.declared.cmp.Ordering.TheVariants.{Less, Equal, Greater}
 use Rattle.std.specs.Ordering.{MatchOrdering, is_eq, nat_cmp, ordering_then}
@@ -8,17 +9,13 @@ use Rattle.std.specs.Cmp.{Equal-is, IsTotalOrder, then_total, on_total, nat_cmp_
 use Rattle.std.specs.FinMap.{nat_cmp-IsAntisymmetric}
 use Rattle.std.specs.List.{AllByRecursion}
 use Rattle.std.proofs.lemmas.Cmp.{ranked}
+use Rattle.rt_lemmas.proofs.Orders.{both_tie}
+use Rattle.rt_cells.proofs.HeldOnce.{ties}
 use Rattle.run_state.specs.Effects.{has_rank, rank_cmp}
 use Rattle.rt_model.proofs.Members.{by_either}
 
 pub rank_total : IsTotalOrder rank_cmp
 rank_total = then_total (on_total (λ rank. rank.0) nat_cmp_total) (on_total (λ rank. rank.1) nat_cmp_total)
-
--- pairs tie where they are the same
-both_tie : (r s : Ordering) → ordering_then r s ≡ Equal → (r ≡ Equal) × (s ≡ Equal)
-both_tie Less s e = absurd (cc e)
-both_tie Equal s e = (refl, e)
-both_tie Greater s e = absurd (cc e)
 
 pub rank_exact : (x y : ℕ × ℕ) → rank_cmp x y ≡ Equal → x ≡ y
 rank_exact x y e =
@@ -50,3 +47,12 @@ behind_first first (rank ∷ ranks) h s all there =
     by_either (is_at (rank_cmp (h, s)) rank) (has_rank ranks h s) there
     (λ own. ap (λ (r : ℕ × ℕ). rank_cmp first r) (rank_exact (h, s) rank ((Equal-is (rank_cmp (h, s) rank)).0 own)) ∙ all.0)
     (λ rest. behind_first first ranks h s all.1 rest)
+
+-- pairs with other numbers, or of other heights, don't tie
+pub rank_apart : (a b h s : ℕ) → nat_eq b s ≡ false → is_at (rank_cmp (a, b)) (h, s) ≡ false
+rank_apart a b h s other = elim (nat_cmp a h) as (λ r. is_eq (ordering_then r (nat_cmp b s)) ≡ false) [ Less ↦ refl | Equal ↦ ties b s ∙ other | Greater ↦ refl ]
+
+-- one is left less where one went
+pub one_less : (left all : ℕ) (b : Bool) → b ≡ true → left + (if b then 1 else 0) ≡ all → left < all
+one_less left all true so is = let more : left + 1 ≡ all = is in omega (arith, more)
+one_less left all false so is = absurd (cc so)

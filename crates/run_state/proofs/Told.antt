@@ -43,7 +43,7 @@ use Rattle.run_state.specs.Posts.{mark_of, posts_of_all, posts_of_found, posts_o
 use Rattle.run_state.specs.Readers.{AreHeard, AreKnown, read_by, read_in}
 use Rattle.run_state.specs.Sources.{read_into}
 use Rattle.run_state.proofs.Contexts.{Rising, less_apart}
-use Rattle.run_state.proofs.Marks.{Above, Rises, rises, rises_each}
+use Rattle.run_state.proofs.Risen.{Above, Rises, rises, rises_each}
 use Rattle.run_state.proofs.Posts.{append_none, with_posts}
 
 -- the numbers of the scopes among readers, and of the reactive contexts
@@ -140,11 +140,11 @@ module _ {X : Type 0} where
       ap (λ b. cond b (Some e.1) (lookup (is_at (nat_cmp n)) es)) (ties_back n e.0) ∙ ap (λ r. cond (nat_eq e.0 n) (Some e.1) r) (lookup_at es n)
 
   -- the numbers of those that pass
-  abbrev named : (X → Bool) → List (ℕ × X) → List ℕ
+  abbrev pub named : (X → Bool) → List (ℕ × X) → List ℕ
   named p es = map (λ e. e.0) (filter (λ e. p e.1) es)
 
   -- numbers in order that are just these
-  same_named : (p : X → Bool) (es : List (ℕ × X)) (ns : List ℕ) → Rising es → IsStrictlySortedBy nat_cmp ns
+  pub same_named : (p : X → Bool) (es : List (ℕ × X)) (ns : List ℕ) → Rising es → IsStrictlySortedBy nat_cmp ns
       → ((q : ℕ) → list_any (eq_by_cmp nat_cmp q) ns ≡ passes p (at es q)) → ns ≡ named p es
   same_named p es ns up sorted same =
       same_list nat_cmp_total nat_cmp-IsAntisymmetric ns (named p es) sorted

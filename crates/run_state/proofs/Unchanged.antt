@@ -1,9 +1,10 @@
 -- What a refusal leaves as it was, and changes that want no memory.
 use Rattle.std.proofs.Common.{◌≡◌, ℕ, Bool, true, false, List, [], ◌∷◌, refl, ap, sym, subst, ◌∙◌, nat_eq}
-use Rattle.std.specs.Coded.{Coded-set, coded×, coded_bool, coded_list, coded_ℕ}
+use Rattle.std.specs.Coded.{Coded-set, coded_bool}
 use Rattle.std.specs.Prelude.{Option, Some, None, Result, Ok, Err, IfSome, IfNone, IsOk, OnErr, if◌then◌else◌}
 use Rattle.std.proofs.lemmas.Bool.{eqb-true}
 use Rattle.std.proofs.Math.Logic.{∥∥₁_prop}
+use Rattle.rt_lemmas.proofs.Lists.{one_proof}
 use Rattle.rt_model.specs.Lists.{at, put, or_else}
 use Rattle.rt_model.specs.OneLog.{types}
 use Rattle.rt_model.specs.Tree.{Types}
@@ -25,7 +26,7 @@ use Rattle.run_owed.proofs.Tables.{values_put}
 use Rattle.run_named.specs.Standings.{IsPlaced}
 use Rattle.run_state.specs.Heights.{heights_of, task_scopes}
 use Rattle.run_state.specs.Mounts.{IsWaiting, ways_of}
-use Rattle.run_state.specs.Effects.{AreListed, has_pair, has_rank}
+use Rattle.run_state.specs.Effects.{AreListed, has_rank}
 use Rattle.run_state.specs.Readers.{AreHeard, AreKnown, read_by, read_in}
 use Rattle.run_state.specs.declared.read_order.Reading.{Reading}
 use Rattle.run_state.specs.Mirror.{Unkept, task_of, change_task, state_of}
@@ -68,10 +69,6 @@ pub never : {U X : Type 0} (A : Type 0) (r : Result U X) → IsOk r → OnErr r 
 never A (Ok u) ok = tt
 never A (Err e) ok = absurd (cc ok)
 
--- an equation of lists of pairs of numbers has one proof
-one_proof : (xs ys : List (ℕ × ℕ)) (p q : xs ≡ ys) → p ≡ q
-one_proof xs ys p q = Coded-set (coded_list (coded× coded_ℕ coded_ℕ)) xs ys p q
-
 -- what is known of readers has one proof
 pub one_known : {K : Types} (scopes : List (ℕ × model.Scope K)) (reads : List (Reader × List Source)) (p q : AreKnown scopes reads) → p ≡ q
 one_known scopes reads p q = λ i. record { each = λ s x. Coded-set coded_bool (is_read_by s x reads) (names_source (read_by scopes s) (source_of x)) (p.each s x) (q.each s x) i }
@@ -87,7 +84,7 @@ one_listed scopes effects held p q =
     λ i.
     record {
       each = λ s h r. Coded-set coded_bool (has_rank effects h s) true (p.each s h r) (q.each s h r) i;
-      pairs = λ s t h. Coded-set coded_bool (has_pair held t s) true (p.pairs s t h) (q.pairs s t h) i;
+      pairs = λ s t h. Coded-set coded_bool (has_rank held t s) true (p.pairs s t h) (q.pairs s t h) i;
     }
 
 module _ {P C Q V H T E L : Type 0} where

@@ -2,6 +2,8 @@
 use Rattle.std.proofs.Common.{◌≡◌, ℕ, zero, suc, ◌-◌, ◌&&◌, ◌||◌, Bool, true, false, List, [], ◌∷◌, nat_eq, refl, ap, sym, ◌∙◌}
 use Rattle.std.specs.Prelude.{not, IfNone, IfSome, Option, Some, None, option_map}
 use Rattle.std.specs.List.{list_any}
+use Rattle.rt_lemmas.proofs.Bools.{and_none}
+pub use Rattle.rt_lemmas.proofs.Bools.{and_both as both_from, and_left as both_first, and_right as both_second}
 use Rattle.rt_model.specs.Lists.{at, has}
 use Rattle.rt_model.specs.Tree.{Types}
 use Rattle.rt_model.specs.State as model
@@ -38,18 +40,6 @@ any_never (x ∷ xs) = any_never xs
 pub any_one : {A : Type 0} (p : A → Bool) (xs : List A) → list_any p xs ≡ true → (x : A) × (p x ≡ true)
 any_one p [] h = clash h refl
 any_one p (x ∷ xs) h = by_either (p x) (list_any p xs) h (λ here. (x, here)) (λ later. any_one p xs later)
-
--- both tests
-pub both_first : (a b : Bool) → (a && b) ≡ true → a ≡ true
-both_first true b h = refl
-both_first false b h = clash h refl
-
-pub both_second : (a b : Bool) → (a && b) ≡ true → b ≡ true
-both_second true b h = h
-both_second false b h = clash h refl
-
-pub both_from : (a b : Bool) → a ≡ true → b ≡ true → (a && b) ≡ true
-both_from a b p q = ap (λ c. c && b) p ∙ q
 
 -- what is said of an answer, put through an inference
 pub some_through : {A : Type 0} {F G : A → Type 0} (o : Option A) → IfSome o F → ((a : A) → F a → G a) → IfSome o G
@@ -134,10 +124,6 @@ not_side : (a c t : Bool) → (a && not c) ≡ true → (c && t) ≡ false
 not_side true true t h = clash h refl
 not_side true false t h = refl
 not_side false c t h = clash h refl
-
-and_none : (c t : Bool) → t ≡ false → (c && t) ≡ false
-and_none true t h = h
-and_none false t h = refl
 
 -- what is hidden doesn't show
 module _ {K : Types} (scopes : List (ℕ × model.Scope K)) (b : ℕ) where

@@ -38,19 +38,11 @@ module _ {K : Types} where
   abbrev pub holds_at : List (ℕ × Scope K) → ℕ → ℕ → Bool
   holds_at scopes s t = elim (at scopes s) [ None ↦ false | Some x ↦ holds x t ]
 
--- a pair is that of a task and a scope
-abbrev pub is_pair : ℕ × ℕ → ℕ → ℕ → Bool
-is_pair p t s = nat_eq p.0 t && nat_eq p.1 s
-
--- a task is paired with a scope
-abbrev pub has_pair : List (ℕ × ℕ) → ℕ → ℕ → Bool
-has_pair pairs t s = list_any (λ p. is_pair p t s) pairs
-
 -- pairs of a height and a number, by height and then by number
 abbrev pub rank_cmp : ℕ × ℕ → ℕ × ℕ → Ordering
 rank_cmp = then_cmp (on (λ rank. rank.0) nat_cmp) (on (λ rank. rank.1) nat_cmp)
 
--- a number is listed with a height
+-- a number is listed with a height, or a scope is paired with a task
 abbrev pub has_rank : List (ℕ × ℕ) → ℕ → ℕ → Bool
 has_rank ranks h s = list_any (is_at (rank_cmp (h, s))) ranks
 
@@ -58,9 +50,9 @@ module _ {K : Types} where
   -- a scope with queued effects is listed with its height, and paired with each task that holds it
   pub record IsListed (effects held : List (ℕ × ℕ)) (s : ℕ) (x : Scope K) : Type 0 where
     pub queues : (h : ℕ) → queues_some x h ≡ true → has_rank effects h s ≡ true
-    pub holders : (t : ℕ) → holds x t ≡ true → has_pair held t s ≡ true
+    pub holders : (t : ℕ) → holds x t ≡ true → has_rank held t s ≡ true
 
   -- so is each live scope
   pub record AreListed (scopes : List (ℕ × Scope K)) (effects held : List (ℕ × ℕ)) : Type 0 where
     pub each : (s h : ℕ) → queues_at scopes s h ≡ true → has_rank effects h s ≡ true
-    pub pairs : (s t : ℕ) → holds_at scopes s t ≡ true → has_pair held t s ≡ true
+    pub pairs : (s t : ℕ) → holds_at scopes s t ≡ true → has_rank held t s ≡ true

@@ -8,7 +8,7 @@ ghost use Rattle.rt_model.specs.Run.{raised, suspends_on, joins, unmarked};
 ghost use Rattle.run_state.specs.Names.{fault_of};
 ghost use Rattle.run_state.specs.Climbs.{place_above};
 ghost use Rattle.run_state.specs.Drawn.{beside_lists, kept_for};
-ghost use Rattle.run_state.specs.Effects.{has_pair};
+ghost use Rattle.run_state.specs.Effects.{has_rank};
 ghost use Rattle.run_state.specs.Heights.{task_scope};
 ghost use Rattle.run_state.specs.Mirror.{state_of};
 
@@ -138,13 +138,13 @@ impl<P: Parts> State<P> {
             state_of g self.new ≡ change (state_of g self.old) boundary
             (λ x. record x { holders = x.holders ++ (task, origin) ∷ [] })) }
     {
-        self.held.push((task, boundary))?;
+        self.held.insert(task, boundary)?;
         self.push_holder(boundary, task, origin)
     }
 
     /// The same where the two are paired.
     fn push_holder(&mut self, boundary: u64, task: u64, origin: u64) -> Result<(), OutOfMemory>
-        requires paired { has_pair self.old.held task boundary ≡ true }
+        requires paired { has_rank self.old.held task boundary ≡ true }
         ensures { OnOk result ((g : _) →
             state_of g self.new ≡ change (state_of g self.old) boundary
             (λ x. record x { holders = x.holders ++ (task, origin) ∷ [] })) }

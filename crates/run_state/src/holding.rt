@@ -1,7 +1,6 @@
 //! Boundaries that a task holds, by the pairs of both: marked and let go.
-ghost use Rattle.std.specs.Prelude.{◌≡◌, ◌<◌, ◌++◌, ◌∷◌, [], ℕ, nat_eq, length, get_or, map, OnOk, IfSome, IfNone, None, true, false, if◌then◌else◌};
+ghost use Rattle.std.specs.Prelude.{◌≡◌, ◌<◌, ◌++◌, ◌∷◌, [], ℕ, nat_eq, length, get_or, map, OnOk, IfSome, IfNone, true, false, if◌then◌else◌};
 ghost use Rattle.std.specs.List.{list_any};
-ghost use Rattle.rt_cells.specs.Reads.{comes_after};
 ghost use Rattle.rt_model.specs.Lists.{has};
 ghost use Rattle.rt_model.specs.State as model;
 ghost use Rattle.rt_model.specs.State.{change};
@@ -9,10 +8,11 @@ ghost use Rattle.rt_model.specs.Commands.{holding, released};
 ghost use Rattle.run_owed.specs.Lists.{numbers_of};
 ghost use Rattle.run_records.specs.Kept.{scope_of};
 ghost use Rattle.run_state.specs.Drawn.{beside_lists};
-ghost use Rattle.run_state.specs.Effects.{has_pair, holds_at, is_pair};
-ghost use Rattle.run_state.specs.Holders.{let_go, lesser_held, lesser_of, next_held, others, unpaired};
+ghost use Rattle.run_state.specs.Effects.{has_rank, holds_at};
+ghost use Rattle.run_state.specs.Holders.{let_go, others};
 ghost use Rattle.run_state.specs.Mirror.{scopes_of, state_of};
 
+use crate::ranks::Ranks;
 use crate::scopes::holds;
 use crate::state::State;
 use rt_values::{List, OutOfMemory};
@@ -22,40 +22,34 @@ use run_table::Table;
 use tree_nodes::Parts;
 
 impl<P: Parts> State<P> {
-    /// Takes a task out of all boundaries' holders: of those that it is paired with.
+    /// Takes a task out of all boundaries' holders: of those that it is paired with. No others are gone
+    /// through.
     pub(crate) fn release(&mut self, task: u64) -> Result<(), OutOfMemory>
         ensures released { OnOk result ((g : _) → state_of g self.new ≡ record (state_of g self.old) {
           scopes = scopes_of (map (let_go task) self.old.rows.table);
         }) }
     {
-        let count = self.held.len();
-        for index in 0..count {
-            self.release_at(index, task)?;
+        while let Some(boundary) = self.held.first_of(task) {
+            self.release_one(boundary, task)?;
         }
-        drop_holder(&mut self.held, task);
         Ok(())
     }
 
-    /// Takes a task out of the holders of the scope of a pair, where it is the task's.
-    fn release_at(&mut self, index: usize, task: u64) -> Result<(), OutOfMemory>
-        requires within { index < length self.old.held }
+    /// Takes a task out of the holders of a scope, and the pair of both out.
+    fn release_one(&mut self, boundary: u64, task: u64) -> Result<(), OutOfMemory>
+        requires paired { has_rank self.old.held task boundary ≡ true }
         ensures done { OnOk result (released (scopes_of self.new.rows.table) task
             ≡ released (scopes_of self.old.rows.table) task) }
-        ensures fewer { OnOk result ((s : ℕ) → holds_at (scopes_of self.new.rows.table) s task ≡ true
-            → (holds_at (scopes_of self.old.rows.table) s task ≡ true)
-            × (is_pair (get_or self.old.held index (0, 0)) task s ≡ false)) }
         ensures numbers { OnOk result (numbers_of (scopes_of self.new.rows.table)
             ≡ numbers_of (scopes_of self.old.rows.table)) }
-        ensures held { self.new.held ≡ self.old.held }
         ensures others { OnOk result ((g : _) → state_of g self.new ≡ record (state_of g self.old) {
           scopes = scopes_of self.new.rows.table;
         }) }
+        ensures fewer { OnOk result (length self.new.held < length self.old.held) }
     {
-        let pair = self.held.as_slice()[index];
-        if !is_own(pair.0, task) {
-            return Ok(());
-        }
-        self.let_off(pair.1, task)
+        self.let_off(boundary, task)?;
+        self.held.remove(task, boundary);
+        Ok(())
     }
 
     /// Takes a task out of the holders of a scope, where that is live.
@@ -81,23 +75,17 @@ impl<P: Parts> State<P> {
     }
 }
 
-/// Whether a number is a task's.
-fn is_own(number: u64, task: u64) -> bool
-    ensures { result ≡ nat_eq number task }
-{
-    number == task
-}
-
 /// Posts the marks of the boundaries that a task holds, which are entered and paired with it: by number,
-/// which is the order of the table; only where its numbers didn't rise is each scope looked at.
+/// which is the order of the table. Pairs of other tasks aren't gone through; only where the table's
+/// numbers didn't rise is each scope looked at.
 pub(crate) fn add_holding<P: Parts>(
     rows: &Table<Scope<P>>,
-    held: &[(u64, u64)],
+    held: &Ranks,
     task: u64,
     owed: &mut Owed,
 )
     requires paired { (s : ℕ) → holds_at (scopes_of rows.now) s task ≡ true
-        → has_pair held.now task s ≡ true }
+        → has_rank held.now task s ≡ true }
     requires entered { numbers_of rows.now ≡ numbers_of owed.old.scopes }
     ensures posted { owed.new ≡ record owed.old {
       posted = owed.old.posted ++ holding (scopes_of rows.now) task;
@@ -107,75 +95,33 @@ pub(crate) fn add_holding<P: Parts>(
         hold_each(rows.as_slice(), task, owed);
         return;
     }
-    let mut after = None;
-    while let Some(boundary) = next_held(rows, held, task, after) {
-        owed.post_mark(boundary);
-        after = Some(boundary);
+    let mut left = held.numbers_of(task);
+    while let Some(boundary) = left.next() {
+        post_held(rows, boundary, task, owed);
     }
 }
 
-/// The lowest scope past another one, where there is one, that a task holds and is paired with.
-fn next_held<P: Parts>(
-    rows: &Table<Scope<P>>,
-    held: &[(u64, u64)],
-    task: u64,
-    after: Option<u64>,
-) -> Option<u64>
-    ensures { result ≡ next_held (scopes_of rows.now) task after None held.now }
+/// Posts the mark of a scope, where it is live and the task holds it.
+fn post_held<P: Parts>(rows: &Table<Scope<P>>, boundary: u64, task: u64, owed: &mut Owed)
+    requires entered { numbers_of rows.now ≡ numbers_of owed.old.scopes }
+    ensures posted { owed.new ≡ record owed.old {
+      posted = owed.old.posted
+          ++ (if holds_at (scopes_of rows.now) boundary task then model.Mark boundary ∷ [] else []);
+    } }
 {
-    let mut next = None;
-    for pair in held {
-        next = lesser_held(rows, next, pair, task, after);
+    if !is_held_by(rows, boundary, task) {
+        return;
     }
-    next
+    owed.post_mark(boundary);
 }
 
-/// The lesser of one that was found, if any was, and the scope of a pair, where the task holds it and it
-/// comes after.
-fn lesser_held<P: Parts>(
-    rows: &Table<Scope<P>>,
-    found: Option<u64>,
-    pair: &(u64, u64),
-    task: u64,
-    after: Option<u64>,
-) -> Option<u64>
-    ensures { result ≡ lesser_held (scopes_of rows.now) task after found pair.now }
+/// Whether a scope is live and a task holds it.
+fn is_held_by<P: Parts>(rows: &Table<Scope<P>>, scope: u64, task: u64) -> bool
+    ensures { result ≡ holds_at (scopes_of rows.now) scope task }
 {
-    if pair.0 != task {
-        return found;
-    }
-    if !comes_after(after, pair.1) {
-        return found;
-    }
-    match rows.get(pair.1) {
-        Some(scope) => {
-            if holds(scope, task) {
-                lesser_of(found, pair.1)
-            } else {
-                found
-            }
-        }
-        None => found,
-    }
-}
-
-/// Whether a number is past another one, where there is one.
-fn comes_after(former: Option<u64>, number: u64) -> bool
-    ensures { result ≡ comes_after former number }
-{
-    match former {
-        Some(former) => former < number,
-        None => true,
-    }
-}
-
-/// The lesser of a number that was found, if any was, and another.
-fn lesser_of(found: Option<u64>, number: u64) -> Option<u64>
-    ensures { result ≡ lesser_of found number }
-{
-    match found {
-        Some(former) => { if former < number { found } else { Some(number) } }
-        None => Some(number),
+    match rows.get(scope) {
+        Some(found) => holds(found, task),
+        None => false,
     }
 }
 
@@ -229,26 +175,21 @@ pub(crate) fn drop_holder(holders: &mut List<(u64, u64)>, task: u64)
     }
 }
 
-/// Where a scope is paired first.
-fn paired_in(pairs: &[(u64, u64)], scope: u64) -> Option<usize>
-    ensures within { IfSome result (λ index. index < length pairs.now) }
-    ensures own { IfSome result (λ index. (d : ℕ × ℕ) →
-        nat_eq (get_or pairs.now index d).1 scope ≡ true) }
-    ensures none { IfNone result (list_any (λ p. nat_eq p.1 scope) pairs.now ≡ false) }
+/// Takes the pairs of a scope with its holders out.
+fn drop_pairs(pairs: &mut Ranks, holders: &[(u64, u64)], scope: u64)
+    ensures { (t s : ℕ) → nat_eq scope s ≡ false → has_rank pairs.new t s ≡ has_rank pairs.old t s }
 {
-    for index in 0..pairs.len() {
-        if pairs[index].1 == scope {
-            return Some(index);
-        }
+    for holder in holders {
+        pairs.remove(holder.0, scope);
     }
-    None
 }
 
-/// Takes a scope out of pairs wherever it stands.
-pub(crate) fn drop_paired(pairs: &mut List<(u64, u64)>, scope: u64)
-    ensures { pairs.new ≡ unpaired pairs.old scope }
+/// Takes the pairs of a live scope with its holders out.
+pub(crate) fn drop_paired<P: Parts>(rows: &Table<Scope<P>>, pairs: &mut Ranks, scope: u64)
+    ensures { (t s : ℕ) → nat_eq scope s ≡ false → has_rank pairs.new t s ≡ has_rank pairs.old t s }
 {
-    while let Some(index) = paired_in(pairs.as_slice(), scope) {
-        pairs.remove(index);
+    match rows.get(scope) {
+        Some(found) => drop_pairs(pairs, found.rest.holders.as_slice(), scope),
+        None => {}
     }
 }

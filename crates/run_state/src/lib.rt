@@ -35,7 +35,7 @@ mod tree_put;
 
 pub use names::{Fault, Posted, Stop, TaskKind, Work};
 pub use numbers::{drop_number, join};
-pub use ranks::Ranks;
+pub use ranks::{RankNumbers, Ranks};
 pub use read_order::{ReadOrder, Reading};
 pub use removal::clean_ups;
 pub use scope_state::{NotBuilt, ScopeState, get_scope};

@@ -154,7 +154,7 @@ impl<P: Parts> State<P> {
         self.cells.drop_reader(Reader::Scope(ScopeId(scope)));
         drop_number(&mut self.fresh, scope);
         drop_holder(&mut self.hidden, scope);
-        drop_paired(&mut self.held, scope);
+        drop_paired(&self.rows.table, &mut self.held, scope);
         remove_rows(&mut self.rows.table, &mut self.places, scope);
     }
 

@@ -80,7 +80,7 @@ pub struct State<P: Parts> {
     /// The live scopes that have queued effects, each with its height, and maybe others.
     pub effects: Ranks,
     /// Each task with each live scope that it holds, and maybe other pairs.
-    pub held: List<(u64, u64)>,
+    pub held: Ranks,
     /// The live scopes are those that are entered, with their heights.
     pub ghost entered: { heights_of rows.table ≡ owed.scopes },
     /// The tasks that haven't ended are those that are entered, with their scopes.
@@ -120,7 +120,7 @@ impl<P: Parts> State<P> {
             fresh: List::new(alloc),
             hidden: List::new(alloc),
             effects: Ranks::new(alloc),
-            held: List::new(alloc),
+            held: Ranks::new(alloc),
         }
     }
 

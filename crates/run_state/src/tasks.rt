@@ -148,7 +148,7 @@ impl<P: Parts> State<P> {
         }
         self.owed.drop_wakes(task);
         self.owed.unqueue(task);
-        add_holding(&self.rows.table, self.held.as_slice(), task, &mut self.owed);
+        add_holding(&self.rows.table, &self.held, task, &mut self.owed);
         self.owed.leave_task(task);
         self.tasks.remove(task);
         self.release(task)
@@ -173,16 +173,12 @@ impl<P: Parts> State<P> {
         Ok(())
     }
 
-    /// The tasks of a scope, in order.
+    /// The tasks of a scope, in order, as they were entered with it.
     pub fn tasks_in(&self, alloc: Global, scope: u64) -> Result<List<u64>, OutOfMemory>
         ensures { IfOk result (λ tasks. (g : _) →
             tasks ≡ tasks_in scope (state_of g self.now).tasks) }
     {
-        let mut tasks = List::new(alloc);
-        for entry in self.tasks.as_slice() {
-            add_owned(entry.0, entry.1.scope, scope, &mut tasks)?;
-        }
-        Ok(tasks)
+        self.owed.tasks_of(alloc, scope)
     }
 
     /// Takes a task's state out, to be polled. None where the task has ended, or is polled already.
@@ -233,23 +229,6 @@ impl<P: Parts> State<P> {
                 Ok(())
             },
         )
-    }
-}
-
-/// Puts a number after the others, where its owner is the scope.
-fn add_owned(
-    number: u64,
-    owner: u64,
-    scope: u64,
-    numbers: &mut List<u64>,
-) -> Result<(), OutOfMemory>
-    ensures { OnOk result (numbers.new
-        ≡ numbers.old ++ (if nat_eq owner scope then number ∷ [] else [])) }
-{
-    if owner == scope {
-        numbers.push(number)
-    } else {
-        Ok(())
     }
 }
 

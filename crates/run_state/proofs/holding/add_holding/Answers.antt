@@ -1,12 +1,13 @@
-use Rattle.std.proofs.Common.{◌++◌, ◌∙◌, refl, sym, ap}
-use Rattle.std.specs.Prelude.{Some}
+use Rattle.std.proofs.Common.{◌++◌, ◌∷◌, [], List, ◌∙◌, append_assoc, refl, sym, ap}
+use Rattle.std.specs.Prelude.{if◌then◌else◌}
 use Rattle.rt_model.specs.Commands.{holding}
-use Rattle.rt_model.specs.State.{holds}
+use Rattle.rt_model.specs.State.{Mark, Posted}
 use Rattle.run_owed.specs.Lists.{numbers_of}
+use Rattle.run_state.specs.Effects.{holds_at}
 use Rattle.run_state.specs.Mirror.{scopes_of}
-use Rattle.run_state.proofs.HeldPairs.{all_held, held_entered, held_marked, held_none_left}
-use Rattle.run_state.proofs.Marks.{fewer_marks, mark_step, marks_after, marks_end}
-use Rattle.run_state.proofs.Posts.{owed_twice, with_owed}
+use Rattle.run_state.proofs.HeldPairs.{held_posted, marks_of}
+use Rattle.run_state.proofs.MetRanks.{fewer_numbers}
+use Rattle.run_state.proofs.Posts.{append_none, owed_twice, with_owed}
 use Rattle.run_state.proofs.holding.add_holding.Goals as goal
 
 pub hold_each-requires : goal.hold_each-requires
@@ -19,41 +20,38 @@ returns-then-not-rises g c =
     }
 
 pub loop-boundary-init : goal.loop-boundary-init
-loop-boundary-init g c = record { same = refl; done = ap (λ ms. c.args.owed.now.posted ++ ms) (all_held c.args.task (scopes_of c.args.rows.now)) }
-
-pub post_mark-requires : goal.post_mark-requires
-post_mark-requires g c =
+loop-boundary-init g c =
     record {
-      entered = held_entered c.args.rows.now c.args.held.now c.args.task c.loop-boundary.after c.requires.paired (c.rises.ensures.rises c.if-not-rises.false) (numbers_of c.loop-boundary.owed.scopes) c.in-Some.boundary
-          (c.requires.entered ∙ sym (ap (λ o. numbers_of o.scopes) c.loop-boundary.invariant.same)) (sym c.in-Some.is ∙ c.next_held.ensures);
+      same = refl;
+      done = ap (λ ms. c.args.owed.now.posted ++ ms)
+          (held_posted c.args.rows.now c.args.held.now c.args.task (c.rises.ensures.rises c.if-not-rises.false) c.numbers_of-left.result c.requires.paired c.numbers_of-left.ensures.ascending
+          c.numbers_of-left.ensures.members);
     }
 
+pub post_held-requires : goal.post_held-requires
+post_held-requires g c = record { entered = c.requires.entered ∙ sym (ap (λ o. numbers_of o.scopes) c.loop-boundary.invariant.same) }
+
 pub loop-boundary-smaller : goal.loop-boundary-smaller
-loop-boundary-smaller g c =
-    fewer_marks (marks_after (λ x. holds x c.args.task) c.loop-boundary.after (scopes_of c.args.rows.now)) (marks_after (λ x. holds x c.args.task) (Some c.in-Some.boundary) (scopes_of c.args.rows.now)) c.in-Some.boundary
-    (held_marked c.args.rows.now c.args.held.now c.args.task c.loop-boundary.after c.requires.paired (c.rises.ensures.rises c.if-not-rises.false) c.in-Some.boundary (sym c.in-Some.is ∙ c.next_held.ensures))
+loop-boundary-smaller g c = fewer_numbers c.loop-boundary.left c.next.new.self c.in-Some.boundary c.in-Some.ensures.next
 
 pub loop-boundary-preserved : goal.loop-boundary-preserved
 loop-boundary-preserved g c =
+    let marks = marks_of (λ s. holds_at (scopes_of c.args.rows.now) s c.args.task) in
+    let own : List Posted = if holds_at (scopes_of c.args.rows.now) c.in-Some.boundary c.args.task then Mark c.in-Some.boundary ∷ [] else [] in
     record {
-      same = owed_twice c.args.owed.now c.loop-boundary.owed c.post_mark.new.self c.loop-boundary.owed.posted c.post_mark.new.self.posted c.loop-boundary.invariant.same
-          (c.post_mark.ensures.posted ∙ ap (λ ps. with_owed c.loop-boundary.owed ps) (sym (ap (λ o. o.posted) c.post_mark.ensures.posted)));
-      done =
-          mark_step c.loop-boundary.owed.posted c.post_mark.new.self.posted (marks_after (λ x. holds x c.args.task) c.loop-boundary.after (scopes_of c.args.rows.now))
-          (marks_after (λ x. holds x c.args.task) (Some c.in-Some.boundary) (scopes_of c.args.rows.now)) (c.args.owed.now.posted ++ holding (scopes_of c.args.rows.now) c.args.task) c.in-Some.boundary
-          (ap (λ o. o.posted) c.post_mark.ensures.posted)
-          (held_marked c.args.rows.now c.args.held.now c.args.task c.loop-boundary.after c.requires.paired (c.rises.ensures.rises c.if-not-rises.false) c.in-Some.boundary (sym c.in-Some.is ∙ c.next_held.ensures))
-          c.loop-boundary.invariant.done;
+      same = owed_twice c.args.owed.now c.loop-boundary.owed c.post_held.new.owed c.loop-boundary.owed.posted c.post_held.new.owed.posted c.loop-boundary.invariant.same
+          (c.post_held.ensures.posted ∙ ap (λ ps. with_owed c.loop-boundary.owed ps) (sym (ap (λ o. o.posted) c.post_held.ensures.posted)));
+      done = ap (λ ps. ps ++ marks c.next.new.self) (ap (λ o. o.posted) c.post_held.ensures.posted)
+          ∙ append_assoc c.loop-boundary.owed.posted own (marks c.next.new.self)
+          ∙ ap (λ ns. c.loop-boundary.owed.posted ++ marks ns) (sym c.in-Some.ensures.next)
+          ∙ c.loop-boundary.invariant.done;
     }
 
 pub returns : goal.returns
 returns g c =
+    let marks = marks_of (λ s. holds_at (scopes_of c.args.rows.now) s c.args.task) in
     record {
       posted = c.loop-boundary.invariant.same
           ∙ ap (λ ps. with_owed c.args.owed.now ps)
-          (
-          marks_end c.loop-boundary.owed.posted (marks_after (λ x. holds x c.args.task) c.loop-boundary.after (scopes_of c.args.rows.now)) (c.args.owed.now.posted ++ holding (scopes_of c.args.rows.now) c.args.task)
-          (held_none_left c.args.rows.now c.args.held.now c.args.task c.loop-boundary.after c.requires.paired (c.rises.ensures.rises c.if-not-rises.false) (sym c.in_default.is ∙ c.next_held.ensures))
-          c.loop-boundary.invariant.done
-          );
+          (sym (append_none c.loop-boundary.owed.posted) ∙ ap (λ ns. c.loop-boundary.owed.posted ++ marks ns) (sym c.in_default.ensures.next) ∙ c.loop-boundary.invariant.done);
     }

@@ -1,16 +1,13 @@
 -- The links are tied to the sources again on each way out.
-use Rattle.std.proofs.Common.{◌≡◌, ◌∙◌, sym, ap, refl, ◌&&◌, not, [], inr, Bool, true, false}
+use Rattle.std.proofs.Common.{◌∙◌, sym, ap, ◌&&◌, not, [], inr}
 use Rattle.std.specs.Option.{unwrap_or}
 use Rattle.std.specs.BTreeMap.{is_at}
+use Rattle.rt_lemmas.proofs.Bools.{true_and as and-true}
 use Rattle.rt_cells.specs.Orders.{reader_cmp}
 use Rattle.rt_cells.specs.Reads.{sources_at}
 use Rattle.rt_cells.specs.Links.{is_let_go}
 use Rattle.rt_cells.proofs.Linked.{put_each, put_linked, undone_linked, kept_sorted, none_sorted, in_table}
 use Rattle.rt_cells.proofs.reads.Reads.put.Goals as goal
-
-and-true : (b : Bool) → b ≡ (b && true)
-and-true true = refl
-and-true false = refl
 
 pub leave-requires : goal.leave-requires
 leave-requires c = record { ascending = rw c.kept_of.ensures.kept (kept_sorted c.self.invariant c.args.reader) }

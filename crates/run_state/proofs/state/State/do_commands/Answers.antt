@@ -1,5 +1,6 @@
-use Rattle.std.proofs.Common.{◌≡◌, ◌++◌, ◌∷◌, [], List, length, map, refl, sym, ap, ◌∙◌, append_assoc, append-nil, arith}
+use Rattle.std.proofs.Common.{◌≡◌, ◌++◌, ◌∷◌, [], length, map, sym, ap, ◌∙◌, append_assoc, append-nil, arith}
 use Rattle.std.specs.Vec.Iter.{into_iter_items}
+use Rattle.rt_lemmas.proofs.Lists.{nothing_left}
 use Rattle.rt_model.specs.Commands.{commands}
 use Rattle.run_records.specs.Records.{command_of}
 use Rattle.run_state.specs.Anew.{left_of}
@@ -7,10 +8,6 @@ use Rattle.run_state.specs.Mirror.{state_of}
 use Rattle.run_state.proofs.Changed.{on_ok}
 use Rattle.run_state.proofs.ReadAnew.{commands_append}
 use Rattle.run_state.proofs.state.State.do_commands.Goals as goal
-
-nothing_left : {A : Type 0} (xs : List A) → length xs ≡ 0 → xs ≡ []
-nothing_left [] none = refl
-nothing_left (x ∷ xs) none = absurd (omega arith)
 
 pub loop-command-preserved : goal.loop-command-preserved
 loop-command-preserved g c =

@@ -16,9 +16,8 @@ returns-then-not-has_task g c = λ kept. not_ended c.args.self.now c.args.task k
 
 pub add_holding-requires : goal.add_holding-requires
 add_holding-requires g c =
-    let is = c.as_slice.ensures.items in
     record {
-      paired = rw is (λ s q. c.args.self.now.listed.pairs s c.args.task q);
+      paired = λ s q. c.args.self.now.listed.pairs s c.args.task q;
       entered = rows_entered c.args.self.now ∙ sym (ap (λ o. numbers_of o.scopes) c.drop_wakes.ensures.posted) ∙ sym (ap (λ o. numbers_of o.scopes) c.unqueue.ensures.queued);
     }
 
