@@ -1,98 +1,21 @@
 -- A tree beside an equal one gives no edit, where the scopes of its components write nothing.
-use Rattle.std.proofs.Common.{ℕ, zero, suc, ◌+◌, Bool, true, false, ◌&&◌, ◌||◌, not, List, [], ◌∷◌, ◌++◌, ◌≡◌, refl, ap, ◌∙◌, nat_eq, arith}
+use Rattle.std.proofs.Common.{ℕ, zero, suc, ◌+◌, true, false, ◌&&◌, not, List, [], ◌∷◌, ◌++◌, ◌≡◌, refl, ap, ◌∙◌}
 use Rattle.std.specs.Prelude.{Option, Some, None, is_some, if◌then◌else◌, length}
-use Rattle.rt_model.specs.Lists.{Text, same_numbers, same_option, same_list}
-use Rattle.rt_model.specs.Tree.{Types, TemplateAttribute, fixed, from_slot, TemplateNodes, no_nodes, element_node, text_node, slot_node, Template, same_attribute, same_nodes, same_template, AttributeValue, text_value, no_value, listener, Attribute, Tree, block, Slots, no_slots, more_slots, Slot, text_slot, placeholder_slot, component_slot, fragment_slot, Trees, no_trees, more_trees, VComponent, Own, Root, Fragment, ErrorBoundary, SuspenseBoundary, Place, item, attributes_in}
+use Rattle.rt_lemmas.proofs.Bools.{neither as or_false, or_right as or_true, both_true, or_left as first_true, not_and}
+use Rattle.rt_lemmas.proofs.Lists.{both_empty as none}
+use Rattle.rt_model.specs.Lists.{Text, same_numbers, same_option}
+use Rattle.rt_model.specs.Tree.{Types, AttributeValue, text_value, no_value, listener, Attribute, Tree, block, Slots, no_slots, more_slots, Slot, text_slot, placeholder_slot, component_slot, fragment_slot, Trees, no_trees, more_trees, VComponent, Own, Root, Fragment, ErrorBoundary, SuspenseBoundary, Place, item, attributes_in}
 use Rattle.rt_model.specs.World.{Application}
 use Rattle.rt_model.specs.Laws.{Tests}
 use Rattle.rt_model.specs.Values.{is_same_component}
-use Rattle.rt_model.specs.State.{SideName, MainSide, ChildrenSide, FallbackSide, same_side}
 use Rattle.rt_model.specs.Run.{child_at}
-use Rattle.rt_model.specs.Document.{Edit, SetAttribute, RemoveEventListener, CreateEventListener}
-use Rattle.rt_model.specs.Caused.{Written, writes, halts, then_on, is_place, slot_pass, element_pass, attribute_pass, is_key, text_if, text_under, listens, listens_under, one_left, left, one_come, come, Both, child_written, tree_written, slots_written, slot_written, items_written, outputs_written}
+use Rattle.rt_model.specs.Document.{SetAttribute, RemoveEventListener, CreateEventListener}
+use Rattle.rt_model.specs.Caused.{writes, halts, is_place, is_key, text_if, text_under, listens, listens_under, one_left, left, one_come, come, Both, child_written, tree_written, slots_written, slot_written, items_written, outputs_written}
 use Rattle.rt_model.specs.Unchanged.{is_keyed, once_each, Single, SingleSlots, SingleSlot, SingleTrees, SingleOutput}
 use Rattle.rt_model.proofs.Maps.{pick_true, pick_false}
-
-both_true : {a b : Bool} → a ≡ true → b ≡ true → (a && b) ≡ true
-both_true p q = rw (p, q) refl
-
-or_false : (a b : Bool) → (a || b) ≡ false → (a ≡ false) × (b ≡ false)
-or_false true b h = cc
-or_false false b h = (refl, h)
-
-or_true : (a b : Bool) → b ≡ true → (a || b) ≡ true
-or_true true b h = refl
-or_true false b h = h
-
-first_true : (a b : Bool) → a ≡ true → (a || b) ≡ true
-first_true a b h = rw h refl
-
-not_and : (a b : Bool) → (not a && b) ≡ true → (a ≡ false) × (b ≡ true)
-not_and true b h = cc
-not_and false b h = (refl, h)
-
-eq_same : (n : ℕ) → nat_eq n n ≡ true
-eq_same n = grind (arith)
-
-none : {A : Type 0} {xs ys : List A} → xs ≡ [] → ys ≡ [] → (xs ++ ys) ≡ []
-none p q = rw (p, q) refl
-
-nothing_on : {a b : Written} → a ≡ writes [] → b ≡ writes [] → then_on a b ≡ writes []
-nothing_on p q = rw (p, q) refl
-
-numbers_same : (xs : List ℕ) → same_numbers xs xs ≡ true
-numbers_same [] = refl
-numbers_same (x ∷ xs) = both_true (eq_same x) (numbers_same xs)
-
-option_same : (o : Option Text) → same_option same_numbers o o ≡ true
-option_same None = refl
-option_same (Some t) = numbers_same t
-
-lists_same : (xs : List (List ℕ)) → same_list same_numbers xs xs ≡ true
-lists_same [] = refl
-lists_same (x ∷ xs) = both_true (numbers_same x) (lists_same xs)
-
-attribute_same : (a : TemplateAttribute) → same_attribute a a ≡ true
-attribute_same (fixed n s v) = both_true (both_true (numbers_same n) (option_same s)) (numbers_same v)
-attribute_same (from_slot k) = eq_same k
-
-attributes_same : (xs : List TemplateAttribute) → same_list same_attribute xs xs ≡ true
-attributes_same [] = refl
-attributes_same (a ∷ xs) = both_true (attribute_same a) (attributes_same xs)
-
-nodes_same : (t : TemplateNodes) → same_nodes t t ≡ true
-nodes_same no_nodes = refl
-nodes_same (element_node t n a k r) =
-    both_true (both_true (both_true (both_true (numbers_same t) (option_same n)) (attributes_same a)) (nodes_same k)) (nodes_same r)
-nodes_same (text_node t r) = both_true (numbers_same t) (nodes_same r)
-nodes_same (slot_node i r) = both_true (eq_same i) (nodes_same r)
-
-template_same : (t : Template) → same_template t t ≡ true
-template_same t = both_true (both_true (nodes_same t.roots) (lists_same t.node_paths)) (lists_same t.attribute_paths)
-
-pub side_same : (a : SideName) → same_side a a ≡ true
-side_same MainSide = refl
-side_same ChildrenSide = refl
-side_same FallbackSide = refl
-
-element_quiet : (of : ℕ → ℕ → List Edit) (number : ℕ) (xs : List TemplateAttribute) → ((k n : ℕ) → of k n ≡ []) → element_pass of number xs ≡ []
-element_quiet of number [] h = refl
-element_quiet of number (fixed n s v ∷ xs) h = element_quiet of number xs h
-element_quiet of number (from_slot k ∷ xs) h = none (h k number) (element_quiet of number xs h)
-
-pass_quiet : (of : ℕ → ℕ → List Edit) (number : List ℕ → ℕ → ℕ) (up : List ℕ) (i : ℕ) (t : TemplateNodes) → ((k n : ℕ) → of k n ≡ []) → attribute_pass of number up i t ≡ []
-pass_quiet of number up i no_nodes h = refl
-pass_quiet of number up i (element_node tag namespace attributes children rest) h =
-    none (element_quiet of (number up i) attributes h) (none (pass_quiet of number (up ++ i ∷ []) 0 children h) (pass_quiet of number up (i + 1) rest h))
-pass_quiet of number up i (text_node text rest) h = pass_quiet of number up (i + 1) rest h
-pass_quiet of number up i (slot_node k rest) h = pass_quiet of number up (i + 1) rest h
-
-slots_quiet_pass : (of : ℕ → Place → Written) (place : List ℕ → ℕ → Place) (up : List ℕ) (i : ℕ) (t : TemplateNodes) → ((k : ℕ) (p : Place) → of k p ≡ writes []) → slot_pass of place up i t ≡ writes []
-slots_quiet_pass of place up i no_nodes h = refl
-slots_quiet_pass of place up i (element_node tag namespace attributes children rest) h =
-    nothing_on (slots_quiet_pass of place (up ++ i ∷ []) 0 children h) (slots_quiet_pass of place up (i + 1) rest h)
-slots_quiet_pass of place up i (text_node text rest) h = slots_quiet_pass of place up (i + 1) rest h
-slots_quiet_pass of place up i (slot_node k rest) h = nothing_on (h k (place up i)) (slots_quiet_pass of place up (i + 1) rest h)
+use Rattle.rt_model.proofs.Quiet.{option_same, nothing_on, pass_quiet, slots_quiet_pass}
+pub use Rattle.rt_model.proofs.Quiet.{side_same}
+use Rattle.rt_model.proofs.Among.{template_same, numbers_same}
 
 module _ {K : Types} where
   key_same : (a : Attribute K) → is_key a a ≡ true

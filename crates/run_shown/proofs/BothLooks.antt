@@ -1,20 +1,14 @@
 -- One climb for two looks that show the same of each scope on the way.
-use Rattle.std.proofs.Common.{ℕ, ◌-◌, Bool, true, false, ◌&&◌, ◌≡◌, ◌≢◌, refl, sym, ap, ◌∙◌}
-use Rattle.std.specs.Prelude.{Option, Some, None, is_some}
+use Rattle.std.proofs.Common.{ℕ, ◌-◌, true, false, ◌&&◌, ◌≡◌, ◌≢◌, sym, ap, ◌∙◌}
+use Rattle.std.specs.Prelude.{Option, Some, None}
+pub use Rattle.rt_lemmas.proofs.Options.{none_of as not_some}
+use Rattle.rt_lemmas.proofs.Bools.{and_second as and_none}
 use Rattle.rt_model.specs.Lists.{at}
 use Rattle.run_places.specs.declared.side.SideName.{SideName}
 use Rattle.run_shown.specs.declared.look.Look.{Look}
 use Rattle.run_shown.specs.declared.look.Rung.{Rung}
 use Rattle.run_shown.specs.Look.{IsAlike, is_showing, look_at, look_is_shown, rung_in, shown_on, stood_in}
 use Rattle.run_shown.proofs.Looks.{on_further, on_gone, on_none, on_other, on_top, shown_gone, shown_root, shown_there}
-
-and_none : (a : Bool) {b : Bool} → b ≡ false → (a && b) ≡ false
-and_none true h = h
-and_none false h = refl
-
-pub not_some : {A : Type 0} (o : Option A) → is_some o ≡ false → o ≡ None
-not_some None h = refl
-not_some (Some x) h = cc h
 
 module _ {P C Q V H T E L : Type 0} (look other : Look P C Q V H T E L) where
   -- the way from a scope on

@@ -4,11 +4,11 @@ use Rattle.std.specs.Prelude.{Option, Some, None, nat_eq, option_map, slice_get}
 use Rattle.std.specs.Borrow.{Bor}
 use Rattle.std.specs.Option.{option_copied}
 use Rattle.std.proofs.Math.ListN.{drop_of_length-le}
-use Rattle.std.proofs.lemmas.Bool.{eqb-true}
 use Rattle.std.proofs.lemmas.Option.{slice_get-map}
+pub use Rattle.rt_lemmas.proofs.Numbers.{eq_true as number_same, eq_other as number_other}
 use Rattle.rt_model.specs.Tree.{Place}
 use Rattle.rt_model.specs.Caused.{place_of_child}
-use Rattle.rt_model.proofs.Maps.{by_test, eq_same, pick_false, pick_true}
+use Rattle.rt_model.proofs.Maps.{by_test, pick_false, pick_true}
 use Rattle.run_places.specs.declared.place.Step.{Step}
 use Rattle.run_places.specs.Places.{place_of, seated}
 use Rattle.run_places.proofs.Placed.{by_option, seated_none, seated_one}
@@ -75,12 +75,6 @@ module _ (seats : List Place) (s : ℕ) where
   none_left pairs i whole end so_far = sym (ap (λ es. place_of_child (seated seats es) s) (drop_of_length-le pairs end)) ∙ so_far
 
 -- under one index
-
-pub number_same : (m n : ℕ) → m ≡ n → nat_eq m n ≡ true
-number_same m n same = ap (λ k. nat_eq m k) (sym same) ∙ eq_same m
-
-pub number_other : (m n : ℕ) → m ≢ n → nat_eq m n ≡ false
-number_other m n other = by_test (nat_eq m n) (λ same. absurd (other (eqb-true m n same))) (λ apart. apart)
 
 -- the place of the scope is what stands under its index
 pub under_own : (seats : List (List Step)) (i child s : ℕ) (found : Option (Bor (List Step))) → child ≡ s → option_copied found ≡ slice_get seats i

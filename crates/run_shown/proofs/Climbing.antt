@@ -145,10 +145,12 @@ module _ {P C Q V H T E L : Type 0} where
 
   -- nodes of a template
 
-  abbrev slot_in : Look P C Q V H T E L → ℕ → ℕ → Side P C Q V H T E L → VNode P C Q V H T E L → ℕ → Place → Option (Climb (types C Q V H T E L))
+  -- what stands in a slot of a tree
+  abbrev pub slot_in : Look P C Q V H T E L → ℕ → ℕ → Side P C Q V H T E L → VNode P C Q V H T E L → ℕ → Place → Option (Climb (types C Q V H T E L))
   slot_in look number n side tree k place = find_slots (side_of side) number (λ t. climb_within look number n t) (slots_from (map slot_of tree.dynamic_nodes)) k place
 
-  abbrev nodes_in : Look P C Q V H T E L → ℕ → ℕ → Side P C Q V H T E L → VNode P C Q V H T E L → Place → List ℕ → ℕ → TemplateNodes → Option (Climb (types C Q V H T E L))
+  -- what stands among the nodes of its template
+  abbrev pub nodes_in : Look P C Q V H T E L → ℕ → ℕ → Side P C Q V H T E L → VNode P C Q V H T E L → Place → List ℕ → ℕ → TemplateNodes → Option (Climb (types C Q V H T E L))
   nodes_in look number n side tree above up i ns =
       find_nodes (side_of side).numbers number (template_of tree.template) above (slots_of tree.dynamic_attrs) (λ k place. slot_in look number n side tree k place) up i ns
 
@@ -160,7 +162,7 @@ module _ {P C Q V H T E L : Type 0} where
       level_found (side_of side).numbers number (template_of tree.template) above (slots_of tree.dynamic_attrs) (λ k place. slot_in look number n side tree k place) (below (out-TemplateNode node)) up i rest ∙
       ap (λ ns. first_of (nodes_in look number n side tree above up i ns) (nodes_in look number n side tree above up (i + 1) rest)) (sym (before_out node no_nodes))
 
-  row_is : (look : Look P C Q V H T E L) (number n : ℕ) (side : Side P C Q V H T E L) (tree : VNode P C Q V H T E L) (above : Place) (up : List ℕ) (i : ℕ) (row : List TemplateNode)
+  pub row_is : (look : Look P C Q V H T E L) (number n : ℕ) (side : Side P C Q V H T E L) (tree : VNode P C Q V H T E L) (above : Place) (up : List ℕ) (i : ℕ) (row : List TemplateNode)
       → row_climb look number n side tree above up i row ≡ nodes_in look number n side tree above up i (nodes_of row)
   row_is look number n side tree above up i [] = refl
   row_is look number n side tree above up i (node ∷ row) =

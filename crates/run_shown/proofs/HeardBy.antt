@@ -1,6 +1,7 @@
 -- What is heard of the climb that a look finds is what the definitions hear of the state.
-use Rattle.std.proofs.Common.{ℕ, zero, suc, nat_eq, arith, Bool, false, length, List, [], ◌≡◌, ◌≢◌, refl, sym, ap, ◌∙◌}
+use Rattle.std.proofs.Common.{ℕ, Bool, length, List, [], ◌≡◌, ◌≢◌, sym, ap, ◌∙◌}
 use Rattle.std.specs.Prelude.{Some, None, if◌then◌else◌}
+use Rattle.rt_lemmas.proofs.Numbers.{not_zero}
 use Rattle.tree_nodes.specs.declared.attribute.Attribute.{Attribute}
 use Rattle.rt_model.specs.OneLog.{types}
 use Rattle.rt_model.specs.Lists.{Text}
@@ -12,10 +13,6 @@ use Rattle.run_shown.specs.Climbs.{climb_found, scope_climb}
 use Rattle.run_shown.specs.Hearing.{event_heard}
 use Rattle.run_shown.proofs.Agrees.{climbs_are}
 use Rattle.run_shown.proofs.Hearings.{event_is}
-
-not_zero : (n : ℕ) → n ≢ 0 → nat_eq n 0 ≡ false
-not_zero zero some = absurd (some refl)
-not_zero (suc n) some = grind (arith)
 
 module _ {C Q V H T E L : Type 0} where
   pub heard_nowhere : (w : state.State (types C Q V H T E L)) (event : Text) (element : ℕ) (bubbles : Bool) → element ≡ 0 → [] ≡ hears.heard w event element bubbles

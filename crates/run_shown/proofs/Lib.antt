@@ -26,3 +26,6 @@ pub mod Children
 pub mod Walked
 pub mod BothLooks
 pub mod Givens
+pub mod Elsewhere
+pub mod Leadings
+pub mod Onwards

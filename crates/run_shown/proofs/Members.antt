@@ -7,6 +7,7 @@ use Rattle.std.proofs.lemmas.Bool.{cases_lt, eqb-true, ne_eqb}
 use Rattle.std.proofs.lemmas.List.{get_or_default}
 use Rattle.std.proofs.lemmas.List.Sorted.{searched, IsNonDecreasingBy-insert}
 use Rattle.std.proofs.lemmas.Grind.{common_steps}
+use Rattle.rt_lemmas.proofs.Bools.{or_swapped as swapped}
 use Rattle.rt_model.specs.Lists.{has}
 use Rattle.rt_model.proofs.Maps.{by_test}
 
@@ -50,12 +51,6 @@ still_ascends xs i x ascends missed =
     IsNonDecreasingBy-insert (λ y. y) xs i x ascends parts.0
     (λ k d low. let less = parts.1 k low in let same : get_or xs k d ≡ get_or xs k 0 = get_or_default xs k d 0 (omega (arith, parts.0)) in omega (arith, less, same))
     (λ k d low within. let more = parts.2 k low within in let same : get_or xs k d ≡ get_or xs k 0 = get_or_default xs k d 0 within in omega (arith, more, same))
-
-swapped : (a b c : Bool) → (a || (b || c)) ≡ (b || (a || c))
-swapped true true c = refl
-swapped true false c = refl
-swapped false true c = refl
-swapped false false c = refl
 
 -- and it is one of them beside the others
 pub has_more : (xs : List ℕ) (i x t : ℕ) → has (insert xs i x) t ≡ (nat_eq x t || has xs t)

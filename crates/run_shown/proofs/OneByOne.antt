@@ -1,21 +1,8 @@
 -- Lists, one item after another.
-use Rattle.std.proofs.Common.{ℕ, zero, suc, ◌+◌, ◌-◌, ◌<◌, ◌≤◌, List, [], ◌∷◌, ◌++◌, ◌≡◌, refl, sym, ap, ◌∙◌, length, get_or, take, drop, add-one, drop-cons, arith}
+use Rattle.std.proofs.Common.{ℕ, zero, suc, ◌-◌, ◌<◌, ◌≤◌, List, [], ◌∷◌, ◌≡◌, refl, ap, length, take, drop, arith}
 use Rattle.std.specs.List.{slice_range}
 use Rattle.std.proofs.lemmas.List.{length-drop, take_all}
-
-pub nil-right : {A : Type 0} (xs : List A) → xs ++ [] ≡ xs
-nil-right [] = refl
-nil-right (x ∷ xs) = ap (λ ys. x ∷ ys) (nil-right xs)
-
-pub next_drop : {A : Type 0} (xs : List A) (i : ℕ) (x : A) → i < length xs → x ≡ get_or xs i x → drop i xs ≡ x ∷ drop (i + 1) xs
-next_drop xs i x low is =
-    let e : drop i xs ≡ get_or xs i x ∷ drop (i + 1) xs = rw (add-one, drop-cons xs i x) refl in
-    e ∙ ap (λ y. y ∷ drop (i + 1) xs) (sym is)
-
-pub take-more : {A : Type 0} (xs : List A) (i : ℕ) (x : A) → i < length xs → x ≡ get_or xs i x → take (suc i) xs ≡ take i xs ++ x ∷ []
-take-more [] i x low is = absurd (let e : ⊥ = omega arith in e)
-take-more (y ∷ xs) zero x low is = ap (λ z. z ∷ []) (sym is)
-take-more (y ∷ xs) (suc i) x low is = ap (λ ys. y ∷ ys) (take-more xs i x (omega arith) is)
+pub use Rattle.rt_lemmas.proofs.Lists.{next_drop, append_nil as nil-right, take_next as take-more}
 
 pub length-taken : {A : Type 0} (xs : List A) (i : ℕ) → i ≤ length xs → length (take i xs) ≡ i
 length-taken xs zero low = refl

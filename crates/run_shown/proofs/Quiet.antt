@@ -1,6 +1,8 @@
 -- What no child of a quiet side writes.
 use Rattle.std.proofs.Common.{ℕ, zero, suc, Bool, true, false, List, [], ◌∷◌, ◌≡◌, refl, sym, ap, ◌∙◌, map, arith}
 use Rattle.std.specs.Prelude.{◌&&◌, ◌||◌, not, Option, Some, None, is_none, is_some, slice_get, if◌then◌else◌}
+use Rattle.rt_lemmas.proofs.Bools.{neither as neither_of_two, and_false, both_of as both_of_two}
+use Rattle.rt_lemmas.proofs.Options.{some_same as same_some}
 use Rattle.rt_model.specs.Caused as caused
 use Rattle.rt_model.specs.Caused.{writes, halts, then_on, is_place}
 use Rattle.rt_model.specs.Lists.{at}
@@ -21,27 +23,10 @@ use Rattle.run_shown.specs.Ways.{place_found, way_of}
 use Rattle.run_shown.proofs.ScopesWrite.{unit_hidden, unit_out, unit_passed}
 use Rattle.run_shown.proofs.SlotsWrite.{child_elsewhere, child_none}
 
-both_of_two : (a b : Bool) → (a && b) ≡ true → (a ≡ true) × (b ≡ true)
-both_of_two true true h = (refl, refl)
-both_of_two true false h = absurd (cc h)
-both_of_two false b h = absurd (cc h)
-
-neither_of_two : (a b : Bool) → (a || b) ≡ false → (a ≡ false) × (b ≡ false)
-neither_of_two false false h = (refl, refl)
-neither_of_two false true h = absurd (cc h)
-neither_of_two true b h = absurd (cc h)
-
 not_both : (a b : Bool) → a ≡ true → not (a && b) ≡ true → b ≡ false
 not_both true true is h = absurd (cc h)
 not_both true false is h = refl
 not_both false b is h = absurd (cc is)
-
-and_false : (a : Bool) → (a && false) ≡ false
-and_false true = refl
-and_false false = refl
-
-same_some : (n t : ℕ) → Some n ≡ Some t → n ≡ t
-same_some n t is = ap (λ (o : Option ℕ). elim o as (λ z. ℕ) [ None ↦ n | Some m ↦ m ]) is
 
 none_there : (o : Option Place) → is_none o ≡ true → o ≡ None
 none_there None h = refl

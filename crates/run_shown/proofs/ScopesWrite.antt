@@ -1,7 +1,7 @@
 -- What scopes, sides and trees write, part by part.
-use Rattle.std.proofs.Common.{ℕ, zero, suc, ◌+◌, ◌-◌, Bool, true, false, ◌&&◌, List, [], ◌∷◌, ◌++◌, ◌≡◌, ◌≢◌, refl, sym, ap, ◌∙◌, map, arith}
+use Rattle.std.proofs.Common.{ℕ, zero, suc, ◌+◌, ◌-◌, true, false, ◌&&◌, List, [], ◌∷◌, ◌++◌, ◌≡◌, ◌≢◌, refl, sym, ap, ◌∙◌, map, arith}
 use Rattle.std.specs.Prelude.{Option, Some, None, slice_get, if◌then◌else◌, is_some}
-use Rattle.tree_nodes.specs.declared.template.TemplateParts.{TemplateParts as CodeTemplate}
+use Rattle.run_work.proofs.PairRules.{template_tested, template_untested}
 use Rattle.tree_nodes.specs.declared.template.TemplateAttribute.{TemplateAttribute}
 use Rattle.tree_nodes.specs.declared.template.TemplateNode.{TemplateNode}
 use Rattle.tree_nodes.specs.declared.template.TemplateNode.TheVariants as nodes
@@ -18,15 +18,13 @@ use Rattle.rt_model.specs.Tree as model
 use Rattle.rt_model.specs.Tree.{TemplateNodes, no_nodes, Place, same_template, place_in, placeholder_slot}
 use Rattle.rt_model.specs.State as state
 use Rattle.rt_model.specs.View.{tree_view}
-use Rattle.rt_model.proofs.SamePlaces.{template-true}
-use Rattle.rt_model.proofs.Among.{template_same}
 use Rattle.rt_model.specs.Caused as caused
 use Rattle.rt_model.specs.Caused.{Written, writes, halts, then_on, replaced_by, slot_pass}
 use Rattle.tree_mirror.specs.Mirror.{all_before, attribute_of, before_step, slots_from}
 use Rattle.tree_edits.specs.Documents.{edit_of}
 use Rattle.tree_mirror.specs.Sealed.{node_before, nodes_of, slot_of, template_of}
 use Rattle.tree_mirror.proofs.SealedTrees.{tree_out, slot_Placeholder}
-use Rattle.tree_mirror.proofs.SealedNodes.{below, before_out, before_Element, before_Text, before_Dynamic, template-apart}
+use Rattle.tree_mirror.proofs.SealedNodes.{below, before_out, before_Element, before_Text, before_Dynamic}
 use Rattle.run_places.specs.declared.side.Side.{Side}
 use Rattle.run_places.specs.declared.side.SideName.{SideName}
 use Rattle.run_places.specs.Places.{at_path, output_of, side_name_of, side_of}
@@ -40,16 +38,6 @@ use Rattle.run_shown.specs.Ways.{place_found, way_of}
 use Rattle.run_shown.specs.Touched.{is_touched}
 use Rattle.run_shown.specs.Units.{Passes, both_of, shown_writes, side_writes, unit_within, unit_writes, scope_writes, name_writes, output_writes, tree_writes, slot_writes, node_writes, row_writes, tree_replaces}
 use Rattle.run_shown.proofs.Parted.{then_nothing}
-
-pub template_tested : (u v : CodeTemplate) → u ≡ v → same_template (template_of u) (template_of v) ≡ true
-template_tested u v h = ap (λ w. same_template (template_of u) (template_of w)) (sym h) ∙ template_same (template_of u)
-
-pub template_untested : (u v : CodeTemplate) → (u ≡ v → ⊥) → same_template (template_of u) (template_of v) ≡ false
-template_untested u v other = by (same_template (template_of u) (template_of v)) refl
-  where
-    by : (c : Bool) → c ≡ same_template (template_of u) (template_of v) → same_template (template_of u) (template_of v) ≡ false
-    by false is = sym is
-    by true is = absurd (other (template-apart u v (template-true (template_of u) (template_of v) (sym is))))
 
 module _ {P C Q V H T E L : Type 0} (app : Application (types C Q V H T E L)) where
   -- a scope

@@ -1,8 +1,10 @@
 -- Scopes that a unit may have changed are gathered with those above them; all others show what they did.
-use Rattle.std.proofs.Common.{ℕ, Bool, true, false, ◌||◌, List, [], ◌∷◌, ◌++◌, ◌≡◌, nat_eq, refl, sym, ap, ◌∙◌, arith, ◌+◌, ◌<◌, ◌≤◌, take, drop, length, get_or}
+use Rattle.std.proofs.Common.{ℕ, Bool, true, false, ◌||◌, List, [], ◌∷◌, ◌++◌, ◌≡◌, nat_eq, refl, sym, ap, ◌∙◌, ◌+◌, ◌<◌, ◌≤◌, take, drop, length, get_or}
 use Rattle.std.specs.Prelude.{Option, Some, None, option_map, if◌then◌else◌}
-use Rattle.std.proofs.lemmas.Bool.{eqb-true}
 use Rattle.std.proofs.lemmas.List.{drop_all, drop_more}
+use Rattle.rt_lemmas.proofs.Numbers.{eq_same as itself, eq_is as same_number}
+use Rattle.rt_lemmas.proofs.Options.{some_is as one_some, none_is as none_some}
+use Rattle.rt_lemmas.proofs.Bools.{clash_back as absurd_test}
 use Rattle.rt_model.specs.OneLog.{types}
 use Rattle.rt_model.specs.Lists.{at, has}
 use Rattle.rt_model.specs.State as state
@@ -14,28 +16,12 @@ use Rattle.run_shown.specs.Look.{Sight, ShowsScopes, look_at, look_parent, sight
 use Rattle.run_shown.specs.Stands.{Stands}
 use Rattle.run_shown.specs.Touched.{Climbs, Covers, Reaches, Stays}
 
-absurd_test : {A : Type 0} (b : Bool) → b ≡ false → b ≡ true → A
-absurd_test true h k = cc
-absurd_test false h k = cc
-
-same_number : (x t : ℕ) → nat_eq x t ≡ true → x ≡ t
-same_number x t h = eqb-true x t h
-
-itself : (n : ℕ) → nat_eq n n ≡ true
-itself n = grind (arith)
-
 or_right : (a : Bool) {b : Bool} → b ≡ true → (a || b) ≡ true
 or_right true h = refl
 or_right false h = h
 
 or_left : {a : Bool} (b : Bool) → a ≡ true → (a || b) ≡ true
 or_left b h = rw h refl
-
-none_some : {A : Type 0} {B : Type 0} (x : A) → None ≡ Some x → B
-none_some x h = cc
-
-one_some : {A : Type 0} {x y : A} → Some x ≡ Some y → x ≡ y
-one_some {x = x} {y = y} h = let it : x ≡ y = cc h in it
 
 -- among these are all of those
 abbrev pub Within : List ℕ → List ℕ → Type 0

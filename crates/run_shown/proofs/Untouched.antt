@@ -1,6 +1,7 @@
 -- A scope that a unit left as it was, with all below it, writes nothing.
 use Rattle.std.proofs.Common.{ℕ, zero, suc, Bool, true, false, ◌&&◌, List, [], ◌≡◌, refl, sym, ap, ◌∙◌, subst}
 use Rattle.std.specs.Prelude.{Option, Some, None, option_map, is_some, if◌then◌else◌}
+use Rattle.rt_lemmas.proofs.Bools.{clash_back as not_so, and_second as no_second}
 use Rattle.rt_model.specs.Lists.{at}
 use Rattle.rt_model.specs.Tree.{Types, Place}
 use Rattle.rt_model.specs.World.{Application}
@@ -8,28 +9,18 @@ use Rattle.rt_model.specs.Laws.{Tests}
 use Rattle.rt_model.specs.Run.{child_at}
 use Rattle.rt_model.specs.State.{SideName, MainSide, ChildrenSide, FallbackSide, Side, Scope, State, height_of, is_live, is_shown, parent_of, same_side, shown_from, side_of}
 use Rattle.rt_model.specs.View.{nodes_of}
-use Rattle.rt_model.specs.Caused.{Both, Written, writes, halts, then_on, outputs_written, side_written, sides_written, scope_written, written_within}
+use Rattle.rt_model.specs.Caused.{Both, Written, writes, halts, outputs_written, side_written, sides_written, scope_written, written_within}
 use Rattle.rt_model.specs.Unchanged.{AllSingle, SingleOutput}
 use Rattle.rt_model.proofs.Maps.{by_test, pick_true}
+use Rattle.rt_model.proofs.Quiet.{nothing_on as both_nothing}
 use Rattle.run_shown.specs.Look.{Sight, sight_of}
 use Rattle.run_shown.specs.Touched.{KnowParents, Stays}
 use Rattle.run_shown.proofs.Alike.{IsQuiet, outputs_quiet, side_same}
 use Rattle.run_shown.proofs.Agrees.{sight_side}
 
-both_nothing : {a b : Written} → a ≡ writes [] → b ≡ writes [] → then_on a b ≡ writes []
-both_nothing p q = rw (p, q) refl
-
 either_nothing : (c : Bool) (a : Written) → a ≡ writes [] → (if c then a else writes []) ≡ writes []
 either_nothing true a h = h
 either_nothing false a h = refl
-
-no_second : (a : Bool) {b : Bool} → b ≡ false → (a && b) ≡ false
-no_second true h = h
-no_second false h = refl
-
-not_so : {P : Type 0} (b : Bool) → b ≡ false → b ≡ true → P
-not_so true h k = cc
-not_so false h k = cc
 
 module _ {K : Types} where
   side_is : (x : Scope K) (a : SideName) → side_of x a ≡ sight_side (sight_of x) a

@@ -3,6 +3,7 @@ pub mod Stands
 pub mod Given
 pub mod Seen
 pub mod Climbs
+pub mod Leading
 pub mod Hearing
 pub mod Means
 pub mod Ways

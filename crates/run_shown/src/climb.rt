@@ -1,8 +1,9 @@
 //! The way from a node of the document up to its root: what the attribute slots of each element on
-//! it give.
+//! it give. It is looked for in all that shows.
 
-ghost use Rattle.std.specs.Prelude.{◌≡◌, ◌++◌, ◌∷◌, [], Some, None, IfOk, OnOk, nat_eq};
+ghost use Rattle.std.specs.Prelude.{◌≡◌, ◌++◌, ◌∷◌, [], Some, None, IfOk, OnOk, if◌then◌else◌, nat_eq};
 ghost use Rattle.rt_model.specs.Heard.{below_element, leaf_climb};
+ghost use Rattle.rt_model.specs.Tree.{an_element};
 ghost use Rattle.run_places.specs.Places.{kind_of};
 ghost use Rattle.run_places.specs.Trails.{path_of, place_on};
 ghost use Rattle.run_places.specs.Sides.{number_in};
@@ -11,7 +12,7 @@ ghost use Rattle.run_shown.specs.Climbs.{child_climb, climb_found, climb_of, ent
 use crate::look::Look;
 use rt_values::{List, OutOfMemory, Part, Shared};
 use run_attributes::attributes_in;
-use run_places::{Kind, LEVELS, Path, Side, Trail, down};
+use run_places::{Kind, Path, Side, Trail, down};
 use std::alloc::Global;
 use tree_nodes::{Attribute, DynamicNode, Parts, TemplateAttribute, TemplateNode, VNode};
 
@@ -38,22 +39,10 @@ pub(crate) struct Rooted<'a, P: Parts> {
     pub above: &'a Trail<'a>,
 }
 
-/// The climb from a number in what the root shows.
-pub(crate) fn find<P: Parts>(
-    alloc: Global,
-    look: &Look<'_, P>,
-    number: u64,
-) -> Result<Option<Climb<P>>, OutOfMemory>
-    ensures { IfOk result (λ found. climb_found found
-        ≡ scope_climb look.now number look.now.scopes 0) }
-{
-    find_within(alloc, look, number, look.scopes(), 0, LEVELS)
-}
-
-// Below a scope, at most `depth` scopes deep.
+/// Below a scope, at most `depth` scopes deep.
 #[cycle(find)]
 #[tactic(auto, using(crate::proofs::Climbing::climbing))]
-fn find_within<P: Parts>(
+pub(crate) fn find_within<P: Parts>(
     alloc: Global,
     look: &Look<'_, P>,
     number: u64,
@@ -102,7 +91,7 @@ fn find_side<P: Parts>(
 
 #[cycle(find)]
 #[tactic(auto, using(crate::proofs::Climbing::climbing))]
-fn find_tree<P: Parts>(
+pub(crate) fn find_tree<P: Parts>(
     alloc: Global,
     shown: &Climbed<'_, P>,
     number: u64,
@@ -131,7 +120,7 @@ fn find_tree<P: Parts>(
 
 #[cycle(find)]
 #[tactic(auto, using(crate::proofs::Climbing::climbing))]
-fn find_nodes<P: Parts>(
+pub(crate) fn find_nodes<P: Parts>(
     alloc: Global,
     standing: &Rooted<'_, P>,
     number: u64,
@@ -242,7 +231,7 @@ fn find_child<P: Parts>(
 
 #[cycle(find)]
 #[tactic(auto, using(crate::proofs::Climbing::climbing))]
-fn find_items<P: Parts>(
+pub(crate) fn find_items<P: Parts>(
     alloc: Global,
     shown: &Climbed<'_, P>,
     number: u64,
@@ -271,9 +260,9 @@ fn is_numbered<P: Parts>(shown: &Climbed<'_, P>, place: &Trail<'_>, kind: Kind, 
     shown.side.number_on(place, kind) == number
 }
 
-// A text or placeholder has no slots of its own.
+/// A text or placeholder has no slots of its own.
 #[tactic(auto, using(crate::proofs::Climbing::climbing))]
-fn leaf_climb<P: Parts>(
+pub(crate) fn leaf_climb<P: Parts>(
     alloc: Global,
     shown: &Climbed<'_, P>,
     place: &Trail<'_>,
@@ -291,6 +280,25 @@ fn leaf_climb<P: Parts>(
     }
 }
 
+/// The climb from an element, where it has the number.
+pub(crate) fn own_climb<P: Parts>(
+    alloc: Global,
+    shown: &Climbed<'_, P>,
+    place: &Trail<'_>,
+    slots: Slots<P>,
+    number: u64,
+) -> Result<Option<Climb<P>>, OutOfMemory>
+    ensures { IfOk result (λ found. climb_found found
+        ≡ (if nat_eq (number_in shown.now.side.now (place_on place.now) an_element) number
+        then Some (slots_of slots ∷ []) else None)) }
+{
+    if is_numbered(shown, place, Kind::Element, number) {
+        Ok(Some(alone(alloc, slots)?))
+    } else {
+        Ok(None)
+    }
+}
+
 // The climb that begins and ends at one element.
 #[tactic(auto, using(crate::proofs::Climbing::climbing))]
 fn alone<P: Parts>(alloc: Global, slots: Slots<P>) -> Result<Climb<P>, OutOfMemory>
@@ -301,9 +309,9 @@ fn alone<P: Parts>(alloc: Global, slots: Slots<P>) -> Result<Climb<P>, OutOfMemo
     Ok(climb)
 }
 
-// The attribute slots of an element stand around what was found in it.
+/// The attribute slots of an element stand around what was found in it.
 #[tactic(auto, using(crate::proofs::Climbing::climbing))]
-fn below_element<P: Parts>(
+pub(crate) fn below_element<P: Parts>(
     slots: Slots<P>,
     found: Option<Climb<P>>,
 ) -> Result<Option<Climb<P>>, OutOfMemory>
@@ -319,9 +327,9 @@ fn below_element<P: Parts>(
     }
 }
 
-// What the attribute slots of an element give.
+/// What the attribute slots of an element give.
 #[tactic(auto, using(crate::proofs::Climbing::climbing))]
-fn slots_on<P: Parts>(
+pub(crate) fn slots_on<P: Parts>(
     alloc: Global,
     given: &Shared<List<Attribute<P>>>,
     attributes: &[TemplateAttribute],

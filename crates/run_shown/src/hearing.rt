@@ -5,7 +5,8 @@ ghost use Rattle.rt_model.specs.Heard as hears;
 ghost use Rattle.run_shown.specs.Hearing.{attribute_heard, bubbling_heard, climb_heard, event_heard, first_heard, first_listening, listeners_of, slot_given, slot_heard, slots_heard, slots_in_order, target_heard, value_heard, value_listens};
 ghost use Rattle.run_shown.specs.Means.{AreHeard};
 
-use crate::climb::{Climb, Slots, find};
+use crate::climb::{Climb, Slots};
+use crate::finding::find;
 use crate::look::Look;
 use rt_values::{List, OutOfMemory, Part, Text, same_slice};
 use std::alloc::Global;

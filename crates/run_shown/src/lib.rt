@@ -2,11 +2,13 @@
 //! calls, and the edits that a unit writes.
 #![tactic(auto)]
 
+mod aimed;
 mod asked;
 mod calm;
 mod climb;
 mod comparing;
 mod edited;
+mod finding;
 mod hearing;
 mod inserting;
 mod look;
@@ -16,6 +18,7 @@ mod scope_set;
 mod showing;
 mod sides;
 mod slots;
+mod sought;
 mod tops;
 mod touching;
 mod way;

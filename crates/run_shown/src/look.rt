@@ -6,6 +6,7 @@ ghost use Rattle.rt_model.specs.Lists.{at};
 ghost use Rattle.rt_model.specs.State.{same_side};
 ghost use Rattle.run_places.specs.Places.{side_name_of};
 ghost use Rattle.run_records.specs.Records.{number_of};
+ghost use Rattle.run_shown.specs.Leading.{rows_alone, shown_standing};
 ghost use Rattle.run_shown.specs.Look.{IsAlike, is_showing, look_at, look_below, look_is_shown, look_parent, look_shown, look_shows, look_side, rung_in, rung_of, seen_in, shown_on, side_standing, side_stood, standing, stood_in};
 ghost use Rattle.run_shown.specs.Stands.{ShowsRows, ShowsStood};
 
@@ -87,6 +88,16 @@ impl<'a, P: Parts> Look<'a, P> {
         ensures { result ≡ self.now.scopes }
     {
         self.scopes
+    }
+
+    /// All scopes, where each is seen as it stands.
+    pub(crate) fn all_standing(&self) -> Option<&[(u64, Scope<P>)]>
+        ensures { option_copied result ≡ rows_alone self.now }
+    {
+        match self.stood {
+            Some(_stood) => None,
+            None => Some(self.rows.table.as_slice()),
+        }
     }
 
     /// What is kept of a scope as it stood.
@@ -335,6 +346,16 @@ fn side_of_stood<P: Parts>(stood: &Stood<P>, name: SideName) -> &Side<P>
         SideName::Main => &stood.main_side,
         SideName::Children => &stood.children_side,
         SideName::Fallback => &stood.fallback_side,
+    }
+}
+
+/// The side that a scope shows as it stands.
+pub(crate) fn shown_now<P: Parts>(scope: &Scope<P>) -> Option<&Side<P>>
+    ensures { option_copied result ≡ shown_standing scope.now }
+{
+    match scope.rest.shows {
+        Some(name) => Some(side_of_scope(scope, name)),
+        None => None,
     }
 }
 

@@ -53,9 +53,9 @@ fn touched<P: Parts>(
     Ok(Some(scopes))
 }
 
-// Puts in a scope and those above it, up to one that is in already. False where the way up has no
-// end.
-fn reach<P: Parts>(
+/// Puts in a scope and those above it, up to one that is in already. False where the way up has no
+/// end.
+pub(crate) fn reach<P: Parts>(
     look: &Look<'_, P>,
     scope: u64,
     scopes: &mut ScopeSet,
