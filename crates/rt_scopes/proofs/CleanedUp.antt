@@ -1,7 +1,8 @@
 -- A clean-up, by what its call means.
 use Rattle.std.proofs.Math.ListN.{drop_of_length-le}
-use Rattle.std.proofs.Common.{◌≡◌, ◌<◌, ◌≤◌, ◌+◌, ◌-◌, ◌^◌, ℕ, Bool, length, get_or, drop, ◌++◌, List, [], ◌∷◌, map, Some, None, refl, ap, sym, ◌∙◌}
+use Rattle.std.proofs.Common.{◌≡◌, ◌<◌, ◌≤◌, ◌+◌, ◌-◌, ◌^◌, ℕ, Bool, length, get_or, drop, ◌++◌, List, [], map, Some, None, ap, sym, ◌∙◌}
 use Rattle.std.specs.Prelude.{false, min}
+use Rattle.rt_lemmas.proofs.Lists.{map_append as mapped_on}
 use Rattle.rt_model.specs.Tree.{Types}
 use Rattle.rt_model.specs.OneLog.{types}
 use Rattle.rt_model.specs.World.{Application, CallFault, Command, Meaning, Nothing}
@@ -31,10 +32,6 @@ use Rattle.rt_scopes.specs.Outcomes.{CutBy, stop_of}
 use Rattle.rt_scopes.proofs.Counted.{counted_once, counts_cut}
 use Rattle.rt_scopes.proofs.Onward.{refused}
 use Rattle.rt_scopes.proofs.Turns.{next_drop}
-
-mapped_on : {X Y : Type 0} (f : X → Y) (xs ys : List X) → map f (xs ++ ys) ≡ map f xs ++ map f ys
-mapped_on f [] ys = refl
-mapped_on f (x ∷ xs) ys = ap (λ zs. f x ∷ zs) (mapped_on f xs ys)
 
 module _ {K : Types} (app : Application K) where
   -- its call met no refusal

@@ -18,3 +18,4 @@ pub mod TreesAnswered
 pub mod Settled
 pub mod RunKinds
 pub mod Staying
+pub mod KnownLeft

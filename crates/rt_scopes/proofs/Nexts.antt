@@ -1,7 +1,7 @@
 -- A state with other numbers to come: what it says of what is entered, of places and of readers has one proof.
-use Rattle.std.proofs.Common.{◌≡◌, ℕ, List, sym, subst}
+use Rattle.std.proofs.Common.{◌≡◌, sym, subst}
 use Rattle.std.proofs.Math.Logic.{∥∥₁_prop}
-use Rattle.std.specs.Coded.{Coded-set, coded×, coded_list, coded_ℕ}
+use Rattle.rt_lemmas.proofs.Lists.{one_proof}
 use Rattle.run_records.specs.Kept.{each, scope_of}
 use Rattle.run_records.specs.declared.world.Firsts.{Firsts}
 use Rattle.run_named.specs.Standings.{IsPlaced}
@@ -11,10 +11,6 @@ use Rattle.run_state.specs.Mounts.{IsWaiting, ways_of}
 use Rattle.run_state.specs.Readers.{AreHeard, AreKnown}
 use Rattle.run_state.specs.declared.state.State.{State}
 use Rattle.run_state.proofs.Unchanged.{one_heard, one_known, one_listed}
-
--- an equation of lists of pairs of numbers has one proof
-one_proof : (xs ys : List (ℕ × ℕ)) (p q : xs ≡ ys) → p ≡ q
-one_proof xs ys p q = Coded-set (coded_list (coded× coded_ℕ coded_ℕ)) xs ys p q
 
 module _ {P C Q V H T E L : Type 0} where
   -- the numbers to come are all that changes

@@ -1,10 +1,12 @@
 -- The child scopes at spots, one spot at a time; the way down to the scope that a removal takes first.
-use Rattle.std.proofs.Common.{ℕ, zero, suc, Bool, true, false, get_or, drop, append_assoc, List, [], ◌∷◌, ◌++◌, ◌≡◌, ◌+◌, ◌-◌, ◌<◌, ◌≤◌, length, refl, sym, ap, ◌∙◌, map, append-nil, arith}
+use Rattle.std.proofs.Common.{ℕ, suc, Bool, true, false, get_or, drop, append_assoc, List, [], ◌∷◌, ◌++◌, ◌≡◌, ◌+◌, ◌-◌, ◌<◌, ◌≤◌, length, refl, sym, ap, ◌∙◌, map, append-nil, arith}
 use Rattle.std.specs.Prelude.{◌==◌, Option, Some, None, if◌then◌else◌}
 use Rattle.std.proofs.lemmas.Bool.{eqb-true}
 use Rattle.std.proofs.lemmas.List.{nil_from_length}
 use Rattle.std.specs.List.{slice_get}
-use Rattle.std.proofs.Math.ListN.{drop_of_length-le}
+use Rattle.rt_lemmas.proofs.Numbers.{fewer, none_left, all_left}
+use Rattle.rt_lemmas.proofs.Lists.{next_suc}
+pub use Rattle.rt_lemmas.proofs.Lists.{all_done}
 use Rattle.tree_nodes.specs.declared.vnode.VComponent.{VComponent}
 use Rattle.tree_nodes.specs.declared.vnode.VNode.{VNode}
 use Rattle.rt_model.specs.OneLog.{types}
@@ -28,11 +30,6 @@ use Rattle.run_places.specs.Spots.{tree_spots}
 use Rattle.run_records.specs.Kept.{each}
 use Rattle.rt_scopes.specs.Sides.{child_here, children_at, fallback_scopes_in}
 
-next_suc : {A : Type 0} (xs : List A) (i : ℕ) (x : A) → i < length xs → x ≡ get_or xs i x → drop i xs ≡ x ∷ drop (suc i) xs
-next_suc [] i x low is = absurd (omega (arith, low))
-next_suc (y ∷ xs) zero x low is = ap (λ z. z ∷ xs) (sym is)
-next_suc (y ∷ xs) (suc i) x low is = next_suc xs i x (omega (arith, low)) is
-
 -- one more item
 pub one_more : {A B : Type 0} (given : List A → List B) (xs : List A) (i : ℕ) (x : A) (before after this whole : List B)
     → i < length xs → x ≡ get_or xs i x
@@ -43,12 +40,6 @@ one_more given xs i x before after this whole low is gives so_far one =
     ap (λ ys. ys ++ given (drop (i + 1) xs)) one ∙ append_assoc before this (given (drop (i + 1) xs))
     ∙ ap (λ ys. before ++ ys) (sym gives ∙ ap given (sym next)) ∙ so_far
 
--- all items are done
-pub all_done : {A B : Type 0} (given : List A → List B) (xs : List A) (i : ℕ) (all whole : List B)
-    → length xs ≤ i → given [] ≡ [] → all ++ given (drop i xs) ≡ whole → all ≡ whole
-all_done given xs i all whole end none so_far =
-    sym (append-nil all) ∙ ap (λ ys. all ++ ys) (sym none ∙ ap given (sym (drop_of_length-le xs end))) ∙ so_far
-
 -- a list that answers that it is empty
 pub none_kept : (es : List (ℕ × ℕ)) (b : Bool) → b ≡ (length es == 0) → b ≡ true → es ≡ []
 none_kept es b is none = nil_from_length es (eqb-true (length es) 0 (sym is ∙ none))
@@ -57,16 +48,6 @@ none_kept es b is none = nil_from_length es (eqb-true (length es) 0 (sym is ∙ 
 pub length-each : {A B : Type 0} (f : A → B) (es : List (ℕ × A)) → length (each f es) ≡ length es
 length-each f [] = refl
 length-each f (e ∷ es) = ap suc (length-each f es)
-
--- one step fewer is left
-fewer : (n i : ℕ) → i < n → n - i ≡ suc (n - (i + 1))
-fewer n i h = omega arith
-
-none_left : (n i : ℕ) → n ≤ i → n - i ≡ 0
-none_left n i h = omega arith
-
-all_left : (n : ℕ) → n - 0 ≡ n
-all_left n = omega arith
 
 module _ {K : model.Types} where
   -- a scope that is live joins the others

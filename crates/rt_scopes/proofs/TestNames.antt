@@ -1,11 +1,12 @@
 -- Names and numbers that the two node tests compare: both compare them alike.
-use Rattle.std.proofs.Common.{ℕ, ◌+◌, ◌≤◌, Bool, true, false, ◌&&◌, ◌||◌, not, List, [], ◌∷◌, ◌≡◌, Option, Some, None, refl, sym, ap, ◌∙◌, nat_eq}
+use Rattle.std.proofs.Common.{ℕ, ◌+◌, ◌≤◌, Bool, true, false, ◌&&◌, ◌||◌, not, List, [], ◌∷◌, ◌≡◌, Option, Some, None, refl, ap, ◌∙◌, nat_eq}
 use Rattle.std.specs.Prelude.{nat_le}
 use Rattle.std.specs.List.{list_any, enumerate_from}
 use Rattle.std.specs.Str.{bytes_eq}
 use Rattle.std.specs.Cmp.Lexicographic.{pointwise}
 use Rattle.std.specs.Bool.{one_answer}
-use Rattle.std.proofs.lemmas.Bool.{leb-true, le-leb, eqb-true, eq-eqb}
+use Rattle.std.proofs.lemmas.Bool.{leb-true, le-leb}
+use Rattle.rt_lemmas.proofs.Numbers.{eq_turned as number_turned}
 use Rattle.tree_nodes.specs.Names as code
 use Rattle.tree_nodes.specs.Names.{Name, distinct, names_of, names_in}
 use Rattle.tree_nodes.specs.Slots as slots
@@ -17,10 +18,6 @@ use Rattle.rt_model.specs.Fits.{counts_from, same_name, is_named, all_once}
 pub le_same : (a b c d : ℕ) → (a ≤ b → c ≤ d) → (c ≤ d → a ≤ b) → nat_le a b ≡ nat_le c d
 le_same a b c d there back =
     one_answer (nat_le a b) (nat_le c d) (leb-true a b, le-leb a b) ((λ h. back (leb-true c d h)), (λ h. le-leb c d (there h)))
-
-number_turned : (m n : ℕ) → nat_eq m n ≡ nat_eq n m
-number_turned m n =
-    one_answer (nat_eq m n) (nat_eq n m) (eqb-true m n, eq-eqb m n) ((λ h. sym (eqb-true n m h)), (λ h. eq-eqb n m (sym h)))
 
 pub bytes_same : (xs ys : List ℕ) → bytes_eq xs ys ≡ same_numbers xs ys
 bytes_same [] [] = refl

@@ -2,6 +2,7 @@
 use Rattle.std.proofs.Common.{ℕ, suc, ◌+◌, Bool, true, false, ◌&&◌, List, [], ◌∷◌, ◌++◌, ◌≡◌, Option, map, length, refl, sym, ap, subst, ◌∙◌, add-one, append_assoc, arith}
 use Rattle.std.specs.Prelude.{nat_le}
 use Rattle.std.specs.List.{list_all, slice_index_or}
+use Rattle.rt_lemmas.proofs.Lists.{length_end}
 use Rattle.tree_nodes.specs.declared.template.TemplateAttribute.{TemplateAttribute}
 use Rattle.tree_nodes.specs.declared.template.TemplateAttribute.TheVariants as attributes
 use Rattle.tree_nodes.specs.declared.template.TemplateNode.{TemplateNode}
@@ -79,10 +80,6 @@ attrs_fit : (levels : ℕ) (names : List (List Name)) (path : List ℕ) (attrs :
 attrs_fit levels names path [] = refl
 attrs_fit levels names path (attributes.Static n a v ∷ rest) = attrs_fit levels names path rest
 attrs_fit levels names path (attributes.Dynamic k ∷ rest) = attrs_fit levels names path rest
-
-length_end : (up : List ℕ) (k : ℕ) → length (up ++ k ∷ []) ≡ suc (length up)
-length_end [] k = refl
-length_end (x ∷ up) k = ap suc (length_end up k)
 
 low : (level levels : ℕ) (up : List ℕ) (k : ℕ) → level + levels ≡ 129 + length up → nat_le level 128 ≡ nat_le (length (up ++ k ∷ [])) levels
 low level levels up k at_level =

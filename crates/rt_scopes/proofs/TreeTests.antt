@@ -4,6 +4,7 @@ use Rattle.std.specs.Prelude.{nat_le, nat_lt, nat_eq, ◌==◌, is_none}
 use Rattle.std.specs.List.{list_all, slice_index_or, enumerate_from}
 use Rattle.std.specs.Bool.{one_answer}
 use Rattle.std.proofs.lemmas.Bool.{leb-true, eqb-true}
+use Rattle.rt_lemmas.proofs.Lists.{one_longer as longer, length_end}
 use Rattle.tree_nodes.specs.declared.attribute.Attribute.{Attribute}
 use Rattle.tree_nodes.specs.declared.attribute.AttributeValue.{AttributeValue}
 use Rattle.tree_nodes.specs.declared.attribute.AttributeValue.TheVariants as values
@@ -31,6 +32,7 @@ use Rattle.rt_model.specs.Tree as model
 use Rattle.rt_model.specs.Tree.{TemplateNodes, no_nodes, element_node, text_node, slot_node, node_slots, attribute_slots, attributes_in, paths_of, Tree, block, Slots, no_slots, more_slots, Slot, text_slot, placeholder_slot, component_slot, fragment_slot, Trees, no_trees, more_trees, VComponent, Own, Root, Fragment, ErrorBoundary, SuspenseBoundary, Element, rendered, failed, suspended}
 use Rattle.rt_model.specs.Fits.{counts_from, row_length, slot_count, given_names, is_plain, plain_listeners, all_plain, nodes_fit, element_names, all_once, template_fits, fits_at, slots_fit, slot_fits, items_fit, component_fits, element_fits, fits}
 use Rattle.rt_model.proofs.Conjunctions.{and-left, and-right}
+use Rattle.rt_model.proofs.SamePlaces.{numbers-true as same_numbers_is}
 use Rattle.tree_mirror.specs.Mirror.{attribute_of, value_of, slots_from, trees_from}
 use Rattle.tree_mirror.specs.Sealed.{nodes_of, template_of, tree_of, slot_of, component_of, element_of}
 use Rattle.tree_mirror.proofs.SealedTrees.{tree_out, slot_Text, slot_Placeholder, slot_Component, slot_Fragment}
@@ -65,10 +67,6 @@ mixed_text : (a r u : Bool) → a && (r && u) ≡ (a && r) && u
 mixed_text true r u = refl
 mixed_text false r u = refl
 
-length_end : (up : List ℕ) (k : ℕ) → length (up ++ k ∷ []) ≡ suc (length up)
-length_end [] k = refl
-length_end (x ∷ up) k = ap suc (length_end up k)
-
 -- the test of a numbered slot, with its level by its path
 abbrev at_slots : (ℕ → ℕ → Bool) → ℕ → List (ℕ × List ℕ) → Bool
 at_slots slot base es = list_all (λ e. slot e.0 (base + length e.1)) es
@@ -95,13 +93,6 @@ module _ {K : model.Types} where
       ap (λ b. (nat_le level 128 && slot k (level + 1)) && b) (parted given slot base level up (i + 1) rest at_level)
       ∙ ap (λ n. (nat_le level 128 && slot k n) && (bare_fit given level rest && at_slots slot base (node_slots up (i + 1) rest))) below
       ∙ mixed_slot (nat_le level 128) (slot k (base + length (up ++ i ∷ []))) (bare_fit given level rest) (at_slots slot base (node_slots up (i + 1) rest))
-
--- slots that are numbered in order stand at the paths of the list
-same_numbers_is : (xs ys : List ℕ) → same_numbers xs ys ≡ true → xs ≡ ys
-same_numbers_is [] [] h = refl
-same_numbers_is [] (y ∷ ys) h = cc
-same_numbers_is (x ∷ xs) [] h = cc
-same_numbers_is (x ∷ xs) (y ∷ ys) h = λ i. eqb-true x y (and-left (nat_eq x y) (same_numbers xs ys) h) i ∷ same_numbers_is xs ys (and-right (nat_eq x y) (same_numbers xs ys) h) i
 
 counted_is : (k : ℕ) (es : List (ℕ × List ℕ)) (ps : List (List ℕ)) → counts_from k es ≡ true → same_list same_numbers (paths_of es) ps ≡ true → es ≡ enumerate_from k ps
 counted_is k [] [] h g = refl
@@ -214,13 +205,6 @@ alike a b c d e cn sn ca sa h s t same =
 index_at : (pre : List (List ℕ)) (p : List ℕ) (ps : List (List ℕ)) → slice_index_or (pre ++ p ∷ ps) (length pre) [] ≡ p
 index_at [] p ps = refl
 index_at (x ∷ pre) p ps = index_at pre p ps
-
-longer : {X : Type 0} (pre : List X) (x : X) → length (pre ++ x ∷ []) ≡ length pre + 1
-longer [] x = refl
-longer (y ∷ pre) x = ap suc (longer pre x) ∙ sym (plus_one pre)
-  where
-    plus_one : {X : Type 0} (pre : List X) → suc (length pre) + 1 ≡ suc (length pre + 1)
-    plus_one pre = omega arith
 
 -- each test with the path of its slot
 abbrev each_code : ℕ → List Test → List (List ℕ) → Bool

@@ -1,18 +1,13 @@
 -- One thing after another, by a loop over them.
-use Rattle.std.proofs.Common.{◌≡◌, ℕ, ◌+◌, ◌<◌, ◌≤◌, List, [], ◌∷◌, length, get_or, drop, refl, ap, sym, ◌∙◌, add-one, drop-cons}
+use Rattle.std.proofs.Common.{◌≡◌, ℕ, ◌+◌, ◌<◌, ◌≤◌, List, [], length, get_or, drop, ap, ◌∙◌}
 use Rattle.std.proofs.Math.ListN.{drop_of_length-le}
+pub use Rattle.rt_lemmas.proofs.Lists.{next_drop}
 use Rattle.rt_model.specs.Tree.{Types}
 use Rattle.rt_model.specs.State.{State, Outcome, Done, onward}
 use Rattle.run_state.specs.declared.names.Stop.{Stop}
 use Rattle.rt_scopes.specs.Outcomes.{CutBy}
 use Rattle.rt_scopes.specs.Hooks.{in_turn}
 use Rattle.rt_scopes.proofs.Onward.{cut_on, cut_as}
-
--- the items from one on
-pub next_drop : {A : Type 0} (xs : List A) (i : ℕ) (x : A) → i < length xs → x ≡ get_or xs i x → drop i xs ≡ x ∷ drop (i + 1) xs
-next_drop xs i x low is =
-    let e : drop i xs ≡ get_or xs i x ∷ drop (i + 1) xs = rw (add-one, drop-cons xs i x) refl in
-    e ∙ ap (λ y. y ∷ drop (i + 1) xs) (sym is)
 
 module _ {K : Types} {X : Type 0} (step : State K → X → Outcome K) where
   -- one of them was done

@@ -8,3 +8,4 @@ pub mod Hearings
 pub mod CleanUps
 pub mod Polls
 pub mod Runs
+pub mod Knowing

@@ -3,7 +3,7 @@ ghost use Rattle.std.specs.Prelude.{◌≡◌, ◌++◌, [], None, IfOk, OnOk};
 ghost use Rattle.rt_model.specs.Lists.{at};
 ghost use Rattle.rt_model.specs.State.{change, empty_side};
 ghost use Rattle.rt_model.specs.Boundary.{side_scopes as scopes_on, live_child};
-ghost use Rattle.rt_model.specs.Removal.{children_below as all_below, next_removed as first_removed};
+ghost use Rattle.rt_model.specs.Removal.{children_below as all_below};
 ghost use Rattle.rt_model.specs.Replay.{fed_child as child_fed};
 ghost use Rattle.run_places.specs.Places.{place_of, side_name_of, side_of};
 ghost use Rattle.run_state.specs.Mirror.{state_of};
@@ -94,26 +94,6 @@ pub fn children_below<P: Parts>(
     scopes.append(children)?;
     scopes.append(main)?;
     Ok(scopes)
-}
-
-/// The scope that a removal takes first.
-pub fn next_removed<P: Parts>(
-    alloc: Global,
-    state: &State<P>,
-    scope: u64,
-) -> Result<u64, OutOfMemory>
-    ensures { IfOk result (λ leaf. (g : _) → leaf ≡ first_removed (state_of g state.now) scope) }
-{
-    let mut leaf = scope;
-    let count = state.rows.table.as_slice().len();
-    for _step in 0..count {
-        let children = children_below(alloc, state, leaf)?;
-        match children.get(0) {
-            Some(child) => leaf = *child,
-            None => return Ok(leaf),
-        }
-    }
-    Ok(leaf)
 }
 
 /// The child scope at a place of a scope's side.

@@ -9,6 +9,7 @@ mod apart;
 mod bodies;
 mod children;
 mod effects;
+mod going;
 mod listeners;
 mod polls;
 mod removal;
@@ -18,7 +19,8 @@ mod trees;
 
 pub use agenda::start_agenda;
 pub use author_calls::{App, BodyCx, BodyTurn, Calls, Cx, TaskStep, Turn, TurnParts};
-pub use children::{children_below, drop_fallback, fed_child, next_removed, side_scopes};
+pub use children::{children_below, drop_fallback, fed_child, side_scopes};
+pub use going::{Known, next_removed};
 pub use run_records::{
     Command, Counter, CxFault, Firsts, Hook, Provided, Provisions, Rows, ScopeRow, World,
 };

@@ -1,7 +1,7 @@
 -- What is asked of a state, by what was found.
-use Rattle.std.proofs.Common.{◌≡◌, ℕ, ◌+◌, ◌-◌, ◌<◌, ◌||◌, Bool, true, false, List, ◌∷◌, length, drop, get_or, ap, sym, ◌∙◌}
-use Rattle.std.proofs.lemmas.List.{drop_more}
+use Rattle.std.proofs.Common.{◌≡◌, ℕ, ◌-◌, ◌||◌, Bool, true, false, List, ◌∷◌, ap, sym, ◌∙◌}
 use Rattle.std.specs.Prelude.{nat_eq, Option, Some, None}
+pub use Rattle.rt_lemmas.proofs.Lists.{next_drop}
 use Rattle.rt_model.specs.Lists.{at}
 use Rattle.rt_model.specs.Tree.{Types}
 use Rattle.rt_model.specs.State.{Scope, State, parent_of}
@@ -11,10 +11,6 @@ use Rattle.run_records.specs.Kept.{each}
 use Rattle.run_state.specs.Mirror.{task_of}
 use Rattle.run_state.specs.declared.state.TaskRow.{TaskRow}
 use Rattle.run_state.proofs.Climbed.{one-less, no-steps}
-
--- a loop over a list that takes one item after another
-pub next_drop : {A : Type 0} (xs : List A) (i : ℕ) (x : A) → i < length xs → x ≡ get_or xs i x → drop i xs ≡ x ∷ drop (i + 1) xs
-next_drop xs i x low is = drop_more xs i x low ∙ ap (λ y. y ∷ drop (i + 1) xs) (sym is)
 
 module _ {K : Types} where
   -- what a scope that stands provides

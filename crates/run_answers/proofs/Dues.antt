@@ -1,6 +1,7 @@
 -- A state owes something exactly where something comes up, or would after a look, or a batch of effects is left.
 use Rattle.std.proofs.Common.{ℕ, ◌+◌, Bool, true, false, ◌||◌, List, [], ◌∷◌, ◌++◌, ◌≡◌, refl, sym, ap, ◌∙◌, subst, arith}
 use Rattle.std.specs.Prelude.{nat_eq, Option, Some, None, is_some, if◌then◌else◌}
+use Rattle.rt_lemmas.proofs.Bools.{or_none as or_false, or_all as or_true}
 use Rattle.rt_model.specs.Lists.{at, has, join, drop_number}
 use Rattle.rt_model.specs.Tree.{Types}
 use Rattle.rt_model.specs.State.{Posted, Mark, Woken, TaskRow, Scope, State, is_live}
@@ -8,14 +9,6 @@ use Rattle.rt_model.specs.Next.{Work, RerunScope, PollTask, RunEffects, is_activ
 use Rattle.rt_model.proofs.Maps.{by_test, pick_true, pick_false}
 use Rattle.law_behavior.proofs.Coming.{found_turn, none_found, drops_done}
 use Rattle.run_answers.specs.Owed.{sees_any, active_in, any_active, turns_up, comes_up, first_effects, is_owed}
-
-or_false : (b : Bool) → b || false ≡ b
-or_false true = refl
-or_false false = refl
-
-or_true : (b : Bool) → b || true ≡ true
-or_true true = refl
-or_true false = refl
 
 -- one more among either of two
 or_joins : (s a b t : Bool) → (s || (a || b)) || t ≡ (s || a) || (b || t)

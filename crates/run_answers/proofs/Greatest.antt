@@ -2,6 +2,7 @@
 use Rattle.run_records.specs.Kept.{each}
 use Rattle.std.proofs.Common.{ℕ, zero, suc, ◌+◌, ◌-◌, ◌<◌, ◌≤◌, Bool, List, [], ◌∷◌, ◌≡◌, refl, ap, ◌∙◌, length, arith}
 use Rattle.std.specs.Prelude.{Option, Some, None}
+use Rattle.rt_lemmas.proofs.Numbers.{fewer, none_left}
 use Rattle.rt_model.specs.Tree.{Types}
 use Rattle.rt_model.specs.World.{Application}
 use Rattle.rt_model.specs.State.{Scope, State, Outcome, Done, onward}
@@ -13,12 +14,6 @@ use Rattle.run_answers.specs.Closed.{greater}
 abbrev pub least_on : (ℕ → ℕ → Bool) → Option ℕ → List ℕ → Option ℕ
 least_on earlier None xs = least earlier xs
 least_on earlier (Some s) xs = Some (least_from earlier s xs)
-
-fewer : (n i : ℕ) → i < n → n - i ≡ suc (n - (i + 1))
-fewer n i h = omega arith
-
-none_left : (n i : ℕ) → n ≤ i → n - i ≡ 0
-none_left n i h = omega arith
 
 module _ {K : Types} where
   -- one more of them

@@ -1,19 +1,11 @@
 -- What a render or a poll of suspended work passes over, one after another.
-use Rattle.std.proofs.Common.{ℕ, suc, ◌+◌, ◌-◌, ◌<◌, ◌≤◌, Bool, true, false, ◌≡◌, refl, sym, ap, ◌∙◌, arith}
+use Rattle.std.proofs.Common.{ℕ, suc, ◌+◌, ◌-◌, ◌<◌, ◌≤◌, Bool, true, false, ◌≡◌, refl, sym, ap, ◌∙◌}
 use Rattle.std.specs.Prelude.{Option, Some, None, is_some, if◌then◌else◌}
+use Rattle.rt_lemmas.proofs.Numbers.{fewer, none_left, all_left}
 use Rattle.rt_model.specs.Tree.{Types}
 use Rattle.rt_model.specs.State.{State}
 use Rattle.rt_model.specs.Next.{first_seen, found}
 use Rattle.rt_model.specs.Rendering.{pass_over, passes, tasks_passed}
-
-fewer : (n i : ℕ) → i < n → n - i ≡ suc (n - (i + 1))
-fewer n i h = omega arith
-
-none_left : (n i : ℕ) → n ≤ i → n - i ≡ 0
-none_left n i h = omega arith
-
-all_left : (n : ℕ) → n - 0 ≡ n
-all_left n = omega arith
 
 module _ {K : Types} where
   pub passes_begin : (n : ℕ) (w : State K) → passes (n - 0) w ≡ passes n w

@@ -10,3 +10,4 @@ pub mod Breaking
 pub mod Quiet
 pub mod Reporting
 pub mod Noting
+pub mod Leaving

@@ -2,6 +2,7 @@
 use Rattle.std.proofs.Common.{ℕ, ◌+◌, Bool, true, false, List, [], ◌∷◌, ◌++◌, ◌≡◌, refl, sym, ap, ◌∙◌, subst, nat_eq, map, Err, reverse, append_assoc}
 use Rattle.std.proofs.lemmas.List.{append-nil}
 use Rattle.std.specs.Prelude.{Option, Some, None, is_some, option_map}
+use Rattle.rt_lemmas.proofs.Options.{none_some, some_same as some_fault}
 use Rattle.rt_edits.specs.declared.edit.Edit.{Edit}
 use Rattle.law_moves.specs.Due.{DueIsAny}
 use Rattle.tree_edits.specs.Documents.{edit_of}
@@ -37,12 +38,6 @@ use Rattle.run_outside.specs.declared.ended.Ended.{Ended}
 use Rattle.run_outside.specs.declared.ended.Ended.TheVariants as ends
 use Rattle.run_machine.specs.declared.machine.Machine.{Machine}
 use Rattle.run_standing.proofs.Framed.{rest_scopes}
-
-none_some : {A : Type 0} {P : Type 0} {a : A} → None ≡ Some a → P
-none_some h = cc
-
-some_fault : (a b : model.Fault) → Some a ≡ Some b → a ≡ b
-some_fault a b h = cc
 
 module _ {P C Q V H T E L : Type 0} (app : Application (types C Q V H T E L)) (lawful : IsLawful (types C Q V H T E L) app) (due : DueIsAny app) (limits : causes.Limits) (r : Going (types C Q V H T E L)) where
   -- the state as the test for what is next leaves it, and what is next there

@@ -2,6 +2,7 @@
 use Rattle.std.proofs.Common.{ℕ, ◌+◌, false, List, [], ◌∷◌, ◌++◌, ◌≡◌, refl, sym, ap, ◌∙◌, subst, length, map, Ok, Err, append_assoc}
 use Rattle.std.proofs.lemmas.List.{append-nil, map-append, length-append}
 use Rattle.std.specs.Prelude.{Option, Some, None, Result}
+use Rattle.rt_lemmas.proofs.Options.{none_some}
 use Rattle.rt_edits.specs.declared.edit.Edit.{Edit}
 use Rattle.tree_edits.specs.Documents.{edit_of}
 use Rattle.rt_model.specs.Document as doc
@@ -30,9 +31,6 @@ use Rattle.run_machine.proofs.Breaking.{joined, in_at, broke_of, broke_after}
 use Rattle.run_machine.proofs.Running.{told_more}
 use Rattle.run_machine.proofs.Stacks.{pop_is}
 use Rattle.run_machine.proofs.Turning.{grown_none, heard_refused}
-
-none_some : {A : Type 0} {P : Type 0} {a : A} → None ≡ Some a → P
-none_some h = cc
 
 lengths : (xs ys : List Edit) (m n all : ℕ) → length xs ≡ m → length ys ≡ n → all ≡ m + n → length (xs ++ ys) ≡ all
 lengths xs ys m n all h k sum = length-append xs ys ∙ ap (λ a. a + length ys) h ∙ ap (λ b. m + b) k ∙ sym sum

@@ -1,6 +1,7 @@
 -- Reports one after another.
 use Rattle.std.proofs.Common.{ℕ, ◌+◌, List, [], ◌∷◌, ◌++◌, ◌≡◌, refl, sym, ap, ◌∙◌, subst, map, Result, Ok, Err}
 use Rattle.std.specs.Prelude.{Option, Some, None}
+use Rattle.rt_lemmas.proofs.Options.{some_same as some_fault}
 use Rattle.rt_edits.specs.declared.edit.Edit.{Edit}
 use Rattle.rt_model.specs.Document as doc
 use Rattle.rt_model.specs.OneLog.{types}
@@ -42,9 +43,6 @@ use Rattle.run_machine.proofs.Turning.{grown_none}
 -- want of memory is no fault of the definitions
 pub wanting : {X : Type 0} (fault : model.Fault) → fault_in (ends.Run stops.OutOfMemory) ≡ Some fault → X
 wanting fault why = cc
-
-some_fault : (a b : model.Fault) → Some a ≡ Some b → a ≡ b
-some_fault a b h = cc
 
 some_none : {A : Type 0} {X : Type 0} {a : A} → Some a ≡ None → X
 some_none h = cc

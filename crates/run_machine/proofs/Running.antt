@@ -1,7 +1,7 @@
 -- One report after another, up to the end or to a fault.
-use Rattle.std.proofs.Common.{ℕ, ◌+◌, true, List, [], ◌∷◌, ◌++◌, ◌≡◌, refl, sym, ap, ◌∙◌, subst, length, map, append_assoc}
+use Rattle.std.proofs.Common.{ℕ, ◌+◌, true, List, [], ◌∷◌, ◌++◌, ◌≡◌, refl, sym, ap, ◌∙◌, subst, length, map}
 use Rattle.std.proofs.lemmas.List.{length-map, map-append, append-nil}
-use Rattle.std.specs.Prelude.{Option, Some, None}
+use Rattle.std.specs.Prelude.{Option, Some}
 use Rattle.rt_edits.specs.Sinks.{grown}
 use Rattle.rt_edits.specs.declared.edit.Edit.{Edit}
 use Rattle.tree_edits.specs.Documents.{edit_of}
@@ -35,14 +35,7 @@ use Rattle.run_machine.proofs.Opening.{building, taking}
 use Rattle.run_outside.proofs.Reports as counted
 use Rattle.run_outside.proofs.Reports.{filler, fills}
 use Rattle.run_outside.proofs.Short.{sofar_short}
-
-grown_twice : (old : Option (List Edit)) (xs ys : List Edit) → grown (grown old xs) ys ≡ grown old (xs ++ ys)
-grown_twice None xs ys = refl
-grown_twice (Some edits) xs ys = ap Some (append_assoc edits xs ys)
-
--- the sink took some edits, and then some more
-pub told_more : (a b c : Option (List Edit)) (xs ys : List Edit) → b ≡ grown a xs → c ≡ grown b ys → c ≡ grown a (xs ++ ys)
-told_more a b c xs ys first second = second ∙ ap (λ o. grown o ys) first ∙ grown_twice a xs ys
+pub use Rattle.run_outside.proofs.Sinks.{grown-more as told_more}
 
 -- the logs of reports, by the two words for them
 pub logs_are : (reports : List Report) → logs_of (map report_of reports) ≡ logs_in reports

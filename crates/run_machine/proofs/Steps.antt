@@ -1,8 +1,7 @@
 -- Single steps of a session, as the definitions have them.
 use Rattle.std.proofs.Common.{ℕ, true, false, List, [], ◌∷◌, ◌++◌, ◌≡◌, refl, sym, ap, ◌∙◌, subst, map, nat_eq, length, Err}
-use Rattle.std.proofs.lemmas.Bool.{eqb-true}
 use Rattle.std.specs.Prelude.{Option, Some, None}
-use Rattle.rt_model.proofs.Maps.{by_test}
+pub use Rattle.rt_lemmas.proofs.Numbers.{eq_false as not_equal}
 use Rattle.rt_model.specs.OneLog.{types}
 use Rattle.rt_model.specs.Tree.{Types}
 use Rattle.rt_model.specs.World.{Application}
@@ -123,10 +122,6 @@ module _ {P C Q V H T E L : Type 0} where
   pub keeps_on : (old new : Machine P C Q V H T E L) (stop : Stop) → KeepsLow old new (Err stop) → KeepsOn old new (Err (ends.Run stop))
   keeps_on old new stops.OutOfMemory h = tt
   keeps_on old new (stops.Fault what) h = h
-
--- numbers that aren't one
-pub not_equal : (m n : ℕ) → (m ≡ n → ⊥) → nat_eq m n ≡ false
-not_equal m n h = by_test (nat_eq m n) (λ q. absurd (h (eqb-true m n q))) (λ q. q)
 
 pub one_entry : (a b : replay.Entry) → Some a ≡ Some b → a ≡ b
 one_entry a b h = cc

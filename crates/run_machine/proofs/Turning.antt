@@ -2,6 +2,7 @@
 use Rattle.std.proofs.Common.{ℕ, false, List, [], ◌∷◌, ◌++◌, ◌≡◌, refl, sym, ap, ◌∙◌, subst, map, Err, reverse, append_assoc}
 use Rattle.std.proofs.lemmas.List.{append-nil}
 use Rattle.std.specs.Prelude.{Option, Some, None, is_some, option_map}
+use Rattle.rt_lemmas.proofs.Options.{none_some, some_same as some_fault}
 use Rattle.rt_edits.specs.Sinks.{grown}
 use Rattle.rt_edits.specs.declared.edit.Edit.{Edit}
 use Rattle.tree_edits.specs.Documents.{edit_of}
@@ -42,12 +43,6 @@ use Rattle.run_standing.proofs.Orderly.{orderly_reached}
 pub grown_none : (old : Option (List Edit)) → old ≡ grown old []
 grown_none None = refl
 grown_none (Some edits) = ap Some (sym (append-nil edits))
-
-none_some : {A : Type 0} {P : Type 0} {a : A} → None ≡ Some a → P
-none_some h = cc
-
-some_fault : (a b : model.Fault) → Some a ≡ Some b → a ≡ b
-some_fault a b h = cc
 
 module _ {K : Types} where
   abbrev pub deep_at : causes.Limits → model.State K → model.Item K → Option model.Fault

@@ -1,10 +1,12 @@
 //! The loop: one move a turn, until nothing is at work and nothing is owed.
-ghost use Rattle.std.specs.Prelude.{◌≡◌, ℕ, [], None, Some, IfOk, IfErr};
+ghost use Rattle.std.specs.Prelude.{◌≡◌, ℕ, [], None, Some, IfOk, IfErr, OnOk};
 ghost use Rattle.rt_model.specs.Laws.{IsLawful};
 ghost use Rattle.rt_model.specs.OneLog.{types};
 ghost use Rattle.rt_model.specs.State.{OutOfTurns};
 ghost use Rattle.rt_model.specs.World.{Application};
 ghost use Rattle.run_reports.specs.Seen.{entry_of, limits_of};
+ghost use Rattle.rt_scopes.specs.Knowing.{Knows};
+ghost use Rattle.run_state.specs.Mirror.{state_of};
 ghost use Rattle.run_work.specs.Items.{item_of};
 ghost use Rattle.run_outside.specs.Ends.{Took, Ends, Explains, fault_in};
 ghost use Rattle.run_outside.specs.Turns.{taken_by};
@@ -16,6 +18,7 @@ use crate::machine::Machine;
 use author_calls::{App, Calls};
 use law_moves::due_is_any;
 use rt_edits::WriteMutations;
+use rt_scopes::Known;
 use run_outside::Ended;
 use run_reports::{Entry, Limits};
 use run_state::Stop;
@@ -42,8 +45,9 @@ impl<A: App> Machine<A> {
             (M.taken sink.old) (M.taken sink.new) self.new result }
     {
         let mut edits = 0u64;
+        let mut known = Known::new(self.scopes.alloc);
         for _turn in 0..u64::MAX {
-            let Some(written) = self.turn(app, calls, limits, sink)? else {
+            let Some(written) = self.turn_knowing(app, calls, limits, sink, &mut known)? else {
                 return Ok(edits);
             };
             edits = sum(edits, written)?;
@@ -73,9 +77,41 @@ impl<A: App> Machine<A> {
         ensures uncalled { IfErr result (λ ended. (units : ℕ) →
             fault_in ended ≡ Some (OutOfTurns units) → calls.new ≡ calls.old) }
     {
+        let mut known = Known::new(self.scopes.alloc);
+        self.turn_knowing(app, calls, limits, sink, &mut known)
+    }
+
+    /// The same where the way down to a scope that goes is known. What is known after it spares the next
+    /// move a look at trees.
+    pub fn turn_knowing<M: WriteMutations>(
+        &mut self,
+        app: &A,
+        calls: &mut Calls,
+        limits: Limits,
+        sink: &mut M,
+        known: &mut Known,
+    ) -> Result<Option<u64>, Ended>
+        requires knows { (g : _) →
+            Knows (state_of g self.old.scopes.state) known.old.rows.items }
+        ensures ok { IfOk result (λ turn. Took (M.taken sink.old) (M.taken sink.new)
+            (M.faults sink.old) (M.faults sink.new) (taken_by turn)) }
+        ensures err { IfErr result (λ ended. Ends limits 0
+            (M.taken sink.old) (M.taken sink.new) (M.faults sink.old) (M.faults sink.new) ended) }
+        ensures turns { (r : _) (edits : _) →
+            StandsAt (A.meaning app.now) (limits_of limits) (counting r calls.old) edits self.old →
+            TurnsAs (A.meaning app.now) (limits_of limits) (counting r calls.new) edits
+            (M.taken sink.old) (M.taken sink.new) self.old self.new result }
+        ensures keeps { TurnKeeps self.old self.new result }
+        // Where units are spent nothing was called.
+        ensures uncalled { IfErr result (λ ended. (units : ℕ) →
+            fault_in ended ≡ Some (OutOfTurns units) → calls.new ≡ calls.old) }
+        ensures knows { OnOk result ((g : _) →
+            Knows (state_of g self.new.scopes.state) known.new.rows.items) }
+    {
         if let Some(item) = self.work.pop() {
-            return self.work_turn(app, calls, &item, limits, sink);
+            return self.work_turn(app, calls, &item, limits, sink, known);
         }
+        known.clear();
         match self.first {
             Some(first) => self.close_turn(first, sink),
             None => Ok(self.quiet_turn(app, calls, limits)?),
@@ -90,7 +126,10 @@ impl<A: App> Machine<A> {
         item: &Item<A>,
         limits: Limits,
         sink: &mut M,
+        known: &mut Known,
     ) -> Result<Option<u64>, Ended>
+        requires knows { (g : _) →
+            Knows (state_of g self.old.scopes.state) known.old.rows.items }
         ensures ok { IfOk result (λ turn. Took (M.taken sink.old) (M.taken sink.new)
             (M.faults sink.old) (M.faults sink.new) (taken_by turn)) }
         ensures err { IfErr result (λ ended. Ends limits 0
@@ -101,8 +140,10 @@ impl<A: App> Machine<A> {
             TurnsAs (A.meaning app.now) (limits_of limits) (counting r calls.new) edits
             (M.taken sink.old) (M.taken sink.new) self.old self.new result }
         ensures keeps { WorkKeeps self.old self.new result }
+        ensures knows { OnOk result ((g : _) →
+            Knows (state_of g self.new.scopes.state) known.new.rows.items) }
     {
-        match self.serve(app, calls, item, limits) {
+        match self.serve(app, calls, item, limits, known) {
             Ok(()) => Ok(Some(0)),
             Err(ended) => Err(self.cut(ended, item, sink)),
         }

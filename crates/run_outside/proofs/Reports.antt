@@ -1,6 +1,7 @@
 -- The reports of a session so far, with the inputs that are left.
-use Rattle.std.proofs.Common.{◌≡◌, ℕ, ◌+◌, length, List, [], ◌∷◌, ◌++◌, map, refl, ap, sym, subst, ◌∙◌, append_assoc, append-nil, arith}
+use Rattle.std.proofs.Common.{◌≡◌, ℕ, ◌+◌, List, [], ◌∷◌, ◌++◌, map, refl, ap, sym, subst, ◌∙◌, append_assoc, append-nil, arith}
 use Rattle.std.proofs.lemmas.List.{map-append}
+pub use Rattle.rt_lemmas.proofs.Lists.{nothing_left}
 use Rattle.rt_model.specs.Reports.{OneEach, OpensWith, InputsFrom}
 use Rattle.rt_model.specs.Replay.{Entry, Build, Taken, Input}
 use Rattle.rt_model.specs.Tree.{Types}
@@ -91,8 +92,3 @@ edits-first old new report none pushed =
     let before : edits_in old ≡ 0 = ap edits_in none in
     let all : edits_in old + report.edits ≡ edits_in new = edits-pushed old new report pushed in
     omega (arith, before, all)
-
--- a list of no length
-pub nothing_left : {A : Type 0} (xs : List A) → length xs ≡ 0 → xs ≡ []
-nothing_left [] none = refl
-nothing_left (x ∷ xs) none = absurd (omega arith)

@@ -5,14 +5,14 @@ use Rattle.std.specs.Prelude.{Option, Some, None, if◌then◌else◌}
 use Rattle.rt_model.specs.Tree.{Types, VComponent}
 use Rattle.rt_model.specs.World.{Application}
 use Rattle.rt_model.specs.State.{Fault, State, Item, Draw, Row, Feed, Make, Drop}
-use Rattle.rt_model.specs.Replay.{start, Entry, Build, Taken, Heard, Rerun, Poll, Effects, Made, Fed, Kept, Removed, Input, Machine, mounted_state, fed_child, keeps}
+use Rattle.rt_model.specs.Replay.{start, Entry, Fed, Kept, Input, Machine, mounted_state, fed_child, keeps}
 use Rattle.rt_model.specs.Document.{Edit}
 use Rattle.rt_model.specs.Caused.{caused}
 use Rattle.rt_model.specs.Causes.{Limits, depth_refused, height_at, next_height, turns_refused, refusal, edits_at_depth, edits_at_refusal}
 use Rattle.rt_model.specs.Told.{Telling, opens, count_entries, telling, tell_log, edits_of}
 use Rattle.rt_model.specs.Reports.{Report, logs_of}
 use Rattle.rt_model.specs.Lists.{joined, first_of}
-use Rattle.law_moves.specs.Moves.{Move, Silent, Closed, Logged, entries, serves_item, Inside, AtRest}
+use Rattle.law_moves.specs.Moves.{Move, Silent, Closed, Logged, entries, Inside, AtRest}
 use Rattle.law_moves.specs.Reports.{ToldSo}
 use Rattle.law_moves.proofs.Joins.{logs_join}
 use Rattle.law_moves.proofs.Reports.{reports_go_on}
@@ -21,6 +21,7 @@ use Rattle.law_moves.specs.Sessions.{Sofar}
 use Rattle.law_moves.specs.Turn.{entries_at}
 use Rattle.law_moves.specs.Underway.{Rests, Works, Refused}
 use Rattle.law_moves.proofs.Underway.{works_close}
+use Rattle.law_moves.proofs.Tellings.{served_opens_none}
 use Rattle.run_outside.specs.Short.{Short, ShortIn, RanShort}
 
 -- a list of entries of which none begins a unit, and another one
@@ -30,18 +31,6 @@ none_more (e ∷ log) more h k =
     let rest : count_entries opens log ≡ 0 = omega (arith, h) in
     let all : count_entries opens (log ++ more) ≡ 0 = none_more log more rest k in
     rw all (omega (arith, h))
-
-served_opens_none : (e : Entry) → serves_item e ≡ true → opens e ≡ false
-served_opens_none Build h = cc
-served_opens_none (Taken k) h = refl
-served_opens_none (Heard s) h = refl
-served_opens_none (Rerun s) h = cc
-served_opens_none (Poll t) h = cc
-served_opens_none (Effects s) h = cc
-served_opens_none (Made s) h = refl
-served_opens_none (Fed s) h = refl
-served_opens_none (Kept s) h = refl
-served_opens_none (Removed s) h = refl
 
 -- moves that only serve open work begin no unit
 inside_none : (moves : List Move) → Inside moves → count_entries opens (entries moves) ≡ 0

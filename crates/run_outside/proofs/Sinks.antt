@@ -19,7 +19,7 @@ pub grown-twice : (old : Option (List Edit)) (xs ys : List Edit) → grown (grow
 grown-twice None xs ys = refl
 grown-twice (Some edits) xs ys = ap Some (append_assoc edits xs ys)
 
-grown-more : (a b c : Option (List Edit)) (xs ys : List Edit) → b ≡ grown a xs → c ≡ grown b ys → c ≡ grown a (xs ++ ys)
+pub grown-more : (a b c : Option (List Edit)) (xs ys : List Edit) → b ≡ grown a xs → c ≡ grown b ys → c ≡ grown a (xs ++ ys)
 grown-more a b c xs ys first second = second ∙ ap (λ o. grown o ys) first ∙ grown-twice a xs ys
 
 -- one edit, by the sink's answer

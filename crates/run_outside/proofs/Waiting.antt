@@ -1,6 +1,7 @@
 -- Listeners that wait, one by one.
-use Rattle.std.proofs.Common.{ℕ, ◌+◌, ◌<◌, Bool, true, false, not, List, [], ◌∷◌, ◌++◌, ◌≡◌, refl, sym, ap, ◌∙◌, length, drop, get_or, add-one, drop-cons}
+use Rattle.std.proofs.Common.{◌+◌, Bool, true, false, not, List, [], ◌∷◌, ◌++◌, ◌≡◌, refl, sym, ap, ◌∙◌}
 use Rattle.std.specs.Prelude.{Option, Some, None, if◌then◌else◌, MatchOption}
+pub use Rattle.rt_lemmas.proofs.Lists.{next_drop, next_item}
 use Rattle.rt_model.specs.OneLog.{types}
 use Rattle.rt_model.specs.Tree.{Types}
 use Rattle.rt_model.specs.State.{State, is_live}
@@ -10,12 +11,6 @@ use Rattle.rt_model.specs.Next.{look}
 use Rattle.run_shown.specs.Hearing.{listeners_of}
 use Rattle.run_shown.specs.declared.hearing.Listener.{Listener as CodeListener}
 use Rattle.run_outside.specs.Hearings.{live_listeners, has_waiting, TakesWaiting}
-
--- a loop over a list that takes one item after another
-pub next_drop : {A : Type 0} (xs : List A) (i : ℕ) (x : A) → i < length xs → x ≡ get_or xs i x → drop i xs ≡ x ∷ drop (i + 1) xs
-next_drop xs i x low is =
-    let e : drop i xs ≡ get_or xs i x ∷ drop (i + 1) xs = rw (add-one, drop-cons xs i x) refl in
-    e ∙ ap (λ y. y ∷ drop (i + 1) xs) (sym is)
 
 module _ {K : Types} where
   abbrev picked : State K → Listener K → List (Listener K) → Bool → List (Listener K)
@@ -61,10 +56,6 @@ module _ {K : Types} where
 
   pub some_waits : {P : Type 0} (w : State K) (ls : List (Listener K)) → has_waiting w ls ≡ true → live_listeners w ls ≡ [] → P
   some_waits w ls h none = let e : false ≡ true = sym (ap (λ xs. not (no_listener xs)) none) ∙ h in cc
-
--- the same for an item that the loop reads by its index
-pub next_item : {A : Type 0} (xs : List A) (i : ℕ) (d : A) → i < length xs → drop i xs ≡ get_or xs i d ∷ drop (i + 1) xs
-next_item xs i d low = rw (add-one, drop-cons xs i d) refl
 
 module _ {P C Q V H T E L : Type 0} where
   -- the first of those that wait

@@ -1,6 +1,7 @@
 -- What broke off of the build or of a unit by itself: no unit besides was begun.
 use Rattle.std.proofs.Common.{◌+◌, Bool, true, false, List, [], ◌∷◌, ◌++◌, ◌≡◌, refl, sym, ap, ◌∙◌, subst, append_assoc, arith}
 use Rattle.std.specs.Prelude.{Option, if◌then◌else◌}
+use Rattle.rt_lemmas.proofs.Lists.{tails}
 use Rattle.rt_edits.specs.declared.edit.Edit.{Edit}
 use Rattle.rt_model.specs.Document as doc
 use Rattle.rt_model.specs.OneLog.{types}
@@ -44,9 +45,6 @@ none_both (e ∷ log) more h k = (h.0, none_both log more h.1 k)
 none_front : (log rest : List replay.Entry) → NoneOpens (log ++ rest) → NoneOpens log
 none_front [] rest h = tt
 none_front (e ∷ log) rest h = (h.0, none_front log rest h.1)
-
-tails : {A : Type 0} {x y : A} {xs ys : List A} → x ∷ xs ≡ y ∷ ys → xs ≡ ys
-tails h = cc
 
 -- a front of entries of which but for the first none begins a unit
 first_front : (log rest entries later : List replay.Entry) → log ++ rest ≡ entries ++ later → OpensFirst entries → count_entries opens later ≡ 0

@@ -1,6 +1,7 @@
 -- A call that broke off had begun no unit where it ends.
 use Rattle.std.proofs.Common.{ℕ, Bool, true, false, ◌⊎◌, inl, inr, List, [], ◌∷◌, ◌++◌, ◌≡◌, refl, sym, ap, ◌∙◌, subst, map, append_assoc}
 use Rattle.std.specs.Prelude.{Option, Some, None, Ok}
+use Rattle.rt_lemmas.proofs.Lists.{tails}
 use Rattle.rt_edits.specs.declared.edit.Edit.{Edit}
 use Rattle.tree_edits.specs.Documents.{edit_of}
 use Rattle.rt_model.specs.Document as doc
@@ -33,9 +34,6 @@ use Rattle.run_rounds.proofs.Reporting.{going_from, standing, unended_all}
 
 heads : {A : Type 0} {x y : A} {xs ys : List A} → x ∷ xs ≡ y ∷ ys → x ≡ y
 heads h = cc
-
-tails : {A : Type 0} {x y : A} {xs ys : List A} → x ∷ xs ≡ y ∷ ys → xs ≡ ys
-tails h = cc
 
 both : {A : Type 0} {x y : A} {xs ys : List A} → x ≡ y → xs ≡ ys → x ∷ xs ≡ y ∷ ys
 both h k = cc

@@ -1,6 +1,7 @@
 -- A poll of suspended work, poll by poll.
 use Rattle.std.proofs.Common.{inl, ℕ, ◌+◌, ◌≤◌, Bool, true, false, ◌&&◌, nat_eq, List, [], ◌∷◌, ◌++◌, ◌≡◌, refl, sym, ap, ◌∙◌, subst, arith}
 use Rattle.std.specs.Prelude.{Option, Some, None, is_some, option_map, if◌then◌else◌}
+use Rattle.rt_lemmas.proofs.Options.{none_of, some_of}
 use Rattle.rt_edits.specs.declared.edit.Edit.{Edit}
 use Rattle.rt_model.specs.Lists.{first_of}
 use Rattle.rt_model.specs.OneLog.{types}
@@ -26,15 +27,6 @@ use Rattle.run_rounds.specs.Rounds.{OpensFirst, RestsAt}
 use Rattle.run_rounds.specs.Suspended.{UnitOn, UnitCutOn, PollingOn, PolledOn, PollCutOn, polled_next}
 use Rattle.run_rounds.proofs.Units.{picked}
 use Rattle.run_rounds.proofs.Suspending.{below_next, no_room}
-
--- by what there is
-some_of : {A : Type 0} (o : Option A) → is_some o ≡ true → (a : A) × (o ≡ Some a)
-some_of None h = cc
-some_of (Some a) h = (a, refl)
-
-none_of : {A : Type 0} (o : Option A) → is_some o ≡ false → o ≡ None
-none_of None h = refl
-none_of (Some a) h = cc
 
 mapped_some : {A B : Type 0} (f : A → B) (o : Option A) → is_some o ≡ is_some (option_map f o)
 mapped_some f None = refl
@@ -159,6 +151,7 @@ module _ {P C Q V H T E L : Type 0} (app : Application (types C Q V H T E L)) (l
               last = record (resting h.left) { units = n };
               goes = h.goes;
               done = ap (λ (o : Option Work). rendering.entry_of o) none;
+              quiet = refl;
               rest = refl;
             };
         shows = passed.1 ∙ h.shows;

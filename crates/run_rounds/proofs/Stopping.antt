@@ -1,6 +1,7 @@
 -- A build that came to a fault, or broke off.
 use Rattle.std.proofs.Common.{ℕ, true, List, [], ◌∷◌, ◌++◌, ◌≡◌, refl, sym, ap, ◌∙◌, subst, map, Err}
 use Rattle.std.specs.Prelude.{Option, Some, None}
+use Rattle.rt_lemmas.proofs.Options.{some_same as some_fault}
 use Rattle.rt_edits.specs.declared.edit.Edit.{Edit}
 use Rattle.rt_model.specs.OneLog.{types}
 use Rattle.rt_model.specs.Tree.{Types}
@@ -39,9 +40,6 @@ use Rattle.run_rounds.specs.Rounds.{CutFrom, BuildCut}
 use Rattle.run_rounds.proofs.Alone.{alone_of}
 use Rattle.run_rounds.proofs.Breaks.{wanting}
 use Rattle.run_rounds.proofs.Given.{given, given_machine, given_rests}
-
-some_fault : (a b : model.Fault) → Some a ≡ Some b → a ≡ b
-some_fault a b h = cc
 
 none_fault : {X : Type 0} {a : model.Fault} → None ≡ Some a → X
 none_fault h = cc

@@ -3,6 +3,7 @@ use Rattle.std.proofs.Common.{inl, ℕ, ◌+◌, ◌≤◌, Bool, true, false, �
 use Rattle.std.proofs.lemmas.Bool.{eqb-true}
 use Rattle.std.proofs.lemmas.List.{append-nil, map-append}
 use Rattle.std.specs.Prelude.{Option, Some, None, is_some, if◌then◌else◌}
+pub use Rattle.rt_lemmas.proofs.Numbers.{eq_true as all_spent}
 use Rattle.rt_edits.specs.declared.edit.Edit.{Edit}
 use Rattle.tree_edits.specs.Documents.{edit_of}
 use Rattle.rt_model.specs.Document as doc
@@ -22,7 +23,6 @@ use Rattle.rt_model.specs.Asides.{Answered, resting}
 use Rattle.rt_model.specs.Rendering.{rendering_rest, rendering_next, renders_within, resolved_by_height, nothing_resolved, spent_where}
 use Rattle.rt_model.specs.Rendering as rendering
 use Rattle.rt_values.specs.declared.names.ScopeId.{ScopeId}
-use Rattle.rt_model.proofs.Maps.{eq_same}
 use Rattle.law_moves.specs.Reports.{ToldSo}
 use Rattle.law_behavior.specs.Doms.{LedTo, UnitRan}
 use Rattle.law_behavior.proofs.Leading.{asides_lead}
@@ -61,10 +61,6 @@ no_room n l h few none =
     let on : n + 1 ≤ l = below_next n l h few in
     let all : 0 ≡ l = eqb-true 0 l none in
     omega (arith, on, all)
-
--- so many units as are allowed
-pub all_spent : (n l : ℕ) → n ≡ l → nat_eq n l ≡ true
-all_spent n l same = ap (λ (k : ℕ). nat_eq n k) (sym same) ∙ eq_same n
 
 -- the fault with which a unit by itself stops is the one with which the render does
 same_refusal : (u : ℕ) (d o : Option model.Fault) (b : Bool) (q : Option model.Fault) (fault : model.Fault)

@@ -2,6 +2,7 @@
 use Rattle.std.proofs.Common.{inl, inr, ℕ, ◌+◌, Bool, true, false, ◌&&◌, not, nat_eq, List, [], ◌∷◌, ◌++◌, ◌≡◌, refl, sym, ap, ◌∙◌, subst, map, reverse, Ok, Err}
 use Rattle.std.proofs.lemmas.List.{map-append}
 use Rattle.std.specs.Prelude.{Option, Some, None, is_some, option_map, if◌then◌else◌}
+pub use Rattle.rt_lemmas.proofs.Lists.{none_mapped}
 use Rattle.rt_edits.specs.declared.edit.Edit.{Edit}
 use Rattle.tree_edits.specs.Documents.{edit_of}
 use Rattle.rt_model.specs.Document as doc
@@ -46,11 +47,6 @@ none_first (e ∷ log) h = h.1
 pub picked : (b o : Bool) (f fault : model.Fault) → (if b && o then Some f else None) ≡ Some fault → b ≡ true
 picked true o f fault h = refl
 picked false o f fault h = cc
-
--- what maps to nothing is nothing
-pub none_mapped : {A B : Type 0} (f : A → B) (xs : List A) → map f xs ≡ [] → xs ≡ []
-none_mapped f [] h = refl
-none_mapped f (x ∷ xs) h = cc
 
 module _ {P C Q V H T E L : Type 0} where
   -- another machine that rests as this one does, at the same state

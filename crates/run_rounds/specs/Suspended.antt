@@ -51,6 +51,8 @@ module _ {K : Types} (app : Application K) (limits : causes.Limits) (w : model.S
     pub last : replay.Machine K
     pub goes : polls_within app limits (Some (resting w)) log ≡ Some last
     pub done : polling_due app last ≡ None
+    -- nothing is at work there, and no fault was come to
+    pub quiet : last ≡ record (resting last.state) { units = last.units }
     pub rest : polling_rest last.state ≡ v
 
 module _ {C Q V H T E L : Type 0} (app : Application (types C Q V H T E L)) (limits : causes.Limits)

@@ -13,6 +13,7 @@ ghost use Rattle.run_state.specs.Mirror.{at_first, state_of};
 
 use author_calls::{App, Calls};
 use rt_edits::WriteMutations;
+use rt_scopes::Known;
 use run_machine::Machine;
 use run_outside::Ended;
 use run_reports::{Entry, Limits, Report};
@@ -76,12 +77,13 @@ pub(crate) fn finish<A: App, M: WriteMutations>(
         (M.taken sink.old) (M.taken sink.new) (M.faults sink.old) (M.faults sink.new) ended) }
 {
     let mut edits = 0u64;
+    let mut known = Known::new(machine.scopes.alloc);
     for _turn in 0..u64::MAX {
         if rests(machine) {
             return Ok(edits);
         }
         // Something is at work here, so that a turn has something to do.
-        let Some(written) = machine.turn(app, calls, limits, sink)? else {
+        let Some(written) = machine.turn_knowing(app, calls, limits, sink, &mut known)? else {
             return Err(Ended::Run(Stop::OutOfMemory));
         };
         edits = sum(edits, written)?;

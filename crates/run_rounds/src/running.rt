@@ -14,6 +14,7 @@ ghost use Rattle.run_answers.specs.Untils.{until_of};
 use crate::building::rests;
 use author_calls::{App, Calls};
 use rt_edits::WriteMutations;
+use rt_scopes::Known;
 use run_answers::{Until, ends, leave};
 use run_machine::Machine;
 use run_outside::Ended;
@@ -171,12 +172,13 @@ fn go_on<A: App, M: WriteMutations>(
         (M.taken sink.old) (M.taken sink.new) (M.faults sink.old) (M.faults sink.new) ended) }
 {
     let mut edits = 0u64;
+    let mut known = Known::new(machine.scopes.alloc);
     for _turn in 0..u64::MAX {
         if ended(machine, until) {
             return Ok(edits);
         }
         // Something is owed or at work here, so that a turn has something to do.
-        let Some(written) = machine.turn(app, calls, limits, sink)? else {
+        let Some(written) = machine.turn_knowing(app, calls, limits, sink, &mut known)? else {
             return Err(Ended::Run(Stop::OutOfMemory));
         };
         edits = sum(edits, written)?;

@@ -1,6 +1,7 @@
 -- The state at which a unit ends: no attribute slot has a name twice, and live children know their parents.
-use Rattle.std.proofs.Common.{ℕ, Bool, true, false, List, [], ◌≡◌, ◌⊎◌, inl, inr, refl, sym, ap, ◌∙◌, subst}
+use Rattle.std.proofs.Common.{ℕ, List, [], ◌≡◌, refl, sym, ap, ◌∙◌, subst}
 use Rattle.std.specs.Prelude.{Option, Some, None, is_some}
+use Rattle.rt_lemmas.proofs.Bools.{clash_back as not_live, first_of as either}
 use Rattle.rt_model.specs.Lists.{at}
 use Rattle.rt_model.specs.Tree.{Types, Place, node_at, spots}
 use Rattle.rt_model.specs.World.{Application}
@@ -19,14 +20,6 @@ use Rattle.law_moves.specs.Reached.{Reached}
 use Rattle.law_moves.proofs.Everywhere.{reached_ready}
 use Rattle.run_shown.specs.Touched.{KnowParents}
 use Rattle.run_standing.specs.Orderly.{IsOrderly}
-
-either : {P : Type 0} → P ⊎ ⊥ → P
-either (inl h) = h
-either (inr h) = absurd h
-
-not_live : {P : Type 0} (b : Bool) → b ≡ false → b ≡ true → P
-not_live true h k = cc
-not_live false h k = cc
 
 module _ {K : Types} where
   -- what stands beside no work is well numbered

@@ -1,5 +1,5 @@
 -- The child that an item feeds, and the scopes of which that may change what shows.
-use Rattle.std.specs.Prelude.{ℕ, Bool, List, [], Option, None, Some, option_map}
+use Rattle.std.specs.Prelude.{ℕ, Bool, List, [], ◌∷◌, Option, None, Some, option_map}
 use Rattle.rt_model.specs.Tree.{Types, VComponent}
 use Rattle.rt_model.specs.World.{Application}
 use Rattle.rt_model.specs.State.{State, Item, Draw, Row, Feed, Make, Drop}
@@ -10,6 +10,11 @@ use Rattle.run_standing.specs.Changes.{unless}
 abbrev pub fed_changes : Option (ℕ × Bool) → List ℕ
 fed_changes None = []
 fed_changes (Some fed) = unless fed.1 fed.0
+
+-- the scope of which a removal may change what shows
+abbrev pub leaf_changes : Option ℕ → List ℕ
+leaf_changes None = []
+leaf_changes (Some leaf) = leaf ∷ []
 
 module _ {K : Types} (app : Application K) (w : State K) where
   -- a child that is fed a component, and whether it keeps its output

@@ -10,9 +10,9 @@ ghost use Rattle.run_shown.specs.Stands.{Stands};
 ghost use Rattle.run_state.specs.Names.{work_of};
 ghost use Rattle.run_work.specs.Items.{item_of};
 ghost use Rattle.run_standing.specs.Changes.{AllKept, KeepsFor, changes_of, unless};
-ghost use Rattle.run_standing.specs.Feeds.{fed_changes, feeds};
+ghost use Rattle.rt_scopes.specs.Knowing.{leaf_of};
+ghost use Rattle.run_standing.specs.Feeds.{fed_changes, feeds, leaf_changes};
 
-use rt_scopes::next_removed;
 use rt_values::{Boxed, OutOfMemory, Part, ScopeId};
 use run_places::Side;
 use run_records::Scope;
@@ -110,18 +110,20 @@ pub(crate) fn keep<P: Parts>(
     stood.push(scope, shown)
 }
 
-/// Keeps what shows of the scopes that a turn at an item may change, where this is the child that
-/// it feeds.
+/// Keeps what shows of the scopes that a turn at an item may change, where these are the child that it
+/// feeds and the scope that goes.
 pub(crate) fn keep_for<P: Parts>(
     alloc: Global,
     state: &State<P>,
     item: &Item<P>,
     fed: Option<(u64, bool)>,
+    leaf: Option<u64>,
     stood: &mut Table<Option<Boxed<Stood<P>>>>,
 ) -> Result<(), OutOfMemory>
     ensures kept { OnOk result ((app : Application
         (types P.Component P.Props P.Value P.Handler P.TaskState P.Effect P.Payload)) (g : _) →
         fed ≡ feeds app (state_of g state.now) (item_of item.now) →
+        leaf ≡ leaf_of (state_of g state.now) (item_of item.now) →
         AllKept stood.new (changes_of app (state_of g state.now) (item_of item.now))) }
     ensures stands { OnOk result ((was : _) →
         Stands stood.old was (scopes_of state.now.rows.table) →
@@ -135,10 +137,25 @@ pub(crate) fn keep_for<P: Parts>(
             keep(alloc, state, *scope, stood)?;
             keep(alloc, state, state.next_scope, stood)
         }
-        Item::Drop { child, .. } => {
-            let leaf = next_removed(alloc, state, *child)?;
-            keep(alloc, state, leaf, stood)
-        }
+        Item::Drop { .. } => keep_leaf(alloc, state, leaf, stood),
+    }
+}
+
+/// Keeps what shows of a scope that goes, where there is one.
+fn keep_leaf<P: Parts>(
+    alloc: Global,
+    state: &State<P>,
+    leaf: Option<u64>,
+    stood: &mut Table<Option<Boxed<Stood<P>>>>,
+) -> Result<(), OutOfMemory>
+    ensures kept { OnOk result (AllKept stood.new (leaf_changes leaf)) }
+    ensures stands { OnOk result ((was : _) →
+        Stands stood.old was (scopes_of state.now.rows.table) →
+        Stands stood.new was (scopes_of state.now.rows.table)) }
+{
+    match leaf {
+        Some(leaf) => keep(alloc, state, leaf, stood),
+        None => Ok(()),
     }
 }
 
@@ -187,18 +204,20 @@ pub fn keep_where<P: Parts>(
     state: &State<P>,
     item: &Item<P>,
     fed: Option<(u64, bool)>,
+    leaf: Option<u64>,
     stood: &mut Table<Option<Boxed<Stood<P>>>>,
 ) -> Result<(), OutOfMemory>
     ensures kept { OnOk result (compared ≡ true → (app : Application
         (types P.Component P.Props P.Value P.Handler P.TaskState P.Effect P.Payload)) (g : _) →
         fed ≡ feeds app (state_of g state.now) (item_of item.now) →
+        leaf ≡ leaf_of (state_of g state.now) (item_of item.now) →
         AllKept stood.new (changes_of app (state_of g state.now) (item_of item.now))) }
     ensures stands { OnOk result ((was : _) →
         Stands stood.old was (scopes_of state.now.rows.table) →
         Stands stood.new was (scopes_of state.now.rows.table)) }
 {
     if compared {
-        keep_for(alloc, state, item, fed, stood)
+        keep_for(alloc, state, item, fed, leaf, stood)
     } else {
         Ok(())
     }

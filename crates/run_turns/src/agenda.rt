@@ -18,7 +18,7 @@ ghost use Rattle.run_turns.specs.Notes.{NotedBy};
 
 use crate::course::Course;
 use author_calls::{App, Calls};
-use rt_scopes::{Scopes, next_removed};
+use rt_scopes::Scopes;
 use rt_values::{List, OutOfMemory, Part, ScopeId, both};
 use run_places::{Kind, Place, SideName};
 use run_reports::{Entry, Limits};
@@ -229,17 +229,19 @@ fn make_below<A: App>(
     }
 }
 
-/// Removes the first scope of those that go with a child. The item comes again until the child
-/// itself went.
+/// Removes the first scope of those that go with a child, which is this one. The item comes again until
+/// the child itself went.
 pub fn take<A: App>(
     scopes: &mut Scopes<A>,
     app: &A,
     calls: &mut Calls,
     course: &mut Course,
+    leaf: u64,
     child: u64,
     scope: u64,
     side: SideName,
 ) -> Result<List<Item<A>>, Stop>
+    requires leaf { (g : _) → leaf ≡ removal.next_removed (state_of g scopes.old.state) child }
     ensures turned { StateComes (λ w. turn_of (A.meaning app.now) w
         (model.Drop child scope (side_name_of side)))
         scopes.old.state scopes.new.state work_of result }
@@ -250,7 +252,6 @@ pub fn take<A: App>(
         scopes.old.state calls.old calls.new) }
 {
     let alloc = scopes.alloc;
-    let leaf = next_removed(alloc, &scopes.state, child)?;
     course.note(Entry::Removed(ScopeId(leaf)))?;
     scopes.remove_leaf(app, calls, ScopeId(leaf), true)?;
     Ok(drop_again(alloc, leaf == child, child, scope, side)?)

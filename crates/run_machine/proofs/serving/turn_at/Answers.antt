@@ -8,6 +8,7 @@ use Rattle.law_moves.specs.Turn.{turn_of, entries_at}
 use Rattle.run_work.specs.Items.{item_of, row_step_of, work_of}
 use Rattle.run_turns.specs.Counting.{calls_after}
 use Rattle.run_turns.specs.Fed.{fed_outcome}
+use Rattle.rt_scopes.specs.Knowing.{leaf_of}
 use Rattle.run_standing.specs.Feeds.{feeds}
 use Rattle.run_turns.proofs.Arms.{came_as, noted_as}
 use Rattle.run_machine.proofs.Feeding.{feed_entries, feed_found}
@@ -62,16 +63,20 @@ returns-in-Make-clause-noted g c =
     λ kept.
     noted_as _ _ _ _ _ (ap (λ i. entries_at (g.A.App.meaning c.args.app.now) (state_of kept c.args.scopes.now.state) (item_of i)) c.in-Make.is) (c.make.ensures.noted kept)
 
+pub take_first-requires : goal.take_first-requires
+take_first-requires g c =
+    record { leaf = λ kept. c.requires.leaf kept ∙ ap (λ i. leaf_of (state_of kept c.args.scopes.now.state) (item_of i)) c.in-Drop.is }
+
 pub returns-in-Drop-clause-turned : goal.returns-in-Drop-clause-turned
 returns-in-Drop-clause-turned g c =
     λ kept.
-    let came = c.take.ensures.turned kept in
+    let came = c.take_first.ensures.turned kept in
     (came.0, came_as _ _ _ _ _ (ap (λ i. turn_of (g.A.App.meaning c.args.app.now) (state_of kept c.args.scopes.now.state) (item_of i)) c.in-Drop.is) came.1)
 
 pub returns-in-Drop-clause-noted : goal.returns-in-Drop-clause-noted
 returns-in-Drop-clause-noted g c =
     λ kept.
-    noted_as _ _ _ _ _ (ap (λ i. entries_at (g.A.App.meaning c.args.app.now) (state_of kept c.args.scopes.now.state) (item_of i)) c.in-Drop.is) (c.take.ensures.noted kept)
+    noted_as _ _ _ _ _ (ap (λ i. entries_at (g.A.App.meaning c.args.app.now) (state_of kept c.args.scopes.now.state) (item_of i)) c.in-Drop.is) (c.take_first.ensures.noted kept)
 
 pub returns-in-Draw-clause-counted : goal.returns-in-Draw-clause-counted
 returns-in-Draw-clause-counted g c =
@@ -115,5 +120,5 @@ returns-in-Make-clause-counted g c =
 
 pub returns-in-Drop-clause-counted : goal.returns-in-Drop-clause-counted
 returns-in-Drop-clause-counted g c =
-    on_item (g.A.App.meaning c.args.app.now) (item_of c.args.item.now) (Drop c.in-Drop.child c.in-Drop.scope (side_name_of c.in-Drop.side)) c.args.scopes.now.state c.args.calls.now c.take.new.calls c.take.result
-    (ap (λ i. item_of i) (sym c.in-Drop.is)) c.take.ensures.counted
+    on_item (g.A.App.meaning c.args.app.now) (item_of c.args.item.now) (Drop c.in-Drop.child c.in-Drop.scope (side_name_of c.in-Drop.side)) c.args.scopes.now.state c.args.calls.now c.take_first.new.calls c.take_first.result
+    (ap (λ i. item_of i) (sym c.in-Drop.is)) c.take_first.ensures.counted

@@ -11,6 +11,8 @@ use Rattle.run_machine.proofs.Breaking.{in_after, in_along}
 use Rattle.run_machine.proofs.Quiet.{goes_none, goes_more, goes_came}
 use Rattle.run_outside.proofs.Sinks.{took-more, took-to, some-taken, took-ends, ends-low, run-after}
 use Rattle.run_machine.proofs.Turning.{grown_none}
+use Rattle.rt_scopes.proofs.KnownLeft.{knows_none}
+use Rattle.run_state.specs.Mirror.{state_of}
 use Rattle.run_rounds.proofs.Alone.{inside_broke}
 use Rattle.run_rounds.proofs.Breaks.{wanting, breaks_at, idles_at}
 use Rattle.run_rounds.proofs.Inside.{inside_none, inside_on, finish_cut}
@@ -23,6 +25,7 @@ loop-turn-init g c =
       on = λ r edits stands. goes_none (g.A.App.meaning c.args.app.now) (g.met.A.App.lawful c.args.app.now) (limits_of c.args.limits) (counting r c.args.calls.now) edits (g.M.WriteMutations.taken c.args.sink.now) c.args.machine.now stands;
       inside = inside_none c.args.machine.now;
       silent = λ none. (none, refl);
+      knows = λ kept. knows_none (state_of kept c.args.machine.now.scopes.state) c.new-known.result.rows.items c.new-known.ensures.empty;
     }
 
 -- nothing is at work
@@ -53,8 +56,8 @@ returns-in_err-written-clause-finishes g c =
     let more = edits ++ map edit_of on.wrote in
     let works = c.rests.ensures.works c.if-rests.false in
     let keeps = c.in_err-written.ensures.keeps in
-    finish_cut (g.A.App.meaning c.args.app.now) limits (counting r c.turn.new.calls) edits (g.M.WriteMutations.taken c.args.sink.now) (g.M.WriteMutations.taken c.turn.new.sink) c.args.machine.now c.loop-turn.machine c.turn.new.self c.in_err-written.field-0.0 fault why c.loop-turn.invariant.inside works keeps
-    ((goes_came (g.A.App.meaning c.args.app.now) (g.met.A.App.lawful c.args.app.now) limits (counting r c.loop-turn.calls) (now_at c.turn.new.calls r.count) edits (g.M.WriteMutations.taken c.args.sink.now) (g.M.WriteMutations.taken c.loop-turn.sink) (g.M.WriteMutations.taken c.turn.new.sink) c.loop-turn.edits c.loop-turn.machine c.turn.new.self c.in_err-written.field-0.0 on
+    finish_cut (g.A.App.meaning c.args.app.now) limits (counting r c.turn_knowing.new.calls) edits (g.M.WriteMutations.taken c.args.sink.now) (g.M.WriteMutations.taken c.turn_knowing.new.sink) c.args.machine.now c.loop-turn.machine c.turn_knowing.new.self c.in_err-written.field-0.0 fault why c.loop-turn.invariant.inside works keeps
+    ((goes_came (g.A.App.meaning c.args.app.now) (g.met.A.App.lawful c.args.app.now) limits (counting r c.loop-turn.calls) (now_at c.turn_knowing.new.calls r.count) edits (g.M.WriteMutations.taken c.args.sink.now) (g.M.WriteMutations.taken c.loop-turn.sink) (g.M.WriteMutations.taken c.turn_knowing.new.sink) c.loop-turn.edits c.loop-turn.machine c.turn_knowing.new.self c.in_err-written.field-0.0 on
     (c.in_err-written.ensures.turns r more on.stands)).0 fault why)
     )
 
@@ -82,9 +85,9 @@ returns-clause-finishes g c = λ r edits stands fault why. cc
 
 pub loop-turn-preserved : goal.loop-turn-preserved
 loop-turn-preserved g c =
-    let keeps = subst (λ o. TurnKeeps c.loop-turn.machine c.turn.new.self (Ok o)) c.in-Some.is c.in_ok-written.ensures.keeps in
+    let keeps = subst (λ o. TurnKeeps c.loop-turn.machine c.turn_knowing.new.self (Ok o)) c.in-Some.is c.in_ok-written.ensures.keeps in
     record {
-      inside = inside_on c.args.machine.now c.loop-turn.machine c.turn.new.self c.loop-turn.invariant.inside keeps.logs (c.rests.ensures.works c.if-rests.false);
+      inside = inside_on c.args.machine.now c.loop-turn.machine c.turn_knowing.new.self c.loop-turn.invariant.inside keeps.logs (c.rests.ensures.works c.if-rests.false);
       took =
           took-to _ _ _ _ _ _ _ _ _
           (some-taken c.loop-turn.edits c.in-Some.written c.in_ok-edits.edits c.in_ok-written.field-0 c.in-Some.is c.in_ok-edits.ensures)
@@ -94,15 +97,16 @@ loop-turn-preserved g c =
           let limits = limits_of c.args.limits in
           let on = c.loop-turn.invariant.on r edits stands in
           let more = edits ++ map edit_of on.wrote in
-          goes_more (g.A.App.meaning c.args.app.now) (g.met.A.App.lawful c.args.app.now) limits (counting r c.loop-turn.calls) (now_at c.turn.new.calls r.count) edits (g.M.WriteMutations.taken c.args.sink.now) (g.M.WriteMutations.taken c.loop-turn.sink) (g.M.WriteMutations.taken c.turn.new.sink) c.loop-turn.edits c.in-Some.written c.in_ok-edits.edits c.loop-turn.machine c.turn.new.self on
+          goes_more (g.A.App.meaning c.args.app.now) (g.met.A.App.lawful c.args.app.now) limits (counting r c.loop-turn.calls) (now_at c.turn_knowing.new.calls r.count) edits (g.M.WriteMutations.taken c.args.sink.now) (g.M.WriteMutations.taken c.loop-turn.sink) (g.M.WriteMutations.taken c.turn_knowing.new.sink) c.loop-turn.edits c.in-Some.written c.in_ok-edits.edits c.loop-turn.machine c.turn_knowing.new.self on
           c.in_ok-edits.ensures
-          (subst (λ o. TurnsAs (g.A.App.meaning c.args.app.now) limits (counting r c.turn.new.calls) more (g.M.WriteMutations.taken c.loop-turn.sink) (g.M.WriteMutations.taken c.turn.new.sink) c.loop-turn.machine c.turn.new.self (Ok o)) c.in-Some.is
+          (subst (λ o. TurnsAs (g.A.App.meaning c.args.app.now) limits (counting r c.turn_knowing.new.calls) more (g.M.WriteMutations.taken c.loop-turn.sink) (g.M.WriteMutations.taken c.turn_knowing.new.sink) c.loop-turn.machine c.turn_knowing.new.self (Ok o)) c.in-Some.is
           (c.in_ok-written.ensures.turns r more on.stands));
       silent =
           λ none.
           let before = c.loop-turn.invariant.silent none in
           let after = keeps.silent before.0 in
           (after.0, after.1 ∙ before.1);
+      knows = c.in_ok-written.ensures.knows;
     }
 
 pub returns-in_err-written-clause-breaks : goal.returns-in_err-written-clause-breaks
@@ -117,10 +121,10 @@ returns-in_err-written-clause-breaks g c =
     let more = edits ++ map edit_of on.wrote in
     let before = g.M.WriteMutations.taken c.args.sink.now in
     let now = g.M.WriteMutations.taken c.loop-turn.sink in
-    let after = g.M.WriteMutations.taken c.turn.new.sink in
+    let after = g.M.WriteMutations.taken c.turn_knowing.new.sink in
     let ended = c.in_err-written.field-0.0 in
-    inside_broke app limits (counting r c.turn.new.calls) edits before after ended c.args.machine.now c.loop-turn.machine c.loop-turn.invariant.inside
-    (in_after app limits (counting r c.loop-turn.calls) (now_at c.turn.new.calls r.count) (r.opened ++ noted c.loop-turn.machine) edits before now after c.loop-turn.edits c.loop-turn.machine ended on
+    inside_broke app limits (counting r c.turn_knowing.new.calls) edits before after ended c.args.machine.now c.loop-turn.machine c.loop-turn.invariant.inside
+    (in_after app limits (counting r c.loop-turn.calls) (now_at c.turn_knowing.new.calls r.count) (r.opened ++ noted c.loop-turn.machine) edits before now after c.loop-turn.edits c.loop-turn.machine ended on
     ((c.in_err-written.ensures.turns r more on.stands).1 none))
     )
 
@@ -137,13 +141,13 @@ returns-in_err-edits-clause-breaks g c =
     let more = edits ++ map edit_of on.wrote in
     let before = g.M.WriteMutations.taken c.args.sink.now in
     let now = g.M.WriteMutations.taken c.loop-turn.sink in
-    let after = g.M.WriteMutations.taken c.turn.new.sink in
-    let keeps = subst (λ o. TurnKeeps c.loop-turn.machine c.turn.new.self (Ok o)) c.in-Some.is c.in_ok-written.ensures.keeps in
-    inside_broke app limits (counting r c.turn.new.calls) edits before after wanting c.args.machine.now c.turn.new.self
-    (inside_on c.args.machine.now c.loop-turn.machine c.turn.new.self c.loop-turn.invariant.inside keeps.logs (c.rests.ensures.works c.if-rests.false))
-    (breaks_at app lawful limits (counting r c.turn.new.calls) edits before after (c.loop-turn.edits + c.in-Some.written) c.turn.new.self
-    (goes_more app lawful limits (counting r c.loop-turn.calls) (now_at c.turn.new.calls r.count) edits before now after c.loop-turn.edits c.in-Some.written (c.loop-turn.edits + c.in-Some.written) c.loop-turn.machine c.turn.new.self on refl
-    (subst (λ o. TurnsAs app limits (counting r c.turn.new.calls) more now after c.loop-turn.machine c.turn.new.self (Ok o)) c.in-Some.is
+    let after = g.M.WriteMutations.taken c.turn_knowing.new.sink in
+    let keeps = subst (λ o. TurnKeeps c.loop-turn.machine c.turn_knowing.new.self (Ok o)) c.in-Some.is c.in_ok-written.ensures.keeps in
+    inside_broke app limits (counting r c.turn_knowing.new.calls) edits before after wanting c.args.machine.now c.turn_knowing.new.self
+    (inside_on c.args.machine.now c.loop-turn.machine c.turn_knowing.new.self c.loop-turn.invariant.inside keeps.logs (c.rests.ensures.works c.if-rests.false))
+    (breaks_at app lawful limits (counting r c.turn_knowing.new.calls) edits before after (c.loop-turn.edits + c.in-Some.written) c.turn_knowing.new.self
+    (goes_more app lawful limits (counting r c.loop-turn.calls) (now_at c.turn_knowing.new.calls r.count) edits before now after c.loop-turn.edits c.in-Some.written (c.loop-turn.edits + c.in-Some.written) c.loop-turn.machine c.turn_knowing.new.self on refl
+    (subst (λ o. TurnsAs app limits (counting r c.turn_knowing.new.calls) more now after c.loop-turn.machine c.turn_knowing.new.self (Ok o)) c.in-Some.is
     (c.in_ok-written.ensures.turns r more on.stands))))
     )
 
@@ -157,12 +161,12 @@ returns-in_default-clause-breaks g c =
     let more = edits ++ map edit_of on.wrote in
     let before = g.M.WriteMutations.taken c.args.sink.now in
     let now = g.M.WriteMutations.taken c.loop-turn.sink in
-    let after = g.M.WriteMutations.taken c.turn.new.sink in
+    let after = g.M.WriteMutations.taken c.turn_knowing.new.sink in
     let idle =
-    subst (λ o. TurnsAs app limits (counting r c.turn.new.calls) more now after c.loop-turn.machine c.turn.new.self (Ok o)) c.in_default.is
+    subst (λ o. TurnsAs app limits (counting r c.turn_knowing.new.calls) more now after c.loop-turn.machine c.turn_knowing.new.self (Ok o)) c.in_default.is
     (c.in_ok-written.ensures.turns r more on.stands) in
-    inside_broke app limits (counting r c.turn.new.calls) edits before after wanting c.args.machine.now c.loop-turn.machine c.loop-turn.invariant.inside
-    (in_along app limits (counting r c.loop-turn.calls) (now_at c.turn.new.calls r.count) (r.opened ++ noted c.loop-turn.machine) edits before after wanting
+    inside_broke app limits (counting r c.turn_knowing.new.calls) edits before after wanting c.args.machine.now c.loop-turn.machine c.loop-turn.invariant.inside
+    (in_along app limits (counting r c.loop-turn.calls) (now_at c.turn_knowing.new.calls r.count) (r.opened ++ noted c.loop-turn.machine) edits before after wanting
     (idles_at app lawful limits (counting r c.loop-turn.calls) edits before now after c.loop-turn.edits c.loop-turn.machine on idle.0))
 
 pub returns-clause-breaks : goal.returns-clause-breaks

@@ -1,10 +1,12 @@
--- The edits of the turns so far were taken, and the build or the unit at work stands with them.
+-- The edits of the turns so far were taken, and the build or the unit at work stands with them. What is known of scopes holds.
 use Rattle.std.proofs.Common.{◌≡◌}
 use Rattle.std.specs.Prelude.{None}
 use Rattle.run_reports.specs.Seen.{limits_of}
 use Rattle.run_outside.specs.Ends.{Took}
 use Rattle.run_machine.specs.Stands.{StandsAt, GoesOn, counting}
 use Rattle.run_rounds.specs.Going.{Inside}
+use Rattle.rt_scopes.specs.Knowing.{Knows}
+use Rattle.run_state.specs.Mirror.{state_of}
 use Rattle.run_rounds.proofs.building.finish.Given as goal
 
 abbrev pub invariant-loop-turn : goal.invariant-loop-turn
@@ -16,4 +18,5 @@ invariant-loop-turn g l = record {
       → GoesOn (g.A.App.meaning l.app) (limits_of l.fn.limits) (counting r l.calls) edits (g.M.WriteMutations.taken l.fn.sink) (g.M.WriteMutations.taken l.sink) l.edits l.machine;
   inside : Inside l.fn.machine l.machine;
   silent : l.fn.machine.hearing ≡ None → (l.machine.hearing ≡ None) × (l.machine.default_enabled ≡ l.fn.machine.default_enabled);
+  knows : (kept : _) → Knows (state_of kept l.machine.scopes.state) l.known.rows.items;
 }

@@ -10,6 +10,8 @@ use Rattle.run_machine.specs.Stands.{TurnsAs, counting}
 use Rattle.run_machine.proofs.Breaking.{in_after, in_along}
 use Rattle.run_outside.proofs.Sinks.{took-more, took-to, some-taken, took-ends, ends-low, run-after}
 use Rattle.run_machine.proofs.Turning.{grown_none}
+use Rattle.rt_scopes.proofs.KnownLeft.{knows_none}
+use Rattle.run_state.specs.Mirror.{state_of}
 use Rattle.run_answers.specs.Untils.{until_of}
 use Rattle.run_rounds.proofs.Breaks.{wanting, breaks_at, idles_at}
 use Rattle.run_rounds.proofs.Broken.{until_broke}
@@ -21,6 +23,7 @@ loop-turn-init g c =
     record {
       took = record { edits = []; told = grown_none (g.M.WriteMutations.taken c.args.sink.now); counted = refl; later = search rules };
       on = λ r edits stands. gone_none (g.A.App.meaning c.args.app.now) (g.met.A.App.lawful c.args.app.now) (limits_of c.args.limits) (counting r c.args.calls.now) (until_of c.args.until) edits (g.M.WriteMutations.taken c.args.sink.now) c.args.machine.now stands;
+      knows = λ kept. knows_none (state_of kept c.args.machine.now.scopes.state) c.new-known.result.rows.items c.new-known.ensures.empty;
     }
 
 -- the test holds
@@ -48,7 +51,7 @@ returns-in_err-written-clause-goes g c =
     let limits = limits_of c.args.limits in
     let on = c.loop-turn.invariant.on r edits stands in
     let more = edits ++ map edit_of (on.on).wrote in
-    gone_came (g.A.App.meaning c.args.app.now) (g.met.A.App.lawful c.args.app.now) limits (counting r c.loop-turn.calls) (until_of c.args.until) (now_at c.turn.new.calls r.count) edits (g.M.WriteMutations.taken c.args.sink.now) (g.M.WriteMutations.taken c.loop-turn.sink) (g.M.WriteMutations.taken c.turn.new.sink) c.loop-turn.edits c.args.machine.now c.loop-turn.machine c.turn.new.self c.in_err-written.field-0.0 on
+    gone_came (g.A.App.meaning c.args.app.now) (g.met.A.App.lawful c.args.app.now) limits (counting r c.loop-turn.calls) (until_of c.args.until) (now_at c.turn_knowing.new.calls r.count) edits (g.M.WriteMutations.taken c.args.sink.now) (g.M.WriteMutations.taken c.loop-turn.sink) (g.M.WriteMutations.taken c.turn_knowing.new.sink) c.loop-turn.edits c.args.machine.now c.loop-turn.machine c.turn_knowing.new.self c.in_err-written.field-0.0 on
     (c.in_err-written.ensures.turns r more (on.on).stands) c.in_err-written.ensures.keeps (λ units out. ap (λ n. now_at n r.count) (c.in_err-written.ensures.uncalled units out)) (c.ended.ensures.goes c.if-ended.false)
     )
 
@@ -86,12 +89,13 @@ loop-turn-preserved g c =
           let limits = limits_of c.args.limits in
           let on = c.loop-turn.invariant.on r edits stands in
           let more = edits ++ map edit_of (on.on).wrote in
-          gone_more (g.A.App.meaning c.args.app.now) (g.met.A.App.lawful c.args.app.now) limits (counting r c.loop-turn.calls) (until_of c.args.until) (now_at c.turn.new.calls r.count) edits (g.M.WriteMutations.taken c.args.sink.now) (g.M.WriteMutations.taken c.loop-turn.sink) (g.M.WriteMutations.taken c.turn.new.sink) c.loop-turn.edits c.in-Some.written c.in_ok-edits.edits c.args.machine.now c.loop-turn.machine c.turn.new.self on
+          gone_more (g.A.App.meaning c.args.app.now) (g.met.A.App.lawful c.args.app.now) limits (counting r c.loop-turn.calls) (until_of c.args.until) (now_at c.turn_knowing.new.calls r.count) edits (g.M.WriteMutations.taken c.args.sink.now) (g.M.WriteMutations.taken c.loop-turn.sink) (g.M.WriteMutations.taken c.turn_knowing.new.sink) c.loop-turn.edits c.in-Some.written c.in_ok-edits.edits c.args.machine.now c.loop-turn.machine c.turn_knowing.new.self on
           c.in_ok-edits.ensures
-          (subst (λ o. TurnsAs (g.A.App.meaning c.args.app.now) limits (counting r c.turn.new.calls) more (g.M.WriteMutations.taken c.loop-turn.sink) (g.M.WriteMutations.taken c.turn.new.sink) c.loop-turn.machine c.turn.new.self (Ok o)) c.in-Some.is
+          (subst (λ o. TurnsAs (g.A.App.meaning c.args.app.now) limits (counting r c.turn_knowing.new.calls) more (g.M.WriteMutations.taken c.loop-turn.sink) (g.M.WriteMutations.taken c.turn_knowing.new.sink) c.loop-turn.machine c.turn_knowing.new.self (Ok o)) c.in-Some.is
           (c.in_ok-written.ensures.turns r more (on.on).stands))
-          (subst (λ o. TurnKeeps c.loop-turn.machine c.turn.new.self (Ok o)) c.in-Some.is c.in_ok-written.ensures.keeps)
+          (subst (λ o. TurnKeeps c.loop-turn.machine c.turn_knowing.new.self (Ok o)) c.in-Some.is c.in_ok-written.ensures.keeps)
           (c.ended.ensures.goes c.if-ended.false);
+      knows = c.in_ok-written.ensures.knows;
     }
 
 pub returns-in_err-written-clause-breaks : goal.returns-in_err-written-clause-breaks
@@ -104,15 +108,15 @@ returns-in_err-written-clause-breaks g c =
     let lawful = g.met.A.App.lawful c.args.app.now in
     let limits = limits_of c.args.limits in
     let until = until_of c.args.until in
-    let along = now_at c.turn.new.calls r.count in
+    let along = now_at c.turn_knowing.new.calls r.count in
     let far = c.loop-turn.invariant.on r edits stands in
     let on = far.on in
     let more = edits ++ map edit_of on.wrote in
     let before = g.M.WriteMutations.taken c.args.sink.now in
     let now = g.M.WriteMutations.taken c.loop-turn.sink in
-    let after = g.M.WriteMutations.taken c.turn.new.sink in
+    let after = g.M.WriteMutations.taken c.turn_knowing.new.sink in
     let ended = c.in_err-written.field-0.0 in
-    until_broke app lawful limits (counting r c.turn.new.calls) until edits before after ended c.args.machine.now c.loop-turn.machine
+    until_broke app lawful limits (counting r c.turn_knowing.new.calls) until edits before after ended c.args.machine.now c.loop-turn.machine
     (grown_along app lawful limits (counting r c.loop-turn.calls) until along c.args.machine.now c.loop-turn.machine far.grown)
     (in_after app limits (counting r c.loop-turn.calls) along (r.opened ++ noted c.loop-turn.machine) edits before now after c.loop-turn.edits c.loop-turn.machine ended on
     ((c.in_err-written.ensures.turns r more on.stands).1 none))
@@ -128,21 +132,21 @@ returns-in_err-edits-clause-breaks g c =
     let lawful = g.met.A.App.lawful c.args.app.now in
     let limits = limits_of c.args.limits in
     let until = until_of c.args.until in
-    let along = now_at c.turn.new.calls r.count in
+    let along = now_at c.turn_knowing.new.calls r.count in
     let far = c.loop-turn.invariant.on r edits stands in
     let on = far.on in
     let more = edits ++ map edit_of on.wrote in
     let before = g.M.WriteMutations.taken c.args.sink.now in
     let now = g.M.WriteMutations.taken c.loop-turn.sink in
-    let after = g.M.WriteMutations.taken c.turn.new.sink in
+    let after = g.M.WriteMutations.taken c.turn_knowing.new.sink in
     let gone =
-    gone_more app lawful limits (counting r c.loop-turn.calls) until along edits before now after c.loop-turn.edits c.in-Some.written (c.loop-turn.edits + c.in-Some.written) c.args.machine.now c.loop-turn.machine c.turn.new.self far refl
-    (subst (λ o. TurnsAs app limits (counting r c.turn.new.calls) more now after c.loop-turn.machine c.turn.new.self (Ok o)) c.in-Some.is
+    gone_more app lawful limits (counting r c.loop-turn.calls) until along edits before now after c.loop-turn.edits c.in-Some.written (c.loop-turn.edits + c.in-Some.written) c.args.machine.now c.loop-turn.machine c.turn_knowing.new.self far refl
+    (subst (λ o. TurnsAs app limits (counting r c.turn_knowing.new.calls) more now after c.loop-turn.machine c.turn_knowing.new.self (Ok o)) c.in-Some.is
     (c.in_ok-written.ensures.turns r more on.stands))
-    (subst (λ o. TurnKeeps c.loop-turn.machine c.turn.new.self (Ok o)) c.in-Some.is c.in_ok-written.ensures.keeps)
+    (subst (λ o. TurnKeeps c.loop-turn.machine c.turn_knowing.new.self (Ok o)) c.in-Some.is c.in_ok-written.ensures.keeps)
     (c.ended.ensures.goes c.if-ended.false) in
-    until_broke app lawful limits (counting r c.turn.new.calls) until edits before after wanting c.args.machine.now c.turn.new.self gone.grown
-    (breaks_at app lawful limits (counting r c.turn.new.calls) edits before after (c.loop-turn.edits + c.in-Some.written) c.turn.new.self gone.on)
+    until_broke app lawful limits (counting r c.turn_knowing.new.calls) until edits before after wanting c.args.machine.now c.turn_knowing.new.self gone.grown
+    (breaks_at app lawful limits (counting r c.turn_knowing.new.calls) edits before after (c.loop-turn.edits + c.in-Some.written) c.turn_knowing.new.self gone.on)
     )
 
 pub returns-in_default-clause-breaks : goal.returns-in_default-clause-breaks
@@ -152,17 +156,17 @@ returns-in_default-clause-breaks g c =
     let lawful = g.met.A.App.lawful c.args.app.now in
     let limits = limits_of c.args.limits in
     let until = until_of c.args.until in
-    let along = now_at c.turn.new.calls r.count in
+    let along = now_at c.turn_knowing.new.calls r.count in
     let far = c.loop-turn.invariant.on r edits stands in
     let on = far.on in
     let more = edits ++ map edit_of on.wrote in
     let before = g.M.WriteMutations.taken c.args.sink.now in
     let now = g.M.WriteMutations.taken c.loop-turn.sink in
-    let after = g.M.WriteMutations.taken c.turn.new.sink in
+    let after = g.M.WriteMutations.taken c.turn_knowing.new.sink in
     let idle =
-    subst (λ o. TurnsAs app limits (counting r c.turn.new.calls) more now after c.loop-turn.machine c.turn.new.self (Ok o)) c.in_default.is
+    subst (λ o. TurnsAs app limits (counting r c.turn_knowing.new.calls) more now after c.loop-turn.machine c.turn_knowing.new.self (Ok o)) c.in_default.is
     (c.in_ok-written.ensures.turns r more on.stands) in
-    until_broke app lawful limits (counting r c.turn.new.calls) until edits before after wanting c.args.machine.now c.loop-turn.machine
+    until_broke app lawful limits (counting r c.turn_knowing.new.calls) until edits before after wanting c.args.machine.now c.loop-turn.machine
     (grown_along app lawful limits (counting r c.loop-turn.calls) until along c.args.machine.now c.loop-turn.machine far.grown)
     (in_along app limits (counting r c.loop-turn.calls) along (r.opened ++ noted c.loop-turn.machine) edits before after wanting
     (idles_at app lawful limits (counting r c.loop-turn.calls) edits before now after c.loop-turn.edits c.loop-turn.machine on idle.0))

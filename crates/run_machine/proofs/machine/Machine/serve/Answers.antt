@@ -27,3 +27,6 @@ returns-in_ok-serve_low-in-None-clause-serves g c =
 
 pub returns-in_ok-serve_low-in-None-clause-counted : goal.returns-in_ok-serve_low-in-None-clause-counted
 returns-in_ok-serve_low-in-None-clause-counted g c = c.in_ok-serve_low-in-None.ensures.counted
+
+pub returns-in_ok-serve_low-in-None-clause-knows : goal.returns-in_ok-serve_low-in-None-clause-knows
+returns-in_ok-serve_low-in-None-clause-knows g c = c.in_ok-serve_low-in-None.ensures.knows

@@ -8,6 +8,8 @@ use Rattle.run_machine.specs.Stands.{StandsAt, TurnsAs, counting}
 use Rattle.run_machine.proofs.Quiet.{goes_none, goes_more, goes_over, goes_came, goes_wanting}
 use Rattle.run_outside.proofs.Sinks.{took-more, took-to, none-taken, some-taken, took-ends, ends-low, run-after}
 use Rattle.run_machine.proofs.Turning.{grown_none}
+use Rattle.rt_scopes.proofs.KnownLeft.{knows_none}
+use Rattle.run_state.specs.Mirror.{state_of}
 use Rattle.run_machine.proofs.machine.Machine.settle.Goals as goal
 
 pub loop-turn-init : goal.loop-turn-init
@@ -15,6 +17,7 @@ loop-turn-init g c =
     record {
       took = record { edits = []; told = grown_none (g.M.WriteMutations.taken c.args.sink.now); counted = refl; later = search rules };
       on = λ r edits stands. goes_none (g.A.App.meaning c.args.app.now) (g.met.A.App.lawful c.args.app.now) (limits_of c.args.limits) (counting r c.args.calls.now) edits (g.M.WriteMutations.taken c.args.sink.now) c.args.self.now stands;
+      knows = λ kept. knows_none (state_of kept c.args.self.now.scopes.state) c.new-known.result.rows.items c.new-known.ensures.empty;
     }
 
 pub returns-in_err-written-clause-err : goal.returns-in_err-written-clause-err
@@ -31,7 +34,7 @@ returns-in_err-written-clause-settles g c =
     let limits = limits_of c.args.limits in
     let on = c.loop-turn.invariant.on r edits stands in
     let more = edits ++ map edit_of on.wrote in
-    goes_came (g.A.App.meaning c.args.app.now) (g.met.A.App.lawful c.args.app.now) limits (counting r c.loop-turn.calls) (now_at c.turn.new.calls r.count) edits (g.M.WriteMutations.taken c.args.sink.now) (g.M.WriteMutations.taken c.loop-turn.sink) (g.M.WriteMutations.taken c.turn.new.sink) c.loop-turn.edits c.loop-turn.self c.turn.new.self c.in_err-written.field-0.0 on
+    goes_came (g.A.App.meaning c.args.app.now) (g.met.A.App.lawful c.args.app.now) limits (counting r c.loop-turn.calls) (now_at c.turn_knowing.new.calls r.count) edits (g.M.WriteMutations.taken c.args.sink.now) (g.M.WriteMutations.taken c.loop-turn.sink) (g.M.WriteMutations.taken c.turn_knowing.new.sink) c.loop-turn.edits c.loop-turn.self c.turn_knowing.new.self c.in_err-written.field-0.0 on
     (c.in_err-written.ensures.turns r more on.stands)
     )
 
@@ -45,8 +48,8 @@ returns-in_default-clause-settles g c =
     let limits = limits_of c.args.limits in
     let on = c.loop-turn.invariant.on r edits stands in
     let more = edits ++ map edit_of on.wrote in
-    goes_over (g.A.App.meaning c.args.app.now) (g.met.A.App.lawful c.args.app.now) limits (counting r c.loop-turn.calls) (now_at c.turn.new.calls r.count) edits (g.M.WriteMutations.taken c.args.sink.now) (g.M.WriteMutations.taken c.loop-turn.sink) (g.M.WriteMutations.taken c.turn.new.sink) c.loop-turn.edits c.loop-turn.self c.turn.new.self on
-    (subst (λ o. TurnsAs (g.A.App.meaning c.args.app.now) limits (counting r c.turn.new.calls) more (g.M.WriteMutations.taken c.loop-turn.sink) (g.M.WriteMutations.taken c.turn.new.sink) c.loop-turn.self c.turn.new.self (Ok o)) c.in_default.is
+    goes_over (g.A.App.meaning c.args.app.now) (g.met.A.App.lawful c.args.app.now) limits (counting r c.loop-turn.calls) (now_at c.turn_knowing.new.calls r.count) edits (g.M.WriteMutations.taken c.args.sink.now) (g.M.WriteMutations.taken c.loop-turn.sink) (g.M.WriteMutations.taken c.turn_knowing.new.sink) c.loop-turn.edits c.loop-turn.self c.turn_knowing.new.self on
+    (subst (λ o. TurnsAs (g.A.App.meaning c.args.app.now) limits (counting r c.turn_knowing.new.calls) more (g.M.WriteMutations.taken c.loop-turn.sink) (g.M.WriteMutations.taken c.turn_knowing.new.sink) c.loop-turn.self c.turn_knowing.new.self (Ok o)) c.in_default.is
     (c.in_ok-written.ensures.turns r more on.stands))
 
 pub returns-in_err-edits-clause-err : goal.returns-in_err-edits-clause-err
@@ -64,9 +67,9 @@ returns-in_err-edits-clause-settles g c =
     let limits = limits_of c.args.limits in
     let on = c.loop-turn.invariant.on r edits stands in
     let more = edits ++ map edit_of on.wrote in
-    goes_wanting (g.A.App.meaning c.args.app.now) (g.met.A.App.lawful c.args.app.now) limits (counting r c.turn.new.calls) edits (g.M.WriteMutations.taken c.args.sink.now) (g.M.WriteMutations.taken c.turn.new.sink) (c.loop-turn.edits + c.in-Some.written) c.turn.new.self c.turn.new.self
-    (goes_more (g.A.App.meaning c.args.app.now) (g.met.A.App.lawful c.args.app.now) limits (counting r c.loop-turn.calls) (now_at c.turn.new.calls r.count) edits (g.M.WriteMutations.taken c.args.sink.now) (g.M.WriteMutations.taken c.loop-turn.sink) (g.M.WriteMutations.taken c.turn.new.sink) c.loop-turn.edits c.in-Some.written (c.loop-turn.edits + c.in-Some.written) c.loop-turn.self c.turn.new.self on refl
-    (subst (λ o. TurnsAs (g.A.App.meaning c.args.app.now) limits (counting r c.turn.new.calls) more (g.M.WriteMutations.taken c.loop-turn.sink) (g.M.WriteMutations.taken c.turn.new.sink) c.loop-turn.self c.turn.new.self (Ok o)) c.in-Some.is
+    goes_wanting (g.A.App.meaning c.args.app.now) (g.met.A.App.lawful c.args.app.now) limits (counting r c.turn_knowing.new.calls) edits (g.M.WriteMutations.taken c.args.sink.now) (g.M.WriteMutations.taken c.turn_knowing.new.sink) (c.loop-turn.edits + c.in-Some.written) c.turn_knowing.new.self c.turn_knowing.new.self
+    (goes_more (g.A.App.meaning c.args.app.now) (g.met.A.App.lawful c.args.app.now) limits (counting r c.loop-turn.calls) (now_at c.turn_knowing.new.calls r.count) edits (g.M.WriteMutations.taken c.args.sink.now) (g.M.WriteMutations.taken c.loop-turn.sink) (g.M.WriteMutations.taken c.turn_knowing.new.sink) c.loop-turn.edits c.in-Some.written (c.loop-turn.edits + c.in-Some.written) c.loop-turn.self c.turn_knowing.new.self on refl
+    (subst (λ o. TurnsAs (g.A.App.meaning c.args.app.now) limits (counting r c.turn_knowing.new.calls) more (g.M.WriteMutations.taken c.loop-turn.sink) (g.M.WriteMutations.taken c.turn_knowing.new.sink) c.loop-turn.self c.turn_knowing.new.self (Ok o)) c.in-Some.is
     (c.in_ok-written.ensures.turns r more on.stands)))
     )
 
@@ -88,8 +91,9 @@ loop-turn-preserved g c =
           let limits = limits_of c.args.limits in
           let on = c.loop-turn.invariant.on r edits stands in
           let more = edits ++ map edit_of on.wrote in
-          goes_more (g.A.App.meaning c.args.app.now) (g.met.A.App.lawful c.args.app.now) limits (counting r c.loop-turn.calls) (now_at c.turn.new.calls r.count) edits (g.M.WriteMutations.taken c.args.sink.now) (g.M.WriteMutations.taken c.loop-turn.sink) (g.M.WriteMutations.taken c.turn.new.sink) c.loop-turn.edits c.in-Some.written c.in_ok-edits.edits c.loop-turn.self c.turn.new.self on
+          goes_more (g.A.App.meaning c.args.app.now) (g.met.A.App.lawful c.args.app.now) limits (counting r c.loop-turn.calls) (now_at c.turn_knowing.new.calls r.count) edits (g.M.WriteMutations.taken c.args.sink.now) (g.M.WriteMutations.taken c.loop-turn.sink) (g.M.WriteMutations.taken c.turn_knowing.new.sink) c.loop-turn.edits c.in-Some.written c.in_ok-edits.edits c.loop-turn.self c.turn_knowing.new.self on
           c.in_ok-edits.ensures
-          (subst (λ o. TurnsAs (g.A.App.meaning c.args.app.now) limits (counting r c.turn.new.calls) more (g.M.WriteMutations.taken c.loop-turn.sink) (g.M.WriteMutations.taken c.turn.new.sink) c.loop-turn.self c.turn.new.self (Ok o)) c.in-Some.is
+          (subst (λ o. TurnsAs (g.A.App.meaning c.args.app.now) limits (counting r c.turn_knowing.new.calls) more (g.M.WriteMutations.taken c.loop-turn.sink) (g.M.WriteMutations.taken c.turn_knowing.new.sink) c.loop-turn.self c.turn_knowing.new.self (Ok o)) c.in-Some.is
           (c.in_ok-written.ensures.turns r more on.stands));
+      knows = c.in_ok-written.ensures.knows;
     }

@@ -58,3 +58,6 @@ pub returns-in-Err-clause-keeps : goal.returns-in-Err-clause-keeps
 returns-in-Err-clause-keeps g c =
     refused_keeps (g.A.App.meaning c.args.app.now) (state_of at_first c.args.self.now.scopes.state) (item_of c.args.item.now) _ _ c.args.self.now c.serve.new.self c.in-Err.ended c.cut.result
     (c.in-Err.ensures.serves at_first) (λ fault why. (c.cut.ensures.cuts fault why).0) (ap (λ d. d.hearing) c.serve.ensures.others) (ap (λ d. d.default_enabled) c.serve.ensures.others)
+
+pub returns-in-Ok-clause-knows : goal.returns-in-Ok-clause-knows
+returns-in-Ok-clause-knows g c = c.in-Ok.ensures.knows
