@@ -1,6 +1,7 @@
 -- What is appended leaves what was there.
 use Rattle.std.proofs.Common.{ℕ, Bool, true, ◌&&◌, ◌||◌, List, [], ◌∷◌, ◌++◌, ◌≡◌, sym, ap, ◌∙◌}
 use Rattle.std.specs.Prelude.{Option, Some}
+use Rattle.law_headline.proofs.StandIns.{stays_first as child_stays}
 use Rattle.rt_model.specs.Tree.{Types, Place, same_place, Kind, same_kind, Spot, node_at, component_at}
 use Rattle.rt_model.specs.State.{Side}
 use Rattle.rt_model.specs.Run.{child_at}
@@ -20,13 +21,6 @@ number_stays (e ∷ xs) ys p k h =
     pick_false e.2 (number_at (xs ++ ys) p k) r
     ∙ number_stays xs ys p k (sym (ap (λ (b : Bool). b || is_numbered xs p k) r) ∙ h)
     ∙ sym (pick_false e.2 (number_at xs p k) r))
-
-child_stays : (xs ys : List (Place × ℕ)) (p : Place) (t : ℕ) → child_at xs p ≡ Some t → child_at (xs ++ ys) p ≡ Some t
-child_stays [] ys p t h = cc
-child_stays (e ∷ xs) ys p t h =
-    by_test (same_place e.0 p)
-    (λ r. pick_true (Some e.1) (child_at (xs ++ ys) p) r ∙ sym (pick_true (Some e.1) (child_at xs p) r) ∙ h)
-    (λ r. pick_false (Some e.1) (child_at (xs ++ ys) p) r ∙ child_stays xs ys p t (sym (pick_false (Some e.1) (child_at xs p) r) ∙ h))
 
 module _ {K : Types} where
   pub appended_agrees : (s t : Side K) (f g : ℕ → Forest) (numbers : List (Place × Kind × ℕ)) (children : List (Place × ℕ)) (spot : Spot K)

@@ -3,6 +3,7 @@ pub mod Written
 pub mod Known
 pub mod Brought
 pub mod Behind
+pub mod Fresh
 pub mod Alike
 pub mod Served
 pub mod Appended

@@ -1,6 +1,6 @@
 -- What is written at the marks of two trees is what the definitions write of them.
-use Rattle.std.proofs.Common.{ℕ, zero, suc, ◌+◌, Bool, false, ◌&&◌, List, [], ◌∷◌, ◌++◌, ◌≡◌, length, map, refl, sym, ap, subst, ◌∙◌, append-nil, length-append, arith}
-use Rattle.std.specs.Prelude.{Option, Some, None, not, if◌then◌else◌}
+use Rattle.std.proofs.Common.{ℕ, zero, suc, ◌+◌, Bool, false, List, [], ◌∷◌, ◌++◌, ◌≡◌, length, map, refl, sym, ap, subst, ◌∙◌, append-nil, length-append, arith}
+use Rattle.std.specs.Prelude.{Option, Some, None}
 use Rattle.rt_model.specs.Lists.{same_numbers}
 use Rattle.rt_model.specs.Tree.{Types, TemplateNodes, no_nodes, element_node, text_node, slot_node, Template, same_template, Tree, block, Slots, no_slots, more_slots, Slot, text_slot, placeholder_slot, component_slot, fragment_slot, Trees, no_trees, more_trees, item, Place, Spot, node_at, component_at, place_in, spots, slots_spots, slot_spots, item_spots}
 use Rattle.rt_model.specs.World.{Application}
@@ -8,25 +8,15 @@ use Rattle.rt_model.specs.Values.{is_same_component}
 use Rattle.rt_model.specs.Run.{child_at}
 use Rattle.rt_model.specs.Document.{Edit, InsertNodesAfter}
 use Rattle.rt_model.specs.View.{tree_view, slot_view, items_view}
-use Rattle.rt_model.specs.Caused.{Both, Written, writes, halts, then_on, is_place, built_whole, replaced_by, last_of, any_around, attributes_written, slot_pass, child_written, tree_written, slots_written, slot_written, items_written}
+use Rattle.rt_model.specs.Caused.{Both, Written, writes, halts, then_on, replaced_by, last_of, any_around, attributes_written, slot_pass, child_written, tree_written, slots_written, slot_written, items_written}
 use Rattle.rt_model.proofs.Maps.{by_test, pick_false}
 use Rattle.law_moves.specs.Settings.{Brings}
 use Rattle.law_moves.specs.Meets.{ChildBrings, TreeMeets, tree_claims}
-use Rattle.law_headline.proofs.Sweep.{tree_performs}
+use Rattle.law_headline.proofs.Sweep.{tree_performs, whole_built, child_goes}
 use Rattle.tree_marks.specs.Marks.{Mark, stays, slot_way, tree_way, come_in, go_out, lone, gone, come, changed, template_marks, tree_marks, slots_marks, slot_marks, items_marks}
 use Rattle.tree_marks.specs.Writing.{last_among, mark_writes, all_written}
 use Rattle.law_patch.specs.Written.{GoesOn}
 use Rattle.run_work.proofs.Joins.{joined_append}
-
--- where no place is refused, what is built is written whole
-whole_built : (stop : Option Place) (place : Place) (es : List Edit) → stop ≡ None → built_whole stop place es ≡ writes es
-whole_built None place es h = refl
-whole_built (Some p) place es h = cc
-
--- a child is swept where no place is refused
-child_goes : (stop : Option Place) (place : Place) (on_way : Bool) (w : Written) → stop ≡ None → (if is_place place stop && not on_way then halts else w) ≡ w
-child_goes None place on_way w h = refl
-child_goes (Some p) place on_way w h = cc
 
 -- what didn't stop is its edits
 all_of : (w : Written) → w.stopped ≡ false → w ≡ writes w.edits

@@ -10,4 +10,6 @@ mod serving;
 
 pub use marks::{marks_are_events, marks_are_written, marks_bring, marks_do};
 pub use rows::{row_empties, row_grows, row_moves};
-pub use serving::{appended_agrees, marks_read_behind, served_is_written, written_so_far};
+pub use serving::{
+    appended_agrees, marks_read_behind, marks_read_fresh, served_is_written, written_so_far,
+};

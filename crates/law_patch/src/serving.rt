@@ -4,11 +4,17 @@ ghost use Rattle.rt_model.specs.OneLog.{types};
 ghost use Rattle.rt_model.specs.World.{Application};
 ghost use Rattle.law_patch.specs.Appended.{AppendedAgrees};
 ghost use Rattle.law_patch.specs.Behind.{MarksReadBehind};
+ghost use Rattle.law_patch.specs.Fresh.{MarksReadFresh};
 ghost use Rattle.law_patch.specs.SoFar.{ServedIsWritten, WrittenSoFar};
 
 /// A mark reads of the new tree what was met in front of it.
 pub fn marks_read_behind<C, P, V, H, T, E, L>()
     ensures { (app : Application (types C P V H T E L)) → MarksReadBehind app }
+{}
+
+/// Where something new comes or takes another one's place, only what came new in front is read.
+pub fn marks_read_fresh<C, P, V, H, T, E, L>()
+    ensures { (app : Application (types C P V H T E L)) → MarksReadFresh app }
 {}
 
 /// What is written there by what is known so far is what is written by what stands in the end.
