@@ -2,13 +2,21 @@
 //! reports.
 #![tactic(auto)]
 
+mod held;
+mod stack;
+
+use held::HeldOut;
 use rt_inbox::NoGate;
 use rt_show::{
     asks_for_page, asks_for_posters, asks_for_stream, show_and_say, show_paged_and_say,
     show_posted_and_say, show_streamed,
 };
-use rt_values::Text;
-use show_streams::{StandardIn, StandardOut};
+use rt_values::{List, Text};
+use run_reports::USUAL;
+use show_streams::{StandardIn, StandardOut, SureSource};
+use show_words::{Wish, bytes_of, wish_of};
+use stack::{Depths, deepest, depths_of, stack_of};
+use std::alloc::{AllocError, Global};
 use std::env;
 use std::io::{Error, ErrorKind, Read};
 use std::process::ExitCode;
@@ -16,9 +24,8 @@ use std::rt::Env;
 use std::sync::Wait;
 use std::thread::{Builder, Threads};
 
-/// The bytes of stack that a run may take: several times what the deepest documents took that were
-/// tried. What a run doesn't reach of it takes no memory.
-const STACK: usize = 1 << 30;
+/// The status where memory is wanting, that of a stack too.
+const NO_MEMORY: u8 = 7;
 
 /// What a status means, where it isn't 0.
 fn meaning(status: u8) -> Option<&'static str> {
@@ -39,7 +46,7 @@ fn meaning(status: u8) -> Option<&'static str> {
 fn status_of(error: &Error) -> u8 {
     match error.kind() {
         ErrorKind::InvalidData => 2,
-        _ => 7,
+        _ => NO_MEMORY,
     }
 }
 
@@ -52,35 +59,36 @@ fn words_given<R: Env + AllocGlobal>(rt: &R) -> Result<Vec<Text>, u8> {
     let mut given = Vec::new(rt.alloc());
     for word in words.skip(1) {
         if given.push(Text::from_string(word)).is_err() {
-            return Err(7);
+            return Err(NO_MEMORY);
         }
     }
     Ok(given)
 }
 
-/// The whole program without threads over the standard streams. The answer is the status; of a
-/// source that isn't in the form, `refusal` is where and what was wanted there.
-fn run<R: Print + AllocGlobal, I: Read + Drop>(
+/// The whole program without threads, over the bytes of a source and standard output. The answer is
+/// the status; of a source that isn't in the form, `refusal` is where and what was wanted there.
+fn run<R: Print + AllocGlobal>(
     rt: &R,
-    reader: I,
+    bytes: List<u8>,
     words: &[Text],
     refusal: &mut Option<String>,
 ) -> u8 {
-    let mut source = StandardIn::new(reader);
-    let mut out = StandardOut::new(rt);
-    show_and_say(rt.alloc(), words, &mut source, &mut out, refusal)
+    let mut source = SureSource::new(bytes);
+    let mut out = HeldOut::new(rt.alloc(), StandardOut::new(rt));
+    let status = show_and_say(rt.alloc(), words, &mut source, &mut out, refusal);
+    out.ended(status)
 }
 
 /// The whole program with threads that post. The answer and `refusal` are those of `run`.
-fn run_posted<R: Threads + Wait + Sync + Print + AllocGlobal, I: Read + Drop>(
+fn run_posted<R: Threads + Wait + Sync + Print + AllocGlobal>(
     rt: &R,
-    reader: I,
+    bytes: List<u8>,
     words: &[Text],
     refusal: &mut Option<String>,
 ) -> u8 {
-    let mut source = StandardIn::new(reader);
-    let mut out = StandardOut::new(rt);
-    show_posted_and_say(
+    let mut source = SureSource::new(bytes);
+    let mut out = HeldOut::new(rt.alloc(), StandardOut::new(rt));
+    let status = show_posted_and_say(
         rt,
         rt.alloc(),
         words,
@@ -88,7 +96,8 @@ fn run_posted<R: Threads + Wait + Sync + Print + AllocGlobal, I: Read + Drop>(
         &mut out,
         &NoGate,
         refusal,
-    )
+    );
+    out.ended(status)
 }
 
 /// The whole program line by line: each line is answered before the next one is read. The answer
@@ -106,54 +115,121 @@ fn run_streamed<R: Print + Eprint + AllocGlobal, I: Read + Drop>(
 
 /// The whole program as a page in pieces, without threads. The answer and `refusal` are those of
 /// `run`.
-fn run_paged<R: Print + AllocGlobal, I: Read + Drop>(
+fn run_paged<R: Print + AllocGlobal>(
     rt: &R,
-    reader: I,
+    bytes: List<u8>,
     words: &[Text],
     refusal: &mut Option<String>,
 ) -> u8 {
-    let mut source = StandardIn::new(reader);
-    let mut out = StandardOut::new(rt);
-    show_paged_and_say(rt.alloc(), words, &mut source, &mut out, refusal)
+    let mut source = SureSource::new(bytes);
+    let mut out = HeldOut::new(rt.alloc(), StandardOut::new(rt));
+    let status = show_paged_and_say(rt.alloc(), words, &mut source, &mut out, refusal);
+    out.ended(status)
 }
 
-/// Runs what the words ask for. The status; and of a source that isn't in the form, where and what
-/// was wanted there.
+/// Takes room and gives it back.
+fn take_room(alloc: Global, bytes: usize) {
+    let _taken: Result<Vec<u8>, AllocError> = Vec::with_capacity(alloc, bytes);
+}
+
+/// Has the heap of this thread grow once by the second of these. Else it grows page by page, with a
+/// call of the system for each. Once the first was given back, the second is kept.
+fn make_room(alloc: Global) {
+    take_room(alloc, 24 << 20);
+    take_room(alloc, 16 << 20);
+}
+
+/// Runs what the words ask for over the bytes of the source, or over the reader where they ask for
+/// a stream. The status; and of a source that isn't in the form, where and what was wanted there.
 fn run_as_asked<R: Env + Threads + Wait + Sync + Print + Eprint + AllocGlobal, I: Read + Drop>(
     rt: &R,
+    bytes: List<u8>,
     reader: I,
 ) -> (u8, Option<String>) {
+    make_room(rt.alloc());
     let mut refusal = None;
     let status = match words_given(rt) {
         Ok(words) if asks_for_posters(words.as_slice()) => {
-            run_posted(rt, reader, words.as_slice(), &mut refusal)
+            run_posted(rt, bytes, words.as_slice(), &mut refusal)
         }
         Ok(words) if asks_for_page(words.as_slice()) => {
-            run_paged(rt, reader, words.as_slice(), &mut refusal)
+            run_paged(rt, bytes, words.as_slice(), &mut refusal)
         }
         Ok(words) if asks_for_stream(words.as_slice()) => {
             run_streamed(rt, reader, words.as_slice(), &mut refusal)
         }
-        Ok(words) => run(rt, reader, words.as_slice(), &mut refusal),
+        Ok(words) => run(rt, bytes, words.as_slice(), &mut refusal),
         Err(status) => status,
     };
     (status, refusal)
 }
 
-fn main(rt: HostRuntime) -> ExitCode {
-    // A deep document is shown, printed and dropped by calls as deep: they have a thread with room.
-    let thread = Builder::new()
-        .stack_size(STACK)
-        .spawn(&rt, move || run_as_asked(&rt, rt.reader()));
-    let (status, refusal) = match thread {
-        Ok(running) => running.join(&rt),
-        // Where there is none it is done here.
-        Err(_) => run_as_asked(&rt, rt.reader()),
-    };
+/// The greatest height of a scope in what the words ask for, where the source is so deep. A recorded
+/// run has no limit of heights, but an entry of its log for each scope that is made.
+fn height_of(words: &[Text], depths: Depths) -> u64 {
+    match wish_of(words) {
+        Some(Wish::Run(limits)) => u64::from(limits.height),
+        Some(Wish::Audit) => depths.made.max(u64::from(USUAL.height)),
+        _ => u64::from(USUAL.height),
+    }
+}
+
+/// Whether the words ask for a source as a whole.
+fn asks_for_source(words: &[Text]) -> bool {
+    match wish_of(words) {
+        Some(Wish::Make(_)) => false,
+        Some(_) => true,
+        None => asks_for_posters(words) || asks_for_page(words),
+    }
+}
+
+/// What is read before the run, and the bytes of stack that the run is given; or the status, where
+/// nothing is run. Of a stream nothing is read here: its source may be as deep as any.
+fn read_for_run<R: Env + AllocGlobal, I: Read + Drop>(
+    rt: &R,
+    reader: I,
+    refusal: &mut Option<String>,
+) -> Result<(List<u8>, usize), u8> {
+    let given = words_given(rt)?;
+    let words = given.as_slice();
+    let nothing = List::new(rt.alloc());
+    if !asks_for_source(words) {
+        return Ok((nothing, stack_of(height_of(words, deepest()), deepest())));
+    }
+    let mut source = StandardIn::new(reader);
+    match bytes_of(rt.alloc(), &mut source, refusal) {
+        Ok(bytes) => {
+            let depths = depths_of(bytes.as_slice());
+            Ok((bytes, stack_of(height_of(words, depths), depths)))
+        }
+        Err(stop) => Err(stop.status()),
+    }
+}
+
+/// Ends with a status, of which a line is said where it isn't 0.
+fn ended<R: Eprint>(rt: &R, status: u8, refusal: Option<String>) -> ExitCode {
     if let Some(line) = refusal {
         let _ = eprintln!(rt; "status {status}: {line}");
     } else if let Some(text) = meaning(status) {
         let _ = rt.eprintln(text);
     }
     ExitCode::from(status)
+}
+
+fn main(rt: HostRuntime) -> ExitCode {
+    let mut refusal = None;
+    let (bytes, stack) = match read_for_run(&rt, rt.reader(), &mut refusal) {
+        Ok(read) => read,
+        Err(status) => return ended(&rt, status, refusal),
+    };
+    // A deep document is shown, printed and dropped by calls as deep: they have a thread with room.
+    let thread = Builder::new()
+        .stack_size(stack)
+        .spawn(&rt, move || run_as_asked(&rt, bytes, rt.reader()));
+    let (status, refusal) = match thread {
+        Ok(running) => running.join(&rt),
+        // Without that room nothing is begun.
+        Err(_) => (NO_MEMORY, None),
+    };
+    ended(&rt, status, refusal)
 }
