@@ -1,5 +1,6 @@
 //! A box, which contracts see as the value in it.
 ghost use Rattle.std.specs.Prelude.{◌≡◌, IfOk};
+ghost use Rattle.std.specs.Fn.{FnOnceReturnsAtMut};
 
 use crate::memory::OutOfMemory;
 use crate::part::Part;
@@ -52,6 +53,17 @@ impl<T: Drop> Boxed<T> {
         ensures value { self.new ≡ value }
     {
         *self.inner = value;
+    }
+
+    /// Changes the value where it stands.
+    pub fn change<F: FnOnce(&mut T) -> Result<(), OutOfMemory>>(
+        &mut self,
+        change: F,
+    ) -> Result<(), OutOfMemory>
+        requires { F.IsAlwaysCallable change }
+        ensures { FnOnceReturnsAtMut F.FnOnce change self.old result self.new }
+    {
+        change(&mut *self.inner)
     }
 
     /// Puts another value in the box, and gives back the one that was in it.

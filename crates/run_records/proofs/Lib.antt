@@ -2,3 +2,4 @@ pub mod RowsAt
 pub mod Boundaries
 pub mod KindPlaces
 pub mod Gathered
+pub mod Futures

@@ -2,4 +2,5 @@ pub mod World
 pub mod Provisions
 pub mod Enter
 pub mod Kept
+pub mod Futures
 pub mod Records

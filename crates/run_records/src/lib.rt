@@ -4,6 +4,7 @@
 
 mod command;
 mod faults;
+mod holders;
 mod kinds;
 mod provisions;
 mod rest;
@@ -12,6 +13,7 @@ mod world;
 
 pub use command::Command;
 pub use faults::{Counter, CxFault};
+pub use holders::Holders;
 pub use kinds::{AFTER_RENDER, BEFORE_RENDER, CLEAN_UP};
 pub use provisions::Provisions;
 pub use rest::{Rest, Scope, is_error_boundary};

@@ -3,6 +3,7 @@ ghost use Rattle.std.specs.Prelude.{◌≡◌};
 ghost use Rattle.rt_model.specs.Tree.{is_error_boundary};
 ghost use Rattle.tree_mirror.specs.Sealed.{component_of};
 
+use crate::holders::Holders;
 use crate::rows::ScopeRow;
 use rt_cells::Source;
 use rt_values::{Boxed, List, OutOfMemory, Text};
@@ -16,7 +17,7 @@ pub struct Rest<P: Parts> {
     /// With the props that it was handed last.
     pub component: VComponent<P>,
     /// The number of scopes above it.
-    pub height: u64,
+    pub height: u32,
     /// The side of the parent that it was made on.
     pub below: SideName,
     pub main_side: Side<P>,
@@ -30,8 +31,8 @@ pub struct Rest<P: Parts> {
     pub effects: List<P::Effect>,
     /// Of a suspense boundary: the side that shows, none while it is being made.
     pub shows: Option<SideName>,
-    /// Its holders in order of joining: each a task with its origin.
-    pub holders: List<(u64, u64)>,
+    /// Of a suspense boundary: the tasks that hold it.
+    pub holders: Holders,
     /// Of a suspense boundary: a suspended render passes over what is below it.
     pub frozen: bool,
     /// What is called when it turns to its children, with the scope of each.
@@ -50,7 +51,7 @@ impl<P: Parts> Rest<P> {
     pub(crate) fn new(
         alloc: Global,
         component: VComponent<P>,
-        height: u64,
+        height: u32,
         below: SideName,
         shows: Option<SideName>,
     ) -> Rest<P> {
@@ -65,7 +66,7 @@ impl<P: Parts> Rest<P> {
             mounted: false,
             effects: List::new(alloc),
             shows,
-            holders: List::new(alloc),
+            holders: Holders::new(alloc),
             frozen: false,
             callbacks: List::new(alloc),
         }

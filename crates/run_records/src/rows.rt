@@ -10,9 +10,9 @@ ghost use Rattle.run_records.specs.Records.{number_of, parents_of, renders_of, h
 
 use crate::provisions::Provisions;
 use crate::rest::{Rest, Scope, is_error_boundary, no_component};
-use rt_values::{List, OutOfMemory, ScopeId};
+use rt_values::{Boxed, List, OutOfMemory, ScopeId};
 use run_places::SideName;
-use run_table::Table;
+use run_table::BoxedTable;
 use std::alloc::Global;
 use tree_nodes::{CapturedError, Parts};
 
@@ -46,7 +46,7 @@ pub struct ScopeRow<P: Parts> {
 #[derive(Drop)]
 pub struct Rows<P: Parts> {
     /// The runtime's own: all that is kept of each scope, in the order in which they were made.
-    pub table: Table<Scope<P>>,
+    pub table: BoxedTable<Scope<P>>,
 }
 
 impl<P: Parts> Rows<P> {
@@ -55,7 +55,7 @@ impl<P: Parts> Rows<P> {
         ensures empty { result.table ≡ [] }
     {
         Rows {
-            table: Table::new(alloc),
+            table: BoxedTable::new(alloc),
         }
     }
 
@@ -171,7 +171,7 @@ impl<P: Parts> Rows<P> {
 }
 
 /// Whether a scope of this number is an error boundary.
-fn is_boundary_in<P: Parts>(scopes: &[(u64, Scope<P>)], number: u64) -> bool
+fn is_boundary_in<P: Parts>(scopes: &[(u64, Boxed<Scope<P>>)], number: u64) -> bool
     ensures { result ≡ has (boundaries_in scopes.now) number }
 {
     for entry in scopes {
@@ -183,9 +183,9 @@ fn is_boundary_in<P: Parts>(scopes: &[(u64, Scope<P>)], number: u64) -> bool
 }
 
 /// Whether a scope has this number and is an error boundary.
-fn bounds<P: Parts>(entry: &(u64, Scope<P>), number: u64) -> bool
+fn bounds<P: Parts>(entry: &(u64, Boxed<Scope<P>>), number: u64) -> bool
     ensures { result ≡ (nat_eq entry.now.0 number
         && is_error_boundary (component_of entry.now.1.rest.component)) }
 {
-    entry.0 == number && is_error_boundary(&entry.1.rest.component)
+    entry.0 == number && is_error_boundary(&entry.1.get().rest.component)
 }

@@ -1,5 +1,5 @@
 -- A row that is taken out.
-use Rattle.std.proofs.Common.{◌≡◌, ℕ, zero, suc, ◌<◌, List, [], ◌∷◌, ◌++◌, length, get_or, nat_eq, refl, sym, ap, ◌∙◌, arith}
+use Rattle.std.proofs.Common.{◌≡◌, ℕ, zero, suc, ◌<◌, ◌-◌, List, [], ◌∷◌, ◌++◌, length, get_or, nat_eq, refl, sym, ap, ◌∙◌, arith}
 use Rattle.std.specs.Prelude.{remove, if◌then◌else◌}
 use Rattle.std.proofs.lemmas.List.{get_or_default}
 use Rattle.rt_model.specs.Lists.{without}
@@ -44,3 +44,17 @@ module _ {A : Type 0} where
       fewer : (front : List (ℕ × A)) → length (front ++ h.back) < length (front ++ (n, a) ∷ h.back)
       fewer [] = omega arith
       fewer (e ∷ es) = let rest : length (es ++ h.back) < length (es ++ (n, a) ∷ h.back) = fewer es in omega (arith, rest)
+
+module _ {A : Type 0} where
+  -- a list with one at the end has one
+  pub some_last : (es : List A) (e : A) → 0 < length (es ++ e ∷ [])
+  some_last [] e = omega arith
+  some_last (d ∷ es) e = omega arith
+
+  -- the last one goes
+  pub last_off : (es : List A) (e : A) → remove (es ++ e ∷ []) (length (es ++ e ∷ []) - 1) ≡ es
+  last_off [] e = refl
+  last_off (d ∷ es) e =
+      let some = some_last es e in
+      let on : length (d ∷ (es ++ e ∷ [])) - 1 ≡ suc (length (es ++ e ∷ []) - 1) = omega (arith, some) in
+      ap (λ (k : ℕ). remove (d ∷ (es ++ e ∷ [])) k) on ∙ ap (λ (ds : List A). d ∷ ds) (last_off es e)

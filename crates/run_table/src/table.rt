@@ -1,12 +1,12 @@
 //! A table of numbered values, in the order in which they came.
-ghost use Rattle.std.specs.Prelude.{◌≡◌, ℕ, [], ◌∷◌, ◌++◌, ◌<◌, ◌-◌, length, get_or, remove, slice_set, Option, Some, None, true, IfSome, IfNone, OnOk, OnErr};
+ghost use Rattle.std.specs.Prelude.{◌≡◌, ℕ, List, [], ◌∷◌, ◌++◌, ◌<◌, ◌-◌, length, get_or, remove, slice_set, Option, Some, None, true, IfSome, IfNone, OnOk, OnErr};
 ghost use Rattle.std.specs.Option.{option_copied};
 ghost use Rattle.std.specs.Fn.{FnOnceReturnsAtMut};
 ghost use Rattle.rt_model.specs.Lists.{at, put, without};
 ghost use Rattle.run_table.specs.Found.{IsFirst, IsTaken, Ascends};
 
 use crate::firsts::{first_row, relisted};
-use rt_values::OutOfMemory;
+use rt_values::{Boxed, OutOfMemory};
 use std::alloc::Global;
 use std::collections::BTreeMap;
 use std::marker::Model;
@@ -222,6 +222,17 @@ impl<T: Drop> Table<T> {
         }
     }
 
+    /// Takes the row off that was put at the end.
+    pub fn take_last(&mut self)
+        ensures off { (rows : List (ℕ × T)) (row : ℕ × T) → self.old ≡ rows ++ row ∷ [] → self.new ≡ rows }
+    {
+        let count = self.as_slice().len();
+        if count == 0 {
+            return;
+        }
+        self.remove_at(count - 1);
+    }
+
     /// Takes out the value at an index from 0.
     pub fn remove_at(&mut self, index: usize)
         requires within { index < length self.old }
@@ -262,6 +273,27 @@ impl<T: Drop> Table<T> {
             × (self.new ≡ slice_set self.old index ((get_or self.old index row).0, new)) }
     {
         change(&mut self.rows[index].1)
+    }
+}
+
+// A table of values that stand in boxes.
+impl<T: Drop> Table<Boxed<T>> {
+    // Changes the first value under a number in its box, where there is one, and else does nothing.
+    pub(crate) fn change_boxed<F: FnOnce(&mut T) -> Result<(), OutOfMemory>>(
+        &mut self,
+        number: u64,
+        change: F,
+    ) -> Result<(), OutOfMemory>
+        requires { F.IsAlwaysCallable change }
+        ensures absent { at self.old number ≡ None → self.new ≡ self.old }
+        ensures changed { (old : T) → at self.old number ≡ Some old →
+            (new : T) × FnOnceReturnsAtMut F.FnOnce change old result new
+            × (self.new ≡ put self.old number new) }
+    {
+        match self.index_of(number) {
+            Some(index) => self.rows[index].1.change(change),
+            None => Ok(()),
+        }
     }
 }
 
