@@ -92,7 +92,7 @@ fn elements_in<P: Parts>(
     ensures { IfOk result (λ elements. map entries_of elements
         ≡ template_elements (side_of side.now).numbers (place_on above.now) template.now) }
 {
-    let pieces = pieces_of(alloc, template.roots())?;
+    let pieces = pieces_of(alloc, template.roots(), template.hints())?;
     let mut elements = List::new(alloc);
     for piece in pieces.as_slice() {
         add_element(alloc, side, above, template, piece, &mut elements)?;

@@ -12,3 +12,4 @@ pub mod Sided
 pub mod Guessed
 pub mod Lasts
 pub mod Unders
+pub mod Knowing

@@ -1,8 +1,10 @@
+pub mod Steps
 pub mod Places
 pub mod Parted
 pub mod Pieces
 pub mod Spots
 pub mod Drawn
+pub mod Known
 pub mod Keys
 pub mod PlaceKeys
 pub mod Indexed

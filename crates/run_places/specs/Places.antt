@@ -1,52 +1,23 @@
--- Places, sides and spots of code as those of the model.
-use Rattle.std.specs.Prelude.{ℕ, List, ◌++◌, ◌∷◌, [], map, slice_get, Option, Some, None}
+-- Sides and spots of code as those of the model; steps, places and nodes are in Steps.
+pub use Rattle.run_places.specs.Steps.{kind_of, step_of, place_of, at_path, node_of}
+use Rattle.std.specs.Prelude.{ℕ, List, ◌∷◌, [], map, slice_get, Option, Some, None}
 use Rattle.tree_nodes.specs.declared.vnode.VNode.{VNode}
 use Rattle.rt_model.specs.OneLog.{types}
 use Rattle.rt_model.specs.Tree as model
-use Rattle.rt_model.specs.Tree.{Template, Place, inside, item, an_element, a_static_text, a_text, a_placeholder, an_empty_fragment, node_at, component_at}
+use Rattle.rt_model.specs.Tree.{Place, node_at, component_at}
 use Rattle.rt_model.specs.State as state
-use Rattle.tree_mirror.specs.Sealed.{template_of, tree_of, component_of}
-use Rattle.run_places.specs.declared.place.Kind.{Kind}
-use Rattle.run_places.specs.declared.place.Kind.TheVariants as kinds
-use Rattle.run_places.specs.declared.place.Step.{Step}
-use Rattle.run_places.specs.declared.place.Step.TheVariants as steps
+use Rattle.tree_mirror.specs.Sealed.{tree_of, component_of}
 use Rattle.run_places.specs.declared.side.SideName.{SideName}
 use Rattle.run_places.specs.declared.side.SideName.TheVariants as sides
-use Rattle.run_places.specs.declared.nodes.NodeAt.{NodeAt}
 use Rattle.run_places.specs.declared.side.Side.{Side}
 use Rattle.run_places.specs.declared.spot.Spot.{Spot}
 use Rattle.run_places.specs.declared.spot.Spot.TheVariants as spots
-
--- what kind of document node stands at a place
-abbrev pub kind_of : Kind → model.Kind
-kind_of kinds.Element = an_element
-kind_of kinds.StaticText = a_static_text
-kind_of kinds.Text = a_text
-kind_of kinds.Placeholder = a_placeholder
-kind_of kinds.EmptyFragment = an_empty_fragment
-
--- a step of a place
-abbrev pub step_of : Step → model.Step
-step_of (steps.Inside template path) = inside (template_of template) path
-step_of (steps.Item position) = item position
-
--- a place
-abbrev pub place_of : List Step → Place
-place_of place = map step_of place
-
--- the place of a path in a template, below a place
-abbrev pub at_path : Template → Place → List ℕ → Place
-at_path whole above path = above ++ inside whole path ∷ []
 
 -- the name of a side
 abbrev pub side_name_of : SideName → state.SideName
 side_name_of sides.Main = state.MainSide
 side_name_of sides.Children = state.ChildrenSide
 side_name_of sides.Fallback = state.FallbackSide
-
--- a node with its place
-abbrev pub node_of : NodeAt → Place × model.Kind
-node_of n = (place_of n.place, kind_of n.kind)
 
 -- the numbers under indices of nodes, with their places; those past the end have none
 abbrev pub placed : List (Place × model.Kind) → List (ℕ × ℕ) → List (Place × model.Kind × ℕ)

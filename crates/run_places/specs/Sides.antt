@@ -1,5 +1,5 @@
 -- The numbers and the child scopes of a side, by place.
-use Rattle.std.specs.Prelude.{ℕ, List, [], ◌∷◌, ◌++◌, Option, None, Some}
+use Rattle.std.specs.Prelude.{ℕ, List, [], ◌∷◌, ◌++◌, Option, None, Some, ◌≡◌}
 use Rattle.rt_model.specs.Tree as model
 use Rattle.rt_model.specs.Tree.{Types, Place}
 use Rattle.rt_model.specs.State as state
@@ -14,6 +14,14 @@ joined_under None n es = es
 joined_under (Some i) n es = es ++ (i, n) ∷ []
 
 module _ {P C Q V H T E L : Type 0} where
+  -- nothing was ever rendered on a side
+  pub record IsBare (side : Side P C Q V H T E L) : Type 0 where
+    pub output : side.output ≡ None
+    pub nodes : side.nodes ≡ []
+    pub seats : side.seats ≡ []
+    pub numbers : side.numbers ≡ []
+    pub children : side.children ≡ []
+
   -- the number of a place, 0 where it has none
   abbrev pub number_in : Side P C Q V H T E L → Place → model.Kind → ℕ
   number_in side p k = number_at (side_of side).numbers p k

@@ -1,12 +1,8 @@
 //! What a scope keeps of one of its trees.
 
-ghost use Rattle.std.specs.Prelude.{◌≡◌, [], None, OnErr, OnOk};
+ghost use Rattle.std.specs.Prelude.{◌≡◌, [], true, IfOk, OnErr, OnOk};
 ghost use Rattle.rt_model.specs.Lists.{or_else};
-ghost use Rattle.rt_model.specs.State.{empty_side};
-ghost use Rattle.run_places.specs.Places.{kind_of, place_of, side_of};
-ghost use Rattle.run_places.specs.Indexed.{node_index, seat_index};
-ghost use Rattle.run_places.specs.Sides.{and_child, and_number, child_in, joined_under, number_in};
-ghost use Rattle.run_places.specs.Trails.{place_on};
+ghost use Rattle.run_places.specs.Known.{KnowsTree};
 
 use crate::drawn::Drawn;
 use crate::nodes::Nodes;
@@ -37,19 +33,21 @@ pub struct Side<P: Parts> {
     pub numbers: Drawn,
     /// The child scopes of its components.
     pub children: Drawn,
+    /// The nodes and the components are those of the tree.
+    pub ghost known: { KnowsTree output nodes seats },
 }
 
 impl<P: Parts> Side<P> {
+    ghost use Rattle.rt_model.specs.State.{empty_side};
+    ghost use Rattle.run_places.specs.Places.{kind_of, place_of, side_of};
+    ghost use Rattle.run_places.specs.Indexed.{node_index, seat_index};
+    ghost use Rattle.run_places.specs.Sides.{IsBare, and_child, and_number, child_in, joined_under, number_in};
+    ghost use Rattle.run_places.specs.Trails.{place_on};
+
     /// A side on which nothing was ever rendered.
     pub fn empty(alloc: Global) -> Side<P>
         ensures none { side_of result ≡ empty_side }
-        ensures bare { result ≡ record {
-          output = None;
-          nodes = [];
-          seats = [];
-          numbers = [];
-          children = [];
-        } }
+        ensures bare { IsBare result }
     {
         Side {
             output: None,
@@ -58,6 +56,58 @@ impl<P: Parts> Side<P> {
             numbers: Drawn::new(alloc),
             children: Drawn::new(alloc),
         }
+    }
+
+    /// The same side once more: its tree is copied, all else is shared. Of a side on which nothing
+    /// was ever rendered an empty one is made.
+    pub fn copy(&self, alloc: Global) -> Result<Side<P>, OutOfMemory>
+        ensures { IfOk result (λ copy. copy ≡ self.now) }
+    {
+        if self.is_bare() {
+            return Ok(Side::empty(alloc));
+        }
+        let output = copy_output(alloc, &self.output)?;
+        let nodes = self.nodes.share()?;
+        let seats = self.seats.share()?;
+        let numbers = self.numbers.copy(alloc)?;
+        let children = self.children.copy(alloc)?;
+        let side = Side {
+            output,
+            nodes,
+            seats,
+            numbers,
+            children,
+        };
+        Ok(side)
+    }
+
+    /// Whether nothing was ever rendered on a side.
+    fn is_bare(&self) -> bool
+        ensures { result ≡ true → IsBare self.now }
+    {
+        match &self.output {
+            Some(_) => false,
+            None => self.has_nothing(),
+        }
+    }
+
+    /// Whether a side knows no place, and nothing stands on it.
+    fn has_nothing(&self) -> bool
+        ensures nodes { result ≡ true → self.now.nodes ≡ [] }
+        ensures seats { result ≡ true → self.now.seats ≡ [] }
+        ensures numbers { result ≡ true → self.now.numbers ≡ [] }
+        ensures children { result ≡ true → self.now.children ≡ [] }
+    {
+        if !none_of(self.nodes.as_slice()) {
+            return false;
+        }
+        if !none_of(self.seats.as_slice()) {
+            return false;
+        }
+        if !none_of(self.numbers.as_slice()) {
+            return false;
+        }
+        none_of(self.children.as_slice())
     }
 
     /// The number of the node where a walk stands, 0 where it has none.
@@ -124,6 +174,29 @@ impl<P: Parts> Side<P> {
             Some(index) => self.children.push(index, child),
             None => Err(OutOfMemory),
         }
+    }
+}
+
+// A tree once more, if there is one.
+fn copy_output<P: Parts>(
+    alloc: Global,
+    output: &Option<VNode<P>>,
+) -> Result<Option<VNode<P>>, OutOfMemory>
+    ensures { IfOk result (λ copy. copy ≡ output.now) }
+{
+    match output {
+        Some(tree) => Ok(Some(tree.copy(alloc)?)),
+        None => Ok(None),
+    }
+}
+
+// Whether there is none.
+fn none_of<T>(items: &[T]) -> bool
+    ensures { result ≡ true → items.now ≡ [] }
+{
+    match items {
+        [] => true,
+        _ => false,
     }
 }
 

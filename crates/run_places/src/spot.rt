@@ -45,7 +45,7 @@ fn add_spots<P: Parts>(
     ensures { OnOk result (map spot_of found.new
         ≡ map spot_of found.old ++ tree_spots (place_of above.now) tree.now) }
 {
-    let pieces = pieces_of(alloc, tree.template.roots())?;
+    let pieces = pieces_of(alloc, tree.template.roots(), tree.template.hints())?;
     for piece in pieces.as_slice() {
         add_piece(alloc, above, tree, piece, found)?;
     }

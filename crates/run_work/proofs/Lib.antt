@@ -16,5 +16,5 @@ pub mod PairRules
 pub mod Taken
 pub mod Ends
 pub mod Leading
-pub mod Stays
+pub mod AlikeSpots
 pub mod Likened

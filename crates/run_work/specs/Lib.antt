@@ -8,5 +8,4 @@ pub mod Grounds
 pub mod Pairs
 pub mod Patches
 pub mod Goes
-pub mod Stay
 pub mod Alike

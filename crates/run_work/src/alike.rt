@@ -1,19 +1,22 @@
 //! Whether two trees without components stand alike: one template, and slots of one kind each.
 
-ghost use Rattle.std.specs.Prelude.{◌≡◌, ◌+◌, true, IfOk, OnOk};
+ghost use Rattle.std.specs.Prelude.{◌≡◌, ◌+◌, [], true, IfOk, OnOk};
+ghost use Rattle.rt_model.specs.Tree.{spots};
+ghost use Rattle.tree_mirror.specs.Sealed.{tree_of};
 ghost use Rattle.run_work.specs.Alike.{AlikeTree, AlikeTrees, AlikeValue, AlikeValues};
 
 use rt_values::Part;
 use run_places::LEVELS;
 use tree_nodes::{DynamicNode, Parts, VNode};
 
-/// Two trees stand apart, or a component stands in one.
+// Two trees stand apart, or a component stands in one.
 #[derive(Clone, Copy)]
-pub(crate) struct Differs;
+struct Differs;
 
-/// Whether two trees stand alike, wherever that is.
-pub(crate) fn are_alike<P: Parts>(old: &VNode<P>, new: &VNode<P>) -> bool
-    ensures { result ≡ true → AlikeTree old.now new.now }
+/// Whether two trees have one template, and slots of the same kinds, with no component in them. Then
+/// the same stands in both. A template is compared once a tree. It takes no memory.
+pub fn are_alike<P: Parts>(old: &VNode<P>, new: &VNode<P>) -> bool
+    ensures { result ≡ true → spots [] (tree_of old.now) ≡ spots [] (tree_of new.now) }
 {
     let Ok(()) = trees_alike(old, new, LEVELS) else {
         return false;
@@ -92,8 +95,8 @@ fn items_alike<P: Parts>(old: &[VNode<P>], new: &[VNode<P>], levels: u64) -> Res
     Ok(())
 }
 
-/// One level further down, where there is one.
-pub(crate) fn below(levels: u64) -> Result<u64, Differs>
+// One level further down, where there is one.
+fn below(levels: u64) -> Result<u64, Differs>
     ensures { IfOk result (λ below. below + 1 ≡ levels) }
 {
     if levels == 0 {

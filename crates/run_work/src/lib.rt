@@ -6,14 +6,13 @@ mod component;
 mod item;
 mod pairing;
 mod patched;
-mod staying;
 mod takes;
 mod taking;
 mod turning;
 
+pub use alike::are_alike;
 pub use component::is_same_component;
 pub use item::{Item, RowStep};
 pub use pairing::{walk, walk_both, walk_new};
 pub use patched::Patched;
-pub use staying::all_stay;
 pub use takes::Takes;

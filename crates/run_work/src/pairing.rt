@@ -1,6 +1,6 @@
 //! An old tree and a new one, side by side.
 
-ghost use Rattle.std.specs.Prelude.{◌≡◌, [], IfOk, OnOk, map};
+ghost use Rattle.std.specs.Prelude.{◌≡◌, [], IfOk, OnOk, length, map};
 ghost use Rattle.std.specs.Option.{option_copied};
 ghost use Rattle.tree_nodes.specs.declared.vnode.DynamicNode.TheVariants as values;
 ghost use Rattle.tree_mirror.specs.Sealed.{tree_of};
@@ -34,6 +34,7 @@ pub fn walk_both<P: Parts>(
     ensures patches { IfOk result (λ out. Patches scope name tree.now side.now out) }
     ensures goes { IfOk result (λ out.
         NodesGo (map node_of side.now.nodes) (map node_of out.nodes) out.nodes_to) }
+    ensures seats { IfOk result (λ out. length out.seats_to ≡ length side.now.seats) }
 {
     let ground = Ground {
         scope,

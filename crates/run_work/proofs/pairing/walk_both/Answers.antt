@@ -8,7 +8,7 @@ use Rattle.run_work.specs.After.{after}
 use Rattle.run_work.specs.Grounds.{ground_of, out_of}
 use Rattle.run_work.specs.Marked.{events_in}
 use Rattle.run_work.proofs.Ends.{come_ends, pair_ends}
-use Rattle.run_work.proofs.Leading.{goes_by}
+use Rattle.run_work.proofs.Leading.{goes_by, seats_by}
 use Rattle.run_work.proofs.Taken.{all_taken}
 use Rattle.run_work.proofs.pairing.walk_both.Goals as goal
 
@@ -34,4 +34,17 @@ pub returns-in_ok-walk_new-in-None-clause-goes : goal.returns-in_ok-walk_new-in-
 returns-in_ok-walk_new-in-None-clause-goes g c =
     let ms = map come (spots [] (tree_of c.args.tree.now)) in
     goes_by _ (events_in ms) c.in_ok-out.out c.walk_new.new.out.out (length c.args.side.now.nodes) (length c.args.side.now.seats) c.in_ok-out.ensures.none
+    (all_taken ms _ _ c.in_ok-walk_new-in-None.ensures)
+
+pub returns-in_ok-walk-in-Some-clause-seats : goal.returns-in_ok-walk-in-Some-clause-seats
+returns-in_ok-walk-in-Some-clause-seats g c =
+    let w = c.in_ok-walk-in-Some.ensures in
+    let ground : Ground _ _ _ _ _ _ _ _ = record { scope = c.args.scope; name = c.args.name; side = c.args.side } in
+    seats_by ground (events_in w.0) c.in_ok-out.out c.walk.new.out.out (length c.args.side.now.nodes) (length c.args.side.now.seats) c.in_ok-out.ensures.none (all_taken w.0 _ _ w.1)
+
+pub returns-in_ok-walk_new-in-None-clause-seats : goal.returns-in_ok-walk_new-in-None-clause-seats
+returns-in_ok-walk_new-in-None-clause-seats g c =
+    let ms = map come (spots [] (tree_of c.args.tree.now)) in
+    let ground : Ground _ _ _ _ _ _ _ _ = record { scope = c.args.scope; name = c.args.name; side = c.args.side } in
+    seats_by ground (events_in ms) c.in_ok-out.out c.walk_new.new.out.out (length c.args.side.now.nodes) (length c.args.side.now.seats) c.in_ok-out.ensures.none
     (all_taken ms _ _ c.in_ok-walk_new-in-None.ensures)
