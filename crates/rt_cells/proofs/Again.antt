@@ -34,6 +34,10 @@ no_new source sources there q =
 pub ordered_again : (source : Source) (sources : List Source) → IsStrictlySortedBy source_cmp sources → has source sources ≡ true → sources ≡ in_order source_cmp (sources ++ source ∷ [])
 ordered_again source sources sorted there = in_order_is source_total source_exact (sources ++ source ∷ []) sources sorted (no_new source sources there)
 
+-- sources in order are those in order
+pub ordered : (sources : List Source) → IsStrictlySortedBy source_cmp sources → sources ≡ in_order source_cmp sources
+ordered sources sorted = in_order_is source_total source_exact sources sources sorted (λ q. refl)
+
 -- nothing is kept for a reader that is before all others
 none_kept : (reader : Reader) (reads : List (Reader × List Source)) → AllByRecursion (λ other. reader_cmp reader other ≡ Less) (keys_of reads) → sources_at reader reads ≡ None
 none_kept reader [] all = refl
@@ -85,3 +89,11 @@ module _ (reader : Reader) (source : Source) (reads : List (Reader × List Sourc
 
   pub each_again : (other : Reader) → reads_of other reads ≡ cond (is_at (reader_cmp reader) other) (in_order source_cmp (reads_of reader reads ++ source ∷ [])) (reads_of other reads)
   each_again other = each_kept reader (in_order source_cmp (reads_of reader reads ++ source ∷ [])) reads added_again other
+
+-- sources that a reader has are set again, in their order
+module _ (reader : Reader) (sources : List Source) (reads : List (Reader × List Source)) (sorted : IsStrictlySortedBy source_cmp sources) (is : reads_of reader reads ≡ sources) where
+  pub kept_in_order : reads_of reader reads ≡ in_order source_cmp sources
+  kept_in_order = is ∙ ordered sources sorted
+
+  pub set_in_order : IsStrictlySortedBy reader_cmp (keys_of reads) → (sources ≡ [] → ⊥) → reads ≡ with_reads reader (in_order source_cmp sources) reads
+  set_in_order keys some = set_again reader sources reads keys is some ∙ ap (λ (ss : List Source). with_reads reader ss reads) (ordered sources sorted)

@@ -18,7 +18,6 @@ pub use cells::Cells;
 pub use compared::{readers_compare, sources_compare};
 pub use contexts::ReactiveContext;
 pub use faults::CellsFault;
-pub use numbered::{Held, Numbered};
 pub use readers::Readers;
 pub use rt_values::{
     Boxed, List, OutOfMemory, Part, ScopeId, Serials, Task, Text, copy_slice, same_slice,

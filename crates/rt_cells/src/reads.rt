@@ -1,5 +1,5 @@
 //! Each reader with its sources, and from each source back to its readers.
-ghost use Rattle.std.specs.Prelude.{◌≡◌, ℕ, ◌++◌, ◌∷◌, [], List, IfOk, OnOk, OnErr, cond, true};
+ghost use Rattle.std.specs.Prelude.{◌≡◌, ℕ, ◌++◌, ◌∷◌, [], List, IfOk, IsTrue, OnOk, OnErr, cond, true};
 ghost use Rattle.std.specs.List.{list_any};
 ghost use Rattle.std.specs.List.Sorted.{IsStrictlySortedBy};
 ghost use Rattle.std.specs.BTreeMap.{insert_entry, is_at};
@@ -129,8 +129,22 @@ impl Reads {
         }
     }
 
+    /// Whether the reader has just these sources, of which there is one, in this order: then it changes
+    /// nothing to set them.
+    fn has_just(&self, reader: Reader, sources: &[Source]) -> bool
+        ensures same { IsTrue result
+            → self.now ≡ with_reads reader (in_order source_cmp sources.now) self.now }
+        ensures kept { IsTrue result
+            → reads_of reader self.now ≡ in_order source_cmp sources.now }
+    {
+        if sources.is_empty() {
+            return false;
+        }
+        same_slice(self.of(reader), sources)
+    }
+
     /// The reader has just the sources that are named, however often each is. Where it had just these,
-    /// no link is looked for.
+    /// no link is looked for; and where they are named in order, nothing is sorted and no memory taken.
     pub fn set(
         &mut self,
         alloc: Global,
@@ -145,6 +159,9 @@ impl Reads {
             (reads_of other self.old)) }
         ensures err { OnErr result (self.new ≡ self.old) }
     {
+        if self.has_just(reader, sources) {
+            return Ok(());
+        }
         let sources = in_order(alloc, sources)?;
         if sources.is_empty() {
             self.drop_reader(reader);

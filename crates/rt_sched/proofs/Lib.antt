@@ -5,9 +5,11 @@ pub mod InOrder
 pub mod KeptLemmas
 pub mod Least
 pub mod LineLemmas
+pub mod Lined
 pub mod PendingLemmas
 pub mod PlaceLemmas
 pub mod Renumbered
 pub mod RollLemmas
 pub mod Seats
+pub mod Taken
 pub mod Waits

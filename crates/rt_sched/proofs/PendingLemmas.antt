@@ -6,12 +6,12 @@ use Rattle.std.specs.Result.{OnOk}
 use Rattle.std.specs.Ordering.{nat_cmp, is_eq}
 use Rattle.std.specs.BTreeMap.{BTreeMap, get}
 use Rattle.rt_lemmas.proofs.Bools.{cond_or}
+use Rattle.rt_lemmas.proofs.Numbers.{ties_back}
 use Rattle.rt_sched.specs.Lines.{Row, waits, with_last, without_waiting}
 use Rattle.rt_sched.specs.Pending.{ArePending}
 use Rattle.rt_sched.specs.declared.order.ScopeOrder.{ScopeOrder}
 use Rattle.rt_sched.proofs.BatchLemmas.{tagged_with_last, tagged_filter}
 use Rattle.rt_sched.proofs.RollLemmas.{waits_with_last, waits_without}
-use Rattle.rt_sched.proofs.Seats.{seat_test}
 
 -- what holds where a call went through gives what follows from it
 pub on_ok : {T F : Type 0} (r : Result T F) (P Q : Type 0) → OnOk r P → (P → Q) → OnOk r Q
@@ -22,7 +22,7 @@ module _ {E : Type 0} where
   -- what a map has at each number when that at n becomes s
   pub now_at : (m m' : BTreeMap ℕ (List E)) (n : ℕ) (s : Option (List E)) → ((q : ℕ) → get nat_cmp m' q ≡ cond (is_eq (nat_cmp n q)) s (get nat_cmp m q))
       → (q : ℕ) → get nat_cmp m' q ≡ cond (eqb q n) s (get nat_cmp m q)
-  now_at m m' n s e q = e q ∙ ap (λ b. cond b s (get nat_cmp m q)) (seat_test n q)
+  now_at m m' n s e q = e q ∙ ap (λ b. cond b s (get nat_cmp m q)) (ties_back n q)
 
   some_cond : (b : Bool) (s t : Option (List E)) → is_some (cond b s t) ≡ cond b (is_some s) (is_some t)
   some_cond true s t = refl

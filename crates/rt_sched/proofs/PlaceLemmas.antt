@@ -30,7 +30,7 @@ pub not_before_itself : (x : Place) → place_before x x ≡ false
 not_before_itself x = grind (arith, common_steps)
 
 -- orders with equal parts are one
-order_by_parts : (x y : ScopeOrder) → x.height ≡ y.height → x.id.0 ≡ y.id.0 → x ≡ y
+pub order_by_parts : (x y : ScopeOrder) → x.height ≡ y.height → x.id.0 ≡ y.id.0 → x ≡ y
 order_by_parts x y h i = let j : x.id ≡ y.id = ap (λ (n : ℕ). record { 0 = n }) i in let P : ℕ → ScopeId → ScopeOrder = λ m n. record { height = m; id = n } in ap (λ m. P m x.id) h ∙ ap (λ n. P y.height n) j
 
 -- places with equal parts are one

@@ -9,15 +9,15 @@ use Rattle.std.specs.List.{IsDistinct, AllByRecursion}
 use Rattle.std.specs.Set.{is_member as among}
 use Rattle.std.specs.Cmp.{nat_cmp_total, eq_by_cmp_equiv}
 use Rattle.std.specs.Ordering.{nat_cmp, eq_by_cmp}
-use Rattle.std.specs.BTreeMap.{BTreeMap, get, keys}
 use Rattle.rt_lemmas.proofs.Bools.{or_swapped as or_swap}
 use Rattle.rt_lemmas.proofs.Numbers.{eqb_turned as eqb_flip}
 use Rattle.rt_sched.specs.Order.{order_before}
+use Rattle.rt_sched.specs.Seats.{seat_of, members_of}
 use Rattle.rt_sched.specs.Places.{place_before, same_place, IsInOrder, NoneBefore, with_place, has_place}
 use Rattle.rt_sched.specs.Lines.{waits, who_waits, has_number, IsLine, AllArrivedBelow, AllOnce, standing}
 use Rattle.rt_sched.specs.declared.order.ScopeOrder.{ScopeOrder}
 use Rattle.rt_sched.specs.declared.place.Place.{Place}
-use Rattle.rt_sched.specs.declared.line.Seat.{Seat}
+use Rattle.rt_sched.specs.declared.seating.Seat.{Seat}
 use Rattle.rt_sched.proofs.PlaceLemmas.{same_place_is, same_place_itself}
 use Rattle.rt_sched.proofs.InOrder.{in_order_with_place}
 use Rattle.rt_sched.proofs.Waits.{placed_waits, waiting_place, below_with_place, below_more}
@@ -148,10 +148,10 @@ who_waits_next f done x y rest a r o m at =
     rw all (sym (who_waits_moved done x y rest (sym o) (sym m)))
 
 -- who stands first of the rest is a member
-pub next_is_member : (m : BTreeMap ℕ Seat) (done : List Place) (x : Place) (rest : List Place) (a : ℕ) → IsRenumbering (standing m) done (x ∷ rest) a → has_number x.number (keys m) ≡ true
+pub next_is_member : (m : List (ℕ × Seat)) (done : List Place) (x : Place) (rest : List Place) (a : ℕ) → IsRenumbering (standing m) done (x ∷ rest) a → has_number x.number (members_of m) ≡ true
 next_is_member m done x rest a r =
     let here = has_place_middle_or x done x rest ∙ or_left _ _ (same_place_itself x) in
-    is_member x.number m ∙ is_some_place (get nat_cmp m x.number) x (r.seated x here)
+    is_member x.number m ∙ is_some_place (seat_of m x.number) x (r.seated x here)
 
 -- ---- no more wait than are members
 abbrev numbers : List Place → List ℕ
@@ -175,13 +175,13 @@ waits_from_among n (p ∷ ps) h =
     ⊎_elim (λ (i : eq_by_cmp nat_cmp n p.number ≡ true). let same : eqb n p.number ≡ true = grind (arith, nat_tests) in or_left _ _ same)
     (λ (i : among (eq_by_cmp nat_cmp) (numbers ps) n ≡ true). or_right _ _ (waits_from_among n ps i)) (or_cases (eq_by_cmp nat_cmp n p.number) (among (eq_by_cmp nat_cmp) (numbers ps) n) h)
 
-pub no_more_than_members : (m : BTreeMap ℕ Seat) (done rest : List Place) (a : ℕ) → IsRenumbering (standing m) done rest a → length (done ++ rest) ≤ length (keys m)
+pub no_more_than_members : (m : List (ℕ × Seat)) (done rest : List Place) (a : ℕ) → IsRenumbering (standing m) done rest a → length (done ++ rest) ≤ length (members_of m)
 no_more_than_members m done rest a r =
     let ps = done ++ rest in
-    let shorter : length (numbers ps) ≤ length (keys m) = length-le_from_is_member (eq_by_cmp_equiv nat_cmp_total) (numbers ps) (keys m) (numbers_distinct ps r.once)
+    let shorter : length (numbers ps) ≤ length (members_of m) = length-le_from_is_member (eq_by_cmp_equiv nat_cmp_total) (numbers ps) (members_of m) (numbers_distinct ps r.once)
     (λ q h.
     let w = waiting_place q ps (waits_from_among q ps h) in
-    is_member q m ∙ is_some_place (get nat_cmp m q) w.0 (ap (standing m) w.2 ∙ r.seated w.0 w.1)) in
+    is_member q m ∙ is_some_place (seat_of m q) w.0 (ap (standing m) w.2 ∙ r.seated w.0 w.1)) in
     let same : length (numbers ps) ≡ length ps = search (common_steps) in
     omega arith
 

@@ -54,7 +54,7 @@ stands_order n o ts (e ∷ es) u h =
     ap (λ m. order_in m ts) (eqb-true n e.1 parts.0) ∙ u.0 ∙ ap Some (sym (same_order_is o e.0 parts.1)))
     (λ (l : stands_under n o es ≡ true). stands_order n o ts es u.1 l) (or_cases (eqb n e.1 && same_order o e.0) (stands_under n o es) h)
 
-order_stands : (n : ℕ) (o : ScopeOrder) (es : List (ScopeOrder × ℕ)) → order_in n es ≡ Some o → stands_under n o es ≡ true
+pub order_stands : (n : ℕ) (o : ScopeOrder) (es : List (ScopeOrder × ℕ)) → order_in n es ≡ Some o → stands_under n o es ≡ true
 order_stands n o [] h = absurd cc
 order_stands n o (e ∷ es) k =
     (elim (eqb n e.1) as (λ b. cond b (Some e.0) (order_in n es) ≡ Some o → ((b && same_order o e.0) || stands_under n o es) ≡ true) [

@@ -1,36 +1,29 @@
 -- Where members stand, when one seat changes.
-use Rattle.std.proofs.Common.{◌≡◌, ℕ, Bool, true, false, cond, not, List, eqb, refl, ap, ◌∙◌, sym, ⊎_elim, arith, Option, Some, None}
+use Rattle.std.proofs.Common.{◌≡◌, ℕ, Bool, true, false, cond, not, List, eqb, refl, ap, ◌∙◌, sym, ⊎_elim, Option, Some, None, IfSome}
 use Rattle.std.proofs.lemmas.Bool.{eqb-true, cases_Bool, both_ways}
-use Rattle.std.proofs.lemmas.Bool.Decides.{nat_tests}
 use Rattle.std.proofs.lemmas.Map.Made.{is_some-lookup}
 use Rattle.std.specs.Option.{is_some}
 use Rattle.std.specs.Ordering.{nat_cmp, is_eq}
-use Rattle.std.specs.BTreeMap.{BTreeMap, get, keys}
 use Rattle.rt_lemmas.proofs.Bools.{cond_or}
+use Rattle.rt_sched.specs.Seats.{seat_of, members_of, IsSeated}
 use Rattle.rt_sched.specs.Lines.{has_number, Joins, Leaves, place_of, standing}
 use Rattle.rt_sched.specs.declared.place.Place.{Place}
-use Rattle.rt_sched.specs.declared.line.Seat.{Seat}
-
-pub seat_test : (n q : ℕ) → is_eq (nat_cmp n q) ≡ eqb q n
-seat_test n q = grind (arith, nat_tests)
+use Rattle.rt_sched.specs.declared.seating.Seat.{Seat}
 
 -- a member has a seat
-pub is_member : (n : ℕ) (m : BTreeMap ℕ Seat) → has_number n (keys m) ≡ is_some (get nat_cmp m n)
-is_member n m = sym (is_some-lookup (λ k. is_eq (nat_cmp n k)) m.entries)
+pub is_member : (n : ℕ) (m : List (ℕ × Seat)) → has_number n (members_of m) ≡ is_some (seat_of m n)
+is_member n m = sym (is_some-lookup (λ k. is_eq (nat_cmp n k)) m)
 
 place_of_cond : (b : Bool) (w s : Option Seat) → place_of (cond b w s) ≡ cond b (place_of w) (place_of s)
 place_of_cond true w s = refl
 place_of_cond false w s = refl
 
 -- where all stand when the seat of n becomes w
-pub stood : (m m' : BTreeMap ℕ Seat) (n : ℕ) (w : Option Seat) → ((q : ℕ) → get nat_cmp m' q ≡ cond (is_eq (nat_cmp n q)) w (get nat_cmp m q))
-    → (q : ℕ) → standing m' q ≡ cond (eqb q n) (place_of w) (standing m q)
-stood m m' n w e q =
-    ap place_of (e q) ∙ place_of_cond (is_eq (nat_cmp n q)) w (get nat_cmp m q) ∙ ap (λ b. cond b (place_of w) (standing m q)) (seat_test n q)
+pub stood : (m m' : List (ℕ × Seat)) (n : ℕ) (w : Option Seat) → IsSeated n w m m' → (q : ℕ) → standing m' q ≡ cond (eqb q n) (place_of w) (standing m q)
+stood m m' n w e q = ap place_of (e q) ∙ place_of_cond (eqb q n) w (seat_of m q)
 
 -- nobody moves when a seat without a place becomes another without a place
-pub stood_same : (m m' : BTreeMap ℕ Seat) (n : ℕ) (w : Option Seat) → ((q : ℕ) → get nat_cmp m' q ≡ cond (is_eq (nat_cmp n q)) w (get nat_cmp m q))
-    → place_of w ≡ standing m n → (q : ℕ) → standing m' q ≡ standing m q
+pub stood_same : (m m' : List (ℕ × Seat)) (n : ℕ) (w : Option Seat) → IsSeated n w m m' → place_of w ≡ standing m n → (q : ℕ) → standing m' q ≡ standing m q
 stood_same m m' n w e none q =
     stood m m' n w e q
     ∙ ⊎_elim (λ (t : eqb q n ≡ true). let same = eqb-true q n t in rw t (none ∙ ap (standing m) (sym same))) (λ (f : eqb q n ≡ false). rw f refl) (cases_Bool (eqb q n))
@@ -40,16 +33,14 @@ is_some_cond true w s = refl
 is_some_cond false w s = refl
 
 -- who is a member when the seat of n becomes w
-members_now : (m m' : BTreeMap ℕ Seat) (n : ℕ) (w : Option Seat) → ((q : ℕ) → get nat_cmp m' q ≡ cond (is_eq (nat_cmp n q)) w (get nat_cmp m q))
-    → (q : ℕ) → has_number q (keys m') ≡ cond (eqb q n) (is_some w) (has_number q (keys m))
+members_now : (m m' : List (ℕ × Seat)) (n : ℕ) (w : Option Seat) → IsSeated n w m m' → (q : ℕ) → has_number q (members_of m') ≡ cond (eqb q n) (is_some w) (has_number q (members_of m))
 members_now m m' n w e q =
-    is_member q m' ∙ ap is_some (e q) ∙ is_some_cond (is_eq (nat_cmp n q)) w (get nat_cmp m q)
-    ∙ ap (λ b. cond b (is_some w) (is_some (get nat_cmp m q))) (seat_test n q) ∙ ap (λ b. cond (eqb q n) (is_some w) b) (sym (is_member q m))
+    is_member q m' ∙ ap is_some (e q) ∙ is_some_cond (eqb q n) w (seat_of m q) ∙ ap (λ b. cond (eqb q n) (is_some w) b) (sym (is_member q m))
 
-pub joins : (m m' : BTreeMap ℕ Seat) (n : ℕ) (s : Seat) → ((q : ℕ) → get nat_cmp m' q ≡ cond (is_eq (nat_cmp n q)) (Some s) (get nat_cmp m q)) → Joins n (keys m) (keys m')
-joins m m' n s e q = members_now m m' n (Some s) e q ∙ cond_or (eqb q n) (has_number q (keys m))
+pub joins : (m m' : List (ℕ × Seat)) (n : ℕ) (s : Seat) → IsSeated n (Some s) m m' → Joins n (members_of m) (members_of m')
+joins m m' n s e q = members_now m m' n (Some s) e q ∙ cond_or (eqb q n) (has_number q (members_of m))
 
-pub leaves : (m m' : BTreeMap ℕ Seat) (n : ℕ) → ((q : ℕ) → get nat_cmp m' q ≡ cond (is_eq (nat_cmp n q)) None (get nat_cmp m q)) → Leaves n (keys m) (keys m')
+pub leaves : (m m' : List (ℕ × Seat)) (n : ℕ) → IsSeated n None m m' → Leaves n (members_of m) (members_of m')
 leaves m m' n e q = members_now m m' n None e q
 
 -- who has joined joins nobody new
@@ -62,7 +53,7 @@ vacant None e = refl
 vacant (Some s) e = absurd (both_ways true e refl)
 
 -- a member whose seat isn't found is none
-pub no_seat : (n : ℕ) (m : BTreeMap ℕ Seat) → has_number n (keys m) ≡ true → get nat_cmp m n ≡ None → ⊥
+pub no_seat : (n : ℕ) (m : List (ℕ × Seat)) → has_number n (members_of m) ≡ true → seat_of m n ≡ None → ⊥
 no_seat n m has none = both_ways _ (is_member n m ∙ ap is_some none) has
 
 pub at_home : (o : Option Place) → true ≡ not (is_some o) → o ≡ None
@@ -78,5 +69,11 @@ is_some_place None p e = absurd cc
 is_some_place (Some s) p e = refl
 
 -- who stands at a place is a member
-pub seat_of_place : (m : BTreeMap ℕ Seat) (p : Place) → standing m p.number ≡ Some p → has_number p.number (keys m) ≡ true
-seat_of_place m p e = is_member p.number m ∙ is_some_place (get nat_cmp m p.number) p e
+pub seat_of_place : (m : List (ℕ × Seat)) (p : Place) → standing m p.number ≡ Some p → has_number p.number (members_of m) ≡ true
+seat_of_place m p e = is_member p.number m ∙ is_some_place (seat_of m p.number) p e
+
+-- the seat of a member is changed for another
+pub exchanged : (m m' : List (ℕ × Seat)) (n : ℕ) (s : Seat) (former : Option Seat) → former ≡ seat_of m n → IfSome former (λ _. IsSeated n (Some s) m m')
+    → has_number n (members_of m) ≡ true → IsSeated n (Some s) m m'
+exchanged m m' n s None is now has = absurd (no_seat n m has (sym is))
+exchanged m m' n s (Some t) is now has = now

@@ -5,6 +5,7 @@ pub mod Queues
 pub mod Due
 pub mod Places
 pub mod Tree
+pub mod Seats
 pub mod Lines
 pub mod Rosters
 pub mod Pending

@@ -2,15 +2,15 @@
 use Rattle.std.specs.Prelude.{◌≡◌, ℕ, ◌<◌, Bool, true, false, ◌||◌, ◌==◌, not, List, [], ◌∷◌, Option, None, Some, map, if◌then◌else◌}
 use Rattle.std.specs.List.{list_any, filter}
 use Rattle.std.specs.Ordering.{nat_cmp, is_eq}
-use Rattle.std.specs.BTreeMap.{BTreeMap, get}
 use Rattle.rt_sched.specs.Order.{order_before, same_order}
 use Rattle.rt_sched.specs.Places.{IsInOrder, has_place}
+use Rattle.rt_sched.specs.Seats.{seat_of}
 use Rattle.rt_sched.specs.declared.order.ScopeOrder.{ScopeOrder}
 use Rattle.rt_sched.specs.declared.place.Place.{Place}
-use Rattle.rt_sched.specs.declared.line.Seat.{Seat}
-use Rattle.rt_sched.specs.declared.line.Seat.TheVariants.{Home, InLine}
+use Rattle.rt_sched.specs.declared.seating.Seat.{Seat}
+use Rattle.rt_sched.specs.declared.seating.Seat.TheVariants.{Home, InLine}
 
--- the numbers of the members, ascending, and who waits, first to last
+-- the numbers of the members, and who waits, first to last
 pub record Row : Type 0 where
   pub members : List ℕ
   pub waiting : List (ScopeOrder × ℕ)
@@ -95,8 +95,8 @@ AllOnce [] = Unit {0}
 AllOnce (p ∷ ps) = (waits p.number (who_waits ps) ≡ false) × AllOnce ps
 
 -- the place where a number stands, by the members' seats
-abbrev pub standing : BTreeMap ℕ Seat → ℕ → Option Place
-standing seats n = place_of (get nat_cmp seats n)
+abbrev pub standing : List (ℕ × Seat) → ℕ → Option Place
+standing seats n = place_of (seat_of seats n)
 
 -- one number stands where s says, and each other where it stood
 abbrev pub StandsAt : ℕ → Option Place → (ℕ → Option Place) → (ℕ → Option Place) → Type 0

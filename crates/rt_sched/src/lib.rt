@@ -10,6 +10,7 @@ mod order;
 mod place;
 mod queues;
 mod roll;
+mod seating;
 mod tree;
 mod work;
 

@@ -1,34 +1,25 @@
 //! A line in which members wait by order, and in one order by arrival. A member's node is made when
 //! it is entered and goes between its seat and the tree, so that no mark and no look takes memory.
 ghost use Rattle.std.specs.Prelude.{◌≡◌, ◌∷◌, [], ◌^◌, ◌-◌, ◌<◌, ◌↔◌, IsTrue, IfSome, IfNone, OnOk, OnErr, Some, is_some, if◌then◌else◌, ◌==◌, None, not, false, MatchOption};
-ghost use Rattle.std.specs.Ordering.{nat_cmp};
-ghost use Rattle.std.specs.BTreeMap.{get, keys};
 ghost use Rattle.rt_sched.specs.Places.{IsInOrder};
+ghost use Rattle.rt_sched.specs.Seats.{members_of};
 ghost use Rattle.rt_sched.specs.Lines.{Row, IsLine, standing, StandsAt, has_number, Joins, Leaves, waits, with_waiting, without_waiting, order_in, orders_of, first_in, first_under, first_order, behind, who_waits};
+ghost use Rattle.rt_sched.specs.Rosters.{all_waiting};
 ghost use Rattle.rt_sched.specs.Due.{NoneEarlier};
 
 use crate::order::ScopeOrder;
 use crate::place::Place;
+use crate::seating::{Seat, Seating};
 use crate::tree::{Node, Tree};
 use rt_values::OutOfMemory;
 use std::alloc::Global;
-use std::collections::BTreeMap;
 use std::marker::Model;
 use std::mem;
-
-/// Where a member's node is.
-#[derive(Drop)]
-enum Seat {
-    /// With its member, who doesn't wait.
-    Home(Box<Node>),
-    /// In the tree, at this place.
-    InLine(Place),
-}
 
 /// Members by number, and those that wait.
 #[derive(Drop)]
 pub struct Line {
-    seats: BTreeMap<u64, Seat>,
+    seats: Seating,
     tree: Tree,
     arrivals: u64,
 }
@@ -38,10 +29,10 @@ impl Model for Line {
 
     ghost Value = { Row };
 
-    ghost use Rattle.std.specs.BTreeMap.{keys};
+    ghost use Rattle.rt_sched.specs.Seats.{members_of};
     ghost use Rattle.rt_sched.specs.Lines.{IsLine, standing, who_waits};
 
-    ghost view = { λ line. record { members = keys line.seats; waiting = who_waits line.tree } };
+    ghost view = { λ line. record { members = members_of line.seats; waiting = who_waits line.tree } };
 
     ghost invariant = { λ line. IsLine (standing line.seats) line.tree line.arrivals };
 }
@@ -51,7 +42,7 @@ impl Line {
         ensures empty { result ≡ record { members = []; waiting = [] } }
     {
         Line {
-            seats: BTreeMap::new(alloc),
+            seats: Seating::new(alloc),
             tree: Tree::new(),
             arrivals: 0,
         }
@@ -63,7 +54,7 @@ impl Line {
         ensures waiting { self.new.waiting ≡ self.old.waiting }
         ensures err { OnErr result (self.new ≡ self.old) }
     {
-        if self.seats.contains_key(&number) {
+        if self.seats.has(number) {
             return Ok(());
         }
         let node = Box::new(alloc, Node::vacant(number))?;
@@ -76,8 +67,10 @@ impl Line {
         ensures left { Leaves number self.old.members self.new.members }
         ensures waiting { self.new.waiting ≡ without_waiting number self.old.waiting }
     {
-        self.remove(number);
-        self.seats.remove(&number);
+        if let Some(place) = take_seat(&mut self.seats, number) {
+            let (_node, others) = mem::replace(&mut self.tree, Tree::new()).remove(&place);
+            self.tree = others;
+        }
     }
 
     /// Lets a member wait, the last of its order. One who waits stays where it is.
@@ -176,6 +169,14 @@ impl Line {
         Some(place_at(&self.seats, number)?.order)
     }
 
+    /// Those that wait come to an empty line, one after another, as they stand here.
+    #[inline(always)]
+    pub fn comes_so(&self)
+        ensures so { all_waiting self.now.waiting [] ≡ self.now.waiting }
+    {
+        let _tree = &self.tree;
+    }
+
     /// Whether no one waits.
     pub fn is_empty(&self) -> bool
         ensures empty { IsTrue result ↔ (self.now.waiting ≡ []) }
@@ -185,9 +186,9 @@ impl Line {
 }
 
 // The next arrival, with room for one after it: where the numbers end, all are counted anew.
-fn next_arrival(seats: &mut BTreeMap<u64, Seat>, tree: &mut Tree, arrivals: u64) -> u64
+fn next_arrival(seats: &mut Seating, tree: &mut Tree, arrivals: u64) -> u64
     requires line { IsLine (standing seats.old) tree.old arrivals }
-    ensures members { keys seats.new ≡ keys seats.old }
+    ensures members { members_of seats.new ≡ members_of seats.old }
     ensures waiting { who_waits tree.new ≡ who_waits tree.old }
     ensures line { IsLine (standing seats.new) tree.new result }
     ensures room { result < 2 ^ 64 - 1 }
@@ -199,14 +200,14 @@ fn next_arrival(seats: &mut BTreeMap<u64, Seat>, tree: &mut Tree, arrivals: u64)
 }
 
 // Counts the arrivals from 0 again, first to last, and gives a number above them.
-fn renumber(seats: &mut BTreeMap<u64, Seat>, tree: &mut Tree) -> u64
+fn renumber(seats: &mut Seating, tree: &mut Tree) -> u64
     requires line { IsLine (standing seats.old) tree.old (2 ^ 64 - 1) }
-    ensures members { keys seats.new ≡ keys seats.old }
+    ensures members { members_of seats.new ≡ members_of seats.old }
     ensures waiting { who_waits tree.new ≡ who_waits tree.old }
     ensures line { IsLine (standing seats.new) tree.new result }
     ensures room { result < 2 ^ 64 - 1 }
 {
-    let members = seats.len() as u64;
+    let members = seats.room();
     let mut done = Tree::new();
     for arrival in 0..members {
         let Some((mut node, others)) = mem::replace(tree, Tree::new()).take_first() else {
@@ -226,52 +227,60 @@ fn renumber(seats: &mut BTreeMap<u64, Seat>, tree: &mut Tree) -> u64
 }
 
 // Names another place in the seat of a member who stands in line.
-fn stand_at(seats: &mut BTreeMap<u64, Seat>, place: Place)
-    ensures members { keys seats.new ≡ keys seats.old }
-    ensures stands { IsTrue (has_number place.number (keys seats.old))
+fn stand_at(seats: &mut Seating, place: Place)
+    ensures members { members_of seats.new ≡ members_of seats.old }
+    ensures stands { IsTrue (has_number place.number (members_of seats.old))
         → StandsAt place.number (Some place) (standing seats.old) (standing seats.new) }
 {
-    if let Some(seat) = seats.get_mut(&place.number) {
-        *seat = Seat::InLine(place);
-    }
+    let _former = seats.exchange(place.number, Seat::InLine(place));
 }
 
 // The place where a number stands in line.
-fn place_at(seats: &BTreeMap<u64, Seat>, number: u64) -> Option<Place>
+fn place_at(seats: &Seating, number: u64) -> Option<Place>
     ensures place { result ≡ standing seats.now number }
 {
-    match seats.get(&number) {
+    match seats.get(number) {
         Some(Seat::InLine(place)) => Some(*place),
+        _ => None,
+    }
+}
+
+// Takes a member's seat off, and gives the place where it stood in line.
+fn take_seat(seats: &mut Seating, number: u64) -> Option<Place>
+    ensures place { result ≡ standing seats.old number }
+    ensures left { Leaves number (members_of seats.old) (members_of seats.new) }
+    ensures stands { StandsAt number None (standing seats.old) (standing seats.new) }
+{
+    match seats.remove(number) {
+        Some(Seat::InLine(place)) => Some(place),
         _ => None,
     }
 }
 
 // Sends the member of a place there from home, and gives its node. `None` where no such member is
 // at home.
-fn leave_home(seats: &mut BTreeMap<u64, Seat>, place: Place) -> Option<Box<Node>>
-    ensures members { keys seats.new ≡ keys seats.old }
+fn leave_home(seats: &mut Seating, place: Place) -> Option<Box<Node>>
+    ensures members { members_of seats.new ≡ members_of seats.old }
     ensures stays { IfNone result ((q : _) → standing seats.new q ≡ standing seats.old q) }
-    ensures was_home { IsTrue (has_number place.number (keys seats.old))
+    ensures was_home { IsTrue (has_number place.number (members_of seats.old))
         → is_some result ≡ not (is_some (standing seats.old place.number)) }
     ensures stands { IfSome result
         (λ _. StandsAt place.number (Some place) (standing seats.old) (standing seats.new)) }
 {
-    let seat = seats.get_mut(&place.number)?;
-    match mem::replace(seat, Seat::InLine(place)) {
+    match seats.exchange(place.number, Seat::InLine(place))? {
         Seat::Home(node) => Some(node),
         Seat::InLine(former) => {
-            *seat = Seat::InLine(former);
+            let _there = seats.exchange(place.number, Seat::InLine(former));
             None
         }
     }
 }
 
 // Sends a node to its member, who is then at home.
-fn bring_home(seats: &mut BTreeMap<u64, Seat>, node: Box<Node>)
-    ensures members { keys seats.new ≡ keys seats.old }
+fn bring_home(seats: &mut Seating, node: Box<Node>)
+    ensures members { members_of seats.new ≡ members_of seats.old }
     ensures home { StandsAt node.value.place.number None (standing seats.old) (standing seats.new) }
 {
-    if let Some(seat) = seats.get_mut(&node.place.number) {
-        *seat = Seat::Home(node);
-    }
+    let number = node.place.number;
+    let _former = seats.exchange(number, Seat::Home(node));
 }

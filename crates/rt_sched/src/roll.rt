@@ -10,6 +10,7 @@ use crate::order::ScopeOrder;
 use rt_values::OutOfMemory;
 use std::alloc::Global;
 use std::marker::Model;
+use std::mem;
 
 /// Entered numbers with their orders, the ready ones and the posted ones.
 #[derive(Drop)]
@@ -89,13 +90,19 @@ impl Roll {
         self.posted.push(number, order);
     }
 
-    /// All that are posted become ready.
+    /// All that are posted become ready. Where none is ready the two lines change places, and none
+    /// is moved.
     pub fn look(&mut self)
         ensures looked { self.new ≡ record self.old {
           ready = all_waiting self.old.posted self.old.ready;
           posted = [];
         } }
     {
+        if self.ready.is_empty() {
+            self.posted.comes_so();
+            mem::swap(&mut self.ready, &mut self.posted);
+            return;
+        }
         move_all(&mut self.posted, &mut self.ready);
     }
 

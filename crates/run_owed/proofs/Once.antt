@@ -1,13 +1,13 @@
--- Lists in which each number stands once, and the list that keeps each once.
-use Rattle.std.proofs.Common.{ℕ, Bool, true, false, List, [], ◌∷◌, ◌++◌, ◌≡◌, refl, sym, ap, ◌∙◌, nat_eq}
+-- Lists in which each number stands once, and the scopes and tasks of what is posted, after one more or less.
+use Rattle.std.proofs.Common.{ℕ, Bool, true, false, List, [], ◌∷◌, ◌++◌, ◌≡◌, refl, ap, ◌∙◌, nat_eq}
 use Rattle.std.specs.Prelude.{if◌then◌else◌, not}
 use Rattle.std.proofs.lemmas.Bool.{eqb-true}
 use Rattle.rt_model.specs.Lists.{drop_number, has, join}
 use Rattle.rt_model.specs.State.{Posted, Mark, Woken}
 use Rattle.rt_model.specs.Commands.{drop_posted}
-use Rattle.rt_model.proofs.Maps.{by_test, pick_true, pick_false, eq_same}
-use Rattle.rt_model.proofs.Members.{clash, or_left, or_right, number_left, number_stays, turned_round}
-use Rattle.run_owed.specs.Lists.{EachOnce, joins, marks_in, wakes_in}
+use Rattle.rt_model.proofs.Maps.{by_test, eq_same}
+use Rattle.rt_model.proofs.Members.{clash, or_left, or_right, number_left}
+use Rattle.run_owed.specs.Lists.{EachOnce, marks_in, wakes_in}
 use Rattle.run_owed.proofs.Members.{by_part, has_only}
 
 -- one more number
@@ -44,64 +44,7 @@ once_less (n ∷ ns) s once = by (nat_eq n s) (once_less ns s once.1)
     by true h = h
     by false h = (by_test (has (drop_number ns s) n) (λ q. clash (number_left ns s n q).0 once.0) (λ q. q), h)
 
--- one more is posted
-pub joins_more : (seen ns : List ℕ) (n : ℕ) → joins seen (ns ++ n ∷ []) ≡ join (joins seen ns) n
-joins_more seen [] n = refl
-joins_more seen (m ∷ ms) n = joins_more (join seen m) ms n
-
--- the last number goes with all of its kind, another one stays
-goes_last : (xs : List ℕ) (m s : ℕ) → nat_eq m s ≡ true → drop_number (xs ++ m ∷ []) s ≡ drop_number xs s
-goes_last [] m s q = pick_true [] (m ∷ []) q
-goes_last (x ∷ xs) m s q = ap (λ ys. if nat_eq x s then ys else x ∷ ys) (goes_last xs m s q)
-
-stays_last : (xs : List ℕ) (m s : ℕ) → nat_eq m s ≡ false → drop_number (xs ++ m ∷ []) s ≡ drop_number xs s ++ m ∷ []
-stays_last [] m s q = pick_false [] (m ∷ []) q
-stays_last (x ∷ xs) m s q = ap (λ ys. if nat_eq x s then ys else x ∷ ys) (stays_last xs m s q) ∙ by (nat_eq x s)
-  where
-    by : (b : Bool) → (if b then drop_number xs s ++ m ∷ [] else x ∷ (drop_number xs s ++ m ∷ [])) ≡ (if b then drop_number xs s else x ∷ drop_number xs s) ++ m ∷ []
-    by true = refl
-    by false = refl
-
--- a number goes before another joins or after that
-drop_joined : (seen : List ℕ) (m s : ℕ) → drop_number (join seen m) s ≡ (if nat_eq m s then drop_number seen s else join (drop_number seen s) m)
-drop_joined seen m s =
-    by_test (nat_eq m s)
-    (
-    λ q.
-    by_test (has seen m)
-    (λ r. ap (λ ms. drop_number ms s) (pick_true seen (seen ++ m ∷ []) r))
-    (λ r. ap (λ ms. drop_number ms s) (pick_false seen (seen ++ m ∷ []) r) ∙ goes_last seen m s q)
-    ∙ sym (pick_true (drop_number seen s) (join (drop_number seen s) m) q)
-    )
-    (
-    λ q.
-    by_test (has seen m)
-    (
-    λ r.
-    ap (λ ms. drop_number ms s) (pick_true seen (seen ++ m ∷ []) r)
-    ∙ sym (pick_true (drop_number seen s) (drop_number seen s ++ m ∷ []) (number_stays seen s m (turned_round m s q) r))
-    )
-    (
-    λ r.
-    ap (λ ms. drop_number ms s) (pick_false seen (seen ++ m ∷ []) r)
-    ∙ stays_last seen m s q
-    ∙ sym (pick_false (drop_number seen s) (drop_number seen s ++ m ∷ []) (by_test (has (drop_number seen s) m) (λ t. clash (number_left seen s m t).0 r) (λ t. t)))
-    )
-    ∙ sym (pick_false (drop_number seen s) (join (drop_number seen s) m) q)
-    )
-
-pub once_dropped : (seen ns : List ℕ) (s : ℕ) → drop_number (joins seen ns) s ≡ joins (drop_number seen s) (drop_number ns s)
-once_dropped seen [] s = refl
-once_dropped seen (m ∷ ms) s =
-    once_dropped (join seen m) ms s
-    ∙ ap (λ xs. joins xs (drop_number ms s)) (drop_joined seen m s)
-    ∙ by (nat_eq m s)
-  where
-    by : (b : Bool) → joins (if b then drop_number seen s else join (drop_number seen s) m) (drop_number ms s) ≡ joins (drop_number seen s) (if b then drop_number ms s else m ∷ drop_number ms s)
-    by true = refl
-    by false = refl
-
--- the scopes and tasks of what is posted, after one more or less
+-- ---- what is posted
 
 pub marks_mark : (ps : List Posted) (s : ℕ) → marks_in (ps ++ Mark s ∷ []) ≡ marks_in ps ++ s ∷ []
 marks_mark [] s = refl

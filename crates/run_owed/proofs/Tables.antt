@@ -1,10 +1,10 @@
 -- The numbers of a table, as rows come, change and go.
-use Rattle.std.proofs.Common.{ℕ, zero, suc, ◌<◌, Bool, true, false, List, [], ◌∷◌, ◌++◌, ◌≡◌, ◌||◌, length, get_or, refl, sym, ap, ◌∙◌, nat_eq, arith}
-use Rattle.std.specs.Prelude.{Option, Some, None, is_some, option_map, if◌then◌else◌, slice_set}
+use Rattle.std.proofs.Common.{ℕ, Bool, true, false, List, [], ◌∷◌, ◌++◌, ◌≡◌, ◌||◌, refl, sym, ap, ◌∙◌, nat_eq}
+use Rattle.std.specs.Prelude.{Option, Some, None, is_some, option_map, if◌then◌else◌}
 use Rattle.std.proofs.lemmas.Bool.{eqb-true}
 use Rattle.rt_model.specs.Lists.{at, put, without, drop_number, has, or_else}
 use Rattle.rt_model.proofs.Maps.{by_test, pick_true, pick_false}
-use Rattle.run_owed.specs.Lists.{front, numbers_of, values_of}
+use Rattle.run_owed.specs.Lists.{numbers_of, values_of}
 
 module _ {A : Type 0} where
   -- a number is there where a row has it
@@ -44,12 +44,6 @@ module _ {A : Type 0} where
           → numbers_of (if b then without es n else e ∷ without es n) ≡ (if b then drop_number (numbers_of es) n else e.0 ∷ drop_number (numbers_of es) n)
       by true h = h
       by false h = ap (λ ns. e.0 ∷ ns) h
-
-  -- a row at an index changes, and keeps its number
-  pub numbers_set : (es : List (ℕ × A)) (i : ℕ) (d : ℕ × A) (a : A) → i < length es → numbers_of (slice_set es i ((get_or es i d).0, a)) ≡ numbers_of es
-  numbers_set [] i d a within = absurd (omega (arith, within))
-  numbers_set (e ∷ es) zero d a within = refl
-  numbers_set (e ∷ es) (suc i) d a within = ap (λ ns. e.0 ∷ ns) (numbers_set es i d a (omega (arith, within)))
 
 module _ {A : Type 0} (value : A → ℕ) where
   -- the rows of a table, each with one value
@@ -101,16 +95,3 @@ module _ {A : Type 0} (value : A → ℕ) where
           ≡ (if b then without (values_of value es) n else (e.0, value e.1) ∷ without (values_of value es) n)
       by true h = h
       by false h = ap (λ rest. (e.0, value e.1) ∷ rest) h
-
-  -- a row at an index changes, and keeps its number and its value
-  pub values_set : (es : List (ℕ × A)) (i : ℕ) (d : ℕ × A) (a : A) → i < length es → value a ≡ value (get_or es i d).1
-      → values_of value (slice_set es i ((get_or es i d).0, a)) ≡ values_of value es
-  values_set [] i d a within same = absurd (omega (arith, within))
-  values_set (e ∷ es) zero d a within same = ap (λ v. (e.0, v) ∷ values_of value es) same
-  values_set (e ∷ es) (suc i) d a within same = ap (λ rest. (e.0, value e.1) ∷ rest) (values_set es i d a (omega (arith, within)) same)
-
--- what came last is taken back
-pub front_more : (es : List (ℕ × ℕ)) (e : ℕ × ℕ) → front (es ++ e ∷ []) ≡ es
-front_more [] e = refl
-front_more (d ∷ []) e = refl
-front_more (d ∷ c ∷ cs) e = ap (λ ds. d ∷ ds) (front_more (c ∷ cs) e)

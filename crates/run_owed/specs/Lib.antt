@@ -1,5 +1,5 @@
 pub mod Lists
-pub mod Orders
+pub mod Owing
 pub mod Changes
-pub mod Rooms
-pub mod Owners
+pub mod Orders
+pub mod Stands

@@ -1,5 +1,5 @@
--- Lists of numbers: each once, how many different ones, the front; and the scopes and tasks of what is posted.
-use Rattle.std.specs.Prelude.{ℕ, suc, false, nat_eq, List, [], ◌∷◌, ◌≡◌, if◌then◌else◌}
+-- Lists of numbers, each once; tables by number; and the scopes and tasks of what is posted.
+use Rattle.std.specs.Prelude.{ℕ, false, nat_eq, List, [], ◌∷◌, ◌≡◌, Option, Some, None, if◌then◌else◌}
 use Rattle.rt_model.specs.Lists.{at, has, join, or_else}
 use Rattle.rt_model.specs.State.{Posted, Mark, Woken}
 
@@ -8,24 +8,10 @@ abbrev pub joins : List ℕ → List ℕ → List ℕ
 joins seen [] = seen
 joins seen (n ∷ ns) = joins (join seen n) ns
 
--- each once, in the order of first coming
-abbrev pub once_each : List ℕ → List ℕ
-once_each ns = joins [] ns
-
 -- no number stands twice
 abbrev pub EachOnce : List ℕ → Type 0
 EachOnce [] = Unit {0}
 EachOnce (n ∷ ns) = (has ns n ≡ false) × EachOnce ns
-
--- how many different numbers
-abbrev pub different : List ℕ → ℕ
-different [] = 0
-different (n ∷ ns) = if has ns n then different ns else suc (different ns)
-
--- all but the last
-abbrev pub front : List (ℕ × ℕ) → List (ℕ × ℕ)
-front [] = []
-front (e ∷ es) = elim es [ [] ↦ [] | d ∷ ds ↦ e ∷ front es ]
 
 -- the value that a number was entered with, 0 where it isn't entered
 abbrev pub held : List (ℕ × ℕ) → ℕ → ℕ
@@ -53,7 +39,7 @@ abbrev pub values_of : {A : Type 0} → (A → ℕ) → List (ℕ × A) → List
 values_of value [] = []
 values_of value (e ∷ es) = (e.0, value e.1) ∷ values_of value es
 
--- the numbers that were entered with a value
-abbrev pub numbers_with : ℕ → List (ℕ × ℕ) → List ℕ
-numbers_with v [] = []
-numbers_with v (e ∷ es) = if nat_eq e.1 v then e.0 ∷ numbers_with v es else numbers_with v es
+-- the first number that was entered with a value
+abbrev pub first_with : ℕ → List (ℕ × ℕ) → Option ℕ
+first_with v [] = None
+first_with v (e ∷ es) = if nat_eq e.1 v then Some e.0 else first_with v es

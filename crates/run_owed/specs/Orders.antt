@@ -1,5 +1,5 @@
 -- The order of scopes and tasks, by what they were entered with.
-use Rattle.std.specs.Prelude.{ℕ, Bool, false, ◌&&◌, ◌||◌, nat_eq, nat_lt, List, [], ◌∷◌, Option, Some, None, ◌≡◌}
+use Rattle.std.specs.Prelude.{ℕ, Bool, ◌&&◌, ◌||◌, nat_eq, nat_lt, List, [], ◌∷◌, Option, Some, None}
 use Rattle.run_owed.specs.Lists.{held}
 
 -- whether one height and number comes before another: by height, and then by number
@@ -18,26 +18,7 @@ scope_rank scopes s = (held scopes s, s)
 abbrev pub task_rank : List (ℕ × ℕ) → List (ℕ × ℕ) → ℕ → ℕ × ℕ
 task_rank scopes tasks t = scope_rank scopes (held tasks t)
 
--- numbers by themselves
-abbrev pub plain_rank : ℕ → ℕ × ℕ
-plain_rank n = (n, 0)
-
--- none of these comes before a number
-abbrev pub NoneBefore : (ℕ → ℕ × ℕ) → ℕ → List ℕ → Type 0
-NoneBefore rank n [] = Unit {0}
-NoneBefore rank n (m ∷ ms) = (sooner rank m n ≡ false) × NoneBefore rank n ms
-
--- none comes before one that stands before it
-abbrev pub InOrder : (ℕ → ℕ × ℕ) → List ℕ → Type 0
-InOrder rank [] = Unit {0}
-InOrder rank (n ∷ ns) = NoneBefore rank n ns × InOrder rank ns
-
 -- the first number
 abbrev pub first_number : List ℕ → Option ℕ
 first_number [] = None
 first_number (n ∷ ns) = Some n
-
--- the last number
-abbrev pub last_number : List ℕ → Option ℕ
-last_number [] = None
-last_number (n ∷ ns) = elim ns [ [] ↦ Some n | m ∷ ms ↦ last_number ns ]

@@ -1,13 +1,9 @@
-//! What is owed: marks and wakes that are posted, scopes that were seen, tasks that are queued. Each
-//! live scope and task has its place from its making on, so that nothing here is refused later.
+//! What is owed, as the definitions have it: marks and wakes that are posted, scopes that were seen,
+//! tasks that are queued. What runs is the scheduler's queues.
 #![tactic(auto)]
 
-mod entered;
-mod lists;
-mod numbers;
-mod order;
+mod numbered;
 mod owed;
-mod roll;
 mod told;
 
 pub use owed::Owed;

@@ -1,94 +1,68 @@
-//! Marks and wakes as they were posted, which contracts alone read.
-ghost use Rattle.std.specs.Prelude.{◌≡◌, ◌++◌, ◌∷◌, []};
-ghost use Rattle.rt_model.specs.State.{Mark, Woken};
-ghost use Rattle.rt_model.specs.Commands.{drop_posted};
-ghost use Rattle.run_owed.specs.Changes.{posted_by};
+//! What came to what is owed, which contracts alone read.
+ghost use Rattle.std.specs.Prelude.{◌≡◌, ◌∷◌, []};
 
 use std::marker::Model;
 use std::snapshot::Snapshot;
 
-/// What came to what is posted.
+/// One change of what is owed.
 #[derive(Clone, Copy)]
-pub(crate) enum Posting {
+pub(crate) enum Event {
+    /// A scope was entered with its height.
+    EnteredScope(u64, u64),
+    LeftScope(u64),
+    /// A task was entered with its scope.
+    EnteredTask(u64, u64),
+    /// A task left, and what is owed of it went.
+    EndedTask(u64),
     Marked(u64),
     Woken(u64),
-    /// A scope's marks went.
+    /// A scope's marks went, posted or seen.
     Unmarked(u64),
-    /// A task's wakes went.
+    /// A task's wakes went, posted or queued.
     Unwoken(u64),
-    /// All of it went.
-    Emptied,
+    Seen(u64),
+    Unseen(u64),
+    Unqueued(u64),
+    /// All that was posted became seen or queued.
+    Looked,
 }
 
-/// What is posted, in order, a thing as often as it was posted. What a contract reads of it takes no
-/// memory.
+/// The changes, one after another. What a contract reads of them takes no memory.
 #[derive(Drop)]
 pub(crate) struct Told {
-    last: Option<(Snapshot<Told>, Posting)>,
+    last: Option<(Snapshot<Told>, Event)>,
 }
 
 impl Model for Told {
     ghost use Rattle.std.specs.Prelude.{List, length};
-    ghost use Rattle.run_owed.specs.declared.told.Posting.{Posting};
+    ghost use Rattle.run_owed.specs.declared.told.Event.{Event};
 
-    ghost Value = { List Posting };
+    ghost Value = { List Event };
 
     ghost use Rattle.run_owed.specs.Changes.{all_of};
 
-    ghost view = { λ posts. all_of posts.last };
+    ghost view = { λ told. all_of told.last };
 
     ghost size = { length };
 
     ghost use Rattle.std.proofs.Common.{arith};
 
-    ghost size_decreases = { λ posts h. Prim.grind (arith) };
+    ghost size_decreases = { λ told h. Prim.grind (arith) };
 }
 
 impl Told {
-    /// Nothing is posted.
+    /// Nothing came.
     pub(crate) fn new() -> Told
-        ensures { posted_by result ≡ [] }
+        ensures { result ≡ [] }
     {
         Told { last: None }
     }
 
-    /// A scope's mark is posted after the others.
-    pub(crate) fn mark(&mut self, scope: u64)
-        ensures { posted_by self.new ≡ posted_by self.old ++ Mark scope ∷ [] }
+    /// One more change came.
+    pub(crate) fn tell(&mut self, event: Event)
+        ensures { self.new ≡ event ∷ self.old }
     {
         let before = Snapshot::of(self);
-        self.last = Some((before, Posting::Marked(scope)));
-    }
-
-    /// A task's wake is posted after the others.
-    pub(crate) fn wake(&mut self, task: u64)
-        ensures { posted_by self.new ≡ posted_by self.old ++ Woken task ∷ [] }
-    {
-        let before = Snapshot::of(self);
-        self.last = Some((before, Posting::Woken(task)));
-    }
-
-    /// A scope's marks go.
-    pub(crate) fn unmark(&mut self, scope: u64)
-        ensures { posted_by self.new ≡ drop_posted (posted_by self.old) (Mark scope) }
-    {
-        let before = Snapshot::of(self);
-        self.last = Some((before, Posting::Unmarked(scope)));
-    }
-
-    /// A task's wakes go.
-    pub(crate) fn unwake(&mut self, task: u64)
-        ensures { posted_by self.new ≡ drop_posted (posted_by self.old) (Woken task) }
-    {
-        let before = Snapshot::of(self);
-        self.last = Some((before, Posting::Unwoken(task)));
-    }
-
-    /// All of it goes.
-    pub(crate) fn empty(&mut self)
-        ensures { posted_by self.new ≡ [] }
-    {
-        let before = Snapshot::of(self);
-        self.last = Some((before, Posting::Emptied));
+        self.last = Some((before, event));
     }
 }

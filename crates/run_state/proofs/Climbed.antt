@@ -3,6 +3,7 @@ use Rattle.std.proofs.Common.{◌≡◌, ℕ, zero, suc, inl, inr, ◌-◌, ◌&
 use Rattle.std.specs.Prelude.{nat_eq, Option, Some, None, is_some, if◌then◌else◌}
 use Rattle.std.proofs.lemmas.Bool.Decides.{eqb_tells}
 pub use Rattle.rt_lemmas.proofs.Numbers.{is_zero}
+use Rattle.rt_lemmas.proofs.Bools.{and_right}
 use Rattle.rt_model.specs.Lists.{at}
 use Rattle.rt_model.specs.Tree.{Types}
 use Rattle.rt_model.specs.State as model
@@ -132,6 +133,17 @@ module _ {K : Types} (scopes : List (ℕ × model.Scope K)) where
   pub gone_shows : (s : ℕ) → at scopes s ≡ None → false ≡ shown_in scopes s
   gone_shows s gone =
       ap (λ (o : Option (model.Scope K)). is_some o && shown_from scopes (elim o as (λ _. ℕ) [ None ↦ 0 | Some y ↦ y.height ]) s) (sym gone)
+
+-- above a scope that shows its parent shows, one lower
+pub parent_shows : {K : Types} (scopes : List (ℕ × model.Scope K)) (s p : ℕ) (x y : model.Scope K) → at scopes s ≡ Some x → at scopes p ≡ Some y → x.parent ≡ Some p
+    → nat_eq x.height 0 ≡ false → y.height ≡ x.height - 1 → shown_in scopes s ≡ true → shown_in scopes p ≡ true
+parent_shows scopes s p x y stood above up some height shows =
+    let here : shown_from scopes x.height s ≡ true = live_shows scopes s x (shown_from scopes x.height s) stood refl ∙ shows in
+    let way : shown_at scopes (λ q. shown_from scopes (x.height - 1) q) x.below (Some p) ≡ true = shown_up scopes x.height s some x (Some p) stood up ∙ here in
+    let both : (is_side y.shows x.below && shown_from scopes (x.height - 1) p) ≡ true =
+    ap (λ o. elim o as (λ _. Bool) [ None ↦ false | Some z ↦ is_side z.shows x.below && shown_from scopes (x.height - 1) p ]) (sym above) ∙ way in
+    let rest : shown_from scopes (x.height - 1) p ≡ true = and_right (is_side y.shows x.below) (shown_from scopes (x.height - 1) p) both in
+    sym (live_shows scopes p y true above (sym (ap (λ n. shown_from scopes n p) height ∙ rest)))
 
 module _ {K : Types} (scopes : List (ℕ × model.Scope K)) (n : ℕ) (x : model.Scope K) where
   -- nothing is above a scope

@@ -6,8 +6,7 @@ use Rattle.rt_model.specs.OneLog.{types}
 use Rattle.rt_model.specs.State as model
 use Rattle.rt_model.specs.Commands.{drop_posted, end, holding}
 use Rattle.run_records.specs.Kept.{each}
-use Rattle.run_records.specs.declared.rest.Scope.{Scope}
-use Rattle.run_owed.specs.Rooms.{Owing}
+use Rattle.run_owed.specs.Owing.{Owing}
 use Rattle.run_state.specs.Holders.{let_go}
 use Rattle.run_state.specs.Mirror.{Unkept, scopes_of, state_of, task_of}
 use Rattle.run_state.specs.declared.state.State.{State}
@@ -24,17 +23,9 @@ module _ {P C Q V H T E L : Type 0} where
     tasks = without (d.owed).tasks t;
   }
 
-  pub owed_ended : (d : State P C Q V H T E L) (t : ℕ) (a b c e : Owing) (seen : List (ℕ × Scope P C Q V H T E L))
-      → a ≡ with_owed d.owed (drop_posted (d.owed).posted (model.Woken t)) → b ≡ record a { queued = drop_number a.queued t } → c ≡ with_owed b (b.posted ++ holding (scopes_of seen) t)
-      → e ≡ record c { tasks = without c.tasks t } → seen ≡ (d.rows).table → e ≡ owed_after d t
-  owed_ended d t a b c e seen wakes queued marks left same =
-      left
-      ∙ ap (λ (o : Owing). let p : Owing = record o { tasks = without o.tasks t } in p)
-      (
-      marks
-      ∙ ap (λ (es : List (ℕ × Scope P C Q V H T E L)). with_owed b (b.posted ++ holding (scopes_of es) t)) same
-      ∙ ap (λ (o : Owing). with_owed o (o.posted ++ holding (scopes_of (d.rows).table) t)) (queued ∙ ap (λ (o : Owing). let p : Owing = record o { queued = drop_number o.queued t } in p) wakes)
-      )
+  pub owed_ended : (d : State P C Q V H T E L) (t : ℕ) (a b : Owing) → a ≡ record d.owed { posted = drop_posted (d.owed).posted (model.Woken t); queued = drop_number (d.owed).queued t; tasks = without (d.owed).tasks t }
+      → b ≡ with_owed a (a.posted ++ holding (scopes_of (d.rows).table) t) → b ≡ owed_after d t
+  owed_ended d t a b ends marks = marks ∙ ap (λ (o : Owing). with_owed o (o.posted ++ holding (scopes_of (d.rows).table) t)) ends
 
   pub ended_by : (d : State P C Q V H T E L) (t : ℕ) (g : Unkept (types C Q V H T E L)) (tasks : List (ℕ × TaskRow P C Q V H T E L)) (o : Owing) (u : model.State (types C Q V H T E L))
       → is_some (at (state_of g d).tasks t) ≡ true → tasks ≡ without d.tasks t → o ≡ owed_after d t

@@ -36,6 +36,15 @@ module _ {P C Q V H T E L : Type 0} where
       ap (λ (ns : List ℕ). has ns t) (sym (tasks_entered d)) ∙ numbers_has d.tasks t ∙ sym (live-each task_of d.tasks t) ∙ live at_first
 
 module _ {P C Q V H T E L : Type 0} where
+  -- live scopes are the entered ones
+  pub live_entered : (g : Unkept (types C Q V H T E L)) (d : State P C Q V H T E L) (s : ℕ) → model.is_live (state_of g d) s ≡ has (numbers_of (d.owed).scopes) s
+  live_entered g d s = live-each scope_of (d.rows).table s ∙ sym (numbers_has (d.rows).table s) ∙ ap (λ (ns : List ℕ). has ns s) (rows_entered d)
+
+  -- so are the tasks that haven't ended
+  pub works_entered : (g : Unkept (types C Q V H T E L)) (d : State P C Q V H T E L) (t : ℕ) → is_some (at (state_of g d).tasks t) ≡ has (numbers_of (d.owed).tasks) t
+  works_entered g d t = live-each task_of d.tasks t ∙ sym (numbers_has d.tasks t) ∙ ap (λ (ns : List ℕ). has ns t) (tasks_entered d)
+
+module _ {P C Q V H T E L : Type 0} where
   -- what a scope is entered with is its height
   pub held_height : (rows : List (ℕ × Scope P C Q V H T E L)) (s : ℕ) → held (heights_of rows) s ≡ height_of (scopes_of rows) s
   held_height rows s =

@@ -8,7 +8,7 @@ use Rattle.rt_model.specs.State as model
 use Rattle.rt_cells.specs.Cells as tracked
 use Rattle.run_records.specs.Kept.{each, scope_of}
 use Rattle.run_records.specs.declared.rest.Scope.{Scope}
-use Rattle.run_owed.specs.Rooms.{Owing}
+use Rattle.run_owed.specs.Owing.{Owing}
 use Rattle.run_state.specs.Mirror.{Unkept, cell_of, contexts_of, scopes_of, state_of}
 use Rattle.run_state.specs.declared.state.State.{State}
 use Rattle.run_state.proofs.Each.{without-each}

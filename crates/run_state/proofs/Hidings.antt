@@ -1,22 +1,34 @@
 -- What isn't mounted, as what says where scopes show comes, changes and goes.
-use Rattle.std.proofs.Common.{◌≡◌, ◌&&◌, ℕ, ◌+◌, ◌<◌, ◌≤◌, Bool, true, false, List, [], ◌∷◌, ◌++◌, get_or, nat_eq, refl, sym, ap, subst, ◌∙◌, arith}
+use Rattle.std.proofs.Common.{◌≡◌, ◌&&◌, ℕ, ◌+◌, ◌<◌, ◌≤◌, true, false, cond, List, [], ◌∷◌, ◌++◌, get_or, nat_eq, refl, sym, ap, subst, ◌∙◌, arith}
 use Rattle.std.proofs.lemmas.Bool.{eqb-true}
+use Rattle.std.specs.BTreeMap.{is_at}
 use Rattle.std.specs.List.{list_any}
 use Rattle.std.specs.Prelude.{Option, Some, None, is_some, remove}
-use Rattle.rt_model.specs.Lists.{at, drop_number, has, put, without}
+use Rattle.rt_model.specs.Lists.{at, has, put, without}
 use Rattle.rt_model.proofs.Maps.{at_append_here, at_append_none, at_put_here, at_put_other, at_without_here, at_without_other, by_test, eq_same, none_some}
-use Rattle.rt_model.proofs.Members.{by_either, clash, number_stays, or_left, or_right}
+use Rattle.rt_model.proofs.Members.{clash, or_left}
 use Rattle.run_owed.specs.Lists.{EachOnce, numbers_of}
 use Rattle.run_owed.proofs.Once.{once_less, once_more}
 use Rattle.run_owed.proofs.Tables.{numbers_has, numbers_more, numbers_put, numbers_without}
-use Rattle.run_state.specs.Holders.{others}
-use Rattle.run_state.specs.Mounts.{IsWaiting, Way, covers, hides}
-use Rattle.run_state.proofs.Ways.{both_first, both_from, Keeps, hides_kept, keeps_none, keeps_same, keeps_some}
-use Rattle.run_state.proofs.Covers.{any_end, any_more, any_others, covers_kept, covers_still, has_end, has_left, has_more, one_found}
+use Rattle.run_state.specs.Effects.{has_rank, rank_cmp}
+use Rattle.run_state.specs.Mounts.{IsSeated, IsWaiting, Way, covers, hides}
+use Rattle.run_state.proofs.Ranked.{rank_apart, rank_own}
+use Rattle.run_state.proofs.Ways.{Keeps, hides_kept, keeps_none, keeps_same, keeps_some}
+use Rattle.run_state.proofs.Covers.{covers_by, covers_kept, covers_still, has_end, has_left, has_more, one_found, pair_covers}
+
+-- children are seated as they were where what stands stood with the same parent and with no child less
+pub seats_kept : (ways new : List (ℕ × Way)) (bound : ℕ)
+    → ((s t : ℕ) (x : Way) → at ways s ≡ Some x → has x.children t ≡ true → IsSeated ways bound s t)
+    → ((s : ℕ) (y : Way) → at new s ≡ Some y → (x : Way) × (at ways s ≡ Some x) × (x.parent ≡ y.parent) × ((t : ℕ) → has y.children t ≡ true → has x.children t ≡ true))
+    → (s t : ℕ) (y : Way) → at new s ≡ Some y → has y.children t ≡ true → IsSeated new bound s t
+seats_kept ways new bound seated stood s t y there child =
+    let own = stood s y there in
+    let old = seated s t own.0 own.1 (own.3 t child) in
+    (old.0, λ z on. let up = stood t z on in sym up.2 ∙ old.1 up.0 up.1)
 
 -- a scope joins the others
 module _ (ways new : List (ℕ × Way)) (fresh more : List ℕ) (hidden : List (ℕ × ℕ)) (bound next n : ℕ) (w : Way) (h : IsWaiting ways fresh hidden bound)
-    (is : new ≡ ways ++ (n, w) ∷ []) (joined : more ≡ fresh ++ n ∷ []) (high : bound ≤ n) (past : next ≡ n + 1) (above : (p : ℕ) → w.parent ≡ Some p → p < n) where
+    (is : new ≡ ways ++ (n, w) ∷ []) (joined : more ≡ fresh ++ n ∷ []) (high : bound ≤ n) (past : next ≡ n + 1) (above : (p : ℕ) → w.parent ≡ Some p → p < n) (bare : w.children ≡ []) where
   nobody : at ways n ≡ None
   nobody = by (at ways n) refl
     where
@@ -53,7 +65,7 @@ module _ (ways new : List (ℕ × Way)) (fresh more : List ℕ) (hidden : List (
       by_test (nat_eq n s)
       (
       λ own.
-      or_left (has more s) (list_any (λ e. nat_eq e.0 s && hides new e.1 x.height s) hidden)
+      or_left (has more s) (list_any (λ e. nat_eq e.1 s && hides new e.0 x.height s) hidden)
       (ap (λ (ks : List ℕ). has ks s) joined ∙ ap (λ k. has (fresh ++ k ∷ []) s) (eqb-true n s own) ∙ has_end fresh s)
       )
       (
@@ -69,6 +81,20 @@ module _ (ways new : List (ℕ × Way)) (fresh more : List ℕ) (hidden : List (
       (h.covered s x old unmounted)
       )
 
+  seated_more : (s t : ℕ) (x : Way) → at new s ≡ Some x → has x.children t ≡ true → IsSeated new next s t
+  seated_more s t x there child =
+      by_test (nat_eq n s)
+      (
+      λ own.
+      let same : x ≡ w = one_found (at new s) x w there (comes s own) in
+      clash child (ap (λ (ks : List ℕ). has ks t) (ap (λ (z : Way). z.children) same ∙ bare))
+      )
+      (
+      λ other.
+      let old = h.seated s t x (sym (stays_below s other) ∙ there) child in
+      (omega (arith, old.0, high, past), λ y on. old.1 y (sym (stays_below t (low_other t old.0)) ∙ on))
+      )
+
   pub one_joins : IsWaiting new more hidden next
   one_joins = record {
     apart =
@@ -76,11 +102,12 @@ module _ (ways new : List (ℕ × Way)) (fresh more : List ℕ) (hidden : List (
         (subst (λ (ks : List ℕ). EachOnce ks) (sym (numbers_more ways n w)) (once_more (numbers_of ways) n h.apart (numbers_has ways n ∙ ap (λ (o : Option Way). is_some o) nobody)));
     low = low_more;
     covered = covered_more;
+    seated = seated_more;
   }
 
 -- a scope goes
 module _ (ways new : List (ℕ × Way)) (fresh less : List ℕ) (hidden fewer : List (ℕ × ℕ)) (bound n : ℕ) (h : IsWaiting ways fresh hidden bound)
-    (is : new ≡ without ways n) (dropped : less ≡ drop_number fresh n) (let_go : fewer ≡ others hidden n) where
+    (is : new ≡ without ways n) (left : (ws : List (ℕ × Way)) (height s : ℕ) → nat_eq n s ≡ false → covers ws fresh hidden height s ≡ true → covers ws less fewer height s ≡ true) where
   goes : (s : ℕ) → nat_eq n s ≡ true → at new s ≡ None
   goes s own = ap (λ (es : List (ℕ × Way)). at es s) is ∙ at_without_here ways n s own
 
@@ -103,23 +130,7 @@ module _ (ways new : List (ℕ × Way)) (fresh less : List ℕ) (hidden fewer : 
       let whole : covers new fresh hidden x.height s ≡ true =
       covers_still ways new fresh fresh hidden x.height s (λ q. q) (λ a q. hides_kept ways new a (λ p. Unit {0}) (λ p i. keeps_less a p) (λ t p z e up. tt) x.height s tt q)
       (h.covered s x (sym (stays_there s other) ∙ there) unmounted) in
-      by_either (has fresh s) (list_any (λ e. nat_eq e.0 s && hides new e.1 x.height s) hidden) whole
-      (
-      λ q.
-      or_left (has less s) (list_any (λ e. nat_eq e.0 s && hides new e.1 x.height s) fewer)
-      (ap (λ (ks : List ℕ). has ks s) dropped ∙ number_stays fresh n s other q)
-      )
-      (
-      λ q.
-      or_right (has less s) (list_any (λ e. nat_eq e.0 s && hides new e.1 x.height s) fewer)
-      (
-      ap (λ (es : List (ℕ × ℕ)). list_any (λ e. nat_eq e.0 s && hides new e.1 x.height s) es) let_go
-      ∙ any_others (λ e. nat_eq e.0 s && hides new e.1 x.height s) hidden n (λ e r. apart_from e.0 s other (both_first (nat_eq e.0 s) (hides new e.1 x.height s) r)) q
-      )
-      )
-    where
-      apart_from : (k m : ℕ) → nat_eq n m ≡ false → nat_eq k m ≡ true → nat_eq k n ≡ false
-      apart_from k m other own = by_test (nat_eq k n) (λ q. clash (ap (λ j. nat_eq j m) (sym (eqb-true k n q)) ∙ own) other) (λ q. q)
+      left new x.height s other whole
 
   pub one_goes : IsWaiting new less fewer bound
   one_goes = record {
@@ -128,6 +139,9 @@ module _ (ways new : List (ℕ × Way)) (fresh less : List ℕ) (hidden fewer : 
         (subst (λ (ks : List ℕ). EachOnce ks) (sym (numbers_without ways n)) (once_less (numbers_of ways) n h.apart));
     low = λ s x there. h.low s x (sym (stays_there s (old_one s x there)) ∙ there);
     covered = covered_less;
+    seated = λ s t x there child.
+        let old = h.seated s t x (sym (stays_there s (old_one s x there)) ∙ there) child in
+        (old.0, λ y on. old.1 y (sym (stays_there t (old_one t y on)) ∙ on));
   }
 
 -- a fresh scope becomes mounted
@@ -168,6 +182,16 @@ module _ (ways new : List (ℕ × Way)) (fresh less : List ℕ) (hidden : List (
       (h.covered s y (sym (still_there s other) ∙ there) unmounted)
       )
 
+  stood_mounted : (s : ℕ) (y : Way) → at new s ≡ Some y → (z : Way) × (at ways s ≡ Some z) × (z.parent ≡ y.parent) × ((t : ℕ) → has y.children t ≡ true → has z.children t ≡ true)
+  stood_mounted s y there =
+      by_test (nat_eq n s)
+      (
+      λ same.
+      let one : y ≡ record x { mounted = true } = one_found (at new s) y (record x { mounted = true }) there (now_mounted s same) in
+      (x, ap (λ k. at ways k) (sym (eqb-true n s same)) ∙ live, sym (ap (λ (z : Way). z.parent) one), λ t child. sym (ap (λ (z : Way). has z.children t) one) ∙ child)
+      )
+      (λ other. (y, sym (still_there s other) ∙ there, refl, λ t child. child))
+
   pub one_mounts : IsWaiting new less hidden bound
   one_mounts = record {
     apart =
@@ -175,44 +199,59 @@ module _ (ways new : List (ℕ × Way)) (fresh less : List ℕ) (hidden : List (
         (subst (λ (ks : List ℕ). EachOnce ks) (sym (numbers_put ways n (record x { mounted = true }) x live)) h.apart);
     low = low_mounted;
     covered = covered_mounted;
+    seated = seats_kept ways new bound h.seated stood_mounted;
   }
 
 -- a fresh scope is hidden from now on
 module _ (ways : List (ℕ × Way)) (fresh less : List ℕ) (hidden more : List (ℕ × ℕ)) (bound n i b : ℕ) (h : IsWaiting ways fresh hidden bound)
-    (hider : (x : Way) → at ways n ≡ Some x → hides ways b x.height n ≡ true) (own : get_or fresh i 0 ≡ n) (taken : less ≡ remove fresh i) (joined : more ≡ hidden ++ (n, b) ∷ []) where
+    (hider : (x : Way) → at ways n ≡ Some x → hides ways b x.height n ≡ true) (own : get_or fresh i 0 ≡ n) (taken : less ≡ remove fresh i)
+    (joined : (a t : ℕ) → has_rank more a t ≡ cond (is_at (rank_cmp (b, n)) (a, t)) true (has_rank hidden a t)) where
   covered_hidden : (s : ℕ) (x : Way) → at ways s ≡ Some x → x.mounted ≡ false → covers ways less more x.height s ≡ true
   covered_hidden s x there unmounted =
-      let test : ℕ × ℕ → Bool = λ e. nat_eq e.0 s && hides ways e.1 x.height s in
       by_test (nat_eq n s)
       (
       λ same.
       let number : n ≡ s = eqb-true n s same in
-      or_right (has less s) (list_any test more)
-      (
-      ap (λ (es : List (ℕ × ℕ)). list_any test es) joined
-      ∙ any_end test hidden (n, b)
-      (both_from (nat_eq n s) (hides ways b x.height s) same (ap (λ k. hides ways b x.height k) (sym number) ∙ hider x (ap (λ k. at ways k) number ∙ there)))
-      )
+      pair_covers ways less more x.height s b
+      (ap (λ k. has_rank more b k) (sym number) ∙ joined b n ∙ ap (λ c. cond c true (has_rank hidden b n)) (rank_own b n))
+      (ap (λ k. hides ways b x.height k) (sym number) ∙ hider x (ap (λ k. at ways k) number ∙ there))
       )
       (
       λ other.
-      by_either (has fresh s) (list_any test hidden) (h.covered s x there unmounted)
-      (λ q. or_left (has less s) (list_any test more) (ap (λ (ks : List ℕ). has ks s) taken ∙ has_left fresh i n s own other q))
-      (λ q. or_right (has less s) (list_any test more) (ap (λ (es : List (ℕ × ℕ)). list_any test es) joined ∙ any_more test hidden ((n, b) ∷ []) q))
+      covers_by ways fresh less hidden more x.height s
+      (λ q. ap (λ (ks : List ℕ). has ks s) taken ∙ has_left fresh i n s own other q)
+      (λ a q. joined a s ∙ ap (λ c. cond c true (has_rank hidden a s)) (rank_apart b n a s other) ∙ q)
+      (h.covered s x there unmounted)
       )
 
   pub one_hides : IsWaiting ways less more bound
-  one_hides = record { apart = h.apart; low = h.low; covered = covered_hidden }
+  one_hides = record { apart = h.apart; low = h.low; covered = covered_hidden; seated = h.seated }
+
+-- a fresh scope that is gone waits no more
+module _ (ways : List (ℕ × Way)) (fresh less : List ℕ) (hidden : List (ℕ × ℕ)) (bound n i : ℕ) (h : IsWaiting ways fresh hidden bound)
+    (gone : is_some (at ways n) ≡ false) (own : get_or fresh i 0 ≡ n) (taken : less ≡ remove fresh i) where
+  covered_besides : (s : ℕ) (x : Way) → at ways s ≡ Some x → x.mounted ≡ false → covers ways less hidden x.height s ≡ true
+  covered_besides s x there unmounted =
+      by_test (nat_eq n s)
+      (λ same. clash (ap (λ (o : Option Way). is_some o) (ap (λ k. at ways k) (eqb-true n s same) ∙ there)) gone)
+      (
+      λ other.
+      covers_by ways fresh less hidden hidden x.height s (λ q. ap (λ (ks : List ℕ). has ks s) taken ∙ has_left fresh i n s own other q) (λ a q. q)
+      (h.covered s x there unmounted)
+      )
+
+  pub one_forgotten : IsWaiting ways less hidden bound
+  one_forgotten = record { apart = h.apart; low = h.low; covered = covered_besides; seated = h.seated }
 
 -- what the one with a number hid is fresh
 pub uncovered : (ways : List (ℕ × Way)) (fresh more : List ℕ) (hidden fewer : List (ℕ × ℕ)) (bound : ℕ)
     → ((ws : List (ℕ × Way)) (height s : ℕ) → covers ws fresh hidden height s ≡ true → covers ws more fewer height s ≡ true)
     → IsWaiting ways fresh hidden bound → IsWaiting ways more fewer bound
-uncovered ways fresh more hidden fewer bound still h = record { apart = h.apart; low = h.low; covered = λ s x there unmounted. still ways x.height s (h.covered s x there unmounted) }
+uncovered ways fresh more hidden fewer bound still h = record { apart = h.apart; low = h.low; covered = λ s x there unmounted. still ways x.height s (h.covered s x there unmounted); seated = h.seated }
 
 -- another side of a scope that hides none shows
 module _ (ways new : List (ℕ × Way)) (fresh : List ℕ) (hidden : List (ℕ × ℕ)) (bound b : ℕ) (x y : Way) (h : IsWaiting ways fresh hidden bound)
-    (none : list_any (λ e. nat_eq e.1 b) hidden ≡ false) (live : at ways b ≡ Some x) (is : new ≡ put ways b y) (like : record y { shows = None } ≡ record x { shows = None }) where
+    (none : list_any (λ e. nat_eq e.0 b) hidden ≡ false) (live : at ways b ≡ Some x) (is : new ≡ put ways b y) (like : record y { shows = None } ≡ record x { shows = None }) where
   turned : (s : ℕ) → nat_eq b s ≡ true → at new s ≡ Some y
   turned s same = ap (λ (es : List (ℕ × Way)). at es s) is ∙ at_put_here ways b y s same
 
@@ -264,6 +303,20 @@ module _ (ways new : List (ℕ × Way)) (fresh : List ℕ) (hidden : List (ℕ �
       )
       (λ other. h.low s z (sym (unturned s other) ∙ there))
 
+  stood_turned : (s : ℕ) (z : Way) → at new s ≡ Some z → (u : Way) × (at ways s ≡ Some u) × (u.parent ≡ z.parent) × ((t : ℕ) → has z.children t ≡ true → has u.children t ≡ true)
+  stood_turned s z there =
+      by_test (nat_eq b s)
+      (
+      λ same.
+      let one : z ≡ y = one_found (at new s) z y there (turned s same) in (
+        x,
+        ap (λ k. at ways k) (sym (eqb-true b s same)) ∙ live,
+        sym (ap (λ (u : Way). u.parent) one ∙ up_same),
+        λ t child. sym (ap (λ (u : Way). has u.children t) one ∙ ap (λ (u : Way). has u.children t) like) ∙ child,
+      )
+      )
+      (λ other. (z, sym (unturned s other) ∙ there, refl, λ t child. child))
+
   pub one_turns : IsWaiting new fresh hidden bound
   one_turns = record {
     apart =
@@ -271,4 +324,91 @@ module _ (ways new : List (ℕ × Way)) (fresh : List ℕ) (hidden : List (ℕ �
         (subst (λ (ks : List ℕ). EachOnce ks) (sym (numbers_put ways b y x live)) h.apart);
     low = low_turned;
     covered = covered_turned;
+    seated = seats_kept ways new bound h.seated stood_turned;
+  }
+
+-- other children stand on the sides of a scope, each of which knows it
+module _ (ways new : List (ℕ × Way)) (fresh : List ℕ) (hidden : List (ℕ × ℕ)) (bound n : ℕ) (x y : Way) (h : IsWaiting ways fresh hidden bound)
+    (live : at ways n ≡ Some x) (is : new ≡ put ways n y) (like : record y { children = [] } ≡ record x { children = [] })
+    (known : (t : ℕ) → has y.children t ≡ true → IsSeated ways bound n t) where
+  seats : (s : ℕ) → nat_eq n s ≡ true → at new s ≡ Some y
+  seats s same = ap (λ (es : List (ℕ × Way)). at es s) is ∙ at_put_here ways n y s same
+
+  unseated : (s : ℕ) → nat_eq n s ≡ false → at new s ≡ at ways s
+  unseated s other = ap (λ (es : List (ℕ × Way)). at es s) is ∙ at_put_other ways n y s other
+
+  own_stood : (s : ℕ) → nat_eq n s ≡ true → at ways s ≡ Some x
+  own_stood s same = ap (λ k. at ways k) (sym (eqb-true n s same)) ∙ live
+
+  keeps_seats : (a p : ℕ) → Keeps (nat_eq p a) (at ways p) (at new p)
+  keeps_seats a p =
+      by_test (nat_eq n p)
+      (
+      λ same.
+      keeps_some (nat_eq p a) (at ways p) (at new p) x y (own_stood p same) (seats p same) (ap (λ (z : Way). z.parent) like) (ap (λ (z : Way). z.below) like)
+      (λ q. ap (λ (z : Way). z.shows) like)
+      )
+      (λ other. keeps_same (nat_eq p a) (at ways p) (at new p) (unseated p other))
+
+  covered_still : (s : ℕ) (z : Way) → at ways s ≡ Some z → z.mounted ≡ false → covers new fresh hidden z.height s ≡ true
+  covered_still s z there unmounted =
+      covers_still ways new fresh fresh hidden z.height s (λ q. q) (λ a q. hides_kept ways new a (λ p. Unit {0}) (λ p j. keeps_seats a p) (λ t p u e up. tt) z.height s tt q)
+      (h.covered s z there unmounted)
+
+  covered_seated : (s : ℕ) (z : Way) → at new s ≡ Some z → z.mounted ≡ false → covers new fresh hidden z.height s ≡ true
+  covered_seated s z there unmounted =
+      by_test (nat_eq n s)
+      (
+      λ same.
+      let one : z ≡ y = one_found (at new s) z y there (seats s same) in
+      ap (λ k. covers new fresh hidden k s) (ap (λ (u : Way). u.height) one ∙ ap (λ (u : Way). u.height) like)
+      ∙ covered_still s x (own_stood s same) (sym (ap (λ (u : Way). u.mounted) like) ∙ sym (ap (λ (u : Way). u.mounted) one) ∙ unmounted)
+      )
+      (λ other. covered_still s z (sym (unseated s other) ∙ there) unmounted)
+
+  low_seated : (s : ℕ) (z : Way) → at new s ≡ Some z → (s < bound) × ((p : ℕ) → z.parent ≡ Some p → p < bound)
+  low_seated s z there =
+      by_test (nat_eq n s)
+      (
+      λ same.
+      let one : z ≡ y = one_found (at new s) z y there (seats s same) in
+      let old = h.low s x (own_stood s same) in
+      (old.0, λ p up. old.1 p (sym (ap (λ (u : Way). u.parent) one ∙ ap (λ (u : Way). u.parent) like) ∙ up))
+      )
+      (λ other. h.low s z (sym (unseated s other) ∙ there))
+
+  -- with which parent a scope stood
+  stood_up : (s : ℕ) (z : Way) → at new s ≡ Some z → (u : Way) × (at ways s ≡ Some u) × (u.parent ≡ z.parent)
+  stood_up s z there =
+      by_test (nat_eq n s)
+      (
+      λ same.
+      let one : z ≡ y = one_found (at new s) z y there (seats s same) in
+      (x, own_stood s same, sym (ap (λ (u : Way). u.parent) one ∙ ap (λ (u : Way). u.parent) like))
+      )
+      (λ other. (z, sym (unseated s other) ∙ there, refl))
+
+  seated_now : (s t : ℕ) (z : Way) → at new s ≡ Some z → has z.children t ≡ true → IsSeated new bound s t
+  seated_now s t z there child =
+      by_test (nat_eq n s)
+      (
+      λ same.
+      let one : z ≡ y = one_found (at new s) z y there (seats s same) in
+      let own = known t (sym (ap (λ (u : Way). has u.children t) one) ∙ child) in
+      (own.0, λ w on. let up = stood_up t w on in sym up.2 ∙ own.1 up.0 up.1 ∙ ap (λ (k : ℕ). Some k) (eqb-true n s same))
+      )
+      (
+      λ other.
+      let old = h.seated s t z (sym (unseated s other) ∙ there) child in
+      (old.0, λ w on. let up = stood_up t w on in sym up.2 ∙ old.1 up.0 up.1)
+      )
+
+  pub one_seats : IsWaiting new fresh hidden bound
+  one_seats = record {
+    apart =
+        subst (λ (es : List (ℕ × Way)). EachOnce (numbers_of es)) (sym is)
+        (subst (λ (ks : List ℕ). EachOnce ks) (sym (numbers_put ways n y x live)) h.apart);
+    low = low_seated;
+    covered = covered_seated;
+    seated = seated_now;
   }

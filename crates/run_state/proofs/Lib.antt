@@ -13,6 +13,7 @@ pub mod HeldPairs
 pub mod HolderLists
 pub mod Drops
 pub mod Entered
+pub mod Agreed
 pub mod Posts
 pub mod CellsKept
 pub mod Thrown
@@ -45,6 +46,7 @@ pub mod Ways
 pub mod Covers
 pub mod Hidings
 pub mod Waiting
+pub mod Seats
 pub mod Mounts
 pub mod Polls
 pub mod KindsInPlace
@@ -59,3 +61,5 @@ pub mod Forgets
 pub mod Behind
 pub mod Put
 pub mod Numbering
+pub mod NumberStands
+pub mod Dropped

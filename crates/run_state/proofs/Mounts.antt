@@ -101,13 +101,13 @@ module _ {K : Types} where
   covered_flag : (scopes : List (ℕ × model.Scope K)) (fresh : List ℕ) (hidden : List (ℕ × ℕ)) (s : ℕ) (x : model.Scope K) → at scopes s ≡ Some x
       → covers (ways_in scopes) fresh hidden x.height s ≡ true → (has fresh s && shown_in scopes s) ≡ shown_in scopes s
   covered_flag scopes fresh hidden s x stood h =
-      by_either (has fresh s) (list_any (λ e. nat_eq e.0 s && hides (ways_in scopes) e.1 x.height s) hidden) h
+      by_either (has fresh s) (list_any (λ e. nat_eq e.1 s && hides (ways_in scopes) e.0 x.height s) hidden) h
       (λ q. ap (λ b. b && shown_in scopes s) q)
       (
       λ q.
-      let one = any_one (λ e. nat_eq e.0 s && hides (ways_in scopes) e.1 x.height s) hidden q in
+      let one = any_one (λ e. nat_eq e.1 s && hides (ways_in scopes) e.0 x.height s) hidden q in
       let unshown : shown_from scopes x.height s ≡ false =
-      hides_unshown scopes (one.0).1 x.height s (both_second (nat_eq (one.0).0 s) (hides (ways_in scopes) (one.0).1 x.height s) one.1) in
+      hides_unshown scopes (one.0).0 x.height s (both_second (nat_eq (one.0).1 s) (hides (ways_in scopes) (one.0).0 x.height s) one.1) in
       let none : shown_in scopes s ≡ false = sym (live_shows scopes s x false stood (sym unshown)) in
       ap (λ b. has fresh s && b) none ∙ none_of (has fresh s) ∙ sym none
       )
@@ -129,6 +129,14 @@ module _ {P C Q V H T E L : Type 0} where
   shown_by : (of : ℕ × Scope P C Q V H T E L → Bool) (es : List (ℕ × Scope P C Q V H T E L)) (s : ℕ) → shown_in (scopes_of (map (λ e. mounted_by (of e) e) es)) s ≡ shown_in (scopes_of es) s
   shown_by of es s =
       sym (shown_bare (scopes_of (map (λ e. mounted_by (of e) e) es)) s) ∙ ap (λ ys. shown_in ys s) (bare_by of es) ∙ shown_bare (scopes_of es) s
+
+  -- what showed before some became mounted does so then
+  pub shows_then : (start new : List (ℕ × Scope P C Q V H T E L)) (ns : List ℕ) → new ≡ map (mounts_in (scopes_of start) ns) start
+      → (s : ℕ) → shown_in (scopes_of start) s ≡ true → shown_in (scopes_of new) s ≡ true
+  shows_then start new ns is s shows =
+      ap (λ (es : List (ℕ × Scope P C Q V H T E L)). shown_in (scopes_of es) s) is
+      ∙ shown_by (λ e. has ns e.0 && shown_in (scopes_of start) e.0) start s
+      ∙ shows
 
   -- a number more
   module _ (all now : List (ℕ × model.Scope (types C Q V H T E L))) (same : (s : ℕ) → shown_in now s ≡ shown_in all s) (ns : List ℕ) (n : ℕ) where

@@ -30,7 +30,7 @@ use Rattle.run_table.specs.Found.{IsTaken}
 use Rattle.run_state.specs.Drawn.{drawn_for, numbers_at, numbers_in}
 use Rattle.run_state.specs.Sides.{more_number, side_put}
 use Rattle.run_state.proofs.Each.{append-each, at-each, put-each}
-use Rattle.run_state.proofs.Put.{put_is}
+use Rattle.run_state.proofs.Put.{drawn_put, put_is}
 
 -- a place from its parts
 abbrev named_by : ℕ × (Bool × (List (ℕ × ℕ) × List ℕ)) → Named
@@ -162,6 +162,19 @@ module _ {P C Q V H T E L : Type 0} where
           (at-each scope_of old s ∙ ap (λ (f : Option (Scope P C Q V H T E L)). option_map scope_of f) e) (stay x made.0 made.1)
           )
           h
+
+  -- another side of a scope, for which the same is drawn
+  pub placed_swapped : (R : Scope P C Q V H T E L → Scope P C Q V H T E L → Type 0) (old new : List (ℕ × Scope P C Q V H T E L)) (s : ℕ) (name : SideName) (side : Side P C Q V H T E L) (places : List (ℕ × Place))
+      → (at old s ≡ None → new ≡ old)
+      → ((x : Scope P C Q V H T E L) → at old s ≡ Some x → (y : Scope P C Q V H T E L) × R x y × (new ≡ put old s y))
+      → ((x y : Scope P C Q V H T E L) → R x y → y ≡ side_put name side x)
+      → ((x : Scope P C Q V H T E L) → at old s ≡ Some x → (code.side_of side).numbers ≡ (model.side_of (scope_of x) (side_name_of name)).numbers)
+      → IsPlaced (each scope_of old) places → IsPlaced (each scope_of new) places
+  placed_swapped R old new s name side places absent changed step drawn h =
+      placed_changed (λ (x y : Scope P C Q V H T E L). (at old s ≡ Some x) × R x y) old new s places absent
+      (λ x live. let made = changed x live in (made.0, (live, made.1), made.2))
+      (λ x y both. ap (λ (z : Scope P C Q V H T E L). drawn_for z) (step x y both.1) ∙ drawn_put name side x (drawn x both.0))
+      h
 
   -- a scope for which nothing is drawn
   pub placed_pushed : (old new : List (ℕ × Scope P C Q V H T E L)) (s : ℕ) (x : Scope P C Q V H T E L) (places : List (ℕ × Place)) → new ≡ old ++ (s, x) ∷ [] → drawn_for x ≡ ([], [], [])

@@ -7,12 +7,12 @@ use Rattle.rt_model.specs.Lists.{at, drop_number}
 use Rattle.rt_model.specs.Tree.{Types}
 use Rattle.rt_model.specs.World as world
 use Rattle.rt_model.specs.State as model
-use Rattle.rt_model.specs.Commands.{drop_posted, post, names_source, readers, unqueued}
+use Rattle.rt_model.specs.Commands.{drop_posted, post, names_source, readers}
 use Rattle.rt_model.specs.Run.{unmarked}
 use Rattle.run_records.specs.Records.{source_of}
 use Rattle.run_records.specs.declared.rest.Scope.{Scope}
 use Rattle.rt_cells.specs.declared.sources.Source.{Source}
-use Rattle.run_owed.specs.Rooms.{Owing}
+use Rattle.run_owed.specs.Owing.{Owing}
 use Rattle.run_state.specs.Mirror.{scopes_of}
 use Rattle.run_state.proofs.Each.{drop-all}
 
@@ -85,17 +85,6 @@ module _ {P C Q V H T E L : Type 0} where
 
 module _ {K : Types} where
   -- marks go, in what is owed and in the model
-  pub unmarked_by : (w : model.State K) (a b c : Owing) (s : ℕ) (skipped : List ℕ) → b ≡ with_owed a (drop_posted a.posted (model.Mark s)) → c ≡ record b { seen = drop_number b.seen s } → skipped ≡ drop_number w.skipped s
-      → record (with_all w c) { skipped = skipped } ≡ unmarked (with_all w a) s
-  unmarked_by w a b c s skipped marks seen skips =
-      let rest : c ≡ record (with_owed a (drop_posted a.posted (model.Mark s))) { seen = drop_number a.seen s } =
-      seen ∙ ap (λ (o : Owing). let p : Owing = record o { seen = drop_number o.seen s } in p) marks in
-      λ i. record (with_all w (rest i)) { skipped = skips i }
-
-  -- wakes go
-  pub unqueued_by : (w : model.State K) (a b c : Owing) (t : ℕ) → b ≡ with_owed a (drop_posted a.posted (model.Woken t)) → c ≡ record b { queued = drop_number b.queued t }
-      → with_all w c ≡ unqueued (with_all w a) t
-  unqueued_by w a b c t wakes queued =
-      let rest : c ≡ record (with_owed a (drop_posted a.posted (model.Woken t))) { queued = drop_number a.queued t } =
-      queued ∙ ap (λ (o : Owing). let p : Owing = record o { queued = drop_number o.queued t } in p) wakes in
-      ap (λ (o : Owing). with_all w o) rest
+  pub unmarked_by : (w : model.State K) (a b : Owing) (s : ℕ) (skipped : List ℕ) → b ≡ record a { posted = drop_posted a.posted (model.Mark s); seen = drop_number a.seen s } → skipped ≡ drop_number w.skipped s
+      → record (with_all w b) { skipped = skipped } ≡ unmarked (with_all w a) s
+  unmarked_by w a b s skipped marks skips = λ i. record (with_all w (marks i)) { skipped = skips i }

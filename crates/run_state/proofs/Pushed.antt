@@ -4,26 +4,12 @@ use Rattle.rt_model.specs.OneLog.{types}
 use Rattle.rt_model.specs.State as model
 use Rattle.run_records.specs.Kept.{each, scope_of}
 use Rattle.run_records.specs.declared.rest.Scope.{Scope}
-use Rattle.run_owed.specs.Lists.{front}
-use Rattle.run_owed.specs.Rooms.{Owing}
-use Rattle.run_owed.proofs.Tables.{front_more}
+use Rattle.run_owed.specs.Owing.{Owing}
 use Rattle.run_state.specs.Mirror.{Unkept, scopes_of, state_of, task_of}
 use Rattle.run_state.specs.declared.state.State.{State}
 use Rattle.run_state.specs.declared.state.TaskRow.{TaskRow}
 use Rattle.run_state.proofs.Each.{append-each}
 use Rattle.run_state.proofs.Posts.{with_all}
-
--- the task that was entered last is taken back
-pub owed_back : (a b : Owing) (t : ℕ × ℕ) → b ≡ record a { tasks = a.tasks ++ t ∷ [] } → record b { tasks = front b.tasks } ≡ a
-owed_back a b t entered =
-    ap (λ (o : Owing). let p : Owing = record o { tasks = front o.tasks } in p) entered
-    ∙ ap (λ (ns : List (ℕ × ℕ)). let p : Owing = record a { tasks = ns } in p) (front_more a.tasks t)
-
--- so is the scope
-pub scope_back : (a b : Owing) (s : ℕ × ℕ) → b ≡ record a { scopes = a.scopes ++ s ∷ [] } → record b { scopes = front b.scopes } ≡ a
-scope_back a b s entered =
-    ap (λ (o : Owing). let p : Owing = record o { scopes = front o.scopes } in p) entered
-    ∙ ap (λ (ns : List (ℕ × ℕ)). let p : Owing = record a { scopes = ns } in p) (front_more a.scopes s)
 
 module _ {P C Q V H T E L : Type 0} where
   pub tasks_pushed : (g : Unkept (types C Q V H T E L)) (d : State P C Q V H T E L) (o : Owing) (new : List (ℕ × TaskRow P C Q V H T E L)) (t v : ℕ) (row : TaskRow P C Q V H T E L)

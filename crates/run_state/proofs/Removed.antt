@@ -20,6 +20,7 @@ use Rattle.rt_model.specs.Removal.{tell_all, cell_sources, context_sources, cell
 use Rattle.run_records.specs.Kept.{each}
 use Rattle.run_state.specs.CleanUps.{own_clean_up}
 use Rattle.run_state.specs.Mirror.{Unkept, forgets, cell_of, context_of, contexts_of, scopes_of, state_of}
+use Rattle.run_state.specs.Names.{scope_numbers}
 use Rattle.run_state.specs.declared.read_order.Reading.{Reading}
 use Rattle.run_state.specs.declared.state.State.{State}
 use Rattle.run_state.proofs.Each.{drop-all}
@@ -140,12 +141,12 @@ module _ {P C Q V H T E L : Type 0} where
   cells_found g d s ns is = is ∙ cells_own C Q V H T E L s (d.cells).cells
 
   -- all that goes with the record
-  pub scope_dropped : (g : Unkept (types C Q V H T E L)) (d : State P C Q V H T E L) (s : ℕ) (first cells : tracked.State V) (resolved skipped : List ℕ)
+  pub scope_dropped : (g : Unkept (types C Q V H T E L)) (d : State P C Q V H T E L) (s : ℕ) (first cells : tracked.State V) (resolved : List ℕ) (skipped : List ScopeId)
       → first ≡ tracked.cells_of_dropped (record { 0 = s }) d.cells
       → cells ≡ tracked.contexts_dropped (record { 0 = s }) first
       → resolved ≡ drop_number d.resolved s
-      → skipped ≡ drop_number d.skipped s
-      → record (state_of (forgets g s) d) { scopes = without (scopes_of (d.rows).table) s; cells = each cell_of cells.cells; contexts = contexts_of d.read_order cells.contexts; resolved = resolved; skipped = skipped } ≡ without_scope (state_of g d) s
+      → scope_numbers skipped ≡ drop_number (scope_numbers d.skipped) s
+      → record (state_of (forgets g s) d) { scopes = without (scopes_of (d.rows).table) s; cells = each cell_of cells.cells; contexts = contexts_of d.read_order cells.contexts; resolved = resolved; skipped = scope_numbers skipped } ≡ without_scope (state_of g d) s
   scope_dropped g d s first cells resolved skipped first_is cells_is resolved_is skipped_is =
       λ i. record (state_of (forgets g s) d) {
         scopes = without (scopes_of (d.rows).table) s;

@@ -3,7 +3,7 @@ use Rattle.std.proofs.Common.{◌≡◌, ℕ, List, ◌∷◌, ap, sym, ◌∙�
 use Rattle.std.proofs.lemmas.List.{drop_more}
 use Rattle.rt_model.specs.Lists.{join}
 use Rattle.run_owed.specs.Lists.{joins, numbers_of}
-use Rattle.run_owed.specs.Rooms.{Owing}
+use Rattle.run_owed.specs.Owing.{Owing}
 use Rattle.run_state.proofs.Each.{drop-all}
 
 -- what is owed, with other seen scopes

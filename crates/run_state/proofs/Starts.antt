@@ -2,11 +2,11 @@
 use Rattle.std.proofs.Common.{◌≡◌, ℕ, ◌+◌, List, [], ◌∷◌, ◌++◌, refl, ap, ◌∙◌}
 use Rattle.std.specs.Prelude.{Option, Some, None}
 use Rattle.tree_nodes.specs.declared.vnode.VComponent.TheVariants as code
-use Rattle.rt_model.specs.Lists.{at}
+use Rattle.rt_model.specs.Lists.{at, put}
 use Rattle.rt_model.specs.OneLog.{types}
 use Rattle.rt_model.specs.Tree as tree
 use Rattle.rt_model.specs.State as model
-use Rattle.rt_model.specs.State.{new_scope, MainSide, change, changed_scope}
+use Rattle.rt_model.specs.State.{new_scope, MainSide, change}
 use Rattle.rt_model.specs.Replay.{first_state, with_new_scope}
 use Rattle.tree_mirror.specs.Sealed.{component_of}
 use Rattle.tree_mirror.proofs.SealedComponents.{component_Root}
@@ -15,17 +15,11 @@ use Rattle.run_records.specs.Kept.{each}
 use Rattle.run_records.specs.declared.rest.Scope.{Scope}
 use Rattle.run_records.specs.declared.world.Firsts.{Firsts}
 use Rattle.run_state.specs.Mirror.{Unkept, at_first, cell_of, contexts_of, task_of, scopes_of, state_of}
+use Rattle.run_state.specs.Names.{scope_numbers}
 use Rattle.run_state.specs.Sides.{more_child}
 use Rattle.run_state.specs.Starts.{IsEmpty}
 use Rattle.run_state.specs.declared.state.State.{State}
-
--- a change of one scope leaves the next number
-pub next_stays : {K : tree.Types} (w : model.State K) (s : ℕ) (f : model.Scope K → model.Scope K) → (change w s f).next_scope ≡ w.next_scope
-next_stays {K = K} w s f = by (at w.scopes s)
-  where
-    by : (o : Option (model.Scope K)) → (changed_scope w s f o).next_scope ≡ w.next_scope
-    by None = refl
-    by (Some x) = refl
+use Rattle.run_state.proofs.Seats.{change_front}
 
 module _ {P C Q V H T E L : Type 0} where
   -- the start: the root wrapper alone
@@ -55,23 +49,24 @@ module _ {P C Q V H T E L : Type 0} where
         seen = empty.seen i;
         queued = empty.queued i;
         resolved = empty.resolved i;
-        skipped = empty.skipped i;
+        skipped = ap scope_numbers empty.skipped i;
         next_scope = first i;
         next = ap firsts_of empty.next i;
       })
 
-  -- a scope joins the others, and its parent knows it
+  -- a scope joins the others, and then its parent knows it
   pub newly_made : (g : Unkept (types C Q V H T E L)) (d v : State P C Q V H T E L) (s : ℕ) (side : model.SideName) (p : tree.Place) (c : tree.VComponent (types C Q V H T E L)) (x : model.Scope (types C Q V H T E L))
       (u : model.State (types C Q V H T E L)) (height next : ℕ)
       → at (state_of g d).scopes s ≡ Some x
-      → state_of g v ≡ change (state_of g d) s (λ y. more_child side (p, d.next_scope) y)
-      → u ≡ record (state_of g v) { scopes = (state_of g v).scopes ++ (v.next_scope, new_scope c (Some s) height side) ∷ []; next_scope = next }
+      → state_of g v ≡ record (state_of g d) { scopes = (state_of g d).scopes ++ (d.next_scope, new_scope c (Some s) height side) ∷ []; next_scope = next }
+      → u ≡ change (state_of g v) s (λ y. more_child side (p, d.next_scope) y)
       → height ≡ x.height + 1
       → next ≡ d.next_scope + 1
       → u ≡ with_new_scope (state_of g d) s side p c x
-  newly_made g d v s side p c x u height next found known pushed higher one_more =
+  newly_made g d v s side p c x u height next found pushed known higher one_more =
       let w : model.State (types C Q V H T E L) = state_of g d in
       let f : model.Scope (types C Q V H T E L) → model.Scope (types C Q V H T E L) = λ y. more_child side (p, d.next_scope) y in
-      let kept : state_of g v ≡ changed_scope w s f (Some x) = known ∙ ap (λ o. changed_scope w s f o) found in
-      pushed
-      ∙ (λ i. record (kept i) { scopes = (kept i).scopes ++ ((kept i).next_scope, new_scope c (Some s) (higher i) side) ∷ []; next_scope = one_more i })
+      known
+      ∙ ap (λ (v : model.State (types C Q V H T E L)). change v s f) pushed
+      ∙ change_front w d.next_scope s next x (new_scope c (Some s) height side) f found
+      ∙ (λ i. record w { scopes = put w.scopes s (f x) ++ (d.next_scope, new_scope c (Some s) (higher i) side) ∷ []; next_scope = one_more i })

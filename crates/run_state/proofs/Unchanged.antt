@@ -21,7 +21,7 @@ use Rattle.run_records.specs.Records.{source_of}
 use Rattle.run_records.specs.Kept.{each, scope_of}
 use Rattle.run_records.specs.declared.rest.Scope.{Scope}
 use Rattle.run_owed.specs.Lists.{values_of}
-use Rattle.run_owed.specs.Rooms.{Owing}
+use Rattle.run_owed.specs.Owing.{Owing}
 use Rattle.run_owed.proofs.Tables.{values_put}
 use Rattle.run_named.specs.Standings.{IsPlaced}
 use Rattle.run_state.specs.Heights.{heights_of, task_scopes}

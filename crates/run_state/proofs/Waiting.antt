@@ -6,18 +6,17 @@ use Rattle.std.proofs.lemmas.List.{same_from_push}
 use Rattle.std.specs.Coded.{Coded-set, coded_bool, ×_prop, Unit-prop}
 use Rattle.std.specs.List.{list_any}
 use Rattle.std.specs.Prelude.{MatchOption, nat_lt, Option, Some, None, option_map, remove, slice_set}
-use Rattle.rt_model.specs.Lists.{at, drop_number, has, put, without}
+use Rattle.rt_model.specs.Lists.{at, has, put, without}
 use Rattle.rt_model.specs.OneLog.{types}
 use Rattle.rt_model.specs.State as model
 use Rattle.run_records.specs.Kept.{each, scope_of}
 use Rattle.run_records.specs.declared.rest.Scope.{Scope}
 use Rattle.run_owed.specs.Lists.{EachOnce, numbers_of}
-use Rattle.run_state.specs.Holders.{others}
-use Rattle.run_state.specs.Mounts.{IsWaiting, Way, covers, is_above, sideless, way_in, way_of, ways_of}
+use Rattle.run_state.specs.Mounts.{IsSeated, IsWaiting, Way, covers, is_above, seatless, sideless, way_in, way_of, ways_of}
 use Rattle.run_state.proofs.Each.{append-each, at-each, put-each, without-each}
 use Rattle.run_state.proofs.Unchanged.{put-same}
 use Rattle.run_state.proofs.Covers.{one_found}
-use Rattle.run_state.proofs.Hidings.{one_goes, one_joins, one_mounts, one_turns, uncovered}
+use Rattle.run_state.proofs.Hidings.{one_goes, one_joins, one_mounts, one_seats, one_turns, uncovered}
 
 -- that no number stands twice has one proof
 once_one : (ns : List ℕ) (p q : EachOnce ns) → p ≡ q
@@ -123,7 +122,7 @@ module _ {P C Q V H T E L : Type 0} where
       (subst (λ (ks : List ℕ). ∥ IsWaiting [] ks hidden 0 ∥₁) (sym none) (subst (λ (es : List (ℕ × ℕ)). ∥ IsWaiting [] [] es 0 ∥₁) (sym bare) ∣ nothing ∣₁))
     where
       nothing : IsWaiting [] [] [] 0
-      nothing = record { apart = tt; low = λ s x there. absurd (cc there); covered = λ s x there unmounted. absurd (cc there) }
+      nothing = record { apart = tt; low = λ s x there. absurd (cc there); covered = λ s x there unmounted. absurd (cc there); seated = λ s t x there child. absurd (cc there) }
 
   ways_more : (rows : List (ℕ × Scope P C Q V H T E L)) (n : ℕ) (x : Scope P C Q V H T E L) → ways_of (rows ++ (n, x) ∷ []) ≡ ways_of rows ++ (n, way_of x) ∷ []
   ways_more rows n x = ap (λ es. each way_in es) (append-each scope_of rows ((n, x) ∷ [])) ∙ append-each way_in (each scope_of rows) ((n, scope_of x) ∷ [])
@@ -147,11 +146,11 @@ module _ {P C Q V H T E L : Type 0} where
 
   -- a scope comes under the next number
   pub scope_waits : (rows new : List (ℕ × Scope P C Q V H T E L)) (fresh more : List ℕ) (hidden : List (ℕ × ℕ)) (next n : ℕ) (x : Scope P C Q V H T E L)
-      → new ≡ rows ++ (n, x) ∷ [] → more ≡ fresh ++ n ∷ [] → next ≡ n + 1 → is_above n (way_of x).parent ≡ true
+      → new ≡ rows ++ (n, x) ∷ [] → more ≡ fresh ++ n ∷ [] → next ≡ n + 1 → is_above n (way_of x).parent ≡ true → (way_of x).children ≡ []
       → IsWaiting (ways_of rows) fresh hidden n → IsWaiting (ways_of new) more hidden next
-  scope_waits rows new fresh more hidden next n x is joined past above h =
+  scope_waits rows new fresh more hidden next n x is joined past above bare h =
       one_joins (ways_of rows) (ways_of new) fresh more hidden n next n (way_of x) h (ap (λ (es : List (ℕ × Scope P C Q V H T E L)). ways_of es) is ∙ ways_more rows n x) joined (omega arith) past
-      (parent_below n (way_of x).parent above)
+      (parent_below n (way_of x).parent above) bare
 
   -- the number of a live scope is below the next one
   pub row_below : (rows : List (ℕ × Scope P C Q V H T E L)) (fresh : List ℕ) (hidden : List (ℕ × ℕ)) (bound s : ℕ) (x : Scope P C Q V H T E L)
@@ -160,10 +159,10 @@ module _ {P C Q V H T E L : Type 0} where
       ∥∥₁_elim held (Coded-set coded_bool (nat_lt s bound) true) (λ h. lt-ltb s bound (h.low s (way_of x) (way_at rows s x live)).0)
 
   pub scope_left : (rows new : List (ℕ × Scope P C Q V H T E L)) (fresh less : List ℕ) (hidden fewer : List (ℕ × ℕ)) (bound n : ℕ)
-      → new ≡ without rows n → less ≡ drop_number fresh n → fewer ≡ others hidden n
+      → new ≡ without rows n → ((ws : List (ℕ × Way)) (height s : ℕ) → nat_eq n s ≡ false → covers ws fresh hidden height s ≡ true → covers ws less fewer height s ≡ true)
       → IsWaiting (ways_of rows) fresh hidden bound → IsWaiting (ways_of new) less fewer bound
-  scope_left rows new fresh less hidden fewer bound n is dropped let_go h =
-      one_goes (ways_of rows) (ways_of new) fresh less hidden fewer bound n h (ap (λ (es : List (ℕ × Scope P C Q V H T E L)). ways_of es) is ∙ ways_without rows n) dropped let_go
+  scope_left rows new fresh less hidden fewer bound n is left h =
+      one_goes (ways_of rows) (ways_of new) fresh less hidden fewer bound n h (ap (λ (es : List (ℕ × Scope P C Q V H T E L)). ways_of es) is ∙ ways_without rows n) left
 
   pub scope_mounted : (rows new : List (ℕ × Scope P C Q V H T E L)) (fresh less : List ℕ) (hidden : List (ℕ × ℕ)) (bound n i : ℕ) (x y : Scope P C Q V H T E L)
       → at rows n ≡ Some x → new ≡ put rows n y → way_of y ≡ record (way_of x) { mounted = true } → get_or fresh i 0 ≡ n → less ≡ remove fresh i
@@ -175,7 +174,7 @@ module _ {P C Q V H T E L : Type 0} where
   -- a scope of which another side may show
   pub scope_turned : (R : Scope P C Q V H T E L → Scope P C Q V H T E L → Type 0) (rows new : List (ℕ × Scope P C Q V H T E L)) (fresh more : List ℕ) (hidden fewer : List (ℕ × ℕ)) (bound b : ℕ)
       → ((ws : List (ℕ × Way)) (height s : ℕ) → covers ws fresh hidden height s ≡ true → covers ws more fewer height s ≡ true)
-      → list_any (λ e. nat_eq e.1 b) fewer ≡ false
+      → list_any (λ e. nat_eq e.0 b) fewer ≡ false
       → (at rows b ≡ None → new ≡ rows)
       → ((x : Scope P C Q V H T E L) → at rows b ≡ Some x → (y : Scope P C Q V H T E L) × R x y × (new ≡ put rows b y))
       → ((x y : Scope P C Q V H T E L) → R x y → sideless y ≡ sideless x)
@@ -191,3 +190,19 @@ module _ {P C Q V H T E L : Type 0} where
           let made = changed x e in
           one_turns (ways_of rows) (ways_of new) more fewer bound b (way_of x) (way_of made.0) now none (way_at rows b x e)
           (ap (λ (es : List (ℕ × Scope P C Q V H T E L)). ways_of es) made.2 ∙ ways_put rows b made.0) (stay x made.0 made.1)
+
+  -- a scope on whose sides other children stand, each of which knows it
+  pub scope_seated : (R : Scope P C Q V H T E L → Scope P C Q V H T E L → Type 0) (rows new : List (ℕ × Scope P C Q V H T E L)) (fresh : List ℕ) (hidden : List (ℕ × ℕ)) (bound n : ℕ)
+      → (at rows n ≡ None → new ≡ rows)
+      → ((x : Scope P C Q V H T E L) → at rows n ≡ Some x → (y : Scope P C Q V H T E L) × R x y × (new ≡ put rows n y))
+      → ((x y : Scope P C Q V H T E L) → at rows n ≡ Some x → R x y → seatless y ≡ seatless x)
+      → ((x y : Scope P C Q V H T E L) → at rows n ≡ Some x → R x y → IsWaiting (ways_of rows) fresh hidden bound → (t : ℕ) → has (way_of y).children t ≡ true → IsSeated (ways_of rows) bound n t)
+      → IsWaiting (ways_of rows) fresh hidden bound → IsWaiting (ways_of new) fresh hidden bound
+  scope_seated R rows new fresh hidden bound n absent changed like known h = by (at rows n) refl
+    where
+      by : (o : Option (Scope P C Q V H T E L)) → at rows n ≡ o → IsWaiting (ways_of new) fresh hidden bound
+      by None e = subst (λ (es : List (ℕ × Scope P C Q V H T E L)). IsWaiting (ways_of es) fresh hidden bound) (sym (absent e)) h
+      by (Some x) e =
+          let made = changed x e in
+          one_seats (ways_of rows) (ways_of new) fresh hidden bound n (way_of x) (way_of made.0) h (way_at rows n x e)
+          (ap (λ (es : List (ℕ × Scope P C Q V H T E L)). ways_of es) made.2 ∙ ways_put rows n made.0) (like x made.0 e made.1) (known x made.0 e made.1 h)

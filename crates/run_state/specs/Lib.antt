@@ -6,6 +6,7 @@ pub mod Anew
 pub mod Readers
 pub mod Posts
 pub mod Looks
+pub mod Orders
 pub mod Provided
 pub mod Effects
 pub mod Holders

@@ -9,7 +9,7 @@ use Rattle.rt_model.specs.State as state
 use Rattle.run_records.specs.Records.{source_of, target_of, firsts_of}
 use Rattle.run_records.specs.Kept.{each, scope_of}
 use Rattle.run_records.specs.declared.rest.Scope.{Scope}
-use Rattle.run_state.specs.Names.{task_kind_of}
+use Rattle.run_state.specs.Names.{scope_numbers, task_kind_of}
 use Rattle.run_state.specs.Sources.{read_into}
 use Rattle.run_state.specs.declared.read_order.Reading.{Reading}
 use Rattle.run_state.specs.declared.state.TaskRow.{TaskRow}
@@ -84,7 +84,7 @@ module _ {P C Q V H T E L : Type 0} where
         seen = (d.owed).seen;
         queued = (d.owed).queued;
         resolved = d.resolved;
-        skipped = d.skipped;
+        skipped = scope_numbers d.skipped;
         next_scope = d.next_scope;
         next = firsts_of d.next;
         calls = g.calls;

@@ -1,8 +1,8 @@
 -- Scopes that become mounted.
-use Rattle.std.specs.Prelude.{◌≡◌, ◌<◌, ℕ, zero, suc, Bool, true, false, ◌&&◌, ◌||◌, not, nat_eq, nat_lt, List, [], ◌∷◌, Option, Some, None, is_some}
+use Rattle.std.specs.Prelude.{◌≡◌, ◌<◌, ℕ, zero, suc, Bool, true, false, ◌&&◌, ◌||◌, not, nat_eq, nat_lt, List, [], ◌∷◌, ◌++◌, Option, Some, None, is_some, map}
 use Rattle.std.specs.List.{list_any}
 use Rattle.rt_model.specs.Lists.{at, has}
-use Rattle.rt_model.specs.Tree.{Types}
+use Rattle.rt_model.specs.Tree.{Types, Place}
 use Rattle.rt_model.specs.OneLog.{types}
 use Rattle.rt_model.specs.State as model
 use Rattle.rt_model.specs.State.{SideName, height_of, is_side, shown_at, shown_from}
@@ -10,13 +10,14 @@ use Rattle.run_records.specs.Kept.{each, scope_of}
 use Rattle.run_records.specs.declared.rest.Scope.{Scope}
 use Rattle.run_owed.specs.Lists.{EachOnce, numbers_of}
 
--- what of a scope says where it shows, and whether it is mounted
+-- what of a scope says where it shows, whether it is mounted, and which children stand on its sides
 pub record Way : Type 0 where
   pub parent : Option ℕ
   pub below : SideName
   pub shows : Option SideName
   pub height : ℕ
   pub mounted : Bool
+  pub children : List ℕ
 
 module _ {K : Types} where
   -- a live scope shows
@@ -27,9 +28,17 @@ module _ {K : Types} where
   abbrev pub shown_over : List (ℕ × model.Scope K) → ℕ → model.Scope K → Bool
   shown_over scopes n x = shown_at scopes (λ p. shown_from scopes n p) x.below x.parent
 
+  -- the children that stand on a side
+  abbrev pub seats_on : model.Side K → List ℕ
+  seats_on side = map (λ (e : Place × ℕ). e.1) side.children
+
+  -- those on the three sides of a scope
+  abbrev pub seats_in : model.Scope K → List ℕ
+  seats_in x = seats_on x.main_side ++ (seats_on x.children_side ++ seats_on x.fallback_side)
+
   -- that of a scope
   abbrev pub way_in : model.Scope K → Way
-  way_in x = record { parent = x.parent; below = x.below; shows = x.shows; height = x.height; mounted = x.mounted }
+  way_in x = record { parent = x.parent; below = x.below; shows = x.shows; height = x.height; mounted = x.mounted; children = seats_in x }
 
   -- that of each scope
   abbrev pub ways_in : List (ℕ × model.Scope K) → List (ℕ × Way)
@@ -54,20 +63,29 @@ hides ways b (suc n) s = elim (at ways s) [ None ↦ true | Some x ↦ hides_at 
 abbrev pub hides_over : List (ℕ × Way) → ℕ → ℕ → Way → Bool
 hides_over ways b n x = hides_at ways b (λ p. hides ways b n p) x.below x.parent
 
--- a scope is among the fresh ones, or hidden by the number beside it
+-- a scope is among the fresh ones, or hidden by the number before it
 abbrev pub covers : List (ℕ × Way) → List ℕ → List (ℕ × ℕ) → ℕ → ℕ → Bool
-covers ways fresh hidden height s = has fresh s || list_any (λ e. nat_eq e.0 s && hides ways e.1 height s) hidden
+covers ways fresh hidden height s = has fresh s || list_any (λ e. nat_eq e.1 s && hides ways e.0 height s) hidden
 
--- no two scopes have one number, all numbers are below the bound, and what isn't mounted is fresh or hidden
+-- a child on a scope's side has a number below the bound, and where it stands that scope is its parent
+abbrev pub IsSeated : List (ℕ × Way) → ℕ → ℕ → ℕ → Type 0
+IsSeated ways bound s t = (t < bound) × ((y : Way) → at ways t ≡ Some y → y.parent ≡ Some s)
+
+-- no two scopes have one number, all numbers are below the bound, what isn't mounted is fresh or hidden, and children know their parents
 pub record IsWaiting (ways : List (ℕ × Way)) (fresh : List ℕ) (hidden : List (ℕ × ℕ)) (bound : ℕ) : Type 0 where
   pub apart : EachOnce (numbers_of ways)
   pub low : (s : ℕ) (x : Way) → at ways s ≡ Some x → (s < bound) × ((p : ℕ) → x.parent ≡ Some p → p < bound)
   pub covered : (s : ℕ) (x : Way) → at ways s ≡ Some x → x.mounted ≡ false → covers ways fresh hidden x.height s ≡ true
+  pub seated : (s t : ℕ) (x : Way) → at ways s ≡ Some x → has x.children t ≡ true → IsSeated ways bound s t
 
 module _ {P C Q V H T E L : Type 0} where
   -- what says of a scope of code where it shows
   abbrev pub way_of : Scope P C Q V H T E L → Way
   way_of x = way_in (scope_of x)
+
+  -- the same, whatever children stand on its sides
+  abbrev pub seatless : Scope P C Q V H T E L → Way
+  seatless x = record (way_in (scope_of x)) { children = [] }
 
   -- the same, whatever side it shows
   abbrev pub sideless : Scope P C Q V H T E L → Way

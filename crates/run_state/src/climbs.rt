@@ -113,7 +113,7 @@ impl<P: Parts> State<P> {
         if found.rest.height == 0 {
             return true;
         }
-        self.shown_above(found.rest.height - 1, found)
+        self.shown_above(found.rest.height as u64 - 1, found)
     }
 
     /// Whether the parent of a scope shows the way, and the scopes above it do, at most so many
@@ -149,7 +149,47 @@ impl<P: Parts> State<P> {
         if found.rest.height == 0 {
             return None;
         }
-        self.hider_above(found.rest.height - 1, found)
+        self.hider_above(found.rest.height as u64 - 1, found)
+    }
+
+    /// The same where it is known of one scope that it shows: nothing hides that one.
+    pub(crate) fn hider_past(&self, known: Option<u64>, scope: u64) -> Option<u64>
+        requires known { IfSome known (λ s. shown_in (scopes_of self.now.rows.table) s ≡ true) }
+        ensures hidden { IfSome result (λ above. (x : Way) → at (ways_of self.now.rows.table) scope ≡ Some x
+            → hides (ways_of self.now.rows.table) above x.height scope ≡ true) }
+        ensures unshown { IfSome result (λ _. shown_in (scopes_of self.now.rows.table) scope ≡ false) }
+        ensures shown { IfNone result (shown_in (scopes_of self.now.rows.table) scope ≡ true) }
+    {
+        let Some(one) = known else {
+            return self.hider(scope);
+        };
+        if one == scope {
+            return None;
+        }
+        self.hider(scope)
+    }
+
+    /// The parent of a scope that shows, which shows as well: None where that can't be told.
+    pub(crate) fn shown_parent(&self, scope: u64) -> Option<u64>
+        requires shown { shown_in (scopes_of self.now.rows.table) scope ≡ true }
+        ensures { IfSome result (λ s. shown_in (scopes_of self.now.rows.table) s ≡ true) }
+    {
+        let Some(found) = self.scope(scope) else {
+            return None;
+        };
+        if found.rest.height == 0 {
+            return None;
+        }
+        let Some(parent) = found.row.parent else {
+            return None;
+        };
+        let Some(above) = self.scope(parent.0) else {
+            return None;
+        };
+        if above.rest.height as u64 != found.rest.height as u64 - 1 {
+            return None;
+        }
+        Some(parent.0)
     }
 
     /// The number of the parent or of a scope above it that hides this one, at most so many steps

@@ -3,7 +3,6 @@ ghost use Rattle.std.specs.Prelude.{◌≡◌, ◌++◌, ◌∷◌, [], ℕ, Lis
 ghost use Rattle.run_records.specs.Kept.{scope_of};
 ghost use Rattle.tree_mirror.specs.Sealed.{component_of};
 ghost use Rattle.rt_model.specs.State.{new_scope};
-ghost use Rattle.run_owed.specs.Lists.{front};
 ghost use Rattle.run_places.specs.Places.{side_name_of};
 
 use crate::scopes::new_scope;
@@ -11,7 +10,7 @@ use rt_values::{List, OutOfMemory};
 use run_owed::Owed;
 use run_places::SideName;
 use run_records::Scope;
-use run_table::Table;
+use run_table::BoxedTable;
 use std::alloc::Global;
 use tree_nodes::{Parts, VComponent};
 
@@ -20,7 +19,7 @@ use tree_nodes::{Parts, VComponent};
 pub struct Coming<P: Parts> {
     pub component: VComponent<P>,
     pub parent: Option<u64>,
-    pub height: u64,
+    pub height: u32,
     /// The side of its parent below which it stands.
     pub below: SideName,
 }
@@ -30,7 +29,7 @@ pub struct Coming<P: Parts> {
 pub(crate) fn enter_row<P: Parts>(
     alloc: Global,
     owed: &mut Owed,
-    rows: &mut Table<Scope<P>>,
+    rows: &mut BoxedTable<Scope<P>>,
     fresh: &mut List<u64>,
     number: u64,
     coming: Coming<P>,
@@ -46,7 +45,6 @@ pub(crate) fn enter_row<P: Parts>(
     ensures owed_err { OnErr result (owed.new ≡ owed.old) }
     ensures fresh_err { OnErr result (fresh.new ≡ fresh.old) }
 {
-    enter_number(owed, fresh, number, coming.height)?;
     let Coming {
         component,
         parent,
@@ -54,10 +52,11 @@ pub(crate) fn enter_row<P: Parts>(
         below,
     } = coming;
     let scope = new_scope(alloc, component, parent, height, below);
-    match rows.push(number, scope) {
+    rows.push(number, scope)?;
+    match enter_number(owed, fresh, number, height as u64) {
         Ok(()) => Ok(()),
         Err(OutOfMemory) => {
-            take_back(owed, fresh);
+            rows.take_last();
             Err(OutOfMemory)
         }
     }
@@ -85,13 +84,4 @@ fn enter_number(
             Err(OutOfMemory)
         }
     }
-}
-
-/// The number that was entered last is entered no more.
-fn take_back(owed: &mut Owed, fresh: &mut List<u64>)
-    ensures owed { owed.new ≡ record owed.old { scopes = front owed.old.scopes } }
-    ensures fresh { (numbers : List ℕ) (number : ℕ) → fresh.old ≡ numbers ++ number ∷ [] → fresh.new ≡ numbers }
-{
-    owed.take_back_scope();
-    let _last = fresh.pop();
 }

@@ -12,8 +12,8 @@ ghost use Rattle.run_state.specs.Effects.{has_rank};
 ghost use Rattle.run_state.specs.Heights.{task_scope};
 ghost use Rattle.run_state.specs.Mirror.{state_of};
 
-use crate::names::{Fault, Posted, Stop, TaskKind};
-use crate::numbers::drop_number;
+use crate::names::{Cause, Posted, Stop, TaskKind};
+use crate::numbers::drop_skipped;
 use crate::scopes::holds;
 use crate::state::{State, TaskRow};
 use rt_values::OutOfMemory;
@@ -33,16 +33,23 @@ pub(crate) fn next_number(number: u64) -> Option<u64>
     }
 }
 
+/// The height below a scope of this one. None past the greatest `u32`, where no limit is.
+pub(crate) fn next_height(height: u32) -> Option<u32>
+    ensures { IfSome result (λ below. below ≡ height + 1) }
+{
+    height.checked_add(1)
+}
+
 impl<P: Parts> State<P> {
     /// The render count of a live scope rises by one.
     pub fn raised(&mut self, scope: u64) -> Result<(), Stop>
         ensures done { OnOk result ((g : _) →
             raised (state_of g self.old) scope ≡ Done (state_of g self.new) []) }
-        ensures cut { (what : Fault) → IfErr result (λ stop. stop ≡ Stop.Fault what → (g : _) →
+        ensures cut { (what : Cause) → IfErr result (λ stop. stop ≡ Stop.Fault what → (g : _) →
             raised (state_of g self.old) scope ≡ Cut (state_of g self.new) (fault_of what)) }
     {
         let Some(renders) = next_number(self.renders_of(scope)) else {
-            return Err(Stop::Fault(Fault::IdsExhausted {
+            return Err(Stop::Fault(Cause::IdsExhausted {
                 what: Counter::Renders,
             }));
         };
@@ -67,12 +74,12 @@ impl<P: Parts> State<P> {
         ensures done { OnOk result ((g : _) →
             suspends_on (state_of g self.old) scope origin task
             (at (state_of g self.old).tasks task) ≡ Done (state_of g self.new) []) }
-        ensures cut { (what : Fault) → IfErr result (λ stop. stop ≡ Stop.Fault what → (g : _) →
+        ensures cut { (what : Cause) → IfErr result (λ stop. stop ≡ Stop.Fault what → (g : _) →
             suspends_on (state_of g self.old) scope origin task
             (at (state_of g self.old).tasks task) ≡ Cut (state_of g self.new) (fault_of what)) }
     {
         if !self.has_task(task) {
-            return Err(Stop::Fault(Fault::NoSuchTask { scope, task }));
+            return Err(Stop::Fault(Cause::NoSuchTask { scope, task }));
         }
         let location = self.location(scope);
         self.suspend(task)?;
@@ -159,7 +166,7 @@ impl<P: Parts> State<P> {
                 }) }
                 ensures stay { beside_lists found.new ≡ beside_lists found.old }
                 ensures err { OnErr result (found.new ≡ found.old) }
-            { found.rest.holders.push((task, origin)) },
+            { found.rest.holders.push(task, origin) },
         )
     }
 
@@ -167,8 +174,7 @@ impl<P: Parts> State<P> {
     pub fn unmark(&mut self, scope: u64)
         ensures { (g : _) → state_of g self.new ≡ unmarked (state_of g self.old) scope }
     {
-        self.owed.drop_marks(scope);
-        self.owed.unsee(scope);
-        drop_number(&mut self.skipped, scope);
+        self.owed.unmark(scope);
+        drop_skipped(&mut self.skipped, scope);
     }
 }

@@ -1,6 +1,5 @@
 //! Boundaries that a task holds, by the pairs of both: marked and let go.
-ghost use Rattle.std.specs.Prelude.{◌≡◌, ◌<◌, ◌++◌, ◌∷◌, [], ℕ, nat_eq, length, get_or, map, OnOk, IfSome, IfNone, true, false, if◌then◌else◌};
-ghost use Rattle.std.specs.List.{list_any};
+ghost use Rattle.std.specs.Prelude.{◌≡◌, ◌<◌, ◌++◌, ◌∷◌, [], ℕ, nat_eq, length, map, OnOk, true, false, if◌then◌else◌};
 ghost use Rattle.rt_model.specs.Lists.{has};
 ghost use Rattle.rt_model.specs.State as model;
 ghost use Rattle.rt_model.specs.State.{change};
@@ -15,11 +14,11 @@ ghost use Rattle.run_state.specs.Mirror.{scopes_of, state_of};
 use crate::ranks::Ranks;
 use crate::scopes::holds;
 use crate::state::State;
-use rt_values::{List, OutOfMemory};
+use rt_values::{Boxed, OutOfMemory};
 use run_owed::Owed;
 use run_records::Scope;
-use run_table::Table;
-use tree_nodes::Parts;
+use run_table::BoxedTable;
+use tree_nodes::{Parts, SuspendedFuture};
 
 impl<P: Parts> State<P> {
     /// Takes a task out of all boundaries' holders: of those that it is paired with. No others are gone
@@ -68,7 +67,7 @@ impl<P: Parts> State<P> {
                 } }
                 ensures stay { beside_lists found.new ≡ beside_lists found.old }
             {
-                drop_holder(&mut found.rest.holders, task);
+                found.rest.holders.drop_task(task);
                 Ok(())
             },
         )
@@ -79,7 +78,7 @@ impl<P: Parts> State<P> {
 /// which is the order of the table. Pairs of other tasks aren't gone through; only where the table's
 /// numbers didn't rise is each scope looked at.
 pub(crate) fn add_holding<P: Parts>(
-    rows: &Table<Scope<P>>,
+    rows: &BoxedTable<Scope<P>>,
     held: &Ranks,
     task: u64,
     owed: &mut Owed,
@@ -102,7 +101,7 @@ pub(crate) fn add_holding<P: Parts>(
 }
 
 /// Posts the mark of a scope, where it is live and the task holds it.
-fn post_held<P: Parts>(rows: &Table<Scope<P>>, boundary: u64, task: u64, owed: &mut Owed)
+fn post_held<P: Parts>(rows: &BoxedTable<Scope<P>>, boundary: u64, task: u64, owed: &mut Owed)
     requires entered { numbers_of rows.now ≡ numbers_of owed.old.scopes }
     ensures posted { owed.new ≡ record owed.old {
       posted = owed.old.posted
@@ -116,7 +115,7 @@ fn post_held<P: Parts>(rows: &Table<Scope<P>>, boundary: u64, task: u64, owed: &
 }
 
 /// Whether a scope is live and a task holds it.
-fn is_held_by<P: Parts>(rows: &Table<Scope<P>>, scope: u64, task: u64) -> bool
+fn is_held_by<P: Parts>(rows: &BoxedTable<Scope<P>>, scope: u64, task: u64) -> bool
     ensures { result ≡ holds_at (scopes_of rows.now) scope task }
 {
     match rows.get(scope) {
@@ -126,7 +125,7 @@ fn is_held_by<P: Parts>(rows: &Table<Scope<P>>, scope: u64, task: u64) -> bool
 }
 
 /// The same marks, with each scope looked at.
-fn hold_each<P: Parts>(scopes: &[(u64, Scope<P>)], task: u64, owed: &mut Owed)
+fn hold_each<P: Parts>(scopes: &[(u64, Boxed<Scope<P>>)], task: u64, owed: &mut Owed)
     requires entered { numbers_of scopes.now ≡ numbers_of owed.old.scopes }
     ensures posted { owed.new ≡ record owed.old {
       posted = owed.old.posted ++ holding (scopes_of scopes.now) task;
@@ -138,54 +137,30 @@ fn hold_each<P: Parts>(scopes: &[(u64, Scope<P>)], task: u64, owed: &mut Owed)
 }
 
 /// Posts the mark of an entered boundary, where the task holds it.
-fn add_held<P: Parts>(entry: &(u64, Scope<P>), task: u64, owed: &mut Owed)
+fn add_held<P: Parts>(entry: &(u64, Boxed<Scope<P>>), task: u64, owed: &mut Owed)
     requires entered { has (numbers_of owed.old.scopes) entry.now.0 ≡ true }
     ensures posted { owed.new ≡ record owed.old {
       posted = owed.old.posted
           ++ (if model.holds (scope_of entry.now.1) task then model.Mark entry.now.0 ∷ [] else []);
     } }
 {
-    if !holds(&entry.1, task) {
+    if !holds(entry.1.get(), task) {
         return;
     }
     owed.post_mark(entry.0);
 }
 
-/// Where a task stands first among holders.
-fn holder_in(holders: &[(u64, u64)], task: u64) -> Option<usize>
-    ensures within { IfSome result (λ index. index < length holders.now) }
-    ensures own { IfSome result (λ index. (d : ℕ × ℕ) →
-        nat_eq (get_or holders.now index d).0 task ≡ true) }
-    ensures none { IfNone result (list_any (λ h. nat_eq h.0 task) holders.now ≡ false) }
-{
-    for index in 0..holders.len() {
-        if holders[index].0 == task {
-            return Some(index);
-        }
-    }
-    None
-}
-
-/// Takes a task out of holders wherever it stands.
-pub(crate) fn drop_holder(holders: &mut List<(u64, u64)>, task: u64)
-    ensures { holders.new ≡ others holders.old task }
-{
-    while let Some(index) = holder_in(holders.as_slice(), task) {
-        holders.remove(index);
-    }
-}
-
 /// Takes the pairs of a scope with its holders out.
-fn drop_pairs(pairs: &mut Ranks, holders: &[(u64, u64)], scope: u64)
+fn drop_pairs(pairs: &mut Ranks, holders: &[SuspendedFuture], scope: u64)
     ensures { (t s : ℕ) → nat_eq scope s ≡ false → has_rank pairs.new t s ≡ has_rank pairs.old t s }
 {
     for holder in holders {
-        pairs.remove(holder.0, scope);
+        pairs.remove(holder.task.0, scope);
     }
 }
 
 /// Takes the pairs of a live scope with its holders out.
-pub(crate) fn drop_paired<P: Parts>(rows: &Table<Scope<P>>, pairs: &mut Ranks, scope: u64)
+pub(crate) fn drop_paired<P: Parts>(rows: &BoxedTable<Scope<P>>, pairs: &mut Ranks, scope: u64)
     ensures { (t s : ℕ) → nat_eq scope s ≡ false → has_rank pairs.new t s ≡ has_rank pairs.old t s }
 {
     match rows.get(scope) {

@@ -3,19 +3,19 @@ ghost use Rattle.std.specs.Prelude.{◌≡◌, Some, OnErr, OnOk};
 ghost use Rattle.rt_model.specs.Lists.{at, put};
 ghost use Rattle.run_records.specs.Kept.{each, scope_of};
 ghost use Rattle.run_places.specs.Places.{kind_of, place_of, side_name_of};
-ghost use Rattle.run_state.specs.Drawn.{kept_for};
-ghost use Rattle.run_state.specs.Sides.{more_child, more_number};
+ghost use Rattle.run_state.specs.Drawn.{beside_seats};
+ghost use Rattle.run_state.specs.Sides.{OneSeat, more_child, more_number};
 
 use rt_values::OutOfMemory;
 use run_places::{Kind, Place, SideName};
 use run_records::Scope;
-use run_table::Table;
+use run_table::BoxedTable;
 use tree_nodes::Parts;
 
 /// Puts a number after those of a scope's side, where the scope is in the table. A refusal leaves the
 /// table as it was.
 pub(crate) fn put_number<P: Parts>(
-    rows: &mut Table<Scope<P>>,
+    rows: &mut BoxedTable<Scope<P>>,
     scope: u64,
     side: SideName,
     place: &Place,
@@ -65,7 +65,8 @@ pub(crate) fn push_child<P: Parts>(
 ) -> Result<(), OutOfMemory>
     ensures seated { OnOk result (scope_of scope.new ≡ more_child (side_name_of side)
         (place_of place.now, child) (scope_of scope.old)) }
-    ensures stay { kept_for scope.new ≡ kept_for scope.old }
+    ensures one { OneSeat child scope.old scope.new }
+    ensures stay { beside_seats scope.new ≡ beside_seats scope.old }
 {
     match side {
         SideName::Main => scope.rest.main_side.seat(place, child),

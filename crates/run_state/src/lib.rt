@@ -31,9 +31,8 @@ mod sides;
 mod sources;
 mod state;
 mod tasks;
-mod tree_put;
 
-pub use names::{Fault, Posted, Stop, TaskKind, Work};
+pub use names::{Cause, Posted, Stop, TaskKind, Work};
 pub use numbers::{drop_number, join};
 pub use ranks::{RankNumbers, Ranks};
 pub use read_order::{ReadOrder, Reading};

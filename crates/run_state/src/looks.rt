@@ -1,10 +1,7 @@
 //! Looks: what was posted becomes seen or queued; paused tasks that come up are dropped.
-ghost use Rattle.std.specs.Prelude.{◌≡◌, ◌<◌, ℕ, length, get_or, IfOk, IsOk, OnOk, option_map};
-ghost use Rattle.rt_model.specs.State.{Mark as MarkOf, Woken as WokenOf};
+ghost use Rattle.std.specs.Prelude.{◌≡◌, IfOk, IsOk, OnOk, option_map};
 ghost use Rattle.rt_model.specs.Next.{look, paused, found, drops, at_rest, next_at_rest};
-ghost use Rattle.run_owed.specs.Lists.{marks_in, once_each, wakes_in};
 ghost use Rattle.run_state.specs.Names.{work_of};
-ghost use Rattle.run_state.specs.Looks.{looked_at, queued_of, seen_of};
 ghost use Rattle.run_state.specs.Mirror.{state_of};
 
 use crate::names::Work;
@@ -21,58 +18,8 @@ impl<P: Parts> State<P> {
         ensures looked { OnOk result ((g : _) →
             state_of g self.new ≡ look (state_of g self.old)) }
     {
-        self.look_at_marks();
-        self.look_at_wakes();
-        self.owed.empty();
+        self.owed.look();
         Ok(())
-    }
-
-    /// The scopes whose marks are posted are seen, where they are live.
-    fn look_at_marks(&mut self)
-        ensures seen { (g : _) → state_of g self.new ≡ record (state_of g self.old) {
-          seen = seen_of (state_of g self.old) (once_each (marks_in self.old.owed.posted)) self.old.owed.seen;
-        } }
-    {
-        for index in 0..self.owed.marks().len() {
-            self.look_at_mark(index);
-        }
-    }
-
-    /// The scope whose mark is at an index of the posted ones is seen, where it is live.
-    fn look_at_mark(&mut self, index: usize)
-        requires within { index < length (once_each (marks_in self.old.owed.posted)) }
-        ensures seen { (g : _) (d : ℕ) → state_of g self.new ≡ looked_at (state_of g self.old)
-            (MarkOf (get_or (once_each (marks_in self.old.owed.posted)) index d)) }
-    {
-        let scope = self.owed.marks()[index];
-        if !self.is_live(scope) {
-            return;
-        }
-        self.owed.see(scope);
-    }
-
-    /// The tasks whose wakes are posted are queued, where they haven't ended.
-    fn look_at_wakes(&mut self)
-        ensures queued { (g : _) → state_of g self.new ≡ record (state_of g self.old) {
-          queued = queued_of (state_of g self.old) (once_each (wakes_in self.old.owed.posted)) self.old.owed.queued;
-        } }
-    {
-        for index in 0..self.owed.wakes().len() {
-            self.look_at_wake(index);
-        }
-    }
-
-    /// The task whose wake is at an index of the posted ones is queued, where it hasn't ended.
-    fn look_at_wake(&mut self, index: usize)
-        requires within { index < length (once_each (wakes_in self.old.owed.posted)) }
-        ensures queued { (g : _) (d : ℕ) → state_of g self.new ≡ looked_at (state_of g self.old)
-            (WokenOf (get_or (once_each (wakes_in self.old.owed.posted)) index d)) }
-    {
-        let task = self.owed.wakes()[index];
-        if !self.has_task(task) {
-            return;
-        }
-        self.owed.queue(task);
     }
 
     /// The task that comes up, where that is a paused one.
@@ -99,14 +46,12 @@ impl<P: Parts> State<P> {
             state_of g self.new ≡ drops (state_of g self.old).queued (state_of g self.old) }
         ensures next { (g : _) → option_map work_of result ≡ found (state_of g self.new) }
     {
-        for _step in 0..self.owed.queued().len() {
-            let up = self.found();
-            let Some(task) = self.paused(up) else {
-                return up;
-            };
+        let mut up = self.found();
+        while let Some(task) = self.paused(up) {
             self.owed.unqueue(task);
+            up = self.found();
         }
-        self.found()
+        up
     }
 
     /// Drops paused tasks that come up, and looks where nothing is left. The answer is what comes

@@ -5,7 +5,7 @@ ghost use Rattle.run_owed.specs.Lists.{joins, numbers_of};
 ghost use Rattle.run_state.specs.Mirror.{scopes_of, state_of};
 
 use crate::state::State;
-use rt_values::OutOfMemory;
+use rt_values::{Boxed, OutOfMemory};
 use run_owed::Owed;
 use run_records::Scope;
 use std::alloc::Global;
@@ -39,7 +39,7 @@ impl<P: Parts> State<P> {
 }
 
 /// All these scopes are seen. They are the entered ones.
-fn see_all<P: Parts>(scopes: &[(u64, Scope<P>)], owed: &mut Owed)
+fn see_all<P: Parts>(scopes: &[(u64, Boxed<Scope<P>>)], owed: &mut Owed)
     requires entered { numbers_of scopes.now ≡ numbers_of owed.old.scopes }
     ensures seen { owed.new ≡ record owed.old { seen = joins owed.old.seen (numbers_of scopes.now) } }
 {

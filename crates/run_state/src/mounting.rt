@@ -1,11 +1,14 @@
 //! Scopes that become mounted.
-ghost use Rattle.std.specs.Prelude.{◌≡◌, ◌<◌, ◌≤◌, ◌+◌, ◌∷◌, [], ℕ, List, Some, true, false, nat_eq, length, get_or, take, drop, map, remove, OnOk};
+ghost use Rattle.std.specs.Prelude.{◌≡◌, ◌<◌, ◌∷◌, [], ℕ, List, Some, None, true, false, cond, nat_eq, length, get_or, take, map, IfOk, IfNone, IfSome, OnErr, OnOk};
+ghost use Rattle.std.specs.BTreeMap.{is_at};
 ghost use Rattle.std.specs.List.{list_any};
 ghost use Rattle.rt_model.specs.Replay.{mounted_state};
 ghost use Rattle.run_state.specs.Mounts.{Way, covers, hides, mounts_in, shown_in, ways_of};
 ghost use Rattle.rt_model.specs.Lists.{at};
+ghost use Rattle.run_state.specs.Effects.{has_rank, rank_cmp};
 ghost use Rattle.run_state.specs.Mirror.{scopes_of, state_of};
 
+use crate::ranks::Ranks;
 use crate::state::State;
 use rt_values::{List, OutOfMemory};
 use run_records::Scope;
@@ -19,16 +22,20 @@ impl<P: Parts> State<P> {
             state_of g self.new ≡ mounted_state (state_of g self.old)) }
     {
         let count = self.fresh.len();
+        let mut known = None;
         for back in 0..count {
-            self.mount_at(count - 1 - back)?;
+            known = self.mount_at(count - 1 - back, known)?;
         }
         Ok(())
     }
 
     /// Mounts the scope at an index of the fresh ones, where it shows; else it is hidden. Those
-    /// before it stay.
-    fn mount_at(&mut self, index: usize) -> Result<(), OutOfMemory>
+    /// before it stay. Of one scope it is known that it shows, and answered of the next one.
+    fn mount_at(&mut self, index: usize, known: Option<u64>) -> Result<Option<u64>, OutOfMemory>
         requires within { index < length self.old.fresh }
+        requires known { IfSome known (λ s. shown_in (scopes_of self.old.rows.table) s ≡ true) }
+        ensures known { IfOk result (λ next. IfSome next (λ s.
+            shown_in (scopes_of self.new.rows.table) s ≡ true)) }
         ensures mounted { OnOk result (self.new.rows.table ≡ map (mounts_in (scopes_of self.old.rows.table)
             (get_or self.old.fresh index 0 ∷ [])) self.old.rows.table) }
         ensures before { OnOk result (take index self.new.fresh ≡ take index self.old.fresh) }
@@ -37,11 +44,12 @@ impl<P: Parts> State<P> {
         } }
     {
         let scope = self.fresh.as_slice()[index];
-        match self.hider(scope) {
+        match self.hider_past(known, scope) {
             Some(above) => self.hide(index, scope, above),
             None => {
+                let next = self.shown_parent(scope);
                 self.mount(index, scope);
-                Ok(())
+                Ok(next)
             }
         }
     }
@@ -72,76 +80,86 @@ impl<P: Parts> State<P> {
         let _gone = self.fresh.remove(index);
     }
 
-    /// A fresh scope that doesn't show waits for one above that hides it.
-    fn hide(&mut self, index: usize, scope: u64, above: u64) -> Result<(), OutOfMemory>
+    /// A fresh scope that doesn't show waits for one above that hides it. One that is gone waits no
+    /// more. Of none it is known that it shows then.
+    fn hide(&mut self, index: usize, scope: u64, above: u64) -> Result<Option<u64>, OutOfMemory>
         requires within { index < length self.old.fresh }
         requires own { get_or self.old.fresh index 0 ≡ scope }
         requires hidden { (x : Way) → at (ways_of self.old.rows.table) scope ≡ Some x
             → hides (ways_of self.old.rows.table) above x.height scope ≡ true }
+        ensures none { IfOk result (λ next. next ≡ None) }
         ensures rows { self.new.rows ≡ self.old.rows }
         ensures before { OnOk result (take index self.new.fresh ≡ take index self.old.fresh) }
         ensures others { (g : _) → state_of g self.new ≡ state_of g self.old }
     {
-        self.hidden.push((scope, above))?;
+        if !self.is_live(scope) {
+            self.fresh.remove(index);
+            return Ok(None);
+        }
+        add_hidden(&mut self.hidden, &mut self.hiders, scope, above)?;
         let _gone = self.fresh.remove(index);
-        Ok(())
+        Ok(None)
     }
 }
 
-/// The scope at an index of the hidden ones is fresh.
-fn uncover_at(
-    fresh: &mut List<u64>,
-    hidden: &mut List<(u64, u64)>,
-    index: usize,
+/// One more scope is hidden by the one with this number.
+fn add_hidden(
+    hidden: &mut Ranks,
+    hiders: &mut Ranks,
+    scope: u64,
+    above: u64,
 ) -> Result<(), OutOfMemory>
-    requires within { index < length hidden.old }
-    ensures covered { (ways : List (ℕ × Way)) (height s : ℕ) → covers ways fresh.old hidden.old height s ≡ true
-        → covers ways fresh.new hidden.new height s ≡ true }
-    ensures fewer { OnOk result (hidden.new ≡ remove hidden.old index) }
+    ensures joined { OnOk result ((a s : ℕ) → has_rank hidden.new a s
+        ≡ cond (is_at (rank_cmp (above, scope)) (a, s)) true (has_rank hidden.old a s)) }
+    ensures err { OnErr result (hidden.new ≡ hidden.old) }
 {
-    let scope = hidden.as_slice()[index].0;
-    fresh.push(scope)?;
-    let _gone = hidden.remove(index);
-    Ok(())
+    hiders.insert(scope, above)?;
+    hidden.insert(above, scope)
 }
 
-/// The same, where the one with this number hides it. If none behind it is hidden by that one, none is
-/// from there on.
+/// A scope that the one with this number hides is fresh.
 fn uncover_one(
     fresh: &mut List<u64>,
-    hidden: &mut List<(u64, u64)>,
-    index: usize,
+    hidden: &mut Ranks,
+    hiders: &mut Ranks,
+    scope: u64,
     above: u64,
 ) -> Result<(), OutOfMemory>
-    requires within { index < length hidden.old }
+    requires paired { has_rank hidden.old above scope ≡ true }
     ensures covered { (ways : List (ℕ × Way)) (height s : ℕ) → covers ways fresh.old hidden.old height s ≡ true
         → covers ways fresh.new hidden.new height s ≡ true }
-    ensures long { OnOk result (index ≤ length hidden.new) }
-    ensures none { OnOk result (list_any (λ e. nat_eq e.1 above) (drop (index + 1) hidden.old) ≡ false
-        → list_any (λ e. nat_eq e.1 above) (drop index hidden.new) ≡ false) }
+    ensures fewer { OnOk result (length hidden.new < length hidden.old) }
 {
-    let by = hidden.as_slice()[index].1;
-    if by != above {
-        return Ok(());
-    }
-    uncover_at(fresh, hidden, index)?;
+    fresh.push(scope)?;
+    hidden.remove(above, scope);
+    hiders.remove(scope, above);
     Ok(())
 }
 
-/// What is hidden by the scope with this number is fresh. The hidden ones are gone through once, the
-/// last first.
+/// What is hidden by the scope with this number is fresh. No others of the hidden ones are gone
+/// through.
 pub(crate) fn uncover(
     fresh: &mut List<u64>,
-    hidden: &mut List<(u64, u64)>,
+    hidden: &mut Ranks,
+    hiders: &mut Ranks,
     above: u64,
 ) -> Result<(), OutOfMemory>
     ensures covered { (ways : List (ℕ × Way)) (height s : ℕ) → covers ways fresh.old hidden.old height s ≡ true
         → covers ways fresh.new hidden.new height s ≡ true }
-    ensures none { OnOk result (list_any (λ e. nat_eq e.1 above) hidden.new ≡ false) }
+    ensures none { OnOk result (list_any (λ e. nat_eq e.0 above) hidden.new ≡ false) }
 {
-    let count = hidden.len();
-    for back in 0..count {
-        uncover_one(fresh, hidden, count - 1 - back, above)?;
+    while let Some(scope) = hidden.first_of(above) {
+        uncover_one(fresh, hidden, hiders, scope, above)?;
     }
     Ok(())
+}
+
+/// Takes a scope out of the hidden ones, by what hides it.
+pub(crate) fn drop_hidden(hidden: &mut Ranks, hiders: &mut Ranks, scope: u64)
+    ensures { (a s : ℕ) → nat_eq scope s ≡ false → has_rank hidden.new a s ≡ has_rank hidden.old a s }
+{
+    while let Some(above) = hiders.first_of(scope) {
+        hidden.remove(above, scope);
+        hiders.remove(scope, above);
+    }
 }

@@ -26,9 +26,9 @@ pub enum Work {
     RunEffects(u64),
 }
 
-/// Why a run ended early.
+/// Why a change can't be done, but for want of memory.
 #[derive(Clone, Copy, Debug, PartialEq, Eq)]
-pub enum Fault {
+pub enum Cause {
     /// The counter is at its end, and another number of it is wanted.
     IdsExhausted {
         what: Counter,
@@ -55,7 +55,7 @@ pub enum Fault {
 #[derive(Clone, Copy, Debug, PartialEq, Eq)]
 pub enum Stop {
     OutOfMemory,
-    Fault(Fault),
+    Fault(Cause),
 }
 
 impl From<OutOfMemory> for Stop {

@@ -1,9 +1,11 @@
 //! Lists of numbers.
-ghost use Rattle.std.specs.Prelude.{◌≡◌, ◌<◌, ◌≤◌, ◌++◌, ℕ, length, get_or, take, drop, nat_le, OnOk, OnErr, IfSome, IfNone, true, false};
+ghost use Rattle.std.specs.Prelude.{◌≡◌, ◌<◌, ◌≤◌, ◌++◌, ℕ, length, get_or, take, drop, nat_eq, nat_le, OnOk, OnErr, IfSome, IfNone, true, false};
 ghost use Rattle.rt_model.specs.Lists.{has, drop_number, join, insert_number};
+ghost use Rattle.std.specs.List.{list_any};
 ghost use Rattle.run_state.specs.Kinds.{stands_at};
+ghost use Rattle.run_state.specs.Names.{scope_numbers};
 
-use rt_values::{List, OutOfMemory};
+use rt_values::{List, OutOfMemory, ScopeId};
 
 /// Where a number stands first.
 fn number_in(numbers: &[u64], number: u64) -> Option<usize>
@@ -28,27 +30,40 @@ pub fn drop_number(numbers: &mut List<u64>, number: u64)
     }
 }
 
-/// Puts a number at the end where it isn't in the list.
-pub fn join(numbers: &mut List<u64>, number: u64) -> Result<(), OutOfMemory>
-    ensures joined { OnOk result (numbers.new ≡ join numbers.old number) }
-    ensures err { OnErr result (numbers.new ≡ numbers.old) }
+/// Where a scope stands first.
+fn scope_in(scopes: &[ScopeId], scope: u64) -> Option<usize>
+    ensures within { IfSome result (λ index. index < length scopes.now) }
+    ensures own { IfSome result (λ index. (d : _) →
+        nat_eq (get_or scopes.now index d).0 scope ≡ true) }
+    ensures none { IfNone result (list_any (λ own. nat_eq own.0 scope) scopes.now ≡ false) }
 {
-    if has_number(numbers.as_slice(), number) {
-        return Ok(());
-    }
-    numbers.push(number)
-}
-
-/// Whether a number is in a list.
-pub(crate) fn has_number(numbers: &[u64], number: u64) -> bool
-    ensures { result ≡ has numbers.now number }
-{
-    for own in numbers {
-        if *own == number {
-            return true;
+    for index in 0..scopes.len() {
+        if scopes[index].0 == scope {
+            return Some(index);
         }
     }
-    false
+    None
+}
+
+/// Takes a scope out wherever it stands.
+pub(crate) fn drop_skipped(scopes: &mut List<ScopeId>, scope: u64)
+    ensures { scope_numbers scopes.new ≡ drop_number (scope_numbers scopes.old) scope }
+{
+    while let Some(index) = scope_in(scopes.as_slice(), scope) {
+        scopes.remove(index);
+    }
+}
+
+/// Puts a scope at the end where it isn't in the list.
+pub fn join(scopes: &mut List<ScopeId>, scope: u64) -> Result<(), OutOfMemory>
+    ensures joined { OnOk result (scope_numbers scopes.new
+        ≡ join (scope_numbers scopes.old) scope) }
+    ensures err { OnErr result (scopes.new ≡ scopes.old) }
+{
+    match scope_in(scopes.as_slice(), scope) {
+        Some(_index) => Ok(()),
+        None => scopes.push(ScopeId(scope)),
+    }
 }
 
 /// Puts a number in its place in an ascending list, once.

@@ -1,14 +1,19 @@
 //! The order in which scopes and tasks come up.
-ghost use Rattle.std.specs.Prelude.{◌≡◌, nat_eq, option_map, if◌then◌else◌};
-ghost use Rattle.rt_model.specs.Next.{is_before, scope_of_task, is_active, first_task, first_seen, found, next_at_rest, least, with_effects};
+ghost use Rattle.std.specs.Prelude.{◌≡◌, ℕ, nat_eq, option_map};
+ghost use Rattle.rt_model.specs.Next.{is_before, scope_of_task, is_active, first_seen, found, next_at_rest, least, with_effects};
 ghost use Rattle.rt_model.specs.Next as model;
 ghost use Rattle.run_records.specs.Kept.{scope_of};
 ghost use Rattle.run_state.specs.Effects.{comes_up, effects_at, has_effects};
 ghost use Rattle.run_state.specs.Names.{work_of};
 ghost use Rattle.run_state.specs.Mirror.{scopes_of, state_of};
+ghost use Rattle.run_state.specs.Orders.{StandFor, order_of, taken_of};
+ghost use Rattle.run_owed.specs.Stands.{queued_line, seen_orders};
+ghost use Rattle.rt_sched.specs.Order.{order_before};
+ghost use Rattle.rt_sched.specs.Queues.{next_work};
 
 use crate::names::Work;
 use crate::state::State;
+use rt_sched::Work as Queued;
 use run_records::Scope;
 use tree_nodes::Parts;
 
@@ -43,13 +48,6 @@ impl<P: Parts> State<P> {
         }
     }
 
-    /// The first queued task of the least order.
-    pub fn first_task(&self) -> Option<u64>
-        ensures { (g : _) → result ≡ first_task (state_of g self.now) }
-    {
-        self.owed.first_queued()
-    }
-
     /// The seen scope of the least order.
     pub fn first_seen(&self) -> Option<u64>
         ensures { (g : _) → result ≡ first_seen (state_of g self.now) }
@@ -57,30 +55,30 @@ impl<P: Parts> State<P> {
         self.owed.first_seen()
     }
 
-    /// The scope or task that comes up: the lesser of the two, the task on equal order.
+    /// The scope or task that comes up, as the queues answer it: the lesser of the two, the task on equal
+    /// order.
     pub fn found(&self) -> Option<Work>
         ensures { (g : _) → option_map work_of result ≡ found (state_of g self.now) }
     {
-        match (self.first_task(), self.first_seen()) {
-            (None, None) => None,
-            (Some(task), None) => Some(Work::PollTask(task)),
-            (None, Some(scope)) => Some(Work::RerunScope(scope)),
-            (Some(task), Some(scope)) => Some(self.lesser_work(task, scope)),
+        match self.owed.next_work() {
+            Some(work) => Some(numbered(work)),
+            None => None,
         }
     }
 
-    /// The scope where it comes before the task, and else the task.
-    fn lesser_work(&self, task: u64, scope: u64) -> Work
-        ensures { (g : _) → work_of result
-            ≡ (if is_before (scopes_of self.now.rows.table) scope
-            (scope_of_task (state_of g self.now) task)
-            then model.RerunScope scope else model.PollTask task) }
+    /// The order of the queues is that by which work comes; they hold what is seen and queued, and what they
+    /// answer next is what comes up.
+    #[inline(always)]
+    pub fn queues_agree(&self)
+        ensures orders { (s t : ℕ) → is_before (scopes_of self.now.rows.table) s t
+            ≡ order_before (order_of (scopes_of self.now.rows.table) s)
+            (order_of (scopes_of self.now.rows.table) t) }
+        ensures stand { (g : _) → StandFor (state_of g self.now) (seen_orders self.now.owed)
+            (queued_line self.now.owed) }
+        ensures next { (g : _) → option_map taken_of (next_work (seen_orders self.now.owed)
+            (queued_line self.now.owed)) ≡ found (state_of g self.now) }
     {
-        if self.is_before(scope, self.scope_of_task(task)) {
-            Work::RerunScope(scope)
-        } else {
-            Work::PollTask(task)
-        }
+        self.owed.stand_sorted();
     }
 
     /// The mounted scope of the least order that has queued effects. Those that have some are met in their
@@ -137,6 +135,16 @@ impl<P: Parts> State<P> {
             Some(work) => Some(work),
             None => self.next_effects(),
         }
+    }
+}
+
+/// What the queues answer, by its number.
+fn numbered(work: Queued) -> Work
+    ensures { work_of result ≡ taken_of work }
+{
+    match work {
+        Queued::RerunScope(order) => Work::RerunScope(order.id().0),
+        Queued::PollTask(task) => Work::PollTask(task.0),
     }
 }
 

@@ -11,14 +11,14 @@ ghost use Rattle.run_named.specs.Standings.{IsPicked, IsPlaced, starts, went, wi
 ghost use Rattle.run_places.specs.Places.{side_name_of, side_of};
 ghost use Rattle.run_state.specs.Drawn.{numbers_at, numbers_in};
 ghost use Rattle.run_state.specs.Mirror.{state_of};
-ghost use Rattle.run_state.specs.Sides.{side_put};
+ghost use Rattle.run_state.specs.Sides.{FewerSeats, side_put};
 
 use crate::scopes::{put_side, side_of};
 use crate::state::State;
 use rt_values::OutOfMemory;
 use run_places::{NodeAt, Side, SideName};
 use run_records::Scope;
-use run_table::{Shelf, Table};
+use run_table::{BoxedTable, Shelf};
 use tree_nodes::{Parts, Place};
 
 impl<P: Parts> State<P> {
@@ -32,12 +32,15 @@ impl<P: Parts> State<P> {
     }
 
     /// Puts another side in the place of one of a live scope. What is drawn for it was drawn for that
-    /// one, and stands at nodes that it knows. It takes no memory.
+    /// one, and stands at nodes that it knows; its children stood on that one. It takes no memory.
     pub fn put_side(&mut self, scope: u64, name: SideName, side: Side<P>)
         requires fewer { (x : Scope P P.Component P.Props P.Value P.Handler P.TaskState P.Effect P.Payload)
             → at self.old.rows.table scope ≡ Some x → IsPicked (side_of side).numbers
             (model.side_of (scope_of x) (side_name_of name)).numbers }
         requires known { numbers_at side.nodes side.numbers ≡ numbers_in side.numbers }
+        requires seats { (x : Scope P P.Component P.Props P.Value P.Handler P.TaskState P.Effect P.Payload)
+            → at self.old.rows.table scope ≡ Some x
+            → FewerSeats (side_of side) (model.side_of (scope_of x) (side_name_of name)) }
         ensures put { (g : _) → state_of g self.new ≡ change (state_of g self.old) scope
             (λ x. with_side x (side_name_of name) (side_of side)) }
     {
@@ -59,11 +62,34 @@ impl<P: Parts> State<P> {
             },
         );
     }
+
+    /// Puts another side in the place of one of a live scope, for which the same is drawn at the
+    /// same places, with children that stood on that one. It takes no memory.
+    pub fn swap_side(&mut self, scope: u64, name: SideName, side: Side<P>)
+        requires drawn { (x : Scope P P.Component P.Props P.Value P.Handler P.TaskState P.Effect P.Payload)
+            → at self.old.rows.table scope ≡ Some x → (side_of side).numbers
+            ≡ (model.side_of (scope_of x) (side_name_of name)).numbers }
+        requires seats { (x : Scope P P.Component P.Props P.Value P.Handler P.TaskState P.Effect P.Payload)
+            → at self.old.rows.table scope ≡ Some x
+            → FewerSeats (side_of side) (model.side_of (scope_of x) (side_name_of name)) }
+        ensures put { (g : _) → state_of g self.new ≡ change (state_of g self.old) scope
+            (λ x. with_side x (side_name_of name) (side_of side)) }
+    {
+        let _done = self.rows.table.change(
+            scope,
+            |found: &mut Scope<P>| -> Result<(), OutOfMemory>
+                ensures put { found.new ≡ side_put name side found.old }
+            {
+                put_side(found, name, side);
+                Ok(())
+            },
+        );
+    }
 }
 
 /// Takes out the rows of a scope, with the places of what is drawn for them.
 pub(crate) fn remove_rows<P: Parts>(
-    rows: &mut Table<Scope<P>>,
+    rows: &mut BoxedTable<Scope<P>>,
     places: &mut Shelf<Place>,
     scope: u64,
 )

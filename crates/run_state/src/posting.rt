@@ -25,10 +25,10 @@ use crate::read_order::ReadOrder;
 use crate::sources::names_source;
 use crate::state::{State, TaskRow};
 use rt_cells::{Cells, ReactiveContext, Reader, Source, Target};
-use rt_values::OutOfMemory;
+use rt_values::{Boxed, OutOfMemory};
 use run_owed::Owed;
 use run_records::Scope;
-use run_table::Table;
+use run_table::{BoxedTable, Table};
 use tree_nodes::Parts;
 
 impl<P: Parts> State<P> {
@@ -154,7 +154,7 @@ impl<P: Parts> State<P> {
 /// table, and then the targets of reactive contexts. Only where the table's numbers didn't rise is
 /// each scope looked at. The order of reading is for contracts alone.
 fn post_readers<P: Parts>(
-    rows: &Table<Scope<P>>,
+    rows: &BoxedTable<Scope<P>>,
     tasks: &Table<TaskRow<P>>,
     cells: &Cells<P::Value>,
     order: &ReadOrder,
@@ -181,7 +181,7 @@ fn post_readers<P: Parts>(
 
 /// Posts each reader of a source as it is met, but no scope where these are posted already.
 fn post_each<P: Parts>(
-    rows: &Table<Scope<P>>,
+    rows: &BoxedTable<Scope<P>>,
     tasks: &Table<TaskRow<P>>,
     cells: &Cells<P::Value>,
     source: Source,
@@ -207,7 +207,7 @@ fn post_each<P: Parts>(
 
 /// Posts one reader.
 fn post_reader<P: Parts>(
-    rows: &Table<Scope<P>>,
+    rows: &BoxedTable<Scope<P>>,
     tasks: &Table<TaskRow<P>>,
     cells: &Cells<P::Value>,
     reader: Reader,
@@ -228,7 +228,7 @@ fn post_reader<P: Parts>(
 }
 
 /// Posts the mark of a scope, where it is live and scopes aren't posted already.
-fn post_scope<P: Parts>(rows: &Table<Scope<P>>, scope: u64, rises: bool, owed: &mut Owed)
+fn post_scope<P: Parts>(rows: &BoxedTable<Scope<P>>, scope: u64, rises: bool, owed: &mut Owed)
     requires entered { numbers_of rows.now ≡ numbers_of owed.old.scopes }
     ensures posted { owed.new ≡ record owed.old {
       posted = owed.old.posted ++ (if rises then mark_of (stands_in rows.now) scope else []);
@@ -242,7 +242,7 @@ fn post_scope<P: Parts>(rows: &Table<Scope<P>>, scope: u64, rises: bool, owed: &
 
 /// Posts the target of a reactive context, where it stands.
 fn post_context<P: Parts>(
-    rows: &Table<Scope<P>>,
+    rows: &BoxedTable<Scope<P>>,
     tasks: &Table<TaskRow<P>>,
     cells: &Cells<P::Value>,
     context: u64,
@@ -263,7 +263,7 @@ fn post_context<P: Parts>(
 
 /// Posts a target, where it is live.
 fn post_live<P: Parts>(
-    rows: &Table<Scope<P>>,
+    rows: &BoxedTable<Scope<P>>,
     tasks: &Table<TaskRow<P>>,
     target: Target,
     owed: &mut Owed,
@@ -282,7 +282,7 @@ fn post_live<P: Parts>(
 }
 
 /// Posts the mark of a scope, where it is live.
-fn mark_live<P: Parts>(rows: &Table<Scope<P>>, scope: u64, owed: &mut Owed)
+fn mark_live<P: Parts>(rows: &BoxedTable<Scope<P>>, scope: u64, owed: &mut Owed)
     requires entered { numbers_of rows.now ≡ numbers_of owed.old.scopes }
     ensures posted { owed.new ≡ record owed.old {
       posted = owed.old.posted ++ mark_of (stands_in rows.now) scope;
@@ -308,14 +308,15 @@ fn wake_live<P: Parts>(tasks: &Table<TaskRow<P>>, task: u64, owed: &mut Owed)
 }
 
 /// Posts the marks of the scopes that read a source. They are entered.
-fn add_readers<P: Parts>(scopes: &[(u64, Scope<P>)], source: Source, owed: &mut Owed)
+fn add_readers<P: Parts>(scopes: &[(u64, Boxed<Scope<P>>)], source: Source, owed: &mut Owed)
     requires entered { numbers_of scopes.now ≡ numbers_of owed.old.scopes }
     ensures posted { owed.new ≡ record owed.old {
       posted = owed.old.posted ++ readers (source_of source) (scopes_of scopes.now);
     } }
 {
     for entry in scopes {
-        add_reader(entry.0, entry.1.rest.reads.as_slice(), source, owed);
+        let scope = entry.1.get();
+        add_reader(entry.0, scope.rest.reads.as_slice(), source, owed);
     }
 }
 

@@ -1,19 +1,21 @@
 //! What a removal takes: children first, and of each scope all that it owns.
-ghost use Rattle.std.specs.Prelude.{◌≡◌, ◌++◌, ◌∷◌, [], nat_eq, map, OnOk, IfOk, if◌then◌else◌};
+ghost use Rattle.std.specs.Prelude.{◌≡◌, ◌++◌, ◌∷◌, [], ℕ, List, true, nat_eq, map, OnOk, IfOk, if◌then◌else◌, None, false};
 ghost use Rattle.rt_model.specs.World.{clean_up_kind};
-ghost use Rattle.rt_model.specs.Lists.{without};
+ghost use Rattle.rt_model.specs.Lists.{has, without};
+ghost use Rattle.run_owed.specs.Lists.{first_with};
 ghost use Rattle.rt_model.specs.Removal.{stopped, gone, without_scope, told_of_sources, tell_all, cell_sources, context_sources, kinds_in, kinds_of_scopes, kinds_of_contexts, clean_ups as clean_ups_of};
 ghost use Rattle.run_records.specs.Records.{source_of, hook_of};
 ghost use Rattle.run_table.specs.Found.{Ascends};
 ghost use Rattle.run_state.specs.CleanUps.{own_clean_up};
 ghost use Rattle.run_state.specs.Mirror.{forgets, scopes_of, state_of};
 
-use crate::holding::{drop_holder, drop_paired};
-use crate::numbers::{drop_number, insert_number};
+use crate::holding::drop_paired;
+use crate::mounting::drop_hidden;
+use crate::numbers::{drop_number, drop_skipped, insert_number};
 use crate::places::remove_rows;
 use crate::state::State;
 use rt_cells::{Reader, Source};
-use rt_values::{List, OutOfMemory, Part, ScopeId};
+use rt_values::{Boxed, List, OutOfMemory, Part, ScopeId};
 use run_records::{CLEAN_UP, Hook, Scope};
 use std::alloc::Global;
 use tree_nodes::Parts;
@@ -65,14 +67,15 @@ fn add_of_kind<E: Part>(
 /// Puts the kinds of a scope's contexts that the scopes have read in their places.
 fn add_scope_kinds<P: Parts>(
     scope: u64,
-    scopes: &[(u64, Scope<P>)],
+    scopes: &[(u64, Boxed<Scope<P>>)],
     kinds: &mut Vec<u32>,
 ) -> Result<(), OutOfMemory>
     ensures { OnOk result (kinds.new.items
         ≡ kinds_of_scopes scope (scopes_of scopes.now) kinds.old.items) }
 {
     for entry in scopes {
-        add_kinds(scope, entry.1.rest.reads.as_slice(), kinds)?;
+        let other = entry.1.get();
+        add_kinds(scope, other.rest.reads.as_slice(), kinds)?;
     }
     Ok(())
 }
@@ -111,38 +114,53 @@ impl<P: Parts> State<P> {
         ensures { OnOk result ((g : _) →
             state_of g self.new ≡ stopped (state_of g self.old) scope) }
     {
-        let tasks = self.tasks_in(alloc, scope)?;
-        self.end_all(tasks.as_slice())?;
+        self.end_tasks(scope)?;
         self.unmark(scope);
         self.drop_effects(alloc, scope)
     }
 
-    /// A scope and what it owns are gone, and the readers of that are marked.
+    /// A scope and what it owns are gone, and the readers of that are marked. A scope that is seen, or
+    /// whose tasks haven't ended, is answered as want of memory.
     pub fn gone(&mut self, alloc: Global, scope: u64) -> Result<(), OutOfMemory>
         // Its last call is kept no more.
         ensures { OnOk result ((g : _) →
             state_of (forgets g scope) self.new ≡ gone (state_of g self.old) scope) }
     {
+        if self.is_at_work(scope) {
+            return Err(OutOfMemory);
+        }
         let cells = self.cells.owned(alloc, ScopeId(scope))?;
         self.drop_scope(scope);
         self.tell_cells(cells.as_slice())?;
         self.tell_of_sources(alloc, scope)
     }
 
+    /// Whether a scope is seen, or a task of it hasn't ended.
+    fn is_at_work(&self, scope: u64) -> bool
+        ensures unseen { result ≡ false → has self.now.owed.seen scope ≡ false }
+        ensures no_tasks { result ≡ false → first_with scope self.now.owed.tasks ≡ None }
+    {
+        self.owed.sees(scope) || self.owed.first_task(scope).is_some()
+    }
+
     /// The record goes, with its cells and reactive contexts.
     fn drop_scope(&mut self, scope: u64)
+        requires unseen { has self.old.owed.seen scope ≡ false }
+        requires no_tasks { first_with scope self.old.owed.tasks ≡ None }
         ensures { (g : _) →
             state_of (forgets g scope) self.new ≡ without_scope (state_of g self.old) scope }
     {
         self.cells.drop_cells(ScopeId(scope));
         self.cells.drop_contexts(ScopeId(scope));
         drop_number(&mut self.resolved, scope);
-        drop_number(&mut self.skipped, scope);
+        drop_skipped(&mut self.skipped, scope);
         self.remove_scope(scope);
     }
 
     /// The record alone goes. What is owed of the scope stays, to be passed over.
     fn remove_scope(&mut self, scope: u64)
+        requires unseen { has self.old.owed.seen scope ≡ false }
+        requires no_tasks { first_with scope self.old.owed.tasks ≡ None }
         ensures removed { (g : _) → state_of g self.new ≡ record (state_of g self.old) {
           scopes = without (state_of g self.old).scopes scope;
         } }
@@ -152,8 +170,7 @@ impl<P: Parts> State<P> {
         }
         self.owed.leave_scope(scope);
         self.cells.drop_reader(Reader::Scope(ScopeId(scope)));
-        drop_number(&mut self.fresh, scope);
-        drop_holder(&mut self.hidden, scope);
+        drop_hidden(&mut self.hidden, &mut self.hiders, scope);
         drop_paired(&self.rows.table, &mut self.held, scope);
         remove_rows(&mut self.rows.table, &mut self.places, scope);
     }

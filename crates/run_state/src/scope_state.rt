@@ -43,7 +43,7 @@ impl<'a, P: Parts> ScopeState<'a, P> {
     }
 
     /// The number of scopes above it.
-    pub fn height(&self) -> u64
+    pub fn height(&self) -> u32
         ensures height { result ≡ (scope_seen self.now).height }
     {
         self.scope.rest.height

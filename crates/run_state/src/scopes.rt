@@ -14,7 +14,7 @@ ghost use Rattle.run_state.specs.Sides.{side_put};
 use crate::state::State;
 use rt_values::{List, ScopeId};
 use run_places::{Side, SideName};
-use run_records::{Hook, Provisions, Rest, Scope, ScopeRow};
+use run_records::{Holders, Hook, Provisions, Rest, Scope, ScopeRow};
 use std::alloc::Global;
 use tree_nodes::{Parts, VComponent};
 
@@ -23,7 +23,7 @@ pub fn new_scope<P: Parts>(
     alloc: Global,
     component: VComponent<P>,
     parent: Option<u64>,
-    height: u64,
+    height: u32,
     below: SideName,
 ) -> Scope<P>
     ensures { scope_of result
@@ -48,7 +48,7 @@ pub fn new_scope<P: Parts>(
         mounted: false,
         effects: List::new(alloc),
         shows,
-        holders: List::new(alloc),
+        holders: Holders::new(alloc),
         frozen: false,
         callbacks: List::new(alloc),
     };
@@ -134,12 +134,7 @@ pub fn is_held<P: Parts>(scope: &Scope<P>) -> bool
 pub fn holds<P: Parts>(scope: &Scope<P>, task: u64) -> bool
     ensures { result ≡ holds (scope_of scope.now) task }
 {
-    for holder in scope.rest.holders.as_slice() {
-        if holder.0 == task {
-            return true;
-        }
-    }
-    false
+    scope.rest.holders.has(task)
 }
 
 impl<P: Parts> State<P> {
@@ -160,7 +155,7 @@ impl<P: Parts> State<P> {
         ensures { result ≡ height_of (scopes_of self.now.rows.table) scope }
     {
         match self.scope(scope) {
-            Some(found) => found.rest.height,
+            Some(found) => found.rest.height as u64,
             None => 0,
         }
     }

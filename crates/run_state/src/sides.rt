@@ -8,18 +8,19 @@ ghost use Rattle.rt_model.specs.State.{Done, Cut, IdsExhausted};
 ghost use Rattle.rt_model.specs.Replay.{draw_number};
 ghost use Rattle.run_state.specs.Effects.{callbacks_of, has_rank};
 ghost use Rattle.run_state.specs.Names.{fault_of};
-ghost use Rattle.run_state.specs.Sides.{more_child, more_number};
+ghost use Rattle.run_state.specs.Mounts.{IsSeated, ways_of};
+ghost use Rattle.run_state.specs.Sides.{OneSeat, more_child, more_number};
 ghost use Rattle.tree_mirror.specs.Sealed.{component_of};
 ghost use Rattle.run_records.specs.Kept.{scope_of};
 ghost use Rattle.run_places.specs.Places.{kind_of, place_of, side_name_of};
 ghost use Rattle.run_state.specs.Made.{IsMade};
-ghost use Rattle.run_state.specs.Drawn.{beside_lists, kept_for, turned_for};
+ghost use Rattle.run_state.specs.Drawn.{beside_lists, beside_seats, kept_for, turned_for};
 ghost use Rattle.run_state.specs.Mirror.{scopes_of, state_of};
 
 use crate::entering::Coming;
-use crate::held::next_number;
+use crate::held::{next_height, next_number};
 use crate::joining::{push_child, put_number};
-use crate::names::{Fault, Stop};
+use crate::names::{Cause, Stop};
 use crate::numbers::drop_number;
 use crate::state::State;
 use rt_values::{List, OutOfMemory, Part};
@@ -42,13 +43,13 @@ impl<P: Parts> State<P> {
         ensures done { OnOk result ((g : _) →
             draw_number (state_of g self.old) scope (side_name_of side) (place_of place.now) (kind_of kind)
             ≡ Done (state_of g self.new) []) }
-        ensures cut { (what : Fault) → IfErr result (λ stop. stop ≡ Stop.Fault what → (g : _) →
+        ensures cut { (what : Cause) → IfErr result (λ stop. stop ≡ Stop.Fault what → (g : _) →
             draw_number (state_of g self.old) scope (side_name_of side) (place_of place.now) (kind_of kind)
             ≡ Cut (state_of g self.new) (fault_of what)) }
     {
         let number = self.next.elements;
         let Some(next) = next_number(number) else {
-            return Err(Stop::Fault(Fault::IdsExhausted {
+            return Err(Stop::Fault(Cause::IdsExhausted {
                 what: Counter::Elements,
             }));
         };
@@ -105,23 +106,22 @@ impl<P: Parts> State<P> {
         ensures gone { result ≡ Ok None → (g : _) →
             (at (state_of g self.old).scopes parent ≡ None)
             × (state_of g self.new ≡ state_of g self.old) }
-        ensures cut { (what : Fault) → result ≡ Err (Stop.Fault what) → (g : _) →
+        ensures cut { (what : Cause) → result ≡ Err (Stop.Fault what) → (g : _) →
             (fault_of what ≡ IdsExhausted Scopes) × (at_end (state_of g self.old).next_scope ≡ true)
             × (state_of g self.new ≡ state_of g self.old) }
     {
         let Some(found) = self.scope(parent) else {
             return Ok(None);
         };
-        let Some(height) = next_number(found.rest.height) else {
+        let Some(height) = next_height(found.rest.height) else {
             return Err(Stop::OutOfMemory);
         };
         let number = self.next_scope;
         let Some(next) = next_number(number) else {
-            return Err(Stop::Fault(Fault::IdsExhausted {
+            return Err(Stop::Fault(Cause::IdsExhausted {
                 what: Counter::Scopes,
             }));
         };
-        self.add_child_at(parent, side, &place, number)?;
         let coming = Coming {
             component,
             parent: Some(parent),
@@ -129,10 +129,11 @@ impl<P: Parts> State<P> {
             below: side,
         };
         self.push_scope(alloc, next, coming)?;
+        self.add_child_at(parent, side, &place, number)?;
         Ok(Some(number))
     }
 
-    /// Puts a child after those of a scope's side.
+    /// Puts a child after those of a side of its parent.
     fn add_child_at(
         &mut self,
         scope: u64,
@@ -140,16 +141,18 @@ impl<P: Parts> State<P> {
         place: &Place,
         child: u64,
     ) -> Result<(), OutOfMemory>
+        requires known { IsSeated (ways_of self.old.rows.table) self.old.next_scope scope child }
         ensures { OnOk result ((g : _) → state_of g self.new
             ≡ change (state_of g self.old) scope
             (λ x. more_child (side_name_of side) (place_of place.now, child) x)) }
     {
-        self.revise_scope(
+        self.rows.table.change(
             scope,
             |found: &mut Scope<P>| -> Result<(), OutOfMemory>
                 ensures seated { OnOk result (scope_of found.new
                     ≡ more_child (side_name_of side) (place_of place.entry.now, child) (scope_of found.old)) }
-                ensures stay { kept_for found.new ≡ kept_for found.old }
+                ensures one { OneSeat child found.old found.new }
+                ensures stay { beside_seats found.new ≡ beside_seats found.old }
             { push_child(found, side, place, child) },
         )
     }

@@ -25,7 +25,7 @@ use crate::names::TaskKind;
 use crate::ranks::Ranks;
 use crate::read_order::ReadOrder;
 use rt_cells::Cells;
-use rt_values::{List, OutOfMemory, Task};
+use rt_values::{List, OutOfMemory, ScopeId, Task};
 use run_owed::Owed;
 use run_places::SideName;
 use run_records::{Firsts, Rows, Scope, World};
@@ -65,7 +65,7 @@ pub struct State<P: Parts> {
     /// The boundaries that turned to their children.
     pub resolved: List<u64>,
     /// The scopes that a suspended render passed over.
-    pub skipped: List<u64>,
+    pub skipped: List<ScopeId>,
     /// Above the numbers of all live scopes and of their parents.
     pub next_scope: u64,
     /// The numbers that calls draw next, and the next node of the document.
@@ -75,8 +75,10 @@ pub struct State<P: Parts> {
     /// The scopes that aren't mounted and may show: those that were made since the last mounting,
     /// and those below a boundary that turned since.
     pub fresh: List<u64>,
-    /// The other scopes that aren't mounted, each with the number of a scope above that hides it.
-    pub hidden: List<(u64, u64)>,
+    /// The other scopes that aren't mounted, each after the number of a scope above that hides it.
+    pub hidden: Ranks,
+    /// The same pairs by the hidden scope, which find them as it goes.
+    pub hiders: Ranks,
     /// The live scopes that have queued effects, each with its height, and maybe others.
     pub effects: Ranks,
     /// Each task with each live scope that it holds, and maybe other pairs.
@@ -118,7 +120,8 @@ impl<P: Parts> State<P> {
             next: firsts,
             places: Shelf::new(alloc),
             fresh: List::new(alloc),
-            hidden: List::new(alloc),
+            hidden: Ranks::new(alloc),
+            hiders: Ranks::new(alloc),
             effects: Ranks::new(alloc),
             held: Ranks::new(alloc),
         }
@@ -275,7 +278,7 @@ impl<P: Parts> State<P> {
             → FnOnceReturnsAtMut F.FnOnce apply x result y → OnOk result (y ≡ k.code x))
             → OnOk result ((g : _) → state_of g self.new ≡ change (state_of g self.old) scope k.model) }
     {
-        uncover(&mut self.fresh, &mut self.hidden, scope)?;
+        uncover(&mut self.fresh, &mut self.hidden, &mut self.hiders, scope)?;
         self.rows.table.change(scope, apply)
     }
 

@@ -5,6 +5,7 @@ ghost use Rattle.rt_model.specs.Lists.{at, has};
 ghost use Rattle.rt_model.specs.State as model;
 ghost use Rattle.rt_model.specs.Commands.{spawned, activated, end, unqueued};
 ghost use Rattle.rt_model.specs.Removal.{end_all, tasks_in};
+ghost use Rattle.run_owed.specs.Lists.{numbers_of};
 ghost use Rattle.run_state.specs.Names.{task_kind_of};
 ghost use Rattle.run_state.specs.Heights.{task_scope};
 ghost use Rattle.run_state.specs.Mirror.{TaskChange, change_task, state_held, state_of, task_of};
@@ -12,8 +13,7 @@ ghost use Rattle.run_state.specs.Mirror.{TaskChange, change_task, state_held, st
 use crate::holding::add_holding;
 use crate::names::{Posted, TaskKind};
 use crate::state::{State, TaskRow};
-use rt_values::{List, OutOfMemory};
-use std::alloc::Global;
+use rt_values::OutOfMemory;
 use std::snapshot::Snapshot;
 use tree_nodes::Parts;
 
@@ -52,16 +52,18 @@ impl<P: Parts> State<P> {
 
     /// Puts a task after the others, with its place for what will be owed of it.
     fn push_task(&mut self, task: u64, row: TaskRow<P>) -> Result<(), OutOfMemory>
+        requires live { has (numbers_of self.old.owed.scopes) row.scope ≡ true }
         ensures pushed { OnOk result ((g : _) → state_of g self.new ≡ record (state_of g self.old) {
           tasks = (state_of g self.old).tasks ++ (task, task_of row) ∷ [];
         }) }
         ensures err { OnErr result (self.new ≡ self.old) }
     {
-        self.owed.enter_task(task, row.scope)?;
-        match self.tasks.push(task, row) {
+        let scope = row.scope;
+        self.tasks.push(task, row)?;
+        match self.owed.enter_task(task, scope) {
             Ok(()) => Ok(()),
             Err(OutOfMemory) => {
-                self.owed.take_back_task();
+                self.tasks.take_last();
                 Err(OutOfMemory)
             }
         }
@@ -146,10 +148,8 @@ impl<P: Parts> State<P> {
         if !self.has_task(task) {
             return Ok(());
         }
-        self.owed.drop_wakes(task);
-        self.owed.unqueue(task);
+        self.owed.end_task(task);
         add_holding(&self.rows.table, &self.held, task, &mut self.owed);
-        self.owed.leave_task(task);
         self.tasks.remove(task);
         self.release(task)
     }
@@ -158,27 +158,19 @@ impl<P: Parts> State<P> {
     pub fn unqueue(&mut self, task: u64)
         ensures { (g : _) → state_of g self.new ≡ unqueued (state_of g self.old) task }
     {
-        self.owed.drop_wakes(task);
-        self.owed.unqueue(task);
+        self.owed.unwake(task);
     }
 
-    /// Ends these tasks, one after another.
-    pub fn end_all(&mut self, tasks: &[u64]) -> Result<(), OutOfMemory>
-        ensures { OnOk result ((g : _) →
-            state_of g self.new ≡ end_all (state_of g self.old) tasks.now) }
+    /// Ends the tasks of a scope, one after another. No others are gone through.
+    pub fn end_tasks(&mut self, scope: u64) -> Result<(), OutOfMemory>
+        ensures { OnOk result ((g : _) → state_of g self.new
+            ≡ end_all (state_of g self.old) (tasks_in scope (state_of g self.old).tasks)) }
     {
-        for task in tasks {
-            self.end(*task)?;
+        while let Some(task) = self.owed.first_task(scope) {
+            self.owed.tasks_apart();
+            self.end(task)?;
         }
         Ok(())
-    }
-
-    /// The tasks of a scope, in order, as they were entered with it.
-    pub fn tasks_in(&self, alloc: Global, scope: u64) -> Result<List<u64>, OutOfMemory>
-        ensures { IfOk result (λ tasks. (g : _) →
-            tasks ≡ tasks_in scope (state_of g self.now).tasks) }
-    {
-        self.owed.tasks_of(alloc, scope)
     }
 
     /// Takes a task's state out, to be polled. None where the task has ended, or is polled already.

@@ -1,6 +1,6 @@
-use Rattle.std.proofs.Common.{◌≡◌, [], ◌∷◌, ◌++◌, ◌≤◌, length, refl, sym, ◌∙◌, arith}
+use Rattle.std.proofs.Common.{◌≡◌, [], ◌∷◌, ◌≤◌, length, refl, sym, ◌∙◌, arith}
 use Rattle.std.proofs.lemmas.Map.Entries.{length-keys_of}
-use Rattle.std.specs.BTreeMap.{keys}
+use Rattle.rt_sched.specs.Seats.{members_of}
 use Rattle.rt_sched.specs.Places.{with_place}
 use Rattle.rt_sched.specs.Lines.{standing}
 use Rattle.rt_sched.specs.declared.place.Place.{Place}
@@ -33,12 +33,12 @@ loop-arrival-preserved c =
 none_is_left : (c : goal.Joined-tree-done) → c.loop-arrival.tree ≡ []
 none_is_left c =
     let at = c.loop-arrival in
-    let members : length (keys at.seats) ≡ c.len-members.result = rw at.invariant.members (length-keys_of c.args.seats.now.entries ∙ sym c.len-members.ensures.len) in
+    let members : length (members_of at.seats) ≤ c.room-members.result = rw (at.invariant.members, length-keys_of c.args.seats.now) c.room-members.ensures.all in
     elim c.loop-arrival-test.branch [
       | else-loop-arrival-test w ↦
-          let all : length at.done ≡ c.len-members.result = omega (arith, at.invariant.line.counted, at.auto.arrival-end, w.loop-arrival-test.false) in
-          let few : length (at.done ++ at.tree) ≤ c.len-members.result = rw (← members) (no_more_than_members at.seats at.done at.tree at.arrival at.invariant.line) in
-          none_left at.done at.tree c.len-members.result all few
+          let all : length at.done ≡ c.room-members.result = omega (arith, at.invariant.line.counted, at.auto.arrival-end, w.loop-arrival-test.false) in
+          let few = no_more_than_members at.seats at.done at.tree at.arrival at.invariant.line in
+          none_left at.done at.tree c.room-members.result all (omega (arith, few, members))
       | then-loop-arrival-test+in_default w ↦ sym w.replace.ensures.value ∙ w.in_default.ensures.first
     ]
 
@@ -49,4 +49,4 @@ returns-clause-waiting c =
 pub returns-clause-line : goal.returns-clause-line
 returns-clause-line c =
     let at = c.loop-arrival in
-    renumber_end (standing at.seats) at.done at.tree at.arrival c.len-members.result at.invariant.line (none_is_left c) at.auto.arrival-end
+    renumber_end (standing at.seats) at.done at.tree at.arrival c.room-members.result at.invariant.line (none_is_left c) at.auto.arrival-end

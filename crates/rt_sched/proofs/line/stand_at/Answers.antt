@@ -1,6 +1,10 @@
-use Rattle.std.proofs.Common.{sym}
-use Rattle.rt_sched.proofs.Seats.{no_seat}
+use Rattle.std.proofs.Common.{Some}
+use Rattle.rt_sched.specs.declared.seating.Seat.TheVariants.{InLine}
+use Rattle.rt_sched.proofs.Seats.{exchanged, stood}
 use Rattle.rt_sched.proofs.line.stand_at.Goals as goal
 
-pub returns-in_default-clause-stands : goal.returns-in_default-clause-stands
-returns-in_default-clause-stands c = λ has. absurd (no_seat c.args.place.number c.args.seats.now has (sym c.in_default.ensures.value))
+pub returns-clause-stands : goal.returns-clause-stands
+returns-clause-stands c =
+    λ has.
+    let x = InLine c.args.place in
+    stood c.args.seats.now c.exchange-former.new.self c.args.place.number (Some x) (exchanged c.args.seats.now c.exchange-former.new.self c.args.place.number x c.exchange-former.result c.exchange-former.ensures.former c.exchange-former.ensures.seated has)

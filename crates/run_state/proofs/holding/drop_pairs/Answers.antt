@@ -10,7 +10,7 @@ pub loop-holder-preserved : goal.loop-holder-preserved
 loop-holder-preserved c =
     λ t s other.
     c.remove.ensures.left t s
-    ∙ ap (λ b. cond b false (has_rank c.loop-holder.pairs t s)) (rank_apart (get_or c.args.holders.now c.loop-holder.holder-index (0, 0)).0 c.args.scope t s other)
+    ∙ ap (λ b. cond b false (has_rank c.loop-holder.pairs t s)) (rank_apart ((get_or c.args.holders.now c.loop-holder.holder-index (record { origin = record { 0 = 0 }; task = record { 0 = 0 } })).task).0 c.args.scope t s other)
     ∙ c.loop-holder.invariant t s other
 
 pub returns : goal.returns

@@ -18,7 +18,7 @@ loop-entry-preserved g c =
       same = owed_twice c.args.owed.now c.loop-entry.owed c.add_reader.new.owed c.loop-entry.owed.posted c.add_reader.new.owed.posted c.loop-entry.invariant.same (c.add_reader.ensures.posted ∙ ap (λ ps. with_owed c.loop-entry.owed ps) (sym (ap (λ o. o.posted) c.add_reader.ensures.posted)));
       done =
           reader_step c.args.scopes.now c.loop-entry.entry-index c.entry-item.result (source_of c.args.source) c.as_slice.result.now c.loop-entry.owed.posted c.add_reader.new.owed.posted
-          c.loop-entry-test.true c.entry-item.is c.as_slice.ensures.items (ap (λ o. o.posted) c.add_reader.ensures.posted)
+          c.loop-entry-test.true c.entry-item.is (c.as_slice.ensures.items ∙ ap (λ s. (s.rest).reads) c.get-scope.ensures.value) (ap (λ o. o.posted) c.add_reader.ensures.posted)
           ∙ c.loop-entry.invariant.done;
     }
 

@@ -3,7 +3,7 @@ use Rattle.rt_cells.specs.Reads.{readers_of}
 use Rattle.rt_model.specs.Commands.{readers}
 use Rattle.run_records.specs.Records.{source_of}
 use Rattle.run_owed.specs.Lists.{numbers_of}
-use Rattle.run_owed.specs.Rooms.{Owing}
+use Rattle.run_owed.specs.Owing.{Owing}
 use Rattle.run_state.specs.Mirror.{scopes_of}
 use Rattle.run_state.specs.Posts.{posts_of_all, stands_in, targets_in, told_targets}
 use Rattle.run_state.proofs.Posts.{owed_twice, with_owed}

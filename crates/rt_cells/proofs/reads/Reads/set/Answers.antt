@@ -14,6 +14,16 @@ some_put : (reader : Reader) (sources : List Source) (reads : List (Reader × Li
 some_put reader [] reads some = absurd (some refl)
 some_put reader (source ∷ sources) reads some = refl
 
+-- nothing changes
+pub returns-then-has_just-clause-ok : goal.returns-then-has_just-clause-ok
+returns-then-has_just-clause-ok c = c.has_just.ensures.same c.if-has_just.true
+
+pub returns-then-has_just-clause-set : goal.returns-then-has_just-clause-set
+returns-then-has_just-clause-set c = c.has_just.ensures.kept c.if-has_just.true
+
+pub returns-then-has_just-clause-each : goal.returns-then-has_just-clause-each
+returns-then-has_just-clause-each c = each_kept c.args.reader (in_order source_cmp c.args.sources.now) c.args.self.now (c.has_just.ensures.kept c.if-has_just.true)
+
 pub returns-then-is_empty-clause-ok : goal.returns-then-is_empty-clause-ok
 returns-then-is_empty-clause-ok c =
     c.drop_reader.ensures.dropped

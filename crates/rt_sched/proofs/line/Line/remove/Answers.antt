@@ -1,5 +1,5 @@
 use Rattle.std.proofs.Common.{◌≡◌, false, refl, ap, sym, ◌∙◌, subst}
-use Rattle.std.specs.BTreeMap.{keys}
+use Rattle.rt_sched.specs.Seats.{members_of}
 use Rattle.rt_sched.specs.Places.{without_place}
 use Rattle.rt_sched.specs.Lines.{Row, standing, waits, without_waiting, who_waits}
 use Rattle.rt_sched.proofs.LineLemmas.{line_remove, not_waiting}
@@ -20,7 +20,7 @@ returns-in-Some-found c =
     let stands = c.self.invariant.stands c.args.number x (sym c.in-Some.ensures.place) in
     let others : c.remove-found.result.1 ≡ without_place x c.self.inside.tree = rw c.replace.ensures.value at c.remove-found.ensures.others in
     let who : who_waits c.self.inside.tree ≡ c.args.self.now.waiting = ap (λ (r : Row). r.waiting) c.self.view_is in
-    let members : keys c.bring_home.new.seats ≡ c.args.self.now.members = c.bring_home.ensures.members ∙ ap (λ (r : Row). r.members) c.self.view_is in
+    let members : members_of c.bring_home.new.seats ≡ c.args.self.now.members = c.bring_home.ensures.members ∙ ap (λ (r : Row). r.members) c.self.view_is in
     let gone : who_waits c.remove-found.result.1 ≡ without_waiting c.args.number c.args.self.now.waiting = rw others (rw (who_waits_without_place x c.self.inside.tree c.self.invariant.once stands.0, stands.1, who) refl) in
     record { gone = rw (members, gone) refl }
 

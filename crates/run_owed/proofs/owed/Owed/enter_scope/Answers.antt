@@ -1,15 +1,19 @@
-use Rattle.std.proofs.Common.{◌++◌, ◌∷◌, []}
-use Rattle.run_owed.specs.Changes.{posted_by}
-use Rattle.run_owed.proofs.Held.{held_more}
-use Rattle.run_owed.proofs.Ordered.{owed_scopes}
+-- One more scope, past all that were entered.
+use Rattle.std.proofs.Common.{◌≡◌, ap}
+use Rattle.rt_sched.proofs.PlaceLemmas.{order_by_parts}
+use Rattle.run_owed.specs.Changes.{owing_by}
+use Rattle.run_owed.proofs.Entered.{order_with}
+use Rattle.run_owed.proofs.Stood.{stood_scope}
 use Rattle.run_owed.proofs.owed.Owed.enter_scope.Goals as goal
 
 pub invariant_of-self : goal.invariant_of-self
-invariant_of-self c = rw c.in_err-enter.ensures.err c.self.invariant
+invariant_of-self c = rw c.in_err-enter_scope.ensures.err c.self.invariant
 
 pub invariant_of-self-2 : goal.invariant_of-self-2
 invariant_of-self-2 c =
-    owed_scopes (posted_by c.self.inside.told) c.self.inside.scopes c.self.inside.tasks c.enter.new.self (c.self.inside.scopes.entered ++ (c.args.scope, c.args.height) ∷ []) c.args.scope c.self.inside.seen_in_order c.self.inside.queue_in_order c.stays-self-inside.result c.waits_none-self-inside.result c.self.invariant
-    c.in_ok-enter.ensures.ok c.stays-self-inside.ensures.was c.waiting.result.now c.waiting.ensures c.stays-self-inside.ensures.none
-    (λ m other. held_more c.self.inside.scopes.entered c.args.scope c.args.height m other)
-    c.waits_none-self-inside.ensures
+    let order : c.in-Some.entry.0 ≡ order_with c.args.height c.args.scope = order_by_parts c.in-Some.entry.0 (order_with c.args.height c.args.scope) c.in-Some.ensures.height c.in-Some.ensures.id in
+    rw (c.tell.ensures, c.in_ok-enter_scope.ensures.ok, order, c.in-Some.ensures.after)
+    (stood_scope (owing_by c.self.inside.told) c.self.inside.queues c.self.inside.next c.self.invariant c.args.scope c.args.height c.in-Some.ensures.fresh)
+
+pub returns-clause-ok : goal.returns-clause-ok
+returns-clause-ok c = rw (← c.self.view_is) (ap owing_by c.tell.ensures)

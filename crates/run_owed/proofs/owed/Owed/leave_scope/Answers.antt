@@ -1,18 +1,19 @@
-use Rattle.std.proofs.Common.{ap, ◌∙◌}
-use Rattle.rt_model.specs.Lists.{has, without}
-use Rattle.run_owed.specs.Changes.{posted_by}
-use Rattle.run_owed.specs.Lists.{numbers_of}
-use Rattle.run_owed.specs.Rooms.{Owing}
-use Rattle.run_owed.proofs.Held.{held_without}
-use Rattle.run_owed.proofs.Ordered.{owed_scopes}
+-- A scope of which nothing waits but marks leaves the queues.
+use Rattle.std.proofs.Common.{◌≡◌, false, ap, ◌∙◌}
+use Rattle.std.specs.Prelude.{None}
+use Rattle.rt_model.specs.Lists.{has}
+use Rattle.rt_sched.specs.Batches.{without_batch}
+use Rattle.run_owed.specs.Changes.{owing_by}
+use Rattle.run_owed.specs.Lists.{first_with}
+use Rattle.run_owed.specs.Owing.{Owing}
+use Rattle.run_owed.proofs.Stood.{stood_left}
 use Rattle.run_owed.proofs.owed.Owed.leave_scope.Goals as goal
-
-pub leave-requires : goal.leave-requires
-leave-requires c = ap (λ (o : Owing). has (numbers_of o.scopes) c.args.scope) c.self.view_is ∙ c.requires.entered
 
 pub invariant_of-self : goal.invariant_of-self
 invariant_of-self c =
-    owed_scopes (posted_by c.self.inside.told) c.self.inside.scopes c.self.inside.tasks c.leave.new.self (without c.self.inside.scopes.entered c.args.scope) c.args.scope c.self.inside.seen_in_order c.self.inside.queue_in_order c.stays-self-inside.result c.waits_none-self-inside.result c.self.invariant
-    c.leave.ensures c.stays-self-inside.ensures.was c.waiting.result.now c.waiting.ensures c.stays-self-inside.ensures.none
-    (λ m other. held_without c.self.inside.scopes.entered c.args.scope m other)
-    c.waits_none-self-inside.ensures
+    let unseen : has (owing_by c.self.inside.told).seen c.args.scope ≡ false = ap (λ (p : Owing). has p.seen c.args.scope) c.self.view_is ∙ c.requires.unseen in
+    let no_tasks : first_with c.args.scope (owing_by c.self.inside.told).tasks ≡ None = ap (λ (p : Owing). first_with c.args.scope p.tasks) c.self.view_is ∙ c.requires.no_tasks in
+    rw (c.tell.ensures, c.forget_scope.ensures.forgotten) (stood_left (owing_by c.self.inside.told) c.self.inside.queues c.self.inside.next c.self.invariant c.args.scope (without_batch c.args.scope c.self.inside.queues.effects) unseen no_tasks)
+
+pub returns : goal.returns
+returns c = record { scopes = rw (← c.self.view_is) (ap owing_by c.tell.ensures) }

@@ -1,37 +1,36 @@
--- A scope that ends what is seen, or isn't seen yet, joins; another one is there.
-use Rattle.std.proofs.Common.{◌∙◌, ◌++◌, ◌∷◌, [], ap, sym}
-use Rattle.rt_model.proofs.Maps.{pick_true}
-use Rattle.run_owed.proofs.Rolls.{joined}
-use Rattle.run_owed.proofs.Joined.{with_seen}
+-- One more scope is seen, under its order.
+use Rattle.std.proofs.Common.{◌≡◌, true, ap, sym, ◌∙◌}
+use Rattle.rt_model.specs.Lists.{has}
+use Rattle.run_owed.specs.Changes.{owing_by}
+use Rattle.run_owed.specs.Lists.{numbers_of}
+use Rattle.run_owed.specs.Owing.{Owing}
+use Rattle.run_owed.specs.Stands.{entered_order}
+use Rattle.run_owed.proofs.Firsts.{scope_found, scope_stands}
+use Rattle.run_owed.proofs.Stood.{stood_seen}
 use Rattle.run_owed.proofs.owed.Owed.see.Goals as goal
 
-pub add_seen-requires : goal.add_seen-requires
-add_seen-requires c =
-    record {
-      entered = c.requires.entered;
-      none = c.ends_before.ensures.none c.if-ends_before.true;
-      ordered = λ so. c.ends_before.ensures.ordered c.if-ends_before.true;
-    }
+pub queue_scope-done-requires : goal.queue_scope-done-requires
+queue_scope-done-requires c =
+    let o = owing_by c.self.inside.told in
+    let live : has (numbers_of o.scopes) c.args.scope ≡ true = ap (λ (p : Owing). has (numbers_of p.scopes) c.args.scope) c.self.view_is ∙ c.requires.entered in
+    let found = scope_found o c.self.inside.queues c.self.inside.next c.self.invariant c.args.scope live in
+    let own : entered_order o.scopes c.args.scope ≡ c.in-Some.order = cc in
+    record { entered = rw (← own) (scope_stands o c.self.inside.queues c.self.inside.next c.self.invariant c.args.scope live) }
 
-pub add_seen-requires-then-not-sees : goal.add_seen-requires-then-not-sees
-add_seen-requires-then-not-sees c =
-    record {
-      entered = c.requires.entered;
-      none = sym c.sees.ensures.seen ∙ c.if-not-sees.true;
-      ordered = λ so. absurd (cc so);
-    }
+pub invariant_of-self : goal.invariant_of-self
+invariant_of-self c =
+    let o = owing_by c.self.inside.told in
+    let live : has (numbers_of o.scopes) c.args.scope ≡ true = ap (λ (p : Owing). has (numbers_of p.scopes) c.args.scope) c.self.view_is ∙ c.requires.entered in
+    let found = scope_found o c.self.inside.queues c.self.inside.next c.self.invariant c.args.scope live in
+    let own : entered_order o.scopes c.args.scope ≡ c.in-Some.order = cc in
+    rw (c.tell.ensures, c.queue_scope-done.ensures.seen, ← own) (stood_seen o c.self.inside.queues c.self.inside.next c.self.invariant c.args.scope live)
 
-pub returns-then-ends_before : goal.returns-then-ends_before
-returns-then-ends_before c =
-    record { seen = c.add_seen.ensures.seen ∙ ap (λ ns. with_seen c.args.self.now ns) (sym (joined c.args.self.now.seen c.args.scope (c.ends_before.ensures.none c.if-ends_before.true))) }
+pub returns-in-Some : goal.returns-in-Some
+returns-in-Some c = record { seen = rw (← c.self.view_is) (ap owing_by c.tell.ensures) }
 
-pub returns-then-not-sees : goal.returns-then-not-sees
-returns-then-not-sees c =
-    record { seen = c.add_seen-then-not-sees.ensures.seen ∙ ap (λ ns. with_seen c.args.self.now ns) (sym (joined c.args.self.now.seen c.args.scope (sym c.sees.ensures.seen ∙ c.if-not-sees.true))) }
-
-pub returns-else-not-sees : goal.returns-else-not-sees
-returns-else-not-sees c =
-    record {
-      seen = ap (λ ns. with_seen c.args.self.now ns)
-          (sym (pick_true c.args.self.now.seen (c.args.self.now.seen ++ c.args.scope ∷ []) (sym c.sees.ensures.seen ∙ c.if-not-sees.false)));
-    }
+pub returns-in_default : goal.returns-in_default
+returns-in_default c =
+    let o = owing_by c.self.inside.told in
+    let live : has (numbers_of o.scopes) c.args.scope ≡ true = ap (λ (p : Owing). has (numbers_of p.scopes) c.args.scope) c.self.view_is ∙ c.requires.entered in
+    let found = scope_found o c.self.inside.queues c.self.inside.next c.self.invariant c.args.scope live in
+    absurd (cc (sym found ∙ sym c.in_default.ensures.order))

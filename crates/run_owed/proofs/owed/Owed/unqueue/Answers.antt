@@ -1,6 +1,11 @@
-use Rattle.run_owed.specs.Changes.{posted_by}
-use Rattle.run_owed.proofs.Ordered.{owed_unqueued}
+-- A task leaves what is queued.
+use Rattle.std.proofs.Common.{ap}
+use Rattle.run_owed.specs.Changes.{owing_by}
+use Rattle.run_owed.proofs.Stood.{stood_unqueued}
 use Rattle.run_owed.proofs.owed.Owed.unqueue.Goals as goal
 
 pub invariant_of-self : goal.invariant_of-self
-invariant_of-self c = rw c.pass.ensures (owed_unqueued (posted_by c.self.inside.told) c.self.inside.scopes c.self.inside.tasks c.self.inside.seen_in_order c.self.inside.queue_in_order c.args.task c.self.invariant)
+invariant_of-self c = rw (c.tell.ensures, c.unqueue_task.ensures.unqueued) (stood_unqueued (owing_by c.self.inside.told) c.self.inside.queues c.self.inside.next c.self.invariant c.args.task)
+
+pub returns : goal.returns
+returns c = record { queued = rw (← c.self.view_is) (ap owing_by c.tell.ensures) }

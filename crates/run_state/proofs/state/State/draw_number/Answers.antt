@@ -2,7 +2,7 @@ use Rattle.std.proofs.Common.{◌≡◌}
 use Rattle.run_records.specs.declared.faults.Counter.TheVariants.{Elements}
 use Rattle.run_places.specs.Places.{kind_of, place_of, side_name_of}
 use Rattle.run_state.specs.Mirror.{state_of}
-use Rattle.run_state.specs.declared.names.Fault.TheVariants.{IdsExhausted}
+use Rattle.run_state.specs.declared.names.Cause.TheVariants.{IdsExhausted}
 use Rattle.run_state.proofs.OneMore.{draw_cut, draw_done}
 use Rattle.run_state.proofs.state.State.draw_number.Goals as goal
 

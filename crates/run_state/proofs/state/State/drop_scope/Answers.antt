@@ -10,8 +10,11 @@ use Rattle.run_state.proofs.state.State.drop_scope.Goals as goal
 pub returns : goal.returns
 returns g c = λ kept.
     c.remove_scope.ensures.removed (forgets kept c.args.scope)
-    ∙ scope_dropped kept c.args.self.now c.args.scope c.drop_cells.new.self c.drop_contexts.new.self c.drop_number.new.numbers c.drop_number-2.new.numbers
-    c.drop_cells.ensures.dropped c.drop_contexts.ensures.dropped c.drop_number.ensures c.drop_number-2.ensures
+    ∙ scope_dropped kept c.args.self.now c.args.scope c.drop_cells.new.self c.drop_contexts.new.self c.drop_number.new.numbers c.drop_skipped.new.scopes
+    c.drop_cells.ensures.dropped c.drop_contexts.ensures.dropped c.drop_number.ensures c.drop_skipped.ensures
+
+pub remove_scope-requires : goal.remove_scope-requires
+remove_scope-requires g c = record { unseen = c.requires.unseen; no_tasks = c.requires.no_tasks }
 
 pub invariant_of-self-clause-readers : goal.invariant_of-self-clause-readers
 invariant_of-self-clause-readers g c =

@@ -13,7 +13,7 @@ pub invariant_of-result-clause-readers : goal.invariant_of-result-clause-readers
 invariant_of-result-clause-readers g c = known_empty c.new.result.table (c.new-2.result).reads c.new.ensures.empty (ap (λ t. t.reads) c.new-2.ensures.started)
 
 pub invariant_of-result-clause-listed : goal.invariant_of-result-clause-listed
-invariant_of-result-clause-listed g c = listed_empty c.new.result.table c.new-11.result c.new-12.result c.new.ensures.empty
+invariant_of-result-clause-listed g c = listed_empty c.new.result.table c.new-12.result c.new-13.result c.new.ensures.empty
 
 pub invariant_of-result-clause-waiting : goal.invariant_of-result-clause-waiting
 invariant_of-result-clause-waiting g c = none_waits c.new.result.table c.new-9.result c.new-10.result c.new.ensures.empty c.new-9.ensures.empty c.new-10.ensures.empty

@@ -1,9 +1,12 @@
-use Rattle.std.proofs.Common.{◌≡◌, ◌∙◌, ap}
+use Rattle.std.proofs.Common.{◌∙◌, ap}
 use Rattle.rt_model.specs.Removal.{tell_all, cell_sources}
 use Rattle.run_state.specs.Mirror.{forgets, state_of}
 use Rattle.run_state.proofs.Changed.{on_ok}
 use Rattle.run_state.proofs.Removed.{cells_found, all_gone}
 use Rattle.run_state.proofs.state.State.gone.Goals as goal
+
+pub drop_scope-requires : goal.drop_scope-requires
+drop_scope-requires g c = record { unseen = c.is_at_work.ensures.unseen c.if-is_at_work.false; no_tasks = c.is_at_work.ensures.no_tasks c.if-is_at_work.false }
 
 pub returns : goal.returns
 returns g c =

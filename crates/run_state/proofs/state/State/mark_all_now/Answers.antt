@@ -1,6 +1,6 @@
 use Rattle.std.proofs.Common.{◌∙◌, ap, sym}
 use Rattle.run_owed.specs.Lists.{joins, numbers_of}
-use Rattle.run_owed.specs.Rooms.{Owing}
+use Rattle.run_owed.specs.Owing.{Owing}
 use Rattle.run_state.specs.Mirror.{state_of}
 use Rattle.run_state.proofs.AllSeen.{all_seen}
 use Rattle.run_state.proofs.Entered.{rows_entered}

@@ -15,6 +15,7 @@ loop-back-init g c =
     record {
       same = λ kept. refl;
       before = refl;
+      known = tt;
       done = mounts_none (scopes_of (c.args.self.now.rows).table) (c.args.self.now.rows).table
           ∙ ap (λ (ns : List ℕ). map (mounts_in (scopes_of (c.args.self.now.rows).table) ns) (c.args.self.now.rows).table) (sym (drop-all waits (length waits - 0) end));
     }
@@ -26,7 +27,7 @@ mount_at-requires g c =
     let long : length waits - c.loop-back.back ≤ length c.loop-back.self.fresh =
     front_long (length waits - c.loop-back.back) c.loop-back.self.fresh waits c.loop-back.invariant.before (omega (arith, test)) in
     let is = c.len-count.ensures.items in
-    record { within = omega (arith, test, long, is) }
+    record { within = omega (arith, test, long, is); known = c.loop-back.invariant.known }
 
 pub loop-back-preserved : goal.loop-back-preserved
 loop-back-preserved g c =
@@ -45,9 +46,10 @@ loop-back-preserved g c =
       same = λ kept.
           scopes_twice (state_of kept c.args.self.now) (state_of kept c.loop-back.self) (state_of kept c.mount_at.new.self) (scopes_of old) (scopes_of new)
           (c.loop-back.invariant.same kept) (c.mount_at.ensures.others kept);
-      before = front_shorter (length waits - (c.loop-back.back + 1)) i k c.mount_at.new.self.fresh c.loop-back.self.fresh waits less next c.in_ok-mount_at.ensures.before c.loop-back.invariant.before;
+      before = front_shorter (length waits - (c.loop-back.back + 1)) i k c.mount_at.new.self.fresh c.loop-back.self.fresh waits less next c.in_ok-known.ensures.before c.loop-back.invariant.before;
+      known = c.in_ok-known.ensures.known;
       done =
-          mount_step start old new waits i k (get_or c.loop-back.self.fresh i 0) low next (front_read i k c.loop-back.self.fresh waits next c.loop-back.invariant.before) c.loop-back.invariant.done c.in_ok-mount_at.ensures.mounted
+          mount_step start old new waits i k (get_or c.loop-back.self.fresh i 0) low next (front_read i k c.loop-back.self.fresh waits next c.loop-back.invariant.before) c.loop-back.invariant.done c.in_ok-known.ensures.mounted
           ∙ ap (λ n. map (mounts_in (scopes_of start) (drop n waits)) start) less;
     }
 

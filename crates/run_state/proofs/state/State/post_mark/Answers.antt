@@ -1,5 +1,5 @@
 use Rattle.std.proofs.Common.{◌∙◌, sym, ap}
-use Rattle.run_owed.specs.Rooms.{Owing}
+use Rattle.run_owed.specs.Owing.{Owing}
 use Rattle.run_state.specs.Mirror.{state_of}
 use Rattle.run_state.proofs.Entered.{scope_entered}
 use Rattle.run_state.proofs.Posts.{posted_mark, no_mark, with_all}

@@ -1,5 +1,5 @@
 use Rattle.std.proofs.Common.{◌∙◌, sym, ap}
-use Rattle.run_owed.specs.Rooms.{Owing}
+use Rattle.run_owed.specs.Owing.{Owing}
 use Rattle.run_state.specs.Mirror.{state_of}
 use Rattle.run_state.proofs.Entered.{task_entered}
 use Rattle.run_state.proofs.Posts.{posted_wake, no_wake, with_all}

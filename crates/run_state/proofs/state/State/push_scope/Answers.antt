@@ -1,10 +1,10 @@
 use Rattle.std.proofs.Common.{◌∷◌, ◌++◌, [], ap, sym, ◌∙◌}
 use Rattle.std.proofs.Math.Logic.{∥∥₁_map}
 use Rattle.run_named.specs.Standings.{drawn_in}
-use Rattle.run_owed.specs.Rooms.{Owing}
+use Rattle.run_owed.specs.Owing.{Owing}
 use Rattle.run_owed.proofs.Tables.{values_more}
 use Rattle.run_state.specs.Heights.{height_in, heights_of}
-use Rattle.run_state.specs.Mounts.{is_above}
+use Rattle.run_state.specs.Mounts.{is_above, seats_in}
 use Rattle.run_state.proofs.Waiting.{scope_waits}
 use Rattle.run_state.proofs.Pushed.{scope_joined}
 use Rattle.run_state.proofs.Placed.{placed_pushed}
@@ -58,6 +58,7 @@ invariant_of-self-2-clause-waiting g c =
     (
     scope_waits (c.args.self.now.rows).table c.enter_row.new.rows c.args.self.now.fresh c.enter_row.new.fresh c.args.self.now.hidden c.args.next c.args.self.now.next_scope made.0
     made.2 c.in_ok-enter_row.ensures.fresh c.requires.next (ap (λ x. is_above c.args.self.now.next_scope x.parent) made.1 ∙ c.requires.above)
+    (ap (λ x. seats_in x) made.1)
     )
 
 pub invariant_of-self-2-clause-readers : goal.invariant_of-self-2-clause-readers

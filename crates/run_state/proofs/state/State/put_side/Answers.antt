@@ -11,9 +11,10 @@ use Rattle.run_state.proofs.Placed.{placed_put}
 use Rattle.run_state.proofs.Listing.{effects_put, listed_by, listed_changed}
 use Rattle.run_state.proofs.Known.{known_changed, reads_put}
 use Rattle.run_state.specs.Heights.{height_in}
-use Rattle.run_state.specs.Mounts.{way_of, ways_of}
-use Rattle.run_state.proofs.Waiting.{ways_changed, waits_stay}
-use Rattle.run_state.proofs.Put.{height_put, put_is, way_put}
+use Rattle.run_state.specs.Mounts.{seatless, way_of}
+use Rattle.run_state.proofs.Seats.{seats_put}
+use Rattle.run_state.proofs.Waiting.{scope_seated, way_at}
+use Rattle.run_state.proofs.Put.{height_put, put_is, seatless_put}
 use Rattle.run_state.proofs.Unchanged.{values_changed, scope_surely}
 use Rattle.run_state.proofs.state.State.put_side.Goals as goal
 
@@ -34,12 +35,16 @@ invariant_of-self-2-clause-entered g c =
 
 pub invariant_of-self-2-clause-waiting : goal.invariant_of-self-2-clause-waiting
 invariant_of-self-2-clause-waiting g c =
-    waits_stay (ways_of c.change-done.new.self) (ways_of (c.args.self.now.rows).table) c.args.self.now.fresh c.args.self.now.hidden c.args.self.now.next_scope
+    ∥∥₁_map c.args.self.now.waiting
     (
-    ways_changed _ (c.args.self.now.rows).table c.change-done.new.self c.args.scope c.change-done.ensures.absent c.change-done.ensures.changed
-    (λ x y ret. let same : y ≡ side_put c.args.name c.args.side x = search rules in ap (λ z. way_of z) same ∙ way_put c.args.name c.args.side x)
+    scope_seated _ (c.args.self.now.rows).table c.change-done.new.self c.args.self.now.fresh c.args.self.now.hidden c.args.self.now.next_scope c.args.scope c.change-done.ensures.absent c.change-done.ensures.changed
+    (λ x y there ret. let same : y ≡ side_put c.args.name c.args.side x = search rules in ap (λ z. seatless z) same ∙ seatless_put c.args.name c.args.side x)
+    (
+    λ x y there ret h t child.
+    let same : y ≡ side_put c.args.name c.args.side x = search rules in
+    h.seated c.args.scope t (way_of x) (way_at (c.args.self.now.rows).table c.args.scope x there) (seats_put c.args.name c.args.side x y t same (c.requires.seats x there) child)
     )
-    c.args.self.now.waiting
+    )
 
 pub invariant_of-self-2-clause-placed : goal.invariant_of-self-2-clause-placed
 invariant_of-self-2-clause-placed g c =

@@ -2,7 +2,7 @@ use Rattle.std.proofs.Common.{◌≡◌, ◌+◌, ◌∙◌, ap, sym, rules, ref
 use Rattle.rt_model.specs.World.{at_end}
 use Rattle.run_records.specs.declared.faults.Counter.TheVariants.{Renders}
 use Rattle.run_state.specs.Mirror.{state_of}
-use Rattle.run_state.specs.declared.names.Fault.TheVariants.{IdsExhausted}
+use Rattle.run_state.specs.declared.names.Cause.TheVariants.{IdsExhausted}
 use Rattle.run_state.proofs.Raises.{raised_cut, raised_done}
 use Rattle.run_state.proofs.state.State.raised.Goals as goal
 

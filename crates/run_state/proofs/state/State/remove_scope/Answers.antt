@@ -1,11 +1,12 @@
 use Rattle.std.proofs.Common.{[], ◌∙◌, sym, ap}
 use Rattle.std.proofs.Math.Logic.{∥∥₁_map}
 use Rattle.rt_model.specs.Lists.{without}
-use Rattle.run_owed.specs.Rooms.{Owing}
+use Rattle.run_owed.specs.Owing.{Owing}
 use Rattle.run_owed.proofs.Tables.{values_without}
 use Rattle.run_state.specs.Heights.{height_in, heights_of}
 use Rattle.run_state.specs.Mirror.{state_of}
 use Rattle.run_state.proofs.Entered.{scope_entered}
+use Rattle.run_state.proofs.Covers.{covers_by}
 use Rattle.run_state.proofs.Waiting.{scope_left}
 use Rattle.run_state.proofs.Gone.{scopes_less, without_none}
 use Rattle.run_state.proofs.Listing.{listed_gone}
@@ -17,7 +18,12 @@ pub returns-then-not-is_live : goal.returns-then-not-is_live
 returns-then-not-is_live g c = record { removed = λ kept. without_none (state_of kept c.args.self.now) c.args.scope (sym (c.is_live.ensures kept) ∙ c.if-not-is_live.true) }
 
 pub leave_scope-requires : goal.leave_scope-requires
-leave_scope-requires g c = record { entered = scope_entered c.args.self.now c.args.scope (λ kept. sym (c.is_live.ensures kept) ∙ c.if-not-is_live.false) }
+leave_scope-requires g c =
+    record {
+      entered = scope_entered c.args.self.now c.args.scope (λ kept. sym (c.is_live.ensures kept) ∙ c.if-not-is_live.false);
+      unseen = c.requires.unseen;
+      no_tasks = c.requires.no_tasks;
+    }
 
 pub returns : goal.returns
 returns g c = record { removed = λ kept. scopes_less kept c.args.self.now c.leave_scope.new.self c.drop_reader.new.self c.remove_rows.new.rows c.args.scope c.leave_scope.ensures.scopes (ap (λ t. t.cells) c.drop_reader.ensures.dropped) (ap (λ t. t.contexts) c.drop_reader.ensures.dropped) c.remove_rows.ensures.rows }
@@ -40,8 +46,12 @@ pub invariant_of-self-clause-waiting : goal.invariant_of-self-clause-waiting
 invariant_of-self-clause-waiting g c =
     ∥∥₁_map c.args.self.now.waiting
     (
-    scope_left (c.args.self.now.rows).table c.remove_rows.new.rows c.args.self.now.fresh c.drop_number.new.numbers c.args.self.now.hidden c.drop_holder.new.holders c.args.self.now.next_scope c.args.scope
-    c.remove_rows.ensures.rows c.drop_number.ensures c.drop_holder.ensures
+    scope_left (c.args.self.now.rows).table c.remove_rows.new.rows c.args.self.now.fresh c.args.self.now.fresh c.args.self.now.hidden c.drop_hidden.new.hidden c.args.self.now.next_scope c.args.scope
+    c.remove_rows.ensures.rows
+    (
+    λ ways height s other q.
+    covers_by ways c.args.self.now.fresh c.args.self.now.fresh c.args.self.now.hidden c.drop_hidden.new.hidden height s (λ r. r) (λ a r. c.drop_hidden.ensures a s other ∙ r) q
+    )
     )
 
 pub invariant_of-self-clause-listed : goal.invariant_of-self-clause-listed

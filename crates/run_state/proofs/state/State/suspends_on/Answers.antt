@@ -1,6 +1,6 @@
 use Rattle.std.proofs.Common.{◌≡◌, ◌∙◌, ap, sym}
 use Rattle.run_state.specs.Mirror.{state_of}
-use Rattle.run_state.specs.declared.names.Fault.TheVariants.{NoSuchTask}
+use Rattle.run_state.specs.declared.names.Cause.TheVariants.{NoSuchTask}
 use Rattle.run_state.proofs.CellsKept.{some_is, none_is}
 use Rattle.run_state.proofs.Raises.{suspends_nowhere, suspends_done}
 use Rattle.run_state.proofs.state.State.suspends_on.Goals as goal

@@ -1,7 +1,7 @@
 use Rattle.std.proofs.Common.{◌∙◌, sym, ap, refl}
 use Rattle.run_records.specs.Records.{source_of}
 use Rattle.run_records.specs.Kept.{scope_of}
-use Rattle.run_owed.specs.Rooms.{Owing}
+use Rattle.run_owed.specs.Owing.{Owing}
 use Rattle.run_state.specs.Mirror.{state_of, task_of}
 use Rattle.run_state.specs.Posts.{stands_in}
 use Rattle.run_state.proofs.Each.{live-each}

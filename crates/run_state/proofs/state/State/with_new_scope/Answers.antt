@@ -1,12 +1,12 @@
-use Rattle.std.proofs.Common.{◌≡◌, ◌+◌, refl, sym, ap, ◌∙◌}
-use Rattle.std.specs.Prelude.{Some, None, nat_lt}
+use Rattle.std.proofs.Common.{◌≡◌, ◌+◌, ◌<◌, arith, refl, sym, ap, ◌∙◌}
+use Rattle.std.specs.Prelude.{Some, None}
 use Rattle.tree_mirror.specs.Sealed.{component_of}
 use Rattle.run_places.specs.Places.{place_of, side_name_of}
 use Rattle.run_records.specs.Kept.{scope_of}
 use Rattle.run_state.specs.Mirror.{at_first, state_of}
-use Rattle.run_state.specs.Sides.{more_child}
 use Rattle.run_state.proofs.Each.{found-each}
-use Rattle.run_state.proofs.Starts.{newly_made, next_stays}
+use Rattle.run_state.proofs.Seats.{next_known}
+use Rattle.run_state.proofs.Starts.{newly_made}
 use Rattle.run_state.proofs.Waiting.{row_below}
 use Rattle.run_state.proofs.state.State.with_new_scope.Goals as goal
 
@@ -21,22 +21,31 @@ returns-clause-made g c =
     record {
       parent = scope_of c.in-Some.found.now;
       live = live;
-      left = c.in-Some-next_number-2.ensures.next.0;
+      left = c.in-Some-next_number.ensures.next.0;
       number = sym same;
       made =
-          newly_made kept c.args.self.now c.add_child_at.new.self c.args.parent (side_name_of c.args.side) (place_of c.args.place) (component_of c.args.component) (scope_of c.in-Some.found.now)
-          (state_of kept c.push_scope.new.self) c.in-Some-next_number.height c.in-Some-next_number-2.next
-          live (c.in_ok-add_child_at.ensures kept) (c.in_ok-push_scope.ensures kept) c.in-Some-next_number.ensures.next.1 c.in-Some-next_number-2.ensures.next.1;
+          newly_made kept c.args.self.now c.push_scope.new.self c.args.parent (side_name_of c.args.side) (place_of c.args.place) (component_of c.args.component) (scope_of c.in-Some.found.now)
+          (state_of kept c.add_child_at.new.self) c.in-Some-next_height.height c.in-Some-next_number.next
+          live (c.in_ok-push_scope.ensures kept) (c.in_ok-add_child_at.ensures kept) c.in-Some-next_height.ensures c.in-Some-next_number.ensures.next.1;
     }
 
 pub push_scope-requires : goal.push_scope-requires
 push_scope-requires g c =
-    let kept : (c.add_child_at.new.self).next_scope ≡ c.args.self.now.next_scope =
-    ap (λ w. w.next_scope) (c.in_ok-add_child_at.ensures at_first)
-    ∙ next_stays (state_of at_first c.args.self.now) c.args.parent (λ x. more_child (side_name_of c.args.side) (place_of c.args.place, c.args.self.now.next_scope) x) in
     record {
-      next = c.in-Some-next_number-2.ensures.next.1 ∙ sym (ap (λ n. n + 1) kept);
-      above =
-          ap (λ n. nat_lt c.args.parent n) kept
-          ∙ row_below (c.args.self.now.rows).table c.args.self.now.fresh c.args.self.now.hidden c.args.self.now.next_scope c.args.parent c.in-Some.found.now c.args.self.now.waiting (sym c.in-Some.ensures);
+      next = c.in-Some-next_number.ensures.next.1;
+      above = row_below (c.args.self.now.rows).table c.args.self.now.fresh c.args.self.now.hidden c.args.self.now.next_scope c.args.parent c.in-Some.found.now c.args.self.now.waiting (sym c.in-Some.ensures);
+    }
+
+-- the scope that was made is the parent's
+pub add_child_at-requires : goal.add_child_at-requires
+add_child_at-requires g c =
+    let next : (c.push_scope.new.self).next_scope ≡ c.args.self.now.next_scope + 1 =
+    ap (λ w. w.next_scope) (c.in_ok-push_scope.ensures at_first) ∙ c.in-Some-next_number.ensures.next.1 in
+    let low : c.args.self.now.next_scope < (c.push_scope.new.self).next_scope = omega (arith, next) in
+    record {
+      known = (
+        low,
+        next_known (c.args.self.now.rows).table (c.push_scope.new.self.rows).table c.args.self.now.fresh c.args.self.now.hidden c.args.self.now.next_scope c.args.parent _ c.args.self.now.waiting
+            (ap (λ w. w.scopes) (c.in_ok-push_scope.ensures at_first)) refl,
+      );
     }

@@ -1,7 +1,0 @@
-use Rattle.std.proofs.Common.{ap, ◌∙◌}
-use Rattle.rt_model.specs.Lists.{has}
-use Rattle.run_owed.specs.Rooms.{Owing}
-use Rattle.run_owed.proofs.owed.Owed.queues.Goals as goal
-
-pub returns : goal.returns
-returns c = record { queued = c.is_waiting.ensures ∙ ap (λ (o : Owing). has o.queued c.args.task) c.self.view_is }
