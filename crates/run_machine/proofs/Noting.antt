@@ -16,8 +16,8 @@ use Rattle.rt_model.specs.Causes as causes
 use Rattle.rt_model.specs.Told.{opens}
 use Rattle.run_state.specs.Mirror.{Unkept, state_of}
 use Rattle.run_state.specs.Names.{fault_of}
-use Rattle.run_state.specs.declared.names.Fault.{Fault}
-use Rattle.run_state.specs.declared.names.Fault.TheVariants as faults
+use Rattle.run_state.specs.declared.names.Cause.{Cause}
+use Rattle.run_state.specs.declared.names.Cause.TheVariants as faults
 use Rattle.run_state.specs.declared.names.Stop.{Stop}
 use Rattle.run_state.specs.declared.names.Stop.TheVariants as stops
 use Rattle.run_state.specs.declared.state.State as code
@@ -31,7 +31,7 @@ use Rattle.run_machine.specs.declared.machine.Machine.{Machine}
 use Rattle.run_outside.proofs.Said.{if_err}
 
 -- a fault of the run is none of the limits'
-never_spent : {A : Type 0} (what : Fault) (units : ℕ) → Some (fault_of what) ≡ Some (model.OutOfTurns units) → A
+never_spent : {A : Type 0} (what : Cause) (units : ℕ) → Some (fault_of what) ≡ Some (model.OutOfTurns units) → A
 never_spent (faults.IdsExhausted w) units h = absurd (cc h)
 never_spent (faults.HookChanged scope index kept asked) units h = absurd (cc h)
 never_spent (faults.NoSuchTask scope task) units h = absurd (cc h)

@@ -14,7 +14,7 @@ use rt_scopes::Scopes;
 use rt_values::{List, OutOfMemory};
 use run_records::Firsts;
 use run_reports::{Report, bodies_in, units_in};
-use run_table::Table;
+use run_shown::Remembered;
 use run_turns::Course;
 use std::alloc::Global;
 use std::mem;
@@ -40,7 +40,7 @@ impl<A: App> Machine<A> {
             work: List::new(alloc),
             hearing: None,
             first: None,
-            stood: Table::new(alloc),
+            stood: Remembered::new(),
             lived: 0,
             course: Course::new(alloc),
             units: 0,

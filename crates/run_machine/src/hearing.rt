@@ -7,8 +7,8 @@ ghost use Rattle.run_machine.specs.Machines.{CallsListener, CountsHeard, Hears, 
 
 use crate::machine::Machine;
 use author_calls::{App, Calls};
-use rt_values::{List, ScopeId};
-use run_outside::{Hearing, first_waiting, further, look_where_quiet};
+use rt_values::ScopeId;
+use run_outside::{Awaiting, Hearing, first_waiting, further, look_where_quiet};
 use run_reports::Entry;
 use run_shown::Listener;
 use run_state::Stop;
@@ -60,7 +60,7 @@ impl<A: App> Machine<A> {
         listener: &Listener<A>,
         event: Event<A::Payload>,
         bubbles: bool,
-        others: List<Listener<A>>,
+        others: Awaiting<Listener<A>>,
     ) -> Result<(), Stop>
         ensures calls { CallsListener (A.meaning app.now) self.old listener.now event bubbles
             others self.new result }

@@ -9,12 +9,11 @@ ghost use Rattle.run_machine.specs.Machines.{IsFresh};
 
 use author_calls::{App, Calls};
 use rt_scopes::Scopes;
-use rt_values::{Boxed, List, OutOfMemory};
+use rt_values::{List, OutOfMemory};
 use run_outside::Hearing;
 use run_records::Firsts;
 use run_reports::{Entry, Report, bodies_in, units_in};
-use run_shown::Stood;
-use run_table::Table;
+use run_shown::{Remembered, Stood};
 use run_turns::Course;
 use run_work::Item;
 use std::alloc::Global;
@@ -33,7 +32,7 @@ pub struct Machine<A: App> {
     /// The entry that began the build or the unit at work.
     pub first: Option<Entry>,
     /// What the scopes that a rerun has changed were before it, with none for each that it made.
-    pub stood: Table<Option<Boxed<Stood<A>>>>,
+    pub stood: Remembered<Stood<A>>,
     /// How many scopes were live before it.
     pub lived: u64,
     /// Of the report on its way: its entries after the first, its units, and whether no listener

@@ -102,7 +102,7 @@ impl<A: App> Machine<A> {
         let entry = entry_for(work);
         self.course.note(entry)?;
         self.first = Some(entry);
-        self.stood = first_kept(self.scopes.alloc, &self.scopes.state, work)?;
+        first_kept(self.scopes.alloc, &self.scopes.state, work, &mut self.stood)?;
         self.lived = self.scopes.state.rows.table.as_slice().len() as u64;
         let items = first_step(&mut self.scopes, app, calls, work)?;
         Ok(stack(&mut self.work, items)?)

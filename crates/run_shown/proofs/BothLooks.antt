@@ -6,7 +6,7 @@ use Rattle.rt_lemmas.proofs.Bools.{and_second as and_none}
 use Rattle.rt_model.specs.Lists.{at}
 use Rattle.run_places.specs.declared.side.SideName.{SideName}
 use Rattle.run_shown.specs.declared.look.Look.{Look}
-use Rattle.run_shown.specs.declared.look.Rung.{Rung}
+use Rattle.run_shown.specs.declared.found.Rung.{Rung}
 use Rattle.run_shown.specs.Look.{IsAlike, is_showing, look_at, look_is_shown, rung_in, shown_on, stood_in}
 use Rattle.run_shown.proofs.Looks.{on_further, on_gone, on_none, on_other, on_top, shown_gone, shown_root, shown_there}
 

@@ -2,6 +2,8 @@ pub mod OneByOne
 pub mod Looks
 pub mod Forests
 pub mod Views
+pub mod PieceRows
+pub mod Unknowns
 pub mod TopsSeen
 pub mod Climbing
 pub mod Hearings
@@ -21,7 +23,9 @@ pub mod Untouched
 pub mod Members
 pub mod Touches
 pub mod Claimed
+pub mod RowsStand
 pub mod RowsWrite
+pub mod Stills
 pub mod Children
 pub mod Walked
 pub mod BothLooks
@@ -29,3 +33,7 @@ pub mod Givens
 pub mod Elsewhere
 pub mod Leadings
 pub mod Onwards
+pub mod GivenViews
+pub mod Begins
+pub mod Codes
+pub mod ToldNodes

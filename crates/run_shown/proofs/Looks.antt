@@ -1,12 +1,14 @@
 -- Looks at the scopes, step by step; what a look shows is what the definitions show of the state.
 use Rattle.std.proofs.Common.{ℕ, zero, suc, ◌-◌, Bool, true, false, ◌&&◌, ◌≡◌, ◌≢◌, refl, sym, ap, ◌∙◌, arith}
-use Rattle.std.specs.Prelude.{Option, Some, None, is_some}
+use Rattle.std.specs.Prelude.{Option, Some, None, is_some, option_map}
 use Rattle.run_places.specs.declared.side.Side.{Side}
 use Rattle.run_places.specs.declared.side.SideName.{SideName}
 use Rattle.run_shown.specs.declared.look.Look.{Look}
-use Rattle.run_shown.specs.declared.look.Rung.{Rung}
+use Rattle.run_shown.specs.declared.found.Rung.{Rung}
 use Rattle.run_shown.specs.declared.look.Stood.{Stood}
-use Rattle.run_shown.specs.Look.{is_showing, look_at, look_below, look_is_shown, look_parent, look_shows, look_shown, look_side, rung_in, rung_of, shown_above, shown_within, shown_steps, shown_on}
+use Rattle.run_shown.specs.Look.{is_showing, look_at, look_below, look_is_shown, look_parent, look_shows, look_shown, look_side, rung_in, rung_of, shown_above, shown_within, seen_in, shown_steps, shown_on, side_stood, standing}
+use Rattle.run_shown.specs.Remembered.{was_in}
+use Rattle.run_records.specs.declared.rest.Scope.{Scope}
 
 module _ {P C Q V H T E L : Type 0} where
   -- the way up
@@ -36,17 +38,6 @@ module _ {P C Q V H T E L : Type 0} where
   unfolding shown_on shown_steps
   on_some look n below p = refl
 
-module _ {P C Q V H T E L : Type 0} where
-  -- the side that shows
-
-  pub shown_none : (look : Look P C Q V H T E L) (s : ℕ) → look_shows look s ≡ None → look_shown look s ≡ None
-  unfolding look_shown
-  shown_none look s none = ap (λ (o : Option SideName). elim o as (λ x. Option (Side P C Q V H T E L)) [ None ↦ None | Some name ↦ look_side look s name ]) none
-
-  pub shown_some : (look : Look P C Q V H T E L) (s : ℕ) (name : SideName) → look_shows look s ≡ Some name → look_shown look s ≡ look_side look s name
-  unfolding look_shown
-  shown_some look s name some = ap (λ (o : Option SideName). elim o as (λ x. Option (Side P C Q V H T E L)) [ None ↦ None | Some n ↦ look_side look s n ]) some
-
 -- a climb, one look a scope
 
 module _ {P C Q V H T E L : Type 0} where
@@ -58,14 +49,39 @@ module _ {P C Q V H T E L : Type 0} where
   rung_gone None h = refl
   rung_gone (Some x) h = cc h
 
-  abbrev parent_in : Option (Stood P C Q V H T E L) → Option ℕ
+  abbrev pub parent_in : Option (Stood P C Q V H T E L) → Option ℕ
   parent_in o = elim o as (λ _. Option ℕ) [ None ↦ None | Some x ↦ x.parent ]
 
-  abbrev below_in : Option (Stood P C Q V H T E L) → Option SideName
+  abbrev pub below_in : Option (Stood P C Q V H T E L) → Option SideName
   below_in o = elim o as (λ _. Option SideName) [ None ↦ None | Some x ↦ Some x.below ]
 
-  abbrev shows_in : Option (Stood P C Q V H T E L) → Option SideName
+  abbrev pub shows_in : Option (Stood P C Q V H T E L) → Option SideName
   shows_in o = elim o as (λ _. Option SideName) [ None ↦ None | Some x ↦ x.shows ]
+
+  -- what a look shows of a scope that was found
+  pub shows_found : (look : Look P C Q V H T E L) (s : ℕ) (x : Stood P C Q V H T E L) → look_at look s ≡ Some x → look_shows look s ≡ x.shows
+  shows_found look s x found = ap shows_in found
+
+  pub shows_gone : (look : Look P C Q V H T E L) (s : ℕ) → None ≡ look_at look s → look_shows look s ≡ None
+  shows_gone look s gone = ap shows_in (sym gone)
+
+  abbrev pub side_in : SideName → Option (Stood P C Q V H T E L) → Option (Side P C Q V H T E L)
+  side_in name o = elim o as (λ _. Option (Side P C Q V H T E L)) [ None ↦ None | Some x ↦ Some (side_stood x name) ]
+
+  pub side_found : (look : Look P C Q V H T E L) (s : ℕ) (name : SideName) (x : Stood P C Q V H T E L) → look_at look s ≡ Some x → look_side look s name ≡ Some (side_stood x name)
+  side_found look s name x found = ap (side_in name) found
+
+  pub shown_found : (look : Look P C Q V H T E L) (s : ℕ) (o : Option (Stood P C Q V H T E L)) → o ≡ look_at look s
+      → elim (shows_in o) as (λ _. Option (Side P C Q V H T E L)) [ None ↦ None | Some name ↦ side_in name o ] ≡ look_shown look s
+  unfolding look_shown
+  shown_found look s o found =
+      ap (λ (q : Option (Stood P C Q V H T E L)). elim (shows_in q) as (λ _. Option (Side P C Q V H T E L)) [ None ↦ None | Some name ↦ side_in name q ]) found
+
+  pub rung_found : (look : Look P C Q V H T E L) (s : ℕ) (x : Stood P C Q V H T E L) (r : Rung) → Some x ≡ look_at look s → r ≡ rung_of x → Some r ≡ rung_in (look_at look s)
+  rung_found look s x r found is = ap Some is ∙ ap rung_in found
+
+  pub rung_none : (look : Look P C Q V H T E L) (s : ℕ) → None ≡ look_at look s → None ≡ rung_in (look_at look s)
+  rung_none look s gone = ap rung_in gone
 
   abbrev height_in : Option (Stood P C Q V H T E L) → ℕ
   height_in o = elim o as (λ _. ℕ) [ None ↦ 0 | Some x ↦ x.height ]
@@ -118,4 +134,20 @@ module _ {P C Q V H T E L : Type 0} where
       → shown_on look n below (Some p) ≡ shown_on look (n - 1) r.below r.parent
   on_further look n below p r h own some = on_side look n below p r h own ∙ steps_there look p n r h some
 
-pub ruleset looks = (shown_none, shown_some, steps_zero, steps_none, steps_some, on_none, on_some)
+-- what a look sees, by what is kept and what stands
+
+module _ {P C Q V H T E L : Type 0} where
+  pub seen_kept : (o : Option (Option (Stood P C Q V H T E L))) (p : Option (Scope P C Q V H T E L)) (x : Stood P C Q V H T E L) → Some x ≡ was_in o → Some x ≡ seen_in o p
+  seen_kept None p x h = cc h
+  seen_kept (Some None) p x h = cc h
+  seen_kept (Some (Some y)) p x h = h
+
+  pub seen_gone : (o : Option (Option (Stood P C Q V H T E L))) (p : Option (Scope P C Q V H T E L)) → was_in o ≡ None → is_some o ≡ true → None ≡ seen_in o p
+  seen_gone None p none kept = cc kept
+  seen_gone (Some None) p none kept = refl
+  seen_gone (Some (Some y)) p none kept = cc none
+
+  pub seen_now : (o : Option (Option (Stood P C Q V H T E L))) (p : Option (Scope P C Q V H T E L)) → is_some o ≡ false → option_map standing p ≡ seen_in o p
+  seen_now None None apart = refl
+  seen_now None (Some x) apart = refl
+  seen_now (Some o) p apart = cc apart

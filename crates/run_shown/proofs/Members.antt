@@ -1,66 +1,72 @@
--- Numbers that ascend: what a search finds among them, and one more at its place.
-use Rattle.std.proofs.Common.{◌≡◌, ℕ, zero, suc, ◌+◌, ◌<◌, ◌≤◌, Bool, true, false, ◌||◌, List, [], ◌∷◌, ◌++◌, take, drop, length, get_or, nat_eq, Result, Ok, Err, inl, inr, refl, sym, ap, ◌∙◌, arith}
+-- Which numbers are in a set, and which are once one more came.
+use Rattle.std.proofs.Common.{◌≡◌, ℕ, Bool, true, false, cond, ◌||◌, List, [], ◌∷◌, ◌++◌, nat_eq, refl, sym, ap, ◌∙◌}
+use Rattle.std.proofs.lemmas.Bool.{eqb-true}
+use Rattle.std.proofs.lemmas.List.Folds.{list_any-append}
+use Rattle.std.specs.BTreeMap.{is_at}
+use Rattle.std.specs.Cmp.{unsigned_ties}
+use Rattle.std.specs.List.{list_any}
 use Rattle.std.specs.Ordering.{nat_cmp}
-use Rattle.std.specs.List.{insert}
-use Rattle.std.specs.List.Sorted.{IsNonDecreasing, IsBinarySearchResult}
-use Rattle.std.proofs.lemmas.Bool.{cases_lt, eqb-true, ne_eqb}
-use Rattle.std.proofs.lemmas.List.{get_or_default}
-use Rattle.std.proofs.lemmas.List.Sorted.{searched, IsNonDecreasingBy-insert}
-use Rattle.std.proofs.lemmas.Grind.{common_steps}
-use Rattle.rt_lemmas.proofs.Bools.{or_swapped as swapped}
+use Rattle.rt_lemmas.proofs.Bools.{or_swapped}
+use Rattle.rt_lemmas.proofs.Numbers.{eq_turned}
 use Rattle.rt_model.specs.Lists.{has}
 use Rattle.rt_model.proofs.Maps.{by_test}
 
-neither : {a b : Bool} → a ≡ false → b ≡ false → (a || b) ≡ false
-neither p q = rw (p, q) refl
+-- the set's own test is equality
+tests : (n k : ℕ) → is_at (nat_cmp n) k ≡ nat_eq n k
+tests n k = sym (unsigned_ties n k)
 
-pub none_ascend : IsNonDecreasing []
-none_ascend i j d low within = absurd (omega (arith, within))
+either : (b c : Bool) → cond b true c ≡ (b || c)
+either true c = refl
+either false c = refl
 
-has_at : (xs : List ℕ) (i x : ℕ) → i < length xs → get_or xs i 0 ≡ x → has xs x ≡ true
-has_at [] i x within is = absurd (omega arith)
-has_at (y ∷ ys) zero x within is = grind (arith, common_steps)
-has_at (y ∷ ys) (suc i) x within is = grind (arith, common_steps, has_at ys i x)
+-- what is in the set is among its numbers
+pub is_in : (ks : List ℕ) (n : ℕ) → list_any (is_at (nat_cmp n)) ks ≡ has ks n
+is_in ks n = λ i. list_any (λ k. (tests n k ∙ eq_turned n k) i) ks
 
-has_none : (xs : List ℕ) (x : ℕ) → ((k : ℕ) → k < length xs → get_or xs k 0 ≡ x → ⊥) → has xs x ≡ false
-has_none [] x apart = refl
-has_none (y ∷ ys) x apart = neither (ne_eqb y x (apart 0 (omega arith))) (has_none ys x (λ k within. apart (suc k) (omega (arith, within))))
+-- one that came is in it beside the others
+pub is_in_then : (ks more : List ℕ) (n m : ℕ) → list_any (is_at (nat_cmp m)) more ≡ cond (is_at (nat_cmp n) m) true (list_any (is_at (nat_cmp m)) ks)
+    → has more m ≡ (nat_eq n m || has ks m)
+is_in_then ks more n m came = sym (is_in more m) ∙ came ∙ (λ i. cond (tests n m i) true (is_in ks m i)) ∙ either (nat_eq n m) (has ks m)
 
--- what a search found is there
-pub found_there : (xs : List ℕ) (i x : ℕ) → IsNonDecreasing xs → IsBinarySearchResult (λ y. nat_cmp y x) xs (Ok i) → has xs x ≡ true
-found_there xs i x ascends found =
-    let at : (i < length xs) × (get_or xs i 0 ≡ x) = searched xs x (Ok i) found (λ a b low within. ascends a b 0 low within) in
-    has_at xs i x at.0 at.1
+-- a few stand in front of the others
 
--- what it didn't find isn't
-pub not_there : (xs : List ℕ) (i x : ℕ) → IsNonDecreasing xs → IsBinarySearchResult (λ y. nat_cmp y x) xs (Err i) → has xs x ≡ false
-not_there xs i x ascends missed =
-    let parts : (i ≤ length xs) × ((k : ℕ) → k < i → get_or xs k 0 < x) × ((k : ℕ) → i ≤ k → k < length xs → x < get_or xs k 0) =
-    searched xs x (Err i) missed (λ a b low within. ascends a b 0 low within) in
-    has_none xs x (λ k within is.
-    elim (cases_lt k i) [
-      | inl below ↦ (let less = parts.1 k below in omega (arith, less, is))
-      | inr above ↦ (let more = parts.2 k above within in omega (arith, more, is))
-    ])
+pub in_both : (few ks : List ℕ) (n : ℕ) → has (few ++ ks) n ≡ (has few n || has ks n)
+in_both few ks n = list_any-append (λ y. nat_eq y n) few ks
 
--- one more at the place that the search names: the numbers still ascend
-pub still_ascends : (xs : List ℕ) (i x : ℕ) → IsNonDecreasing xs → IsBinarySearchResult (λ y. nat_cmp y x) xs (Err i) → IsNonDecreasing (insert xs i x)
-still_ascends xs i x ascends missed =
-    let parts : (i ≤ length xs) × ((k : ℕ) → k < i → get_or xs k 0 < x) × ((k : ℕ) → i ≤ k → k < length xs → x < get_or xs k 0) =
-    searched xs x (Err i) missed (λ a b low within. ascends a b 0 low within) in
-    IsNonDecreasingBy-insert (λ y. y) xs i x ascends parts.0
-    (λ k d low. let less = parts.1 k low in let same : get_or xs k d ≡ get_or xs k 0 = get_or_default xs k d 0 (omega (arith, parts.0)) in omega (arith, less, same))
-    (λ k d low within. let more = parts.2 k low within in let same : get_or xs k d ≡ get_or xs k 0 = get_or_default xs k d 0 within in omega (arith, more, same))
+-- what is among the few is in the set
+pub in_few : (few ks : List ℕ) (n : ℕ) → has few n ≡ true → has (few ++ ks) n ≡ true
+in_few few ks n there = in_both few ks n ∙ ap (λ (b : Bool). b || has ks n) there
 
--- and it is one of them beside the others
-pub has_more : (xs : List ℕ) (i x t : ℕ) → has (insert xs i x) t ≡ (nat_eq x t || has xs t)
-has_more xs zero x t = grind (arith, common_steps)
-has_more [] (suc i) x t = grind (arith, common_steps)
-has_more (y ∷ ys) (suc i) x t = ap (λ b. nat_eq y t || b) (has_more ys i x t) ∙ swapped (nat_eq y t) (nat_eq x t) (has ys t)
+-- what isn't is in it where it is among the others
+pub in_rest : (few ks : List ℕ) (n : ℕ) → has few n ≡ false → has (few ++ ks) n ≡ has ks n
+in_rest few ks n gone = in_both few ks n ∙ ap (λ (b : Bool). b || has ks n) gone
 
--- one that is there already is none more
-pub has_no_more : (xs : List ℕ) (x t : ℕ) → has xs x ≡ true → has xs t ≡ (nat_eq x t || has xs t)
-has_no_more xs x t there =
-    by_test (nat_eq x t)
-    (λ same. ap (λ n. has xs n) (sym (eqb-true x t same)) ∙ there ∙ sym (ap (λ b. b || has xs t) same))
-    (λ other. sym (ap (λ b. b || has xs t) other))
+-- one that is there changes nothing
+pub in_already : (xs : List ℕ) (n m : ℕ) → has xs n ≡ true → has xs m ≡ (nat_eq n m || has xs m)
+in_already xs n m there =
+    by_test (nat_eq n m)
+    (λ same. ap (λ (k : ℕ). has xs k) (sym (eqb-true n m same)) ∙ there ∙ sym (ap (λ (b : Bool). b || has xs m) same))
+    (λ other. sym (ap (λ (b : Bool). b || has xs m) other))
+
+-- one that comes among the few, where there are no others
+pub in_few_then : (few ks more : List ℕ) (n m : ℕ) → ks ≡ [] → more ≡ few ++ n ∷ [] → has (more ++ ks) m ≡ (nat_eq n m || has (few ++ ks) m)
+in_few_then few ks more n m none is =
+    in_both more ks m
+    ∙ ap (λ (xs : List ℕ). has xs m || has ks m) is
+    ∙ ap (λ (b : Bool). b || has ks m) (in_both few (n ∷ []) m)
+    ∙ one_more (has few m) (nat_eq n m) (has ks m)
+    ∙ ap (λ (b : Bool). nat_eq n m || b) (sym (in_both few ks m))
+  where
+    one_more : (a b c : Bool) → ((a || (b || false)) || c) ≡ (b || (a || c))
+    one_more true true c = refl
+    one_more true false c = refl
+    one_more false true c = refl
+    one_more false false c = refl
+
+-- one that comes among the others
+pub in_rest_then : (few ks more : List ℕ) (n m : ℕ) → has more m ≡ (nat_eq n m || has ks m) → has (few ++ more) m ≡ (nat_eq n m || has (few ++ ks) m)
+in_rest_then few ks more n m came =
+    in_both few more m
+    ∙ ap (λ (b : Bool). has few m || b) came
+    ∙ or_swapped (has few m) (nat_eq n m) (has ks m)
+    ∙ ap (λ (b : Bool). nat_eq n m || b) (sym (in_both few ks m))

@@ -36,7 +36,7 @@ use Rattle.run_shown.specs.Look.{look_is_shown, look_side, look_shows}
 use Rattle.run_shown.specs.Seen.{scope_seen, seen_by, seen_within, tree_seen}
 use Rattle.run_shown.specs.Ways.{place_found, way_of}
 use Rattle.run_shown.specs.Touched.{is_touched}
-use Rattle.run_shown.specs.Units.{Passes, both_of, shown_writes, side_writes, unit_within, unit_writes, scope_writes, name_writes, output_writes, tree_writes, slot_writes, node_writes, row_writes, tree_replaces}
+use Rattle.run_shown.specs.Units.{Passes, both_of, both_writes, shown_writes, side_writes, unit_within, unit_writes, scope_writes, name_writes, output_writes, tree_writes, slot_writes, node_writes, row_writes, tree_replaces}
 use Rattle.run_shown.proofs.Parted.{then_nothing}
 
 module _ {P C Q V H T E L : Type 0} (app : Application (types C Q V H T E L)) where
@@ -65,11 +65,30 @@ module _ {P C Q V H T E L : Type 0} (app : Application (types C Q V H T E L)) wh
   unit_hidden unit (suc n) s some hidden =
       ap (λ b. then_on (if b then scope_writes app unit n s else writes []) (if is_some (at (way_of unit.way.now) s) then halts else writes [])) hidden
 
+  pub unit_both : (unit : CodeUnit P C Q V H T E L) (n s : ℕ) → n ≢ 0
+      → unit_writes app unit n s ≡ then_on (both_writes app unit (n - 1) s) (if is_some (at (way_of unit.way.now) s) then halts else writes [])
+  unfolding unit_writes scope_writes both_writes
+  unit_both unit zero s some = absurd (some refl)
+  unit_both unit (suc n) s some =
+      ap (λ m. then_on (both_writes app unit m s) (if is_some (at (way_of unit.way.now) s) then halts else writes [])) (let e : n ≡ suc n - 1 = omega arith in e)
+
+  pub both_hidden : (unit : CodeUnit P C Q V H T E L) (n s : ℕ) → false ≡ (look_is_shown unit.before.now s && look_is_shown unit.after.now s) → both_writes app unit n s ≡ writes []
+  unfolding both_writes
+  both_hidden unit n s hidden = sym (ap (λ b. if b then scope_writes app unit n s else writes []) hidden)
+
+  pub both_shown : (unit : CodeUnit P C Q V H T E L) (n s : ℕ) → true ≡ (look_is_shown unit.before.now s && look_is_shown unit.after.now s) → both_writes app unit n s ≡ scope_writes app unit n s
+  unfolding both_writes
+  both_shown unit n s shown = sym (ap (λ b. if b then scope_writes app unit n s else writes []) shown)
+
   abbrev under : CodeUnit P C Q V H T E L → ℕ → ℕ → Written
   under unit n t = unit_within app unit.before.now unit.after.now (way_of unit.way.now) n t
 
   abbrev shows_writes : CodeUnit P C Q V H T E L → ℕ → ℕ → Option SideName → Option SideName → Written
   shows_writes unit n s a b = shown_writes app unit.before.now unit.after.now (way_of unit.way.now) (λ t. under unit n t) s (λ name. look_side unit.before.now s name) (λ name. look_side unit.after.now s name) a b
+
+  after_none : (unit : CodeUnit P C Q V H T E L) (n s : ℕ) (a : Option SideName) → shows_writes unit n s a None ≡ writes []
+  after_none unit n s None = refl
+  after_none unit n s (Some a) = refl
 
   pub scope_none : (unit : CodeUnit P C Q V H T E L) (n s : ℕ) → look_shows unit.before.now s ≡ None → scope_writes app unit n s ≡ writes []
   unfolding scope_writes
@@ -78,6 +97,11 @@ module _ {P C Q V H T E L : Type 0} (app : Application (types C Q V H T E L)) wh
   pub scope_some_none : (unit : CodeUnit P C Q V H T E L) (n s : ℕ) (a : SideName) → look_shows unit.before.now s ≡ Some a → look_shows unit.after.now s ≡ None → scope_writes app unit n s ≡ writes []
   unfolding scope_writes
   scope_some_none unit n s a some none = (λ k. shows_writes unit n s (some k) (none k))
+
+  -- it isn't live in the second state
+  pub scope_gone : (unit : CodeUnit P C Q V H T E L) (n s : ℕ) → look_shows unit.after.now s ≡ None → scope_writes app unit n s ≡ writes []
+  unfolding scope_writes
+  scope_gone unit n s gone = ap (λ b. shows_writes unit n s (look_shows unit.before.now s) b) gone ∙ after_none unit n s (look_shows unit.before.now s)
 
   pub scope_same : (unit : CodeUnit P C Q V H T E L) (n s : ℕ) (a b : SideName) → look_shows unit.before.now s ≡ Some a → look_shows unit.after.now s ≡ Some b
       → state.same_side (side_name_of a) (side_name_of b) ≡ true → scope_writes app unit n s ≡ name_writes app unit n s a

@@ -1,6 +1,6 @@
 -- Scopes that a unit may have changed are gathered with those above them; all others show what they did.
-use Rattle.std.proofs.Common.{ℕ, Bool, true, false, ◌||◌, List, [], ◌∷◌, ◌++◌, ◌≡◌, nat_eq, refl, sym, ap, ◌∙◌, ◌+◌, ◌<◌, ◌≤◌, take, drop, length, get_or}
-use Rattle.std.specs.Prelude.{Option, Some, None, option_map, if◌then◌else◌}
+use Rattle.std.proofs.Common.{ℕ, Bool, true, false, ◌||◌, List, [], ◌∷◌, ◌++◌, ◌≡◌, nat_eq, refl, subst, sym, ap, ◌∙◌, ◌+◌, ◌<◌, ◌≤◌, take, drop, length, get_or}
+use Rattle.std.specs.Prelude.{IfOk, IfSome, Option, Result, Some, None, option_map, if◌then◌else◌}
 use Rattle.std.proofs.lemmas.List.{drop_all, drop_more}
 use Rattle.rt_lemmas.proofs.Numbers.{eq_same as itself, eq_is as same_number}
 use Rattle.rt_lemmas.proofs.Options.{some_is as one_some, none_is as none_some}
@@ -132,6 +132,25 @@ module _ {P C Q V H T E L : Type 0} (look : Look P C Q V H T E L) where
         changed = h.changed scopes (λ t q. q) (λ s o some. none_some o (sym (ap (λ xs. at xs s) none) ∙ some));
         above = h.above;
       }
+
+  -- of one scope alone
+  pub covers_one : (e : ℕ × Option (Stood P C Q V H T E L)) (former scopes : List ℕ) → former ≡ [] → Reaches former scopes look e.0 → Covers scopes (e ∷ []) look
+  covers_one e former scopes none reaches = record {
+    changed = one_of e [] scopes reaches.own (λ s o some. none_some o some);
+    above = reaches.above (λ t p h up. absurd_test (has former t) (ap (λ xs. has xs t) none) h);
+  }
+
+  -- of the same rows
+  pub touched_of : {F : Type 0} (r : Result (Option (List ℕ)) F) (rows stood : List (ℕ × Option (Stood P C Q V H T E L))) → rows ≡ stood
+      → IfOk r (λ found. IfSome found (λ scopes. Covers scopes rows look)) → IfOk r (λ found. IfSome found (λ scopes. Covers scopes stood look))
+  touched_of r rows stood is h = subst (λ xs. IfOk r (λ found. IfSome found (λ scopes. Covers scopes xs look))) is h
+
+  -- of no scope
+  pub covers_none : (scopes : List ℕ) → scopes ≡ [] → Covers scopes [] look
+  covers_none scopes none = record {
+    changed = λ s o some. none_some o some;
+    above = λ t p h up. absurd_test (has scopes t) (ap (λ xs. has xs t) none) h;
+  }
 
 module _ {C Q V H T E L : Type 0} where
   scope_parent : (o : Option (state.Scope (types C Q V H T E L))) → elim (option_map sight_of o) as (λ x. Option ℕ) [ None ↦ None | Some x ↦ x.parent ] ≡ elim o as (λ x. Option ℕ) [ None ↦ None | Some x ↦ x.parent ]

@@ -1,64 +1,50 @@
 -- Where a number that is looked for stands: the scopes that lead to it, and the one place of each of their sides.
-use Rattle.std.specs.Prelude.{ℕ, Bool, true, false, ◌&&◌, ◌||◌, nat_eq, List, [], ◌∷◌, ◌++◌, Option, Some, None, is_none, if◌then◌else◌, ◌≡◌, ◌≢◌}
-use Rattle.std.specs.Borrow.{Bor}
+use Rattle.std.specs.Prelude.{ℕ, Bool, true, false, nat_eq, List, [], ◌∷◌, ◌++◌, Option, Some, None, if◌then◌else◌, ◌≡◌, ◌≢◌}
 use Rattle.rt_model.specs.Lists.{has}
 use Rattle.rt_model.specs.Tree as model
 use Rattle.rt_model.specs.Tree.{Place}
 use Rattle.tree_mirror.specs.Sealed.{template_of}
 use Rattle.run_places.specs.declared.side.Side.{Side}
-use Rattle.run_places.specs.declared.side.SideName.{SideName}
 use Rattle.run_places.specs.Places.{at_path}
 use Rattle.run_places.specs.Sides.{child_in, number_in}
 use Rattle.run_places.specs.Trails.{place_on}
-use Rattle.run_records.specs.declared.rest.Scope.{Scope}
 use Rattle.run_shown.specs.declared.climb.Rooted.{Rooted}
 use Rattle.run_shown.specs.declared.look.Look.{Look}
-use Rattle.run_shown.specs.declared.look.Stood.{Stood}
 use Rattle.run_shown.specs.declared.sought.Sought.{Sought}
 use Rattle.run_shown.specs.Climbs.{scope_climb}
-use Rattle.run_shown.specs.Look.{side_standing}
+use Rattle.run_shown.specs.Look.{look_live, look_parent, look_shown}
+use Rattle.run_shown.specs.Touched.{Climbs}
 
--- the index beside the first number of which a test holds
-abbrev pub spot_where : (ℕ → Bool) → List (ℕ × ℕ) → Option ℕ
-spot_where test [] = None
-spot_where test (e ∷ es) = if test e.1 then Some e.0 else spot_where test es
+-- an index is the one that was found before, if one was
+abbrev pub same_spot : Option ℕ → ℕ → Bool
+same_spot None i = true
+same_spot (Some j) i = nat_eq j i
 
--- an index is the one that is asked for, where it is asked
-abbrev pub fits_at : Bool → ℕ → ℕ → Bool
-fits_at asked j i = if asked then nat_eq j i else true
+-- the one index beside all the numbers of which a test holds, with one that was found before; none where there are two
+abbrev pub lone_after : Option ℕ → (ℕ → Bool) → List (ℕ × ℕ) → Option (Option ℕ)
+lone_after found test [] = Some found
+lone_after found test (e ∷ es) =
+    if test e.1 then (if same_spot found e.0 then lone_after (Some e.0) test es else None) else lone_after found test es
 
--- each number of which a test holds stands under one index
-abbrev pub only_where : (ℕ → Bool) → ℕ → List (ℕ × ℕ) → Bool
-only_where test i [] = true
-only_where test i (e ∷ es) = fits_at (test e.1) e.0 i && only_where test i es
+-- the same with nothing found before
+abbrev pub lone_where : (ℕ → Bool) → List (ℕ × ℕ) → Option (Option ℕ)
+lone_where test es = lone_after None test es
 
 module _ {P C Q V H T E L : Type 0} where
-  -- the scopes, where each is seen as it stands
-  abbrev pub rows_alone : Look P C Q V H T E L → Option (List (ℕ × Scope P C Q V H T E L))
-  rows_alone look = elim look.stood [ None ↦ Some (look.rows.now).table | Some stood ↦ None ]
+  -- what shows of no other scope has the number, if it is one
+  pub record IsHolder (look : Look P C Q V H T E L) (number : ℕ) (holder : Option ℕ) : Type 0 where
+    pub alone : (s : ℕ) (side : Side P C Q V H T E L) (q : Place) (k : model.Kind)
+        → look_shown look s ≡ Some side → number_in side q k ≡ number → number ≢ 0 → holder ≡ Some s
 
-  -- the side that a scope shows as it stands
-  abbrev pub shown_standing : Scope P C Q V H T E L → Option (Side P C Q V H T E L)
-  shown_standing x = elim (x.rest).shows [ None ↦ None | Some name ↦ Some (side_standing x name) ]
+  -- a live child on what shows of a scope has that scope as its parent
+  pub record KnowSeats (look : Look P C Q V H T E L) : Type 0 where
+    pub parents : (s t : ℕ) (side : Side P C Q V H T E L) (q : Place)
+        → look_shown look s ≡ Some side → child_in side q ≡ Some t → look_live look t ≡ true → look_parent look t ≡ Some s
 
-  -- neither the number stands on a side nor a child that leads to it
-  abbrev pub side_clear : ℕ → List ℕ → Side P C Q V H T E L → Bool
-  side_clear number way side =
-      is_none (spot_where (λ m. nat_eq m number) side.numbers) && is_none (spot_where (λ t. has way t) side.children)
-
-  -- the same of a side, if there is one
-  abbrev pub scope_clear : ℕ → List ℕ → Option (Side P C Q V H T E L) → Bool
-  scope_clear number way None = true
-  scope_clear number way (Some side) = side_clear number way side
-
-  -- what a scope shows is clear of both, or it leads to the number
-  unfoldable pub is_passed : ℕ → List ℕ → ℕ → Scope P C Q V H T E L → Bool
-  is_passed number way s x = scope_clear number way (shown_standing x) || has way s
-
-  -- so does each of these
-  abbrev pub all_clear : ℕ → List ℕ → List (ℕ × Scope P C Q V H T E L) → Bool
-  all_clear number way [] = true
-  all_clear number way (e ∷ es) = is_passed number way e.0 e.1 && all_clear number way es
+  -- a scope, with all that stand above it
+  pub record IsWay (look : Look P C Q V H T E L) (s : ℕ) (way : List ℕ) : Type 0 where
+    pub own : has way s ≡ true
+    pub above : Climbs look way way
 
   -- the scopes that lead to a number: below no other one it is found
   pub record Leads (look : Look P C Q V H T E L) (number : ℕ) (way : List ℕ) : Type 0 where

@@ -1,4 +1,5 @@
 pub mod Look
+pub mod Remembered
 pub mod Stands
 pub mod Given
 pub mod Seen
@@ -9,7 +10,11 @@ pub mod Means
 pub mod Ways
 pub mod Written
 pub mod Tops
+pub mod Pieces
+pub mod Unknowns
 pub mod Touched
 pub mod Calm
 pub mod Units
+pub mod Still
 pub mod Reruns
+pub mod Told

@@ -13,7 +13,11 @@ use Rattle.run_records.specs.Records.{number_of}
 use Rattle.run_records.specs.declared.rest.Scope.{Scope}
 use Rattle.run_shown.specs.declared.look.Look.{Look}
 use Rattle.run_shown.specs.declared.look.Stood.{Stood}
-use Rattle.run_shown.specs.declared.look.Rung.{Rung}
+use Rattle.run_shown.specs.declared.look.OtherSides.{OtherSides}
+use Rattle.run_shown.specs.declared.look.OtherSides.TheVariants as others
+use Rattle.run_shown.specs.declared.found.Rung.{Rung}
+use Rattle.run_shown.specs.declared.found.Found.{Found}
+use Rattle.run_shown.specs.declared.found.Found.TheVariants as founds
 
 -- whether this side shows
 abbrev pub is_showing : Option SideName → SideName → Bool
@@ -26,11 +30,25 @@ module _ {P C Q V H T E L : Type 0} where
   side_standing x names.Children = (x.rest).children_side
   side_standing x names.Fallback = (x.rest).fallback_side
 
+  -- the side of the children
+  abbrev pub children_in : OtherSides P C Q V H T E L → Side P C Q V H T E L
+  children_in (others.Bare side) = side
+  children_in (others.Two two) = two.0
+
+  -- the side of the fallback
+  abbrev pub fallback_in : OtherSides P C Q V H T E L → Side P C Q V H T E L
+  fallback_in (others.Bare side) = side
+  fallback_in (others.Two two) = two.1
+
   -- a side of a scope as it stood
   abbrev pub side_stood : Stood P C Q V H T E L → SideName → Side P C Q V H T E L
   side_stood x names.Main = x.main_side
-  side_stood x names.Children = x.children_side
-  side_stood x names.Fallback = x.fallback_side
+  side_stood x names.Children = children_in x.other_sides
+  side_stood x names.Fallback = fallback_in x.other_sides
+
+  -- the side that showed of it
+  abbrev pub shown_of : Stood P C Q V H T E L → Option (Side P C Q V H T E L)
+  shown_of x = elim x.shows [ None ↦ None | Some name ↦ Some (side_stood x name) ]
 
   -- what is shown of a scope as it stands
   abbrev pub standing : Scope P C Q V H T E L → Stood P C Q V H T E L
@@ -41,9 +59,13 @@ module _ {P C Q V H T E L : Type 0} where
         below = (x.rest).below;
         shows = (x.rest).shows;
         main_side = (x.rest).main_side;
-        children_side = (x.rest).children_side;
-        fallback_side = (x.rest).fallback_side;
+        other_sides = others.Two ((x.rest).children_side, (x.rest).fallback_side);
       }
+
+  -- what is shown of a scope that was found
+  abbrev pub found_of : Found P C Q V H T E L → Stood P C Q V H T E L
+  found_of (founds.Former stood) = stood.now
+  found_of (founds.Present scope) = standing scope.now
 
   -- what is shown of a scope: as it stood where that is kept, else as it stands
   abbrev pub seen_in : Option (Option (Stood P C Q V H T E L)) → Option (Scope P C Q V H T E L) → Option (Stood P C Q V H T E L)
@@ -165,8 +187,8 @@ module _ {P C Q V H T E L : Type 0} where
         below = side_name_of x.below;
         shows = option_map side_name_of x.shows;
         main_side = side_of x.main_side;
-        children_side = side_of x.children_side;
-        fallback_side = side_of x.fallback_side;
+        children_side = side_of (children_in x.other_sides);
+        fallback_side = side_of (fallback_in x.other_sides);
       }
 
   -- a look shows the scopes of a state

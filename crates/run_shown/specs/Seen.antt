@@ -16,7 +16,7 @@ use Rattle.run_shown.specs.declared.asked.Asked.{Asked}
 use Rattle.run_shown.specs.declared.asked.Asked.TheVariants as asks
 use Rattle.run_shown.specs.declared.look.Look.{Look}
 use Rattle.run_shown.specs.declared.showing.Shown.{Shown}
-use Rattle.run_shown.specs.declared.showing.Standing.{Standing}
+use Rattle.run_shown.specs.declared.numbered.Standing.{Standing}
 use Rattle.run_shown.specs.Given.{given_to}
 use Rattle.run_shown.specs.Look.{look_shown}
 

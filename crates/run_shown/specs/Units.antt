@@ -122,6 +122,11 @@ module _ {P C Q V H T E L : Type 0} where
         (λ name. look_side unit.before.now s name) (λ name. look_side unit.after.now s name) (look_shows unit.before.now s)
         (look_shows unit.after.now s)
 
+    -- the same of a scope that shows in both looks, nothing of another one
+    unfoldable pub both_writes : CodeUnit P C Q V H T E L → ℕ → ℕ → Written
+    both_writes unit n s =
+        if look_is_shown unit.before.now s && look_is_shown unit.after.now s then scope_writes unit n s else writes []
+
     -- what a side of a scope writes
     unfoldable pub name_writes : CodeUnit P C Q V H T E L → ℕ → ℕ → SideName → Written
     name_writes unit n s name =

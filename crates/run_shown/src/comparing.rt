@@ -1,24 +1,27 @@
 //! What a unit writes, side by side, tree by tree and slot by slot.
 
-ghost use Rattle.std.specs.Prelude.{◌≡◌, IfOk};
+ghost use Rattle.std.specs.Prelude.{◌≡◌, Some, IfOk};
 ghost use Rattle.tree_nodes.specs.declared.vnode.DynamicNode.TheVariants as values;
 ghost use Rattle.run_places.specs.Trails.{path_of, place_on};
+ghost use Rattle.run_shown.specs.Look.{found_of, look_at, look_side};
 ghost use Rattle.run_shown.specs.Units.{Writes, child_writes, items_writes, name_writes, node_writes, output_writes, row_writes, scope_writes, slot_writes, tree_writes, unit_writes};
 
 use crate::calm::{Sides, stays_quiet};
 use crate::edited::{Edited, halts, nothing, then_on, then_stop, writes};
+use crate::found::Found;
 use crate::inserting::items_inserted;
-use crate::look::{Look, is_same_side};
+use crate::look::is_same_side;
 use crate::sides::{
     Unit, is_shown_in_both, removals, scope_replaced, shown_in, slot_replaced, tree_replaced,
 };
 use crate::slots::{no_items_written, placeholder_written, text_written};
+use crate::still::still_written;
 use crate::tops::items_tops;
 use crate::touching::is_touched;
 use crate::way::{is_on_way, is_place, stop_on};
 use rt_values::{List, OutOfMemory, Part, Shared};
 use run_attributes::attributes_written;
-use run_places::{Path, SideName, Trail, down};
+use run_places::{Path, Side, SideName, Trail, down};
 use run_work::is_same_component;
 use std::alloc::Global;
 use tree_nodes::{DynamicNode, Parts, TemplateNode, VComponent, VNode};
@@ -56,7 +59,7 @@ pub(crate) fn written_within<P: Parts>(
 // The side that shows in both states, or one side in place of the other.
 #[cycle(written)]
 #[tactic(auto, using(crate::proofs::Writings::writings))]
-pub(crate) fn scope_written<P: Parts>(
+fn scope_written<P: Parts>(
     alloc: Global,
     unit: &Unit<'_, P>,
     depth: u64,
@@ -67,11 +70,40 @@ pub(crate) fn scope_written<P: Parts>(
         (λ app. scope_writes app unit.now depth scope)) }
 {
     let levels = down(levels)?;
-    match unit.before.shows(scope) {
-        Some(old) => match unit.after.shows(scope) {
+    let Some(former) = unit.before.find(scope) else {
+        return Ok(nothing(alloc));
+    };
+    let Some(present) = unit.after.find(scope) else {
+        return Ok(nothing(alloc));
+    };
+    found_written(alloc, unit, depth, scope, &former, &present, levels)
+}
+
+/// What a scope writes that was found in both states.
+#[cycle(written)]
+#[tactic(auto, using(crate::proofs::Writings::writings))]
+pub(crate) fn found_written<P: Parts>(
+    alloc: Global,
+    unit: &Unit<'_, P>,
+    depth: u64,
+    scope: u64,
+    former: &Found<'_, P>,
+    present: &Found<'_, P>,
+    levels: u64,
+) -> Result<Edited, OutOfMemory>
+    requires before { look_at unit.now.before.now scope ≡ Some (found_of former.now) }
+    requires after { look_at unit.now.after.now scope ≡ Some (found_of present.now) }
+    ensures { IfOk result (λ written. Writes unit.now written
+        (λ app. scope_writes app unit.now depth scope)) }
+{
+    let levels = down(levels)?;
+    match former.shows() {
+        Some(old) => match present.shows() {
             Some(new) => {
                 if is_same_side(old, new) {
-                    side_written(alloc, unit, depth, scope, old, levels)
+                    let was = former.side(old);
+                    let side = present.side(old);
+                    side_written(alloc, unit, depth, scope, old, was, side, levels)
                 } else {
                     scope_replaced(alloc, unit, scope)
                 }
@@ -82,6 +114,7 @@ pub(crate) fn scope_written<P: Parts>(
     }
 }
 
+// What the side writes that shows in both states.
 #[cycle(written)]
 #[tactic(auto, using(crate::proofs::Writings::writings))]
 fn side_written<P: Parts>(
@@ -90,33 +123,29 @@ fn side_written<P: Parts>(
     depth: u64,
     scope: u64,
     name: SideName,
+    was: &Side<P>,
+    side: &Side<P>,
     levels: u64,
 ) -> Result<Edited, OutOfMemory>
+    requires before { look_side unit.now.before.now scope name ≡ Some was.now }
+    requires after { look_side unit.now.after.now scope name ≡ Some side.now }
     ensures { IfOk result (λ written. Writes unit.now written
         (λ app. name_writes app unit.now depth scope name)) }
 {
     let levels = down(levels)?;
-    match unit.before.side(scope, name) {
-        Some(old) => match unit.after.side(scope, name) {
-            Some(new) => {
-                let old = shown_in(unit.before, old);
-                let new = shown_in(unit.after, new);
-                let stop = stop_on(unit.way, scope, name);
-                let quiet = stays_quiet(unit, &old, stop);
-                let sides = Sides {
-                    unit: &*unit,
-                    old: &old,
-                    new: &new,
-                    stop,
-                    depth,
-                    quiet,
-                };
-                outputs_written(alloc, &sides, levels)
-            }
-            None => Ok(nothing(alloc)),
-        },
-        None => Ok(nothing(alloc)),
-    }
+    let old = shown_in(unit.before, was);
+    let new = shown_in(unit.after, side);
+    let stop = stop_on(unit.way, scope, name);
+    let quiet = stays_quiet(unit, &old, stop);
+    let sides = Sides {
+        unit: &*unit,
+        old: &old,
+        new: &new,
+        stop,
+        depth,
+        quiet,
+    };
+    outputs_written(alloc, &sides, levels)
 }
 
 // What an output writes where there was one before.
@@ -137,7 +166,11 @@ fn outputs_written<P: Parts>(
     let Some(old) = &sides.old.side.output else {
         return Ok(nothing(alloc));
     };
-    tree_written(alloc, sides, &Trail::Root, new, old, levels)
+    let still = still_written(alloc, sides, new, old)?;
+    match still {
+        Some(edits) => Ok(writes(edits)),
+        None => tree_written(alloc, sides, &Trail::Root, new, old, levels),
+    }
 }
 
 // What a matched tree writes: its attributes, then its slots. An unmatched one is replaced.

@@ -53,6 +53,7 @@ pub(crate) fn one_edit(alloc: Global, edit: Edit) -> Result<Edited, OutOfMemory>
 }
 
 /// One part and then a stop, where it is the one.
+#[tactic(auto, using(crate::proofs::Writings::writings))]
 pub(crate) fn then_stop(alloc: Global, first: Edited, stops: bool) -> Result<Edited, OutOfMemory>
     ensures { IfOk result (λ both. edited_of both
         ≡ caused.then_on (edited_of first) (if stops then caused.halts else caused.writes [])) }
@@ -60,7 +61,7 @@ pub(crate) fn then_stop(alloc: Global, first: Edited, stops: bool) -> Result<Edi
     if stops {
         return then_on(first, halts(alloc));
     }
-    then_on(first, nothing(alloc))
+    Ok(first)
 }
 
 /// One part and then another one, which writes nothing where the first one was stopped.

@@ -2,7 +2,7 @@
 
 ghost use Rattle.std.specs.Prelude.{◌≡◌, IfOk};
 ghost use Rattle.run_shown.specs.Climbs.{climb_found, scope_climb};
-ghost use Rattle.run_shown.specs.Leading.{LeadsTo};
+ghost use Rattle.run_shown.specs.Leading.{IsHolder, KnowSeats, LeadsTo};
 
 use crate::aimed::aim_within;
 use crate::climb::{Climb, find_within};
@@ -13,16 +13,19 @@ use run_places::LEVELS;
 use std::alloc::Global;
 use tree_nodes::Parts;
 
-/// The climb from a number in what the root shows.
+/// The climb from a number in what the root shows, where it is told which scope has it.
 pub(crate) fn find<P: Parts>(
     alloc: Global,
     look: &Look<'_, P>,
     number: u64,
+    holder: Option<u64>,
 ) -> Result<Option<Climb<P>>, OutOfMemory>
+    requires holds { IsHolder look.now number holder }
+    requires seated { KnowSeats look.now }
     ensures { IfOk result (λ found. climb_found found
         ≡ scope_climb look.now number look.now.scopes 0) }
 {
-    match way_to_number(alloc, look, number)? {
+    match way_to_number(alloc, look, number, holder)? {
         Some(way) => {
             let sought = Sought { number, way: &way };
             find_on(alloc, look, &sought)

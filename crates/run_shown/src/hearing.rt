@@ -3,6 +3,7 @@
 ghost use Rattle.std.specs.Prelude.{◌≡◌, ◌++◌, IfOk, OnOk};
 ghost use Rattle.rt_model.specs.Heard as hears;
 ghost use Rattle.run_shown.specs.Hearing.{attribute_heard, bubbling_heard, climb_heard, event_heard, first_heard, first_listening, listeners_of, slot_given, slot_heard, slots_heard, slots_in_order, target_heard, value_heard, value_listens};
+ghost use Rattle.run_shown.specs.Leading.{IsHolder, KnowSeats};
 ghost use Rattle.run_shown.specs.Means.{AreHeard};
 
 use crate::climb::{Climb, Slots};
@@ -20,21 +21,24 @@ pub struct Listener<P: Parts> {
 }
 
 /// The listeners of an event at an element, in the order in which they are called: where it bubbles
-/// from the element outwards, else those of the element alone.
+/// from the element outwards, else those of the element alone. It is told which scope has the element.
 pub fn heard<P: Parts>(
     alloc: Global,
     look: &Look<'_, P>,
+    holder: Option<u64>,
     event: &Text,
     element: u64,
     bubbles: bool,
 ) -> Result<List<Listener<P>>, OutOfMemory>
+    requires holds { IsHolder look.now element holder }
+    requires seated { KnowSeats look.now }
     ensures heard { IfOk result (λ listeners.
         AreHeard listeners look.now event.now element bubbles) }
 {
     if element == 0 {
         return Ok(List::new(alloc));
     }
-    match find(alloc, look, element)? {
+    match find(alloc, look, element, holder)? {
         Some(climb) => heard_on(alloc, event, bubbles, &climb),
         None => Ok(List::new(alloc)),
     }

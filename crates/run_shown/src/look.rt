@@ -1,20 +1,20 @@
 //! The scopes as they stand, or as they stood before a unit.
 
-ghost use Rattle.std.specs.Prelude.{◌≡◌, ◌&&◌, ℕ, None, true, is_some};
+ghost use Rattle.std.specs.Prelude.{◌≡◌, ◌&&◌, ℕ, None, Some, is_some, option_map};
 ghost use Rattle.std.specs.Option.{option_copied};
 ghost use Rattle.rt_model.specs.Lists.{at};
 ghost use Rattle.rt_model.specs.State.{same_side};
 ghost use Rattle.run_places.specs.Places.{side_name_of};
-ghost use Rattle.run_records.specs.Records.{number_of};
-ghost use Rattle.run_shown.specs.Leading.{rows_alone, shown_standing};
-ghost use Rattle.run_shown.specs.Look.{IsAlike, is_showing, look_at, look_below, look_is_shown, look_parent, look_shown, look_shows, look_side, rung_in, rung_of, seen_in, shown_on, side_standing, side_stood, standing, stood_in};
+ghost use Rattle.run_shown.specs.Look.{IsAlike, found_of, is_showing, look_at, look_below, look_is_shown, look_parent, look_shown, look_side, rung_in, seen_in, shown_on, stood_in};
+ghost use Rattle.run_shown.specs.Remembered.{was_in};
 ghost use Rattle.run_shown.specs.Stands.{ShowsRows, ShowsStood};
 
-use rt_values::{Boxed, ScopeId};
+use crate::found::{Found, Rung, is_same_rung};
+use crate::remembered::Remembered;
+use rt_values::Boxed;
 use run_places::{Side, SideName};
 use run_records::{Rows, Scope};
-use run_table::Table;
-use tree_nodes::Parts;
+use tree_nodes::{Parts, VComponent};
 
 /// What is shown of a scope, as it stood before a unit.
 #[derive(Drop)]
@@ -25,18 +25,16 @@ pub struct Stood<P: Parts> {
     pub below: SideName,
     pub shows: Option<SideName>,
     pub main_side: Side<P>,
-    pub children_side: Side<P>,
-    pub fallback_side: Side<P>,
+    pub other_sides: OtherSides<P>,
 }
 
-/// Where a scope stands, and which side it shows.
-#[derive(Clone, Copy, PartialEq, Eq)]
-struct Rung {
-    parent: Option<u64>,
-    height: u64,
-    /// The side of the parent that it was made on.
-    below: SideName,
-    shows: Option<SideName>,
+/// The two sides that a suspense boundary has beside its main one.
+#[derive(Drop)]
+pub enum OtherSides<P: Parts> {
+    /// Nothing was ever rendered on either, as of a scope that is none: one stands for both.
+    Bare(Side<P>),
+    /// That of the children and that of the fallback.
+    Two(Boxed<(Side<P>, Side<P>)>),
 }
 
 /// The scopes, each as it stood where that is kept, else as it stands.
@@ -44,7 +42,7 @@ struct Rung {
 pub struct Look<'a, P: Parts> {
     rows: &'a Rows<P>,
     /// Of scopes that have changed, what they were; none of those that were not live.
-    stood: Option<&'a Table<Option<Boxed<Stood<P>>>>>,
+    stood: Option<&'a Remembered<Stood<P>>>,
     /// How many scopes were live.
     scopes: u64,
 }
@@ -65,11 +63,7 @@ impl<'a, P: Parts> Look<'a, P> {
 
     /// The scopes as they stood when so many of them were live. What has changed since is kept in
     /// `stood`, with None for each scope that was not live.
-    pub fn before(
-        rows: &'a Rows<P>,
-        stood: &'a Table<Option<Boxed<Stood<P>>>>,
-        scopes: u64,
-    ) -> Look<'a, P>
+    pub fn before(rows: &'a Rows<P>, stood: &'a Remembered<Stood<P>>, scopes: u64) -> Look<'a, P>
         ensures each { (scope : ℕ) → look_at result scope
             ≡ seen_in (at stood.now scope) (at rows.now.table scope) }
         ensures stood { stood_in result ≡ stood.now }
@@ -83,6 +77,14 @@ impl<'a, P: Parts> Look<'a, P> {
         }
     }
 
+    /// The component of a scope that stands, where it is one of the application's.
+    pub(crate) fn named(&self, scope: u64) -> Option<&P::Component> {
+        match self.rows.table.get(scope) {
+            Some(found) => own_component(&found.rest.component),
+            None => None,
+        }
+    }
+
     /// How many scopes are live.
     pub(crate) fn scopes(&self) -> u64
         ensures { result ≡ self.now.scopes }
@@ -90,31 +92,24 @@ impl<'a, P: Parts> Look<'a, P> {
         self.scopes
     }
 
-    /// All scopes, where each is seen as it stands.
-    pub(crate) fn all_standing(&self) -> Option<&[(u64, Scope<P>)]>
-        ensures { option_copied result ≡ rows_alone self.now }
+    /// Whether it is kept what a scope was.
+    fn is_kept(&self, scope: u64) -> bool
+        ensures { result ≡ is_some (at (stood_in self.now) scope) }
     {
         match self.stood {
-            Some(_stood) => None,
-            None => Some(self.rows.table.as_slice()),
+            Some(stood) => stood.has(scope),
+            None => false,
         }
     }
 
-    /// What is kept of a scope as it stood.
-    fn kept(&self, scope: u64) -> Option<&Option<Boxed<Stood<P>>>>
-        ensures { option_copied result ≡ at (stood_in self.now) scope }
+    /// What is kept of a scope that was live.
+    fn kept(&self, scope: u64) -> Option<&Stood<P>>
+        ensures { option_copied result ≡ was_in (at (stood_in self.now) scope) }
     {
         match self.stood {
             Some(stood) => stood.get(scope),
             None => None,
         }
-    }
-
-    /// Whether it is kept what a scope was.
-    fn is_kept(&self, scope: u64) -> bool
-        ensures { result ≡ is_some (at (stood_in self.now) scope) }
-    {
-        self.kept(scope).is_some()
     }
 
     /// A scope as it stands.
@@ -124,14 +119,37 @@ impl<'a, P: Parts> Look<'a, P> {
         self.rows.table.get(scope)
     }
 
+    /// A live scope. What is found of it is found once for all that is asked.
+    pub(crate) fn find(&self, scope: u64) -> Option<Found<'_, P>>
+        ensures { option_map found_of result ≡ look_at self.now scope }
+    {
+        match self.kept(scope) {
+            Some(stood) => Some(Found::Former(stood)),
+            None => self.found_now(scope),
+        }
+    }
+
+    /// The same of one of which no live scope is kept.
+    fn found_now(&self, scope: u64) -> Option<Found<'_, P>>
+        ensures { was_in (at (stood_in self.now) scope) ≡ None →
+            option_map found_of result ≡ look_at self.now scope }
+    {
+        if self.is_kept(scope) {
+            return None;
+        }
+        match self.present(scope) {
+            Some(present) => Some(Found::Present(present)),
+            None => None,
+        }
+    }
+
     /// The parent of a live scope.
     pub(crate) fn parent(&self, scope: u64) -> Option<u64>
         ensures { result ≡ look_parent self.now scope }
     {
-        match self.kept(scope) {
-            Some(Some(stood)) => stood.get().parent,
-            Some(None) => None,
-            None => parent_of(self.present(scope)?.row.parent),
+        match self.find(scope) {
+            Some(found) => found.rung().parent,
+            None => None,
         }
     }
 
@@ -139,21 +157,9 @@ impl<'a, P: Parts> Look<'a, P> {
     pub(crate) fn below(&self, scope: u64) -> Option<SideName>
         ensures { result ≡ look_below self.now scope }
     {
-        match self.kept(scope) {
-            Some(Some(stood)) => Some(stood.get().below),
-            Some(None) => None,
-            None => Some(self.present(scope)?.rest.below),
-        }
-    }
-
-    /// The side that a live scope shows.
-    pub(crate) fn shows(&self, scope: u64) -> Option<SideName>
-        ensures { result ≡ look_shows self.now scope }
-    {
-        match self.kept(scope) {
-            Some(Some(stood)) => stood.get().shows,
-            Some(None) => None,
-            None => self.present(scope)?.rest.shows,
+        match self.find(scope) {
+            Some(found) => Some(found.rung().below),
+            None => None,
         }
     }
 
@@ -161,20 +167,18 @@ impl<'a, P: Parts> Look<'a, P> {
     pub(crate) fn side(&self, scope: u64, name: SideName) -> Option<&Side<P>>
         ensures { option_copied result ≡ look_side self.now scope name }
     {
-        match self.kept(scope) {
-            Some(Some(stood)) => Some(side_of_stood(stood.get(), name)),
-            Some(None) => None,
-            None => Some(side_of_scope(self.present(scope)?, name)),
+        match self.find(scope) {
+            Some(found) => Some(found.side(name)),
+            None => None,
         }
     }
 
     /// The side that a live scope shows, with what is kept of it.
-    #[tactic(auto, using(crate::proofs::Looks::looks))]
     pub(crate) fn shown_side(&self, scope: u64) -> Option<&Side<P>>
         ensures { option_copied result ≡ look_shown self.now scope }
     {
-        match self.shows(scope) {
-            Some(name) => self.side(scope, name),
+        match self.find(scope) {
+            Some(found) => found.shown(),
             None => None,
         }
     }
@@ -183,10 +187,9 @@ impl<'a, P: Parts> Look<'a, P> {
     fn rung(&self, scope: u64) -> Option<Rung>
         ensures { result ≡ rung_in (look_at self.now scope) }
     {
-        match self.kept(scope) {
-            Some(Some(stood)) => Some(rung_stood(stood.get())),
-            Some(None) => None,
-            None => Some(rung_now(self.present(scope)?)),
+        match self.find(scope) {
+            Some(found) => Some(found.rung()),
+            None => None,
         }
     }
 
@@ -222,18 +225,20 @@ impl<'a, P: Parts> Look<'a, P> {
         self.is_shown_on(steps - 1, rung.below, rung.parent)
     }
 
-    /// Whether a scope is shown in both looks, where the other one shows what this one does of each
-    /// scope of which nothing is kept.
-    pub(crate) fn is_shown_too(&self, other: &Look<'_, P>, scope: u64) -> bool
+    /// Whether a scope that stands so in both looks is shown in both, where the other one shows what
+    /// this one does of each scope of which nothing is kept.
+    pub(crate) fn is_shown_too(
+        &self,
+        other: &Look<'_, P>,
+        scope: u64,
+        former: Rung,
+        present: Rung,
+    ) -> bool
         requires alike { IsAlike self.now other.now }
+        requires stood { Some former ≡ rung_in (look_at self.now scope) }
+        requires stands { Some present ≡ rung_in (look_at other.now scope) }
         ensures { result ≡ (look_is_shown self.now scope && look_is_shown other.now scope) }
     {
-        let Some(former) = self.rung(scope) else {
-            return false;
-        };
-        let Some(present) = other.rung(scope) else {
-            return false;
-        };
         if !is_same_rung(former, present) {
             return self.is_shown(scope) && other.is_shown(scope);
         }
@@ -276,37 +281,6 @@ impl<'a, P: Parts> Look<'a, P> {
     }
 }
 
-/// Whether a scope stands where it did, and shows the same side.
-fn is_same_rung(former: Rung, present: Rung) -> bool
-    ensures { result ≡ true → former ≡ present }
-{
-    former == present
-}
-
-/// Where a scope stood.
-fn rung_stood<P: Parts>(stood: &Stood<P>) -> Rung
-    ensures { result ≡ rung_of stood.now }
-{
-    Rung {
-        parent: stood.parent,
-        height: stood.height,
-        below: stood.below,
-        shows: stood.shows,
-    }
-}
-
-/// Where a scope stands.
-fn rung_now<P: Parts>(scope: &Scope<P>) -> Rung
-    ensures { result ≡ rung_of (standing scope.now) }
-{
-    Rung {
-        parent: parent_of(scope.row.parent),
-        height: scope.rest.height,
-        below: scope.rest.below,
-        shows: scope.rest.shows,
-    }
-}
-
 /// Whether this side shows.
 pub(crate) fn is_side(shows: Option<SideName>, below: SideName) -> bool
     ensures { result ≡ is_showing shows below }
@@ -328,44 +302,16 @@ pub(crate) fn is_same_side(left: SideName, right: SideName) -> bool
     }
 }
 
-/// The number of a parent.
-fn parent_of(parent: Option<ScopeId>) -> Option<u64>
-    ensures { result ≡ number_of parent }
-{
-    match parent {
-        Some(parent) => Some(parent.0),
-        None => None,
-    }
-}
-
-/// A side of a scope as it stood.
-fn side_of_stood<P: Parts>(stood: &Stood<P>, name: SideName) -> &Side<P>
-    ensures { result.now ≡ side_stood stood.now name }
-{
-    match name {
-        SideName::Main => &stood.main_side,
-        SideName::Children => &stood.children_side,
-        SideName::Fallback => &stood.fallback_side,
-    }
-}
-
-/// The side that a scope shows as it stands.
-pub(crate) fn shown_now<P: Parts>(scope: &Scope<P>) -> Option<&Side<P>>
-    ensures { option_copied result ≡ shown_standing scope.now }
-{
-    match scope.rest.shows {
-        Some(name) => Some(side_of_scope(scope, name)),
-        None => None,
-    }
-}
-
-/// A side of a scope as it stands.
-fn side_of_scope<P: Parts>(scope: &Scope<P>, name: SideName) -> &Side<P>
-    ensures { result.now ≡ side_standing scope.now name }
-{
-    match name {
-        SideName::Main => &scope.rest.main_side,
-        SideName::Children => &scope.rest.children_side,
-        SideName::Fallback => &scope.rest.fallback_side,
+/// The component of the application's that this is, if it is one.
+fn own_component<P: Parts>(component: &VComponent<P>) -> Option<&P::Component> {
+    match component {
+        VComponent::App {
+            component,
+            props: _,
+        } => Some(component),
+        VComponent::Fragment(_) => None,
+        VComponent::ErrorBoundary(_) => None,
+        VComponent::SuspenseBoundary(_) => None,
+        VComponent::Root(_) => None,
     }
 }

@@ -4,18 +4,21 @@ ghost use Rattle.std.specs.Prelude.{◌≡◌, ◌+◌, [], IfOk, OnOk};
 ghost use Rattle.rt_model.specs.Document.{DocElement, Empty, Node, join_rows};
 ghost use Rattle.run_attributes.specs.Content.{with_all_listeners, with_entries};
 ghost use Rattle.tree_edits.specs.Documents.{content_of, forest_below, forest_of};
-ghost use Rattle.run_places.specs.Places.{kind_of};
+ghost use Rattle.tree_mirror.specs.Sealed.{template_of};
+ghost use Rattle.run_places.specs.Places.{at_path, kind_of};
 ghost use Rattle.run_places.specs.Sides.{number_in};
 ghost use Rattle.run_places.specs.Trails.{path_of, place_on};
 ghost use Rattle.run_shown.specs.Seen.{child_seen, items_in, node_in, row_in, scope_seen, seen_by, side_seen, tree_in, value_in};
 
 use crate::asked::{Asked, show_given};
 use crate::look::Look;
+use crate::numbered::{Standing, number_at};
 use rt_edits::{DocKind, DocNode};
 use rt_values::{ElementId, List, OutOfMemory, Part, Text, both};
 use run_attributes::{element_attributes, element_listeners};
 use run_places::{Kind, Path, Side, Trail, down};
 use std::alloc::Global;
+use std::cell::Cell;
 use tree_nodes::{Attribute, DynamicNode, Parts, TemplateAttribute, TemplateNode, VNode};
 
 /// A side whose tree is shown, and who is asked for what its components show.
@@ -23,14 +26,11 @@ use tree_nodes::{Attribute, DynamicNode, Parts, TemplateAttribute, TemplateNode,
 pub(crate) struct Shown<'a, P: Parts> {
     pub asked: Asked<'a, P>,
     pub side: &'a Side<P>,
-}
-
-/// A tree of a side, at its place.
-#[derive(Drop)]
-pub(crate) struct Standing<'a, P: Parts> {
-    pub shown: &'a Shown<'a, P>,
-    pub tree: &'a VNode<P>,
-    pub above: &'a Trail<'a>,
+    /// A component of the application's, where one is known: then components can be told apart, so
+    /// the side knows the nodes of its tree.
+    pub named: Option<&'a P::Component>,
+    /// Which of its nodes most likely shows next. It is tested, and no clause says what it is.
+    pub next: Cell<u64>,
 }
 
 /// Puts the nodes of a scope after the others, at most `depth` scopes deep.
@@ -56,6 +56,8 @@ pub(crate) fn show_scope<P: Parts>(
             let shown = Shown {
                 asked: Asked::Look(&*look, depth - 1),
                 side,
+                named: look.named(scope),
+                next: Cell::new(0),
             };
             show_side(alloc, &shown, levels, row)
         }
@@ -76,7 +78,17 @@ fn show_side<P: Parts>(
 {
     let levels = down(levels)?;
     match &shown.side.output {
-        Some(tree) => show_tree(alloc, shown, tree, &Trail::Root, levels, row),
+        Some(tree) => {
+            let root = Trail::Root;
+            let standing = Standing {
+                shown: &*shown,
+                tree,
+                above: &root,
+                own: true,
+            };
+            let nodes = tree.template.roots();
+            show_nodes(alloc, &standing, &Path::Top, nodes, levels, row)
+        }
         None => Ok(()),
     }
 }
@@ -100,6 +112,7 @@ pub(crate) fn show_tree<P: Parts>(
         shown: &*shown,
         tree,
         above: &*above,
+        own: false,
     };
     let nodes = tree.template.roots();
     show_nodes(alloc, &standing, &Path::Top, nodes, levels, row)
@@ -144,7 +157,6 @@ fn show_node<P: Parts>(
 {
     let levels = down(levels)?;
     let path = Path::Below(&*up, index);
-    let place = Trail::Inside(&*standing.above, &standing.tree.template, &path);
     match node {
         TemplateNode::Element {
             tag,
@@ -152,7 +164,7 @@ fn show_node<P: Parts>(
             attrs,
             children,
         } => {
-            let number = standing.shown.side.number_on(&place, Kind::Element);
+            let number = number_at(standing, &path, Kind::Element);
             let mut below = List::new(alloc);
             let nodes = children.as_slice();
             show_nodes(alloc, standing, &path, nodes, levels, &mut below)?;
@@ -161,14 +173,44 @@ fn show_node<P: Parts>(
             push_node(number, kind, row)
         }
         TemplateNode::Text { text } => {
-            let number = standing.shown.side.number_on(&place, Kind::StaticText);
+            let number = number_at(standing, &path, Kind::StaticText);
             let kind = DocKind::Text(text.copy(alloc)?);
             push_node(number, kind, row)
         }
         TemplateNode::Dynamic { id } => match standing.tree.dynamic_nodes.get(*id as usize) {
-            Some(value) => show_slot(alloc, standing.shown, value, &place, levels, row),
+            Some(value) => show_value(alloc, standing, &path, value, levels, row),
             None => Ok(()),
         },
+    }
+}
+
+// Those of what stands in a slot of a tree, at a path.
+#[cycle(view)]
+#[tactic(auto, using(crate::proofs::Views::views))]
+fn show_value<P: Parts>(
+    alloc: Global,
+    standing: &Standing<'_, P>,
+    path: &Path<'_>,
+    value: &DynamicNode<P>,
+    levels: u64,
+    row: &mut List<DocNode>,
+) -> Result<(), OutOfMemory>
+    ensures { OnOk result (forest_of row.new ≡ join_rows (forest_of row.old)
+        (value_in standing.now.shown.now value.now
+        (at_path (template_of (standing.now.tree.now).template) (place_on standing.now.above.now)
+        (path_of path.now)))) }
+{
+    let levels = down(levels)?;
+    match value {
+        DynamicNode::Text(text) => {
+            let number = number_at(standing, path, Kind::Text);
+            let kind = DocKind::Text(text.copy(alloc)?);
+            push_node(number, kind, row)
+        }
+        other => {
+            let place = Trail::Inside(&*standing.above, &standing.tree.template, &*path);
+            show_slot(alloc, standing.shown, other, &place, levels, row)
+        }
     }
 }
 
@@ -218,18 +260,18 @@ pub(crate) fn show_slot<P: Parts>(
     let levels = down(levels)?;
     match value {
         DynamicNode::Text(text) => {
-            let number = shown.side.number_on(place, Kind::Text);
+            let number = shown.number_on(place, Kind::Text);
             let kind = DocKind::Text(text.copy(alloc)?);
             push_node(number, kind, row)
         }
         DynamicNode::Placeholder => {
-            let number = shown.side.number_on(place, Kind::Placeholder);
+            let number = shown.number_on(place, Kind::Placeholder);
             push_node(number, DocKind::Placeholder, row)
         }
         DynamicNode::Component(_) => show_child(alloc, shown, place, levels, row),
         DynamicNode::Fragment(trees) => {
             if trees.is_empty() {
-                let number = shown.side.number_on(place, Kind::EmptyFragment);
+                let number = shown.number_on(place, Kind::EmptyFragment);
                 return push_node(number, DocKind::Placeholder, row);
             }
             show_items(alloc, shown, 0, place, trees.as_slice(), levels, row)

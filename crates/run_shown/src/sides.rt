@@ -25,6 +25,7 @@ use rt_edits::{DocNode, Edit};
 use rt_values::{ElementId, List, OutOfMemory, both};
 use run_places::{Place, Side, Trail};
 use std::alloc::Global;
+use std::cell::Cell;
 use tree_nodes::{DynamicNode, Parts, VNode};
 
 /// The scopes before and after a unit, and the way to what was refused in it.
@@ -53,6 +54,8 @@ pub(crate) fn shown_in<'a, P: Parts>(look: &'a Look<'a, P>, side: &'a Side<P>) -
     Shown {
         asked: Asked::Look(look, look.scopes()),
         side,
+        named: None,
+        next: Cell::new(0),
     }
 }
 
@@ -138,9 +141,13 @@ fn replaces(
     Ok(writes(replaced_by(alloc, old.as_slice(), new)?))
 }
 
-// The first old node is replaced by the new ones, the others are removed.
+/// The first old node is replaced by the new ones, the others are removed.
 #[tactic(auto, using(crate::proofs::Writings::writings))]
-fn replaced_by(alloc: Global, old: &[u64], new: List<DocNode>) -> Result<List<Edit>, OutOfMemory>
+pub fn replaced_by(
+    alloc: Global,
+    old: &[u64],
+    new: List<DocNode>,
+) -> Result<List<Edit>, OutOfMemory>
     ensures { IfOk result (λ edits. map edit_of edits ≡ replaced old.now (forest_of new)) }
 {
     let mut edits = List::new(alloc);
@@ -156,7 +163,7 @@ fn replaced_by(alloc: Global, old: &[u64], new: List<DocNode>) -> Result<List<Ed
 
 /// Each of these nodes is removed.
 #[tactic(auto, using(crate::proofs::Writings::writings))]
-pub(crate) fn removals(alloc: Global, tops: &[u64]) -> Result<List<Edit>, OutOfMemory>
+pub fn removals(alloc: Global, tops: &[u64]) -> Result<List<Edit>, OutOfMemory>
     ensures { IfOk result (λ edits. map edit_of edits ≡ removed tops.now) }
 {
     let mut edits = List::new(alloc);

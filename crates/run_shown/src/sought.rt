@@ -1,16 +1,15 @@
 //! Where a number that is looked for stands: which scopes lead to it, and at which place of a side.
 
-ghost use Rattle.std.specs.Prelude.{◌≡◌, ◌≢◌, ◌↔◌, [], nat_eq, is_none, IfOk, IfSome, IsTrue};
+ghost use Rattle.std.specs.Prelude.{◌≡◌, ◌≢◌, ◌↔◌, [], nat_eq, IfOk, IfSome, IsTrue};
 ghost use Rattle.rt_model.specs.Lists.{has};
-ghost use Rattle.run_shown.specs.Leading.{IsOnlyAt, Leads, all_clear, fits_at, is_passed, only_where, scope_clear, shown_standing, side_clear, spot_where};
+ghost use Rattle.run_shown.specs.Leading.{IsHolder, IsOnlyAt, IsWay, KnowSeats, Leads, lone_where, same_spot};
 ghost use Rattle.run_shown.specs.Ways.{place_found};
 
-use crate::look::{Look, shown_now};
+use crate::look::Look;
 use crate::scope_set::ScopeSet;
 use crate::touching::reach;
 use rt_values::OutOfMemory;
 use run_places::{Place, Side, Step};
-use run_records::Scope;
 use std::alloc::Global;
 use tree_nodes::Parts;
 
@@ -31,94 +30,41 @@ pub(crate) struct Ahead<'a> {
     pub steps: &'a [Step],
 }
 
-/// The scopes that lead to a number: the one that shows it, and those above. None where it isn't
-/// sure that no other one does.
+/// The scopes that lead to a number: the one that has it, and those above. None where the way up has
+/// no end.
 pub(crate) fn way_to_number<P: Parts>(
     alloc: Global,
     look: &Look<'_, P>,
     number: u64,
+    holder: Option<u64>,
 ) -> Result<Option<ScopeSet>, OutOfMemory>
+    requires holds { IsHolder look.now number holder }
+    requires seated { KnowSeats look.now }
     ensures { IfOk result (λ found. IfSome found (λ way. Leads look.now number way)) }
 {
     if number == 0 {
         return Ok(None);
     }
-    let Some(rows) = look.all_standing() else {
-        return Ok(None);
-    };
-    let way = scopes_above(alloc, look, rows, number)?;
-    if are_clear(rows, number, &way) {
+    match holder {
+        Some(scope) => up_from(alloc, look, scope),
+        None => Ok(Some(ScopeSet::new(alloc))),
+    }
+}
+
+// A scope, with those above it. None where the way up has no end.
+fn up_from<P: Parts>(
+    alloc: Global,
+    look: &Look<'_, P>,
+    scope: u64,
+) -> Result<Option<ScopeSet>, OutOfMemory>
+    ensures { IfOk result (λ found. IfSome found (λ way. IsWay look.now scope way)) }
+{
+    let mut way = ScopeSet::new(alloc);
+    let all = reach(look, scope, &mut way)?;
+    if all {
         return Ok(Some(way));
     }
     Ok(None)
-}
-
-// The scope that shows a number, with those above it.
-fn scopes_above<P: Parts>(
-    alloc: Global,
-    look: &Look<'_, P>,
-    rows: &[(u64, Scope<P>)],
-    number: u64,
-) -> Result<ScopeSet, OutOfMemory> {
-    let mut way = ScopeSet::new(alloc);
-    if let Some(scope) = holder(rows, number) {
-        let _all = reach(look, scope, &mut way)?;
-    }
-    Ok(way)
-}
-
-// The first scope that shows a number.
-fn holder<P: Parts>(rows: &[(u64, Scope<P>)], number: u64) -> Option<u64> {
-    for row in rows {
-        if shows_number(&row.1, number) {
-            return Some(row.0);
-        }
-    }
-    None
-}
-
-// Whether a number stands on the side that a scope shows.
-fn shows_number<P: Parts>(scope: &Scope<P>, number: u64) -> bool {
-    match shown_now(scope) {
-        Some(side) => !has_no_number(side.numbers.as_slice(), number),
-        None => false,
-    }
-}
-
-// Whether each scope shows neither a number nor a child that leads to it, or leads to it itself.
-fn are_clear<P: Parts>(rows: &[(u64, Scope<P>)], number: u64, way: &ScopeSet) -> bool
-    ensures { result ≡ all_clear number way.now rows.now }
-{
-    for row in rows {
-        if !is_passed(row.0, &row.1, number, way) {
-            return false;
-        }
-    }
-    true
-}
-
-#[tactic(auto, using(crate::proofs::Leadings::passing))]
-fn is_passed<P: Parts>(scope: u64, row: &Scope<P>, number: u64, way: &ScopeSet) -> bool
-    ensures { result ≡ is_passed number way.now scope row.now }
-{
-    shows_none(row, number, way) || way.has(scope)
-}
-
-// Whether a scope shows neither the number nor a child that leads to it.
-fn shows_none<P: Parts>(row: &Scope<P>, number: u64, way: &ScopeSet) -> bool
-    ensures { result ≡ scope_clear number way.now (shown_standing row.now) }
-{
-    match shown_now(row) {
-        Some(side) => is_clear(side, number, way),
-        None => true,
-    }
-}
-
-// Whether neither the number stands on a side nor a child that leads to it.
-fn is_clear<P: Parts>(side: &Side<P>, number: u64, way: &ScopeSet) -> bool
-    ensures { result ≡ side_clear number way.now side.now }
-{
-    has_no_number(side.numbers.as_slice(), number) && leads_nowhere(side.children.as_slice(), way)
 }
 
 /// The only place of a side at which the number stands, or a child that leads to it. None where that
@@ -127,45 +73,17 @@ pub(crate) fn aim<'a, P: Parts>(side: &'a Side<P>, sought: &Sought<'_>) -> Optio
     requires some { sought.now.number ≢ 0 }
     ensures { IsOnlyAt side.now sought.now (place_found result) }
 {
-    match spot_with(side.numbers.as_slice(), sought.number) {
-        Some(spot) => node_aim(side, sought, spot),
-        None => child_aim(side, sought),
-    }
-}
-
-// The place of the node under an index, where no other one has the number and no child leads to it.
-fn node_aim<'a, P: Parts>(side: &'a Side<P>, sought: &Sought<'_>, spot: u64) -> Option<&'a Place>
-    requires some { sought.now.number ≢ 0 }
-    ensures { IsOnlyAt side.now sought.now (place_found result) }
-{
-    let numbers = side.numbers.as_slice();
-    if !only_with(numbers, sought.number, spot) {
-        return None;
-    }
-    let children = side.children.as_slice();
-    if !leads_nowhere(children, sought.way) {
-        return None;
-    }
-    side.nodes.place_of(spot)
-}
-
-// The place of the child that leads to the number, where no other one does and no node has it.
-fn child_aim<'a, P: Parts>(side: &'a Side<P>, sought: &Sought<'_>) -> Option<&'a Place>
-    requires some { sought.now.number ≢ 0 }
-    ensures { IsOnlyAt side.now sought.now (place_found result) }
-{
-    let numbers = side.numbers.as_slice();
-    if !has_no_number(numbers, sought.number) {
-        return None;
-    }
-    let children = side.children.as_slice();
-    let Some(spot) = spot_on(children, sought.way) else {
+    let Some(node) = lone_with(side.numbers.as_slice(), sought.number) else {
         return None;
     };
-    if !only_on(children, sought.way, spot) {
+    let Some(child) = lone_on(side.children.as_slice(), sought.way) else {
         return None;
+    };
+    match (node, child) {
+        (Some(spot), None) => side.nodes.place_of(spot),
+        (None, Some(spot)) => side.seats.place_of(spot),
+        _ => None,
     }
-    side.seats.place_of(spot)
 }
 
 /// Whether a path ends here.
@@ -175,71 +93,45 @@ pub(crate) fn is_end(path: &[u8]) -> bool
     path.is_empty()
 }
 
-// Whether none of these is the number.
-fn has_no_number(pairs: &[(u64, u64)], number: u64) -> bool
-    ensures { result ≡ is_none (spot_where (λ m. nat_eq m number) pairs.now) }
+// The only index beside a number, if one is. None where more than one are.
+fn lone_with(pairs: &[(u64, u64)], number: u64) -> Option<Option<u64>>
+    ensures { result ≡ lone_where (λ m. nat_eq m number) pairs.now }
 {
-    spot_with(pairs, number).is_none()
-}
-
-// Whether none of these leads to the number.
-fn leads_nowhere(pairs: &[(u64, u64)], way: &ScopeSet) -> bool
-    ensures { result ≡ is_none (spot_where (λ t. has way.now t) pairs.now) }
-{
-    spot_on(pairs, way).is_none()
-}
-
-// The index beside a number.
-fn spot_with(pairs: &[(u64, u64)], number: u64) -> Option<u64>
-    ensures { result ≡ spot_where (λ m. nat_eq m number) pairs.now }
-{
+    let mut found = None;
     for pair in pairs {
         if pair.1 == number {
-            return Some(pair.0);
+            if !is_same(found, pair.0) {
+                return None;
+            }
+            found = Some(pair.0);
         }
     }
-    None
+    Some(found)
 }
 
-// The index beside the first child that leads to the number.
-fn spot_on(pairs: &[(u64, u64)], way: &ScopeSet) -> Option<u64>
-    ensures { result ≡ spot_where (λ t. has way.now t) pairs.now }
+// The only index beside the children that lead to the number, if one is. None where more than one
+// are.
+fn lone_on(pairs: &[(u64, u64)], way: &ScopeSet) -> Option<Option<u64>>
+    ensures { result ≡ lone_where (λ t. has way.now t) pairs.now }
 {
+    let mut found = None;
     for pair in pairs {
         if way.has(pair.1) {
-            return Some(pair.0);
+            if !is_same(found, pair.0) {
+                return None;
+            }
+            found = Some(pair.0);
         }
     }
-    None
+    Some(found)
 }
 
-// Whether a number stands under one index alone.
-fn only_with(pairs: &[(u64, u64)], number: u64, spot: u64) -> bool
-    ensures { result ≡ only_where (λ m. nat_eq m number) spot pairs.now }
+// Whether an index is the one that was found before, if one was.
+fn is_same(found: Option<u64>, index: u64) -> bool
+    ensures { result ≡ same_spot found index }
 {
-    for pair in pairs {
-        if !fits(pair.1 == number, pair.0, spot) {
-            return false;
-        }
+    match found {
+        Some(spot) => spot == index,
+        None => true,
     }
-    true
-}
-
-// Whether the children that lead to the number stand under one index alone.
-fn only_on(pairs: &[(u64, u64)], way: &ScopeSet, spot: u64) -> bool
-    ensures { result ≡ only_where (λ t. has way.now t) spot pairs.now }
-{
-    for pair in pairs {
-        if !fits(way.has(pair.1), pair.0, spot) {
-            return false;
-        }
-    }
-    true
-}
-
-// Whether an index is the one that is asked for, where it is asked.
-fn fits(asked: bool, index: u64, spot: u64) -> bool
-    ensures { result ≡ fits_at asked index spot }
-{
-    if asked { index == spot } else { true }
 }

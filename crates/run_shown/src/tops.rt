@@ -2,19 +2,20 @@
 //! along what is below it, so nothing below is looked at.
 
 ghost use Rattle.std.specs.Prelude.{◌≡◌, ◌++◌, ◌∷◌, [], IfOk, OnOk};
-ghost use Rattle.run_places.specs.Places.{kind_of};
-ghost use Rattle.run_places.specs.Sides.{number_in};
-ghost use Rattle.run_places.specs.Trails.{path_of, place_on};
-ghost use Rattle.run_shown.specs.Seen.{child_seen, items_in, node_in, row_in, scope_seen, seen_by, side_seen, tree_in, value_in};
+ghost use Rattle.run_places.specs.Trails.{place_on};
+ghost use Rattle.run_shown.specs.Pieces.{side_pieces, tops_by};
+ghost use Rattle.run_shown.specs.Seen.{items_in, scope_seen, seen_by, tree_in, value_in};
 ghost use Rattle.run_shown.specs.Tops.{tops_of};
 
-use crate::asked::{Asked, add_given};
+use crate::asked::Asked;
+use crate::given::numbers_given;
 use crate::look::Look;
-use crate::showing::{Shown, Standing, position_after};
+use crate::pieces::{Top, items_pieces, slot_pieces, tree_pieces};
+use crate::showing::Shown;
 use rt_values::{List, OutOfMemory};
-use run_places::{Kind, LEVELS, Path, Side, Trail, down};
+use run_places::{LEVELS, Side, Trail, down};
 use std::alloc::Global;
-use tree_nodes::{DynamicNode, Parts, TemplateNode, VNode};
+use tree_nodes::{DynamicNode, Parts, VNode};
 
 /// The numbers of the top nodes that a scope shows.
 pub(crate) fn scope_tops<P: Parts>(
@@ -25,7 +26,7 @@ pub(crate) fn scope_tops<P: Parts>(
     ensures { IfOk result (λ tops. tops ≡ tops_of (scope_seen look.now look.now.scopes scope)) }
 {
     let mut tops = List::new(alloc);
-    add_scope(look, look.scopes(), scope, LEVELS, &mut tops)?;
+    add_scope(alloc, look, look.scopes(), scope, LEVELS, &mut tops)?;
     Ok(tops)
 }
 
@@ -39,9 +40,8 @@ pub(crate) fn tree_tops<P: Parts>(
     ensures { IfOk result (λ tops.
         tops ≡ tops_of (tree_in shown.now tree.now (place_on above.now))) }
 {
-    let mut tops = List::new(alloc);
-    add_tree(shown, tree, above, LEVELS, &mut tops)?;
-    Ok(tops)
+    let pieces = tree_pieces(alloc, shown.side, tree, above)?;
+    numbers_of(alloc, &shown.asked, pieces.as_slice())
 }
 
 /// The numbers of the top nodes of what stands in a slot at a place.
@@ -54,9 +54,8 @@ pub(crate) fn slot_tops<P: Parts>(
     ensures { IfOk result (λ tops.
         tops ≡ tops_of (value_in shown.now value.now (place_on place.now))) }
 {
-    let mut tops = List::new(alloc);
-    add_slot(shown, value, place, LEVELS, &mut tops)?;
-    Ok(tops)
+    let pieces = slot_pieces(alloc, shown.side, value, place)?;
+    numbers_of(alloc, &shown.asked, pieces.as_slice())
 }
 
 /// The numbers of the top nodes of a fragment's items, the first of which has the position `first`.
@@ -70,15 +69,33 @@ pub(crate) fn items_tops<P: Parts>(
     ensures { IfOk result (λ tops.
         tops ≡ tops_of (items_in shown.now first (place_on place.now) trees.now)) }
 {
-    let mut tops = List::new(alloc);
-    add_items(shown, first, place, trees, LEVELS, &mut tops)?;
-    Ok(tops)
+    let pieces = items_pieces(alloc, shown.side, first, place, trees)?;
+    numbers_of(alloc, &shown.asked, pieces.as_slice())
 }
 
-/// Puts those of a scope after the others, at most `depth` scopes deep.
+// The numbers of what stands at the top, where child scopes show what is asked of them.
+fn numbers_of<P: Parts>(
+    alloc: Global,
+    asked: &Asked<'_, P>,
+    pieces: &[Top],
+) -> Result<List<u64>, OutOfMemory>
+    ensures { IfOk result (λ tops. tops ≡ tops_by (λ t. seen_by asked.now t) pieces.now) }
+{
+    match asked {
+        Asked::Look(look, depth) => {
+            let mut tops = List::new(alloc);
+            add_all(alloc, look, *depth, pieces, LEVELS, &mut tops)?;
+            Ok(tops)
+        }
+        Asked::Given(given) => numbers_given(alloc, given, pieces),
+    }
+}
+
+// Puts those of a scope after the others, at most `depth` scopes deep.
 #[cycle(tops)]
 #[tactic(auto, using(crate::proofs::TopsSeen::tops))]
 fn add_scope<P: Parts>(
+    alloc: Global,
     look: &Look<'_, P>,
     depth: u64,
     scope: u64,
@@ -92,204 +109,62 @@ fn add_scope<P: Parts>(
         return Ok(());
     }
     match look.shown_side(scope) {
-        Some(side) => add_side(
-            &Shown {
-                asked: Asked::Look(&*look, depth - 1),
-                side,
-            },
-            levels,
-            tops,
-        ),
+        Some(side) => {
+            let pieces = side_pieces(alloc, side)?;
+            add_all(alloc, look, depth - 1, pieces.as_slice(), levels, tops)
+        }
         None => Ok(()),
     }
 }
 
+// Puts the numbers of what stands at the top after the others.
 #[cycle(tops)]
 #[tactic(auto, using(crate::proofs::TopsSeen::tops))]
-fn add_side<P: Parts>(
-    shown: &Shown<'_, P>,
+fn add_all<P: Parts>(
+    alloc: Global,
+    look: &Look<'_, P>,
+    depth: u64,
+    pieces: &[Top],
     levels: u64,
     tops: &mut List<u64>,
 ) -> Result<(), OutOfMemory>
-    ensures { OnOk result (tops.new ≡ tops.old
-        ++ tops_of (side_seen shown.now.asked shown.now.side.now)) }
+    ensures { OnOk result (tops.new
+        ≡ tops.old ++ tops_by (λ t. scope_seen look.now depth t) pieces.now) }
 {
     let levels = down(levels)?;
-    match &shown.side.output {
-        Some(tree) => add_tree(shown, tree, &Trail::Root, levels, tops),
-        None => Ok(()),
-    }
-}
-
-#[cycle(tops)]
-#[tactic(auto, using(crate::proofs::TopsSeen::tops))]
-fn add_tree<P: Parts>(
-    shown: &Shown<'_, P>,
-    tree: &VNode<P>,
-    above: &Trail<'_>,
-    levels: u64,
-    tops: &mut List<u64>,
-) -> Result<(), OutOfMemory>
-    ensures { OnOk result (tops.new ≡ tops.old
-        ++ tops_of (tree_in shown.now tree.now (place_on above.now))) }
-{
-    let levels = down(levels)?;
-    let standing = Standing {
-        shown: &*shown,
-        tree,
-        above: &*above,
-    };
-    let nodes = tree.template.roots();
-    add_nodes(&standing, &Path::Top, nodes, levels, tops)
-}
-
-// Those of these nodes of a template, below the one with the path `up`.
-#[cycle(tops)]
-#[tactic(auto, using(crate::proofs::TopsSeen::tops))]
-fn add_nodes<P: Parts>(
-    standing: &Standing<'_, P>,
-    up: &Path<'_>,
-    nodes: &[TemplateNode],
-    levels: u64,
-    tops: &mut List<u64>,
-) -> Result<(), OutOfMemory>
-    ensures { OnOk result (tops.new ≡ tops.old
-        ++ tops_of (row_in standing.now (path_of up.now) 0 nodes.now)) }
-{
-    let levels = down(levels)?;
-    for index in 0..nodes.len() {
-        add_node(standing, up, index as u64, &nodes[index], levels, tops)?;
+    for piece in pieces {
+        add_one(alloc, look, depth, *piece, levels, tops)?;
     }
     Ok(())
 }
 
-// Those of a node of a template, which has an index below the one with the path `up`.
 #[cycle(tops)]
 #[tactic(auto, using(crate::proofs::TopsSeen::tops))]
-fn add_node<P: Parts>(
-    standing: &Standing<'_, P>,
-    up: &Path<'_>,
-    index: u64,
-    node: &TemplateNode,
+fn add_one<P: Parts>(
+    alloc: Global,
+    look: &Look<'_, P>,
+    depth: u64,
+    piece: Top,
     levels: u64,
     tops: &mut List<u64>,
 ) -> Result<(), OutOfMemory>
-    ensures { OnOk result (tops.new ≡ tops.old
-        ++ tops_of (node_in standing.now (path_of up.now) index node.now)) }
+    ensures { OnOk result (tops.new
+        ≡ tops.old ++ tops_by (λ t. scope_seen look.now depth t) (piece ∷ [])) }
 {
     let levels = down(levels)?;
-    let path = Path::Below(&*up, index);
-    let place = Trail::Inside(&*standing.above, &standing.tree.template, &path);
-    match node {
-        TemplateNode::Element { .. } => {
-            add_top(standing.shown.side, &place, Kind::Element, tops)
-        }
-        TemplateNode::Text { .. } => {
-            add_top(standing.shown.side, &place, Kind::StaticText, tops)
-        }
-        TemplateNode::Dynamic { id } => match standing.tree.dynamic_nodes.get(*id as usize) {
-            Some(value) => add_slot(standing.shown, value, &place, levels, tops),
-            None => Ok(()),
-        },
+    match piece {
+        Top::Own(number) => tops.push(number),
+        Top::Child(scope) => add_scope(alloc, look, depth, scope, levels, tops),
     }
 }
 
-#[cycle(tops)]
-#[tactic(auto, using(crate::proofs::TopsSeen::tops))]
-fn add_slot<P: Parts>(
-    shown: &Shown<'_, P>,
-    value: &DynamicNode<P>,
-    place: &Trail<'_>,
-    levels: u64,
-    tops: &mut List<u64>,
-) -> Result<(), OutOfMemory>
-    ensures { OnOk result (tops.new ≡ tops.old
-        ++ tops_of (value_in shown.now value.now (place_on place.now))) }
+// What stands at the top of a side's tree, if it has one.
+#[tactic(auto, using(crate::proofs::PieceRows::pieces))]
+fn side_pieces<P: Parts>(alloc: Global, side: &Side<P>) -> Result<List<Top>, OutOfMemory>
+    ensures { IfOk result (λ tops. tops ≡ side_pieces side.now) }
 {
-    let levels = down(levels)?;
-    match value {
-        DynamicNode::Text(_) => add_top(shown.side, place, Kind::Text, tops),
-        DynamicNode::Placeholder => add_top(shown.side, place, Kind::Placeholder, tops),
-        DynamicNode::Component(_) => add_child(shown, place, levels, tops),
-        DynamicNode::Fragment(trees) => {
-            if trees.is_empty() {
-                return add_top(shown.side, place, Kind::EmptyFragment, tops);
-            }
-            add_items(shown, 0, place, trees.as_slice(), levels, tops)
-        }
+    match &side.output {
+        Some(tree) => Ok(tree_pieces(alloc, side, tree, &Trail::Root)?),
+        None => Ok(List::new(alloc)),
     }
-}
-
-// Those of the child scope at a place.
-#[cycle(tops)]
-#[tactic(auto, using(crate::proofs::TopsSeen::tops))]
-fn add_child<P: Parts>(
-    shown: &Shown<'_, P>,
-    place: &Trail<'_>,
-    levels: u64,
-    tops: &mut List<u64>,
-) -> Result<(), OutOfMemory>
-    ensures { OnOk result (tops.new ≡ tops.old ++ tops_of
-        (child_seen shown.now.asked shown.now.side.now (place_on place.now))) }
-{
-    let levels = down(levels)?;
-    match shown.side.child_on(place) {
-        Some(child) => add_asked(&shown.asked, child, levels, tops),
-        None => Ok(()),
-    }
-}
-
-// Those of a child scope, by who is asked.
-#[cycle(tops)]
-#[tactic(auto, using(crate::proofs::TopsSeen::tops))]
-fn add_asked<P: Parts>(
-    asked: &Asked<'_, P>,
-    scope: u64,
-    levels: u64,
-    tops: &mut List<u64>,
-) -> Result<(), OutOfMemory>
-    ensures { OnOk result (tops.new ≡ tops.old ++ tops_of (seen_by asked.now scope)) }
-{
-    let levels = down(levels)?;
-    match asked {
-        Asked::Look(look, depth) => add_scope(look, *depth, scope, levels, tops),
-        Asked::Given(given) => add_given(given, scope, tops),
-    }
-}
-
-#[cycle(tops)]
-#[tactic(auto, using(crate::proofs::TopsSeen::tops))]
-fn add_items<P: Parts>(
-    shown: &Shown<'_, P>,
-    first: u64,
-    place: &Trail<'_>,
-    trees: &[VNode<P>],
-    levels: u64,
-    tops: &mut List<u64>,
-) -> Result<(), OutOfMemory>
-    ensures { OnOk result (tops.new ≡ tops.old
-        ++ tops_of (items_in shown.now first (place_on place.now) trees.now)) }
-{
-    let levels = down(levels)?;
-    for index in 0..trees.len() {
-        let position = position_after(first, index as u64)?;
-        let above = Trail::Item(&*place, position);
-        add_tree(shown, &trees[index], &above, levels, tops)?;
-    }
-    Ok(())
-}
-
-// The one at a place.
-fn add_top<P: Parts>(
-    side: &Side<P>,
-    place: &Trail<'_>,
-    kind: Kind,
-    tops: &mut List<u64>,
-) -> Result<(), OutOfMemory>
-    ensures { OnOk result (tops.new ≡ tops.old
-        ++ number_in side.now (place_on place.now) (kind_of kind) ∷ []) }
-{
-    let number = side.number_on(place, kind);
-    tops.push(number)?;
-    Ok(())
 }

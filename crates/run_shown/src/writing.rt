@@ -12,16 +12,16 @@ use crate::comparing::written_within;
 use crate::edited::Edited;
 use crate::look::{Look, Stood};
 use crate::own::own_written;
+use crate::remembered::Remembered;
 use crate::rows::view;
 use crate::scope_set::ScopeSet;
 use crate::sides::Unit;
 use crate::touching::touched_below;
 use crate::way::{Stop, way_to};
 use rt_edits::Edit;
-use rt_values::{Boxed, ElementId, List, OutOfMemory};
+use rt_values::{ElementId, List, OutOfMemory};
 use run_places::LEVELS;
 use run_records::Rows;
-use run_table::Table;
 use run_work::Item;
 use std::alloc::Global;
 use tree_nodes::Parts;
@@ -43,7 +43,7 @@ pub fn built<P: Parts>(alloc: Global, after: &Look<'_, P>) -> Result<List<Edit>,
 pub fn written<P: Parts>(
     alloc: Global,
     rows: &Rows<P>,
-    stood: &Table<Option<Boxed<Stood<P>>>>,
+    stood: &Remembered<Stood<P>>,
     lived: u64,
     scope: u64,
 ) -> Result<List<Edit>, OutOfMemory>
@@ -52,7 +52,7 @@ pub fn written<P: Parts>(
 {
     let before = Look::before(rows, stood, lived);
     let after = Look::now(rows);
-    let found = touched_below(alloc, stood.as_slice(), &before, &after, scope)?;
+    let found = touched_below(alloc, stood, &before, &after, scope)?;
     match found {
         Some(scopes) => edits_of(alloc, &before, &after, Some(&scopes), scope),
         None => edits_of(alloc, &before, &after, None, scope),

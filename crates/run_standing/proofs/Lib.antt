@@ -2,4 +2,5 @@ pub mod Framed
 mod Kept
 mod Keeps
 mod Changes
+mod Sights
 pub mod Orderly

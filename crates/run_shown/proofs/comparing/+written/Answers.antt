@@ -1,7 +1,9 @@
 -- What each call wrote is what the definitions write, whatever the application.
-use Rattle.std.proofs.Common.{◌≡◌, ◌+◌, ◌<◌, ◌≤◌, [], ◌∷◌, ◌++◌, length, sym, ap, refl, ◌∙◌, arith}
+use Rattle.std.proofs.Common.{◌≡◌, ◌+◌, ◌<◌, ◌≤◌, [], ◌∷◌, ◌++◌, length, sym, ap, refl, subst, ◌∙◌, arith}
 use Rattle.std.proofs.lemmas.Result.{IfOk-weaker}
 use Rattle.std.specs.List.{slice_range}
+use Rattle.std.specs.Prelude.{IfSome}
+use Rattle.run_shown.specs.Still.{AreStill}
 use Rattle.rt_model.specs.Caused as caused
 use Rattle.run_places.specs.Trails.{path_of, place_on}
 use Rattle.run_places.proofs.Trails.{on_Item, on_Root, path_Below, path_Top}
@@ -11,7 +13,8 @@ use Rattle.run_shown.specs.Units.{items_writes, row_writes, tree_writes}
 use Rattle.run_shown.specs.Written.{edited_of}
 use Rattle.run_shown.proofs.OneByOne.{not_at_end, range_to_end}
 use Rattle.run_shown.proofs.TopsSeen.{removed-is}
-use Rattle.run_shown.proofs.ScopesWrite.{name_some, name_some_none, output_both, scope_other, scope_same, tree_matched, unit_passed}
+use Rattle.run_shown.proofs.Looks.{shows_found, shows_gone}
+use Rattle.run_shown.proofs.ScopesWrite.{name_some, output_both, scope_gone, scope_none, scope_other, scope_same, tree_matched, unit_passed}
 use Rattle.run_shown.proofs.SlotsWrite.{child_elsewhere, child_halts, child_on_way}
 use Rattle.run_shown.proofs.Quiet.{child_quiet}
 use Rattle.run_shown.proofs.Walked.{stands_below}
@@ -86,8 +89,14 @@ items_written-returns g t c =
     (c.in_ok-removals.ensures ∙ ap removed (c.as_slice.ensures.items ∙ c.in_ok-over.ensures) ∙ removed-is over))
     c.then_on-2.ensures
 
-pub outputs_written-returns : goal.outputs_written-returns
-outputs_written-returns g t c =
+pub outputs_written-returns-in-Some-still : goal.outputs_written-returns-in-Some-still
+outputs_written-returns-in-Some-still g t c = λ app tests passes.
+    c.writes.ensures
+    ∙ subst (λ o. IfSome o (AreStill c.args.sides.now c.in-Some.new c.in-Some-output.old)) c.in-Some-still.is c.in_ok-still.ensures app tests passes
+    ∙ sym (output_both app c.args.sides.now c.in-Some.new c.in-Some-output.old c.in-Some.is c.in-Some-output.is)
+
+pub outputs_written-returns-in-None : goal.outputs_written-returns-in-None
+outputs_written-returns-in-None g t c =
     IfOk-weaker c.tree_written.result _ _
     (λ written is app tests passes. is app tests passes ∙ ap (λ p. tree_writes app c.args.sides.now p c.in-Some.new c.in-Some-output.old) on_Root ∙
     sym (output_both app c.args.sides.now c.in-Some.new c.in-Some-output.old c.in-Some.is c.in-Some-output.is))
@@ -136,25 +145,51 @@ node_written-returns-in-None-get g t c =
     (is app tests passes) (stands_below _ _ _ (up ++ c.args.index ∷ []) (path_Below _ _)))
     c.slot_written-in-None-get.ensures
 
-pub scope_written-returns-then-is_same_side : goal.scope_written-returns-then-is_same_side
-scope_written-returns-then-is_same_side g t c =
+pub scope_written-returns-in_default : goal.scope_written-returns-in_default
+scope_written-returns-in_default g t c = λ app tests passes.
+    c.nothing.ensures ∙ sym (scope_none app c.args.unit.now c.args.depth c.args.scope (shows_gone c.args.unit.now.before.now c.args.scope c.in_default.ensures))
+
+pub scope_written-returns-in_default-find : goal.scope_written-returns-in_default-find
+scope_written-returns-in_default-find g t c = λ app tests passes.
+    c.nothing-in_default-find.ensures ∙ sym (scope_gone app c.args.unit.now c.args.depth c.args.scope (shows_gone c.args.unit.now.after.now c.args.scope c.in_default-find.ensures))
+
+pub found_written-returns-then-is_same_side : goal.found_written-returns-then-is_same_side
+found_written-returns-then-is_same_side g t c =
     IfOk-weaker c.side_written.result _ _
     (λ written is app tests passes. is app tests passes ∙
-    sym (scope_same app c.args.unit.now c.args.depth c.args.scope c.in-Some.old c.in-Some-shows.new (sym c.in-Some.ensures) (sym c.in-Some-shows.ensures) (sym c.if-is_same_side.ensures)))
+    sym (scope_same app c.args.unit.now c.args.depth c.args.scope c.in-Some.old c.in-Some-shows.new
+    (shows_found c.args.unit.now.before.now c.args.scope _ c.requires.before ∙ sym c.in-Some.ensures)
+    (shows_found c.args.unit.now.after.now c.args.scope _ c.requires.after ∙ sym c.in-Some-shows.ensures)
+    (sym c.if-is_same_side.ensures)))
     c.side_written.ensures
 
-pub scope_written-returns-else-is_same_side : goal.scope_written-returns-else-is_same_side
-scope_written-returns-else-is_same_side g t c =
+pub found_written-returns-else-is_same_side : goal.found_written-returns-else-is_same_side
+found_written-returns-else-is_same_side g t c =
     IfOk-weaker c.scope_replaced.result _ _
     (λ written is app tests passes. is ∙
-    sym (scope_other app c.args.unit.now c.args.depth c.args.scope c.in-Some.old c.in-Some-shows.new (sym c.in-Some.ensures) (sym c.in-Some-shows.ensures) (sym c.if-is_same_side.ensures)))
+    sym (scope_other app c.args.unit.now c.args.depth c.args.scope c.in-Some.old c.in-Some-shows.new
+    (shows_found c.args.unit.now.before.now c.args.scope _ c.requires.before ∙ sym c.in-Some.ensures)
+    (shows_found c.args.unit.now.after.now c.args.scope _ c.requires.after ∙ sym c.in-Some-shows.ensures)
+    (sym c.if-is_same_side.ensures)))
     c.scope_replaced.ensures
 
-pub side_written-returns-in-Some-side : goal.side_written-returns-in-Some-side
-side_written-returns-in-Some-side g t c =
+pub found_written-returns-in-None-shows : goal.found_written-returns-in-None-shows
+found_written-returns-in-None-shows g t c = λ app tests passes.
+    c.nothing.ensures ∙
+    sym (scope_gone app c.args.unit.now c.args.depth c.args.scope
+    (shows_found c.args.unit.now.after.now c.args.scope _ c.requires.after ∙ sym c.in-None-shows.ensures))
+
+pub found_written-returns-in-None : goal.found_written-returns-in-None
+found_written-returns-in-None g t c = λ app tests passes.
+    c.nothing-in-None.ensures ∙
+    sym (scope_none app c.args.unit.now c.args.depth c.args.scope
+    (shows_found c.args.unit.now.before.now c.args.scope _ c.requires.before ∙ sym c.in-None.ensures))
+
+pub side_written-returns : goal.side_written-returns
+side_written-returns g t c =
     IfOk-weaker c.outputs_written.result _ _
     (λ written is app tests passes. is app tests passes ∙
-    name_some app c.args.unit.now c.args.depth c.args.scope c.args.name c.in-Some.old.now c.in-Some-side.new.now _ (sym c.in-Some.ensures) (sym c.in-Some-side.ensures)
+    name_some app c.args.unit.now c.args.depth c.args.scope c.args.name c.args.was.now c.args.side.now _ c.requires.before c.requires.after
     (record {
       of_unit = refl;
       deep = refl;
@@ -165,11 +200,6 @@ side_written-returns-in-Some-side g t c =
       stops = c.stop_on-stop.ensures;
     }))
     c.outputs_written.ensures
-
-pub side_written-returns-in-None-side : goal.side_written-returns-in-None-side
-side_written-returns-in-None-side g t c = λ app tests passes.
-    c.nothing.ensures ∙
-    sym (name_some_none app c.args.unit.now c.args.depth c.args.scope c.args.name c.in-Some.old.now (sym c.in-Some.ensures) (sym c.in-None-side.ensures))
 
 pub tree_written-returns : goal.tree_written-returns
 tree_written-returns g t c =

@@ -20,6 +20,9 @@ decreases-written_within g l = l.levels
 abbrev pub decreases-scope_written : goal.decreases-scope_written
 decreases-scope_written g l = l.levels
 
+abbrev pub decreases-found_written : goal.decreases-found_written
+decreases-found_written g l = l.levels
+
 abbrev pub decreases-side_written : goal.decreases-side_written
 decreases-side_written g l = l.levels
 

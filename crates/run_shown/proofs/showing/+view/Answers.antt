@@ -1,12 +1,13 @@
 -- One more node or item is seen, and at the end all are.
-use Rattle.std.proofs.Common.{◌∙◌, ap, sym}
+use Rattle.std.proofs.Common.{[], ◌∙◌, ap, sym}
 use Rattle.std.proofs.lemmas.Result.{on_ok_weaker}
 use Rattle.rt_model.specs.Document.{join_rows}
 use Rattle.tree_edits.specs.Documents.{forest_of}
 use Rattle.run_places.specs.Trails.{path_of, place_on}
-use Rattle.run_places.proofs.Trails.{on_Item}
-use Rattle.run_shown.specs.Seen.{items_in, row_in, seen_by}
-use Rattle.run_shown.proofs.Views.{asked_look, scope_some, row_more, row_done, items_more, items_done}
+use Rattle.run_places.proofs.Trails.{on_Item, on_Root, path_Top}
+use Rattle.run_shown.specs.Seen.{items_in, row_in, row_seen, seen_by}
+use Rattle.run_shown.proofs.ToldNodes.{tree_told}
+use Rattle.run_shown.proofs.Views.{asked_look, scope_some, side_some, tree_row, row_more, row_done, items_more, items_done}
 use Rattle.run_shown.proofs.showing.+view.Goals as goal
 
 pub show_items-loop-index-preserved : goal.show_items-loop-index-preserved
@@ -47,6 +48,23 @@ show_scope-returns-in-Some g t c =
     h ∙ ap (λ f. join_rows (forest_of c.args.row.now) f) (sym (scope_some c.args.look c.args.depth c.args.scope c.in-Some.side.now c.if-depth-eq0.false (sym c.in-Some.ensures)))
     )
     c.show_side.ensures
+
+pub show_side-invariant_of-standing : goal.show_side-invariant_of-standing
+show_side-invariant_of-standing g t c = record { told = tree_told c.args.shown.now.side.now c.in-Some.tree _ on_Root c.in-Some.is }
+
+pub show_side-returns-in-Some : goal.show_side-returns-in-Some
+show_side-returns-in-Some g t c =
+    let asked = c.args.shown.now.asked in
+    let side = c.args.shown.now.side.now in
+    let tree = c.in-Some.tree in
+    on_ok_weaker c.show_nodes.result
+    (
+    λ h.
+    h
+    ∙ (λ i. join_rows (forest_of c.args.row.now) (row_seen asked side tree (on_Root i) (path_Top i) 0 (c.roots-nodes.ensures.nodes i)))
+    ∙ ap (λ f. join_rows (forest_of c.args.row.now) f) (sym (tree_row asked side tree []) ∙ sym (side_some asked side tree c.in-Some.is))
+    )
+    c.show_nodes.ensures
 
 pub show_asked-returns-in-Look : goal.show_asked-returns-in-Look
 show_asked-returns-in-Look g t c =

@@ -31,6 +31,9 @@ decreases-show_nodes g l = l.levels
 abbrev pub decreases-show_node : goal.decreases-show_node
 decreases-show_node g l = l.levels
 
+abbrev pub decreases-show_value : goal.decreases-show_value
+decreases-show_value g l = l.levels
+
 abbrev pub decreases-show_slot : goal.decreases-show_slot
 decreases-show_slot g l = l.levels
 

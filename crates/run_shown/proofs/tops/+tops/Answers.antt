@@ -1,64 +1,41 @@
--- One more node or item, and at the end all.
-use Rattle.std.proofs.Common.{◌++◌, ◌∙◌, ap, sym}
+-- One thing more at the top, and at the end all.
+use Rattle.std.proofs.Common.{ℕ, ◌∙◌, ◌++◌, ◌∷◌, ◌-◌, [], ap, sym}
 use Rattle.std.proofs.lemmas.Result.{on_ok_weaker}
-use Rattle.run_places.specs.Trails.{path_of, place_on}
-use Rattle.run_places.proofs.Trails.{on_Item}
-use Rattle.run_shown.specs.Seen.{items_in, row_in, seen_by}
-use Rattle.run_shown.specs.Tops.{tops_of}
-use Rattle.run_shown.proofs.TopsSeen.{items_tops_done, items_tops_more, row_tops_done, row_tops_more}
-use Rattle.run_shown.proofs.Views.{asked_look, scope_some}
+use Rattle.run_shown.specs.declared.pieces.Top.TheVariants as top
+use Rattle.run_shown.specs.Pieces.{tops_by}
+use Rattle.run_shown.specs.Seen.{scope_seen}
+use Rattle.run_shown.proofs.OneByOne.{nil-right}
+use Rattle.run_shown.proofs.TopsSeen.{scope_numbers, tops_done, tops_more}
 use Rattle.run_shown.proofs.tops.+tops.Goals as goal
 
-pub add_items-loop-index-preserved : goal.add_items-loop-index-preserved
-add_items-loop-index-preserved g t c =
-    let shown = c.args.shown.now in
-    let place = place_on c.args.place.now in
-    items_tops_more shown.asked shown.side.now c.args.first place c.args.trees.now c.loop-index.index c.index-trees-index.result _ c.in_ok-position.position c.loop-index.tops c.add_tree.new.tops
-    (c.args.tops.now ++ tops_of (items_in shown c.args.first place c.args.trees.now))
-    c.loop-index-test.true c.index-trees-index.is c.loop-index.invariant (on_Item _ _) c.in_ok-position.ensures c.in_ok-add_tree.ensures
-
-pub add_items-returns : goal.add_items-returns
-add_items-returns g t c =
-    let shown = c.args.shown.now in
-    let place = place_on c.args.place.now in
-    items_tops_done shown.asked shown.side.now c.args.first place c.args.trees.now c.loop-index.index c.loop-index.tops
-    (c.args.tops.now ++ tops_of (items_in shown c.args.first place c.args.trees.now))
-    c.loop-index-test.false c.loop-index.invariant
-
-pub add_nodes-loop-index-preserved : goal.add_nodes-loop-index-preserved
-add_nodes-loop-index-preserved g t c =
-    let standing = c.args.standing.now in
-    row_tops_more (standing.shown.now).asked (standing.shown.now).side.now standing.tree.now (place_on standing.above.now) (path_of c.args.up.now) c.args.nodes.now
-    c.loop-index.index c.index-nodes-index.result c.loop-index.tops c.add_node.new.tops (c.args.tops.now ++ tops_of (row_in standing (path_of c.args.up.now) 0 c.args.nodes.now))
-    c.loop-index-test.true c.index-nodes-index.is c.loop-index.invariant c.in_ok-add_node.ensures
-
-pub add_nodes-returns : goal.add_nodes-returns
-add_nodes-returns g t c =
-    let standing = c.args.standing.now in
-    row_tops_done (standing.shown.now).asked (standing.shown.now).side.now standing.tree.now (place_on standing.above.now) (path_of c.args.up.now) c.args.nodes.now
-    c.loop-index.index c.loop-index.tops (c.args.tops.now ++ tops_of (row_in standing (path_of c.args.up.now) 0 c.args.nodes.now))
-    c.loop-index-test.false c.loop-index.invariant
-
-pub add_scope-returns-in-Some : goal.add_scope-returns-in-Some
-add_scope-returns-in-Some g t c =
-    on_ok_weaker c.add_side.result
-    (
-    λ h.
-    h ∙ ap (λ f. c.args.tops.now ++ tops_of f) (sym (scope_some c.args.look c.args.depth c.args.scope c.in-Some.side.now c.if-depth-eq0.false (sym c.in-Some.ensures)))
-    )
-    c.add_side.ensures
-
-pub add_asked-returns-in-Look : goal.add_asked-returns-in-Look
-add_asked-returns-in-Look g t c =
-    on_ok_weaker c.add_scope.result
+pub add_scope-returns-in_ok-pieces-in-Some : goal.add_scope-returns-in_ok-pieces-in-Some
+add_scope-returns-in_ok-pieces-in-Some g t c =
+    let look = c.args.look in
+    let depth = c.args.depth in
+    on_ok_weaker c.add_all.result
     (
     λ h.
     h
-    ∙ ap (λ f. c.args.tops.now ++ tops_of f) (sym (asked_look c.in-Look.look c.in-Look.depth c.args.scope))
-    ∙ ap (λ a. c.args.tops.now ++ tops_of (seen_by a c.args.scope)) (sym c.in-Look.is)
+    ∙ ap (λ ts. c.args.tops.now ++ tops_by (λ t. scope_seen look.now (depth - 1) t) ts) (c.as_slice.ensures.items ∙ c.in_ok-pieces-in-Some.ensures)
+    ∙ ap (λ ns. c.args.tops.now ++ ns) (sym (scope_numbers look depth c.args.scope c.in-Some.side.now c.if-depth-eq0.false (sym c.in-Some.ensures)))
     )
-    c.add_scope.ensures
+    c.add_all.ensures
 
-pub add_asked-returns-in-Given : goal.add_asked-returns-in-Given
-add_asked-returns-in-Given g t c =
-    on_ok_weaker c.add_given.result (λ h. h ∙ ap (λ a. c.args.tops.now ++ tops_of (seen_by a c.args.scope)) (sym c.in-Given.is)) c.add_given.ensures
+pub add_all-loop-piece-preserved : goal.add_all-loop-piece-preserved
+add_all-loop-piece-preserved g t c =
+    let inner = λ (t : ℕ). scope_seen c.args.look.now c.args.depth t in
+    tops_more inner c.args.pieces.now c.loop-piece.piece-index (top.Own 0) c.loop-piece.tops (c.args.tops.now ++ tops_by inner c.args.pieces.now) c.add_one.new.tops
+    c.loop-piece-test.true c.loop-piece.invariant c.in_ok-add_one.ensures
+
+pub add_all-returns : goal.add_all-returns
+add_all-returns g t c =
+    let inner = λ (t : ℕ). scope_seen c.args.look.now c.args.depth t in
+    tops_done inner c.args.pieces.now c.loop-piece.piece-index (top.Own 0) c.loop-piece.tops (c.args.tops.now ++ tops_by inner c.args.pieces.now)
+    c.loop-piece-test.false c.loop-piece.invariant
+
+pub add_one-returns-in-Child : goal.add_one-returns-in-Child
+add_one-returns-in-Child g t c =
+    let inner = λ (t : ℕ). scope_seen c.args.look.now c.args.depth t in
+    on_ok_weaker c.add_scope.result
+    (λ h. h ∙ ap (λ ns. c.args.tops.now ++ ns) (sym (ap (λ p. tops_by inner (p ∷ [])) c.in-Child.is ∙ nil-right _)))
+    c.add_scope.ensures

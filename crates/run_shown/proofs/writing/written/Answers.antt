@@ -14,7 +14,7 @@ returns-in-Some g c = record {
       (
       λ edits is.
       touched_is edits (c.args.rows.now).table c.args.stood.now c.args.lived c.before-before.result c.now-after.result (record { ref_ptr = (0, 0); now = _ }) c.args.scope c.before-before.ensures.shows c.now-after.ensures.shows
-      (subst (λ o. IfSome o (λ scopes. Covers scopes c.args.stood.now c.now-after.result)) c.in-Some.is (subst (λ xs. IfSome c.in_ok-found.found (λ scopes. Covers scopes xs c.now-after.result)) c.as_slice.ensures.rows c.in_ok-found.ensures)) is
+      (subst (λ o. IfSome o (λ scopes. Covers scopes c.args.stood.now c.now-after.result)) c.in-Some.is c.in_ok-found.ensures) is
       )
       c.edits_of.ensures;
 }

@@ -8,8 +8,8 @@ use Rattle.run_outside.proofs.Said.{on_ok}
 use Rattle.run_standing.proofs.Keeps.{some_there, some_still, none_there}
 use Rattle.run_standing.proofs.standing.keep.Goals as goal
 
-pub returns-then-is_kept-clause-kept : goal.returns-then-is_kept-clause-kept
-returns-then-is_kept-clause-kept g c = sym c.is_kept.ensures ∙ c.if-is_kept.true
+pub returns-then-has-clause-kept : goal.returns-then-has-clause-kept
+returns-then-has-clause-kept g c = sym c.has.ensures ∙ c.if-has.true
 
 pub returns-clause-kept : goal.returns-clause-kept
 returns-clause-kept g c = on_ok c.push.result c.push.ensures.ok (λ h. ap (λ xs. is_some (at xs c.args.scope)) h ∙ some_there c.args.stood.now c.args.scope c.in_ok-shown.shown)
@@ -26,6 +26,6 @@ returns-clause-stands g c =
     λ h was stands.
     subst (λ xs. Stands xs was (scopes_of (c.args.state.now.rows).table)) (sym h)
     (stands_kept c.args.stood.now was (scopes_of (c.args.state.now.rows).table) c.args.scope c.in_ok-shown.shown stands
-    (none_there (at c.args.stood.now c.args.scope) (sym c.is_kept.ensures ∙ c.if-is_kept.false))
+    (none_there (at c.args.stood.now c.args.scope) (sym c.has.ensures ∙ c.if-has.false))
     c.in_ok-shown.ensures)
     )

@@ -19,7 +19,7 @@ returns-in_err-items-clause-begins g c =
     let p = err_from_is_err_and c.from_residual-in_err-items.result c.from_residual-in_err-items.ensures.1 in
     rw (p.1, p.2)
     (did_cut (g.A.App.meaning c.args.app.now) (unit_of (g.A.App.meaning c.args.app.now) (state_of kept c.args.self.now.scopes.state) (model_work c.args.work)) (entry_for (model_work c.args.work) ∷ []) c.args.self.now
-    (record c.args.self.now { scopes = c.first_step.new.scopes; course = c.note.new.self; first = Some c.entry_for-entry.result; stood = c.in_ok-self.field-0; lived = length c.as_slice.result.now })
+    (record c.args.self.now { scopes = c.first_step.new.scopes; course = c.note.new.self; first = Some c.entry_for-entry.result; stood = c.first_kept.new.stood; lived = length c.as_slice.result.now })
     came.0 c.in_err-items.field-0.0 came.1
     (noted_any {A = Unit {0}} c.args.self.now.course.entries c.note.new.self.entries (entry_for (model_work c.args.work) ∷ []) (Err c.in_err-items.field-0.0) (noted_one_as _ _ _ _ c.in_ok-note.ensures.ok (ap (λ e. e ∷ []) (sym c.entry_for-entry.ensures.entry)))))
 
@@ -43,8 +43,8 @@ returns-clause-remembers g c =
     λ kept.
     let came = c.in_ok-items.ensures.done kept in
     begun_remembers (g.A.App.meaning c.args.app.now) (model_work c.args.work) (entry_of c.entry_for-entry.result) c.args.self.now
-    (record c.args.self.now { scopes = c.first_step.new.scopes; course = c.note.new.self; stood = c.in_ok-self.field-0; lived = length c.as_slice.result.now; first = Some c.entry_for-entry.result; work = c.stack.new.onto })
-    kept came.0 c.entry_for-entry.ensures.entry c.in_ok-self.ensures
+    (record c.args.self.now { scopes = c.first_step.new.scopes; course = c.note.new.self; stood = c.first_kept.new.stood; lived = length c.as_slice.result.now; first = Some c.entry_for-entry.result; work = c.stack.new.onto })
+    kept came.0 c.entry_for-entry.ensures.entry c.in_ok-first_kept.ensures
     (ap (λ xs. length xs) c.as_slice.ensures.rows ∙ sym (length_each _)) (done_state _ _ _ came.1)
 
 pub returns-clause-counted : goal.returns-clause-counted

@@ -1,29 +1,39 @@
-use Rattle.std.proofs.Common.{◌∙◌, not, sym, ap}
+-- Among the few, as long as there is room, or among the others.
+use Rattle.std.proofs.Common.{◌∙◌, not, ap, sym}
 use Rattle.rt_model.specs.Lists.{has}
-use Rattle.run_shown.proofs.Members.{found_there, not_there, still_ascends, has_more, has_no_more}
+use Rattle.run_shown.proofs.Members.{in_already, in_few, in_few_then, in_rest, in_rest_then, is_in, is_in_then}
 use Rattle.run_shown.proofs.scope_set.ScopeSet.put.Goals as goal
 
-pub invariant_of-self-in-Err : goal.invariant_of-self-in-Err
-invariant_of-self-in-Err c =
-    let is = c.deref.ensures.value in
-    rw c.in_ok-insert-in-Err.ensures.items (still_ascends c.self.inside.numbers.items c.in-Err.at c.args.scope c.self.invariant (rw (← is) c.in-Err.ensures.position))
+pub returns-then-is_among-clause-fresh : goal.returns-then-is_among-clause-fresh
+returns-then-is_among-clause-fresh c =
+    rw (← c.self.view_is) (sym (ap not (in_few c.self.inside.few.items c.self.inside.numbers.keys c.args.scope (ap (λ xs. has xs c.args.scope) (sym c.as_slice.ensures.value) ∙ sym c.is_among.ensures ∙ c.if-is_among.true))))
 
-pub returns-in-Ok-clause-fresh : goal.returns-in-Ok-clause-fresh
-returns-in-Ok-clause-fresh c =
-    let is = c.deref.ensures.value in
-    rw (← c.self.view_is) (sym (ap not (found_there c.self.inside.numbers.items c.in-Ok._at c.args.scope c.self.invariant (rw (← is) c.in-Ok.ensures.position))))
+pub returns-then-is_among-clause-all : goal.returns-then-is_among-clause-all
+returns-then-is_among-clause-all c = λ other.
+    rw (← c.self.view_is) (in_already _ c.args.scope other (in_few c.self.inside.few.items c.self.inside.numbers.keys c.args.scope (ap (λ xs. has xs c.args.scope) (sym c.as_slice.ensures.value) ∙ sym c.is_among.ensures ∙ c.if-is_among.true)))
 
-pub returns-in-Ok-clause-all : goal.returns-in-Ok-clause-all
-returns-in-Ok-clause-all c = λ other.
-    let is = c.deref.ensures.value in
+pub returns-then-has_room-clause-fresh : goal.returns-then-has_room-clause-fresh
+returns-then-has_room-clause-fresh c =
     rw (← c.self.view_is)
-    (has_no_more c.self.inside.numbers.items c.args.scope other (found_there c.self.inside.numbers.items c.in-Ok._at c.args.scope c.self.invariant (rw (← is) c.in-Ok.ensures.position)))
+    (sym (ap not
+    (in_rest c.self.inside.few.items c.self.inside.numbers.keys c.args.scope (ap (λ xs. has xs c.args.scope) (sym c.as_slice.ensures.value) ∙ sym c.is_among.ensures ∙ c.if-is_among.false)
+    ∙ ap (λ ks. has ks c.args.scope) (c.has_room.ensures c.if-has_room.true))))
 
-pub returns-in_ok-insert-in-Err-clause-fresh : goal.returns-in_ok-insert-in-Err-clause-fresh
-returns-in_ok-insert-in-Err-clause-fresh c =
-    let is = c.deref.ensures.value in
-    rw (← c.self.view_is) (sym (ap not (not_there c.self.inside.numbers.items c.in-Err.at c.args.scope c.self.invariant (rw (← is) c.in-Err.ensures.position))))
+pub returns-then-has_room-clause-all : goal.returns-then-has_room-clause-all
+returns-then-has_room-clause-all c = λ other.
+    rw (← c.self.view_is)
+    (in_few_then c.self.inside.few.items c.self.inside.numbers.keys c.push.new.self.items c.args.scope other (c.has_room.ensures c.if-has_room.true) c.in_ok-push.ensures.items)
 
-pub returns-in_ok-insert-in-Err-clause-all : goal.returns-in_ok-insert-in-Err-clause-all
-returns-in_ok-insert-in-Err-clause-all c = λ other.
-    rw (← c.self.view_is) (ap (λ xs. has xs other) c.in_ok-insert-in-Err.ensures.items ∙ has_more c.self.inside.numbers.items c.in-Err.at c.args.scope other)
+pub returns-clause-fresh : goal.returns-clause-fresh
+returns-clause-fresh c =
+    rw (← c.self.view_is)
+    (c.in_ok-fresh.ensures.added
+    ∙ ap not
+    (is_in c.self.inside.numbers.keys c.args.scope
+    ∙ sym (in_rest c.self.inside.few.items c.self.inside.numbers.keys c.args.scope (ap (λ xs. has xs c.args.scope) (sym c.as_slice.ensures.value) ∙ sym c.is_among.ensures ∙ c.if-is_among.false))))
+
+pub returns-clause-all : goal.returns-clause-all
+returns-clause-all c = λ other.
+    rw (← c.self.view_is)
+    (in_rest_then c.self.inside.few.items c.self.inside.numbers.keys c.insert.new.self.keys c.args.scope other
+    (is_in_then c.self.inside.numbers.keys c.insert.new.self.keys c.args.scope other (c.in_ok-fresh.ensures.updates.0 other)))
