@@ -1,67 +1,64 @@
--- How many steps are left.
-use Rattle.std.specs.Prelude.{ℕ, suc, ◌+◌, true, false, if◌then◌else◌, List, [], ◌∷◌, Option, Some, None}
-use Rattle.tree_plan.specs.declared.instruction.Instruction.{Instruction}
-use Rattle.tree_plan.specs.declared.instruction.Instruction.TheVariants as i
+-- How many steps of a patch are left that are neither an edit nor a question.
+use Rattle.std.specs.Prelude.{ℕ, ◌+◌, List, [], ◌∷◌, length, Option, Some, None}
+use Rattle.rt_model.specs.Run.{child_at}
+use Rattle.rt_model.specs.Tree.{Types, Place}
+use Rattle.tree_marks.specs.Marks.{Mark, stays, goes, comes, fed, left, made, given, worded, slot_goes, tree_goes, slot_way, tree_way, come_in, go_out, lone}
+use Rattle.run_places.specs.Places.{side_of}
+use Rattle.rt_tree.specs.declared.patch.Patch.{Patch}
 use Rattle.rt_tree.specs.declared.step.PatchStep.{PatchStep}
 use Rattle.rt_tree.specs.declared.step.PatchStep.TheVariants as s
+use Rattle.rt_tree.specs.Served.{marks_left}
 
-module _ {P Component Props Value Handler TaskState Effect Payload : Type 0} where
-  -- how many steps that aren't edits an instruction leads to
-  abbrev pub others_of : Instruction P Component Props Value Handler TaskState Effect Payload → ℕ
-  others_of i.Keep = 0
-  others_of (i.Rewrite text) = 0
-  others_of (i.Adjust ahead change) = 0
-  others_of (i.Feed component) = 1
-  others_of (i.Lose root) = 1
-  others_of (i.Leave root) = if root then 2 else 1
-  others_of (i.Draw places path shape) = 1
-  others_of i.Close = 0
-  others_of (i.Make component) = 1
-  others_of i.Replace = 0
-  others_of i.Erase = 0
-  others_of (i.Behind back) = 0
-  others_of i.BehindChild = 0
-  others_of i.Ask = 1
-  others_of i.Insert = 0
+-- one where there is one
+abbrev pub one_if : {A : Type 0} → Option A → ℕ
+one_if None = 0
+one_if (Some x) = 1
 
-  -- how many all of them lead to
-  abbrev pub others_in : List (Instruction P Component Props Value Handler TaskState Effect Payload) → ℕ
-  others_in [] = 0
-  others_in (i ∷ is) = others_of i + others_in is
+module _ {K : Types} (children : List (Place × ℕ)) where
+  -- the steps that a mark leads to, at once or at the end, by the child scopes of the old block
+  abbrev pub deeds : Mark K → ℕ
+  deeds (stays p k) = 0
+  deeds (goes p k) = 1
+  deeds (comes p k) = 1
+  deeds (fed p c d) = one_if (child_at children p)
+  deeds (left p c) = one_if (child_at children p)
+  deeds (made p d) = 1
+  deeds (given above whole new old) = 0
+  deeds (worded p new old) = 0
+  deeds (slot_goes p old) = 0
+  deeds (tree_goes above old) = 0
+  deeds (slot_way p new old) = 0
+  deeds (tree_way above new old) = 0
+  deeds (come_in p front i new) = 0
+  deeds (go_out p i old) = 0
+  deeds (lone p new) = 0
 
-  -- how many edits are due before the next step that isn't one, where so many roots go
-  abbrev pub due_in : List (Instruction P Component Props Value Handler TaskState Effect Payload) → ℕ → ℕ
-  due_in [] roots = 0
-  due_in (i.Keep ∷ is) roots = due_in is roots
-  due_in (i.Rewrite text ∷ is) roots = suc (due_in is roots)
-  due_in (i.Adjust ahead change ∷ is) roots = suc (due_in is roots)
-  due_in (i.Feed component ∷ is) roots = 0
-  due_in (i.Lose true ∷ is) roots = due_in is (suc roots)
-  due_in (i.Lose false ∷ is) roots = due_in is roots
-  due_in (i.Leave true ∷ is) roots = 0
-  due_in (i.Leave false ∷ is) roots = due_in is roots
-  due_in (i.Draw places path shape ∷ is) roots = 0
-  due_in (i.Close ∷ is) roots = due_in is roots
-  due_in (i.Make component ∷ is) roots = 0
-  due_in (i.Replace ∷ is) roots = roots + due_in is 0
-  due_in (i.Erase ∷ is) roots = roots + due_in is 0
-  due_in (i.Behind back ∷ is) roots = due_in is roots
-  due_in (i.BehindChild ∷ is) roots = due_in is roots
-  due_in (i.Ask ∷ is) roots = 0
-  due_in (i.Insert ∷ is) roots = suc (due_in is roots)
+  -- those that marks lead to
+  abbrev pub all_deeds : List (Mark K) → ℕ
+  all_deeds [] = 0
+  all_deeds (m ∷ ms) = deeds m + all_deeds ms
 
-  -- how many steps that aren't edits a step is: one or none
-  abbrev pub other_in : PatchStep P Component Props Value Handler TaskState Effect Payload → ℕ
-  other_in (s.Edit edit) = 0
+module _ {P C Q V H T E L : Type 0} where
+  -- what is told at the end: child scopes that go, and numbers
+  abbrev pub at_end : Patch P C Q V H T E L → ℕ
+  at_end p = length p.drops.items + length p.gone.items
+
+  -- the steps of a patch that are neither an edit nor a question
+  abbrev pub others : Patch P C Q V H T E L → ℕ
+  others p = all_deeds (side_of p.old).children (marks_left p) + at_end p
+
+  -- one for such a step
+  abbrev pub other_in : PatchStep P C Q V H T E L → ℕ
   other_in (s.Make component) = 1
   other_in (s.Feed scope component) = 1
-  other_in (s.Nodes scope) = 1
+  other_in (s.Nodes scope) = 0
+  other_in (s.Edit edit) = 0
   other_in (s.Remove scope) = 1
   other_in (s.Drawn id places path) = 1
   other_in (s.Gone id) = 1
   other_in s.Done = 0
 
-  -- the same of a step that there may be
-  abbrev pub other_of : Option (PatchStep P Component Props Value Handler TaskState Effect Payload) → ℕ
+  -- the same of a step, if there is one
+  abbrev pub other_of : Option (PatchStep P C Q V H T E L) → ℕ
   other_of None = 0
   other_of (Some step) = other_in step

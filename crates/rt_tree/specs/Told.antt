@@ -1,5 +1,6 @@
 -- What may be said of one step.
 use Rattle.rt_values.specs.declared.element.ElementId.{ElementId}
+use Rattle.rt_values.specs.declared.names.ScopeId.{ScopeId}
 use Rattle.rt_tree.specs.declared.step.PatchStep.{PatchStep}
 use Rattle.rt_tree.specs.declared.step.PatchStep.TheVariants as s
 
@@ -47,3 +48,25 @@ module _ {P Component Props Value Handler TaskState Effect Payload : Type 0} whe
   IfDone (s.Remove scope) fact = Unit {0}
   IfDone (s.Gone id) fact = Unit {0}
   IfDone s.Done fact = fact
+
+  -- what holds of the scope that a step asks
+  abbrev pub IfNodes : PatchStep P Component Props Value Handler TaskState Effect Payload → (ScopeId → Type 0) → Type 0
+  IfNodes (s.Nodes scope) fact = fact scope
+  IfNodes (s.Drawn id places path) fact = Unit {0}
+  IfNodes (s.Edit edit) fact = Unit {0}
+  IfNodes (s.Make component) fact = Unit {0}
+  IfNodes (s.Feed scope component) fact = Unit {0}
+  IfNodes (s.Remove scope) fact = Unit {0}
+  IfNodes (s.Gone id) fact = Unit {0}
+  IfNodes s.Done fact = Unit {0}
+
+  -- what holds where a step brings nothing new and asks nothing
+  abbrev pub UnlessNew : PatchStep P Component Props Value Handler TaskState Effect Payload → Type 0 → Type 0
+  UnlessNew (s.Drawn id places path) fact = Unit {0}
+  UnlessNew (s.Make component) fact = Unit {0}
+  UnlessNew (s.Feed scope component) fact = Unit {0}
+  UnlessNew (s.Nodes scope) fact = Unit {0}
+  UnlessNew (s.Edit edit) fact = fact
+  UnlessNew (s.Remove scope) fact = fact
+  UnlessNew (s.Gone id) fact = fact
+  UnlessNew s.Done fact = fact

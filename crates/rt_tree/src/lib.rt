@@ -3,18 +3,15 @@
 #![tactic(auto)]
 
 mod block;
-mod builder;
-mod mounted;
-mod order;
-mod passing;
+mod going;
 mod patch;
-mod rebuild;
 mod step;
 mod turning;
+mod wording;
+mod writing;
 
 pub use block::Block;
-pub use mounted::nodes_as_built;
-pub use order::steps_in_order;
+pub use going::{runs_in_order, runs_tell, runs_work};
 pub use patch::Patch;
 pub use rt_edits::{
     DocAttr, DocFault, DocKind, DocNode, Document, Edit, FailingMutations, Mutations,

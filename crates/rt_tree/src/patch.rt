@@ -1,156 +1,177 @@
-//! A patch that gives one step at a time.
+//! A patch that gives one step at a time. Its plan is what a walk over the old tree and the new one
+//! met: each mark is turned once it comes up, by what both blocks have then.
 
-ghost use Rattle.std.specs.Prelude.{◌≡◌, ◌++◌, ◌∷◌, [], false, List as Items, IfOk, IfSome, IfNone, IfErr, IsTrue, OnOk, OnSome, ◌+◌, ◌-◌, ◌^◌, ◌↔◌, suc, map};
-ghost use Rattle.rt_tree.specs.Counts.{other_in};
-ghost use Rattle.rt_tree.specs.Gathered.{last_or, nothing_kept, numbers_of};
-ghost use Rattle.rt_tree.specs.Steps.{Answer, answered, steps};
-ghost use Rattle.rt_tree.specs.Told.{IfDone, IfDrawn, IfEdit, UnlessDrawn};
+ghost use Rattle.std.specs.Prelude.{◌≡◌, ◌≢◌, ◌↔◌, [], ◌∷◌, ◌++◌, map, Some, ◌+◌, ◌-◌, ◌^◌, IfErr, IfOk, IsTrue, OnOk};
+ghost use Rattle.rt_model.specs.OneLog.{types};
+ghost use Rattle.rt_model.specs.Tree.{spots};
+ghost use Rattle.rt_model.specs.World.{Application};
+ghost use Rattle.run_places.specs.Places.{side_of};
+ghost use Rattle.tree_marks.specs.Marks.{come};
+ghost use Rattle.tree_mirror.specs.Sealed.{tree_of};
+ghost use Rattle.rt_tree.specs.Plans.{KeepsOf, PlansOver};
+ghost use Rattle.rt_tree.specs.Told.{IfDone, IfDrawn, IfNodes, UnlessDrawn};
 
 use crate::block::Block;
-use crate::builder::Builder;
 use crate::step::{PatchStep, TreeFault};
 use rt_edits::{DocNode, Edit};
 use rt_values::{ElementId, List, OutOfMemory, ScopeId, Serials};
+use run_met::{Met, Planning};
+use run_places::{Nodes, Place, Seats, Side, SideName};
+use run_shown::GivenRows;
+use run_work::{Patched, walk, walk_both, walk_new};
 use std::alloc::Global;
 use std::collections::VecDeque;
+use std::mem;
 use tree_nodes::{Parts, VNode};
-use tree_plan::{Instruction, plan_build, plan_over};
 
 /// What a patch waits for.
-#[derive(Clone, Copy, Debug, PartialEq, Eq)]
+#[derive(Drop)]
 pub(crate) enum Phase {
     /// Nothing.
     Free,
-    /// Nothing; of what was replaced or shortened more nodes are to be removed.
-    Removing,
-    /// The scope that is made, with its nodes.
-    Make,
-    /// The nodes of a scope that goes.
-    Roots(ScopeId),
-    /// The nodes of the scope behind which more is inserted.
-    Last(ScopeId),
+    /// The scope that is made for the component at this place, with its nodes.
+    Make(Place),
+    /// The present nodes of a scope.
+    Asked(ScopeId),
 }
 
 /// A patch of one block: a new tree, and what is left to do until it is mounted.
 #[derive(Drop)]
 pub struct Patch<P: Parts> {
-    pub(crate) tree: VNode<P>,
-    pub(crate) plan: VecDeque<Instruction<P>>,
-    /// The numbers and the child scopes of the old block that weren't looked at.
-    pub(crate) old_numbers: VecDeque<ElementId>,
-    pub(crate) old_children: VecDeque<ScopeId>,
-    /// Those of the new one, as far as it is made.
-    pub(crate) numbers: Vec<ElementId>,
-    pub(crate) children: Vec<ScopeId>,
-    pub(crate) built: Builder,
-    /// The roots of what goes, of the part that is looked at.
-    pub(crate) roots: VecDeque<ElementId>,
-    /// The node and the child scope behind which more is inserted.
-    pub(crate) behind: ElementId,
-    pub(crate) neighbour: ScopeId,
+    /// The old block, with its tree if there is one.
+    pub(crate) old: Side<P>,
+    /// The new one, as far as it is made. It has its tree and what is kept of the old one from the
+    /// start.
+    pub(crate) new: Block<P>,
+    /// Whether there are edits.
+    pub(crate) shown: bool,
+    /// The marks that are left.
+    pub(crate) plan: VecDeque<Met<P>>,
+    /// The nodes that were given for child scopes.
+    pub(crate) given: GivenRows,
+    /// The edits that a mark writes which aren't given yet.
+    pub(crate) edits: VecDeque<Edit>,
     pub(crate) drops: VecDeque<ScopeId>,
     pub(crate) gone: VecDeque<ElementId>,
     pub(crate) phase: Phase,
 }
 
 impl<P: Parts> Patch<P> {
-    ghost use Rattle.rt_tree.specs.Left.{IsDone, IsFor, awaited, awaits, due, left, named, no_answer, others, seen};
-    ghost use Rattle.tree_plan.specs.Alike.{Equality};
-    ghost use Rattle.tree_plan.specs.Making.{make_tree};
-    ghost use Rattle.tree_plan.specs.Pairing.{pair_tree};
+    ghost use Rattle.rt_tree.specs.Awaits.{IsFor, awaited, awaits, no_answer};
+    ghost use Rattle.rt_tree.specs.Counts.{other_in, others};
+    ghost use Rattle.rt_tree.specs.Drawing.{DrawsNext};
+    ghost use Rattle.rt_tree.specs.Endings.{IsClear};
+    ghost use Rattle.rt_tree.specs.Ends.{IsDone};
+    ghost use Rattle.rt_tree.specs.Gives.{SeatedBy};
+    ghost use Rattle.rt_tree.specs.Served.{FirstAsks, Leaves, Serves, edits_left, marks_left};
 
     /// The build of a first tree, at its start.
     pub fn build(alloc: Global, node: VNode<P>) -> Result<Patch<P>, OutOfMemory>
-        ensures left { IfOk result (λ patch. (answers : Items Answer) → left patch answers
-            ≡ steps (make_tree false node []) [] [] nothing_kept answers) }
-        ensures tree { IfOk result (λ patch. patch.tree ≡ node) }
+        ensures marks { IfOk result (λ patch. marks_left patch
+            ≡ map come (spots [] (tree_of node))) }
+        ensures none { IfOk result (λ patch. edits_left patch ≡ []) }
+        ensures tree { IfOk result (λ patch. patch.new.side.output ≡ Some node) }
         ensures free { IfOk result (λ patch. awaited patch.phase ≡ no_answer) }
+        ensures clear { IfOk result (λ patch. IsClear patch) }
     {
-        let plan = plan_build(alloc, &node)?;
-        Ok(Patch::start(alloc, node, plan, Vec::new(alloc), Vec::new(alloc)))
+        Patch::start(alloc, Side::empty(alloc), node, false)
     }
 
-    /// A patch by which a new tree takes the place of an old block, at its start. Only where the block
-    /// is shown are there edits.
+    /// A patch by which a new tree takes the place of an old block, at its start. Only where the
+    /// block is shown are there edits.
     pub fn over(
         alloc: Global,
         old: Block<P>,
         node: VNode<P>,
         shown: bool,
     ) -> Result<Patch<P>, OutOfMemory>
-        ensures left { IfOk result (λ patch. (equality : Equality P.Component) →
-            (answers : Items Answer) → left patch answers
-            ≡ steps (pair_tree equality shown old.tree node []) old.numbers.items
-            old.children.items nothing_kept answers) }
-        ensures tree { IfOk result (λ patch. patch.tree ≡ node) }
+        ensures marks { IfOk result (λ patch.
+            PlansOver old.side.output node patch.plan.items) }
+
+        // The new block has what is kept of the old one from the start.
+        ensures kept { IfOk result (λ patch. KeepsOf patch.old node patch.new.side) }
+        ensures old { IfOk result (λ patch. patch.old ≡ old.side) }
+        ensures none { IfOk result (λ patch. edits_left patch ≡ []) }
+        ensures shown { IfOk result (λ patch. patch.shown ≡ shown) }
+        ensures tree { IfOk result (λ patch. patch.new.side.output ≡ Some node) }
         ensures free { IfOk result (λ patch. awaited patch.phase ≡ no_answer) }
+        ensures clear { IfOk result (λ patch. IsClear patch) }
     {
-        let plan = plan_over(alloc, &old.tree, &node, shown)?;
-        let Block {
-            tree: _tree,
-            numbers,
-            children,
-        } = old;
-        Ok(Patch::start(alloc, node, plan, numbers, children))
+        let Block { side } = old;
+        Patch::start(alloc, side, node, shown)
     }
 
     fn start(
         alloc: Global,
+        old: Side<P>,
         tree: VNode<P>,
-        plan: Vec<Instruction<P>>,
-        numbers: Vec<ElementId>,
-        children: Vec<ScopeId>,
-    ) -> Patch<P>
-        ensures left { (answers : Items Answer) → left result answers
-            ≡ steps plan.items numbers.items children.items nothing_kept answers }
-        ensures tree { result.tree ≡ tree }
-        ensures free { result.phase ≡ Phase.Free }
+        shown: bool,
+    ) -> Result<Patch<P>, OutOfMemory>
+        ensures marks { IfOk result (λ patch. PlansOver old.output tree patch.plan.items) }
+        ensures kept { IfOk result (λ patch. KeepsOf old tree patch.new.side) }
+        ensures old { IfOk result (λ patch. patch.old ≡ old) }
+        ensures none { IfOk result (λ patch. patch.edits.items ≡ []) }
+        ensures shown { IfOk result (λ patch. patch.shown ≡ shown) }
+        ensures tree { IfOk result (λ patch. patch.new.side.output ≡ Some tree) }
+        ensures free { IfOk result (λ patch. patch.phase ≡ Phase.Free) }
+        ensures clear { IfOk result (λ patch. IsClear patch) }
     {
-        Patch {
-            tree,
-            plan: VecDeque::from_vec(plan),
-            old_numbers: VecDeque::from_vec(numbers),
-            old_children: VecDeque::from_vec(children),
-            numbers: Vec::new(alloc),
-            children: Vec::new(alloc),
-            built: Builder::new(alloc),
-            roots: VecDeque::new(alloc),
-            behind: ElementId(0),
-            neighbour: ScopeId(0),
+        let plan = plan_over(alloc, &old, &tree)?;
+        let new = block_for(alloc, &old, tree)?;
+        Ok(Patch {
+            old,
+            new,
+            shown,
+            plan: VecDeque::from_vec(plan.into_vec()),
+            given: GivenRows::none(alloc),
+            edits: VecDeque::new(alloc),
             drops: VecDeque::new(alloc),
             gone: VecDeque::new(alloc),
             phase: Phase::Free,
-        }
+        })
     }
 
     /// The next step. Numbers of new nodes are drawn from `ids`.
     pub fn next(&mut self, alloc: Global, ids: &mut Serials) -> Result<PatchStep<P>, TreeFault>
-        requires free { awaited self.old.phase ≡ no_answer }
+        requires free { awaited self.now.phase ≡ no_answer }
+        ensures awaits { IfOk result (λ step. awaited self.exit.now.phase ≡ awaits step) }
+        ensures tree { self.exit.now.new.side.output ≡ self.entry.now.new.side.output }
 
-        // Whatever is answered from here on, the step stands in front of what is left.
-        ensures left { IfOk result (λ step. (answers : Items Answer) →
-            left self.old (named step answers) ≡ seen step (left self.new answers)) }
-        ensures awaits { IfOk result (λ step. awaited self.new.phase ≡ awaits step) }
-        ensures tree { self.new.tree ≡ self.old.tree }
+        // Marks go by in order, and each writes by what both blocks have when it comes up.
+        ensures served { IfOk result (λ step. (app : Application
+            (types P.Component P.Props P.Value P.Handler P.TaskState P.Effect P.Payload)) →
+            Serves app self.entry.now step self.exit.now) }
+
+        // A scope that is asked is the one that the mark in front asks, which goes by once it has
+        // none left to ask. Other steps do what the last mark that goes by leads to.
+        ensures asks { IfOk result (λ step. IfNodes step (λ scope. FirstAsks self.exit.now scope)) }
+        ensures leaves { IfOk result (λ step. Leaves self.entry.now self.exit.now) }
 
         // A number is drawn by one kind of step alone, and is the one that comes next.
         ensures drawn { IfOk result (λ step. IfDrawn step (λ id. id.0 ≡ ids.old)) }
         ensures rises { IfOk result (λ step. IfDrawn step (λ id. ids.new ≡ ids.old + 1)) }
         ensures undrawn { IfOk result (λ step. UnlessDrawn step (ids.new ≡ ids.old)) }
+
+        // A fault comes at the end of the numbers exactly where one is drawn next.
         ensures end { IfErr result (λ fault.
             fault ≡ TreeFault.IdsExhausted → ids.old ≡ 2 ^ 64 - 1) }
+        ensures draws { IfErr result (λ fault. fault ≡ TreeFault.IdsExhausted → (app : Application
+            (types P.Component P.Props P.Value P.Handler P.TaskState P.Effect P.Payload)) →
+            DrawsNext app self.entry.now) }
+        ensures before_end { OnOk result ((app : Application
+            (types P.Component P.Props P.Value P.Handler P.TaskState P.Effect P.Payload)) →
+            DrawsNext app self.entry.now → ids.old ≢ 2 ^ 64 - 1) }
 
-        // Each step that is no edit is one fewer of them, and each edit one fewer before the next.
+        // Each step that is neither an edit nor a question is one fewer of them.
         ensures fewer { IfOk result (λ step.
-            others self.old ≡ other_in step + others self.new) }
-        ensures due { IfOk result (λ step. IfEdit step (due self.old ≡ suc (due self.new))) }
-        ensures done { IfOk result (λ step. IfDone step (IsDone self.new)) }
+            others self.entry.now ≡ other_in step + others self.exit.now) }
+        ensures done { IfOk result (λ step. IfDone step (IsDone self.exit.now)) }
     {
-        if let Some(id) = self.removal() {
-            return Ok(PatchStep::Edit(Edit::RemoveNode { id }));
+        if let Some(edit) = self.edits.pop_front() {
+            return Ok(PatchStep::Edit(edit));
         }
-        while let Some(instruction) = self.plan.pop_front() {
-            if let Some(step) = self.turn(alloc, instruction, ids)? {
+        while let Some(met) = self.plan.pop_front() {
+            if let Some(step) = self.turn(alloc, met, ids)? {
                 return Ok(step);
             }
         }
@@ -163,61 +184,42 @@ impl<P: Parts> Patch<P> {
         Ok(PatchStep::Done)
     }
 
-    // The next of the nodes that are to be removed.
-    fn removal(&mut self) -> Option<ElementId>
-        requires { awaited self.old.phase ≡ no_answer }
-        ensures some { IfSome result (λ id. (answers : Items Answer) → left self.old answers
-            ≡ seen (PatchStep.Edit (Edit.RemoveNode id)) (left self.new answers)) }
-        ensures none { IfNone result ((answers : Items Answer) →
-            left self.old answers ≡ left self.new answers) }
-        ensures awaits { awaited self.new.phase ≡ no_answer }
-        ensures free { IfNone result (self.new.phase ≡ Phase.Free) }
-        ensures tree { self.new.tree ≡ self.old.tree }
-        ensures others { others self.new ≡ others self.old }
-        ensures due { OnSome result (due self.old ≡ suc (due self.new)) }
-        ensures due_later { IfNone result (due self.old ≡ due self.new) }
+    /// Takes the scope that was made with its nodes, or the present nodes of the scope that was
+    /// named.
+    pub fn give(&mut self, scope: ScopeId, nodes: List<DocNode>) -> Result<(), OutOfMemory>
+        requires asked { IsFor scope (awaited self.now.phase) }
+        ensures awaits { OnOk result (awaited self.exit.now.phase ≡ no_answer) }
+        ensures tree { self.exit.now.new.side.output ≡ self.entry.now.new.side.output }
+
+        // The nodes are one row more, a scope that was made has its place, and all else stays.
+        ensures rows { OnOk result (self.exit.now.given.rows
+            ≡ self.entry.now.given.rows ++ (scope.0, nodes) ∷ []) }
+        ensures seated { OnOk result (SeatedBy self.entry.now.phase scope
+            (side_of self.entry.now.new.side) (side_of self.exit.now.new.side)) }
+        ensures marks { OnOk result (marks_left self.exit.now ≡ marks_left self.entry.now) }
+        ensures edits { OnOk result (edits_left self.exit.now ≡ edits_left self.entry.now) }
+        ensures old { OnOk result (self.exit.now.old ≡ self.entry.now.old) }
+        ensures shown { OnOk result (self.exit.now.shown ≡ self.entry.now.shown) }
+        ensures drops { OnOk result (self.exit.now.drops ≡ self.entry.now.drops) }
+        ensures gone { OnOk result (self.exit.now.gone ≡ self.entry.now.gone) }
     {
-        match self.phase {
-            Phase::Removing => {}
-            Phase::Free => return None,
-            Phase::Make => return None,
-            Phase::Roots(_) => return None,
-            Phase::Last(_) => return None,
-        }
-        let id = self.roots.pop_front();
-        if id.is_none() {
-            self.phase = Phase::Free;
-        }
-        id
+        let phase = mem::replace(&mut self.phase, Phase::Free);
+        self.seat(phase, scope)?;
+        self.given.put(scope.0, nodes)?;
+        Ok(())
     }
 
-    /// Takes the scope that was made with its nodes, or the present nodes of the scope that was named.
-    pub fn give(&mut self, scope: ScopeId, nodes: List<DocNode>) -> Result<(), OutOfMemory>
-        requires asked { IsFor scope (awaited self.old.phase) }
-        ensures left { OnOk result ((answers : Items Answer) →
-            left self.old (answered scope nodes ∷ answers) ≡ left self.new answers) }
-        ensures awaits { OnOk result (awaited self.new.phase ≡ no_answer) }
-        ensures tree { self.new.tree ≡ self.old.tree }
-        ensures others { OnOk result (others self.new ≡ others self.old) }
+    // A scope that was made is the child scope of its component.
+    fn seat(&mut self, phase: Phase, scope: ScopeId) -> Result<(), OutOfMemory>
+        ensures seated { OnOk result (SeatedBy phase scope (side_of self.entry.now.new.side)
+            (side_of self.exit.now.new.side)) }
+        ensures others { self.exit.now ≡ record self.entry.now { new = self.exit.now.new } }
+        ensures tree { self.exit.now.new.side.output ≡ self.entry.now.new.side.output }
     {
-        let phase = self.phase;
-        self.phase = Phase::Free;
         match phase {
             Phase::Free => Ok(()),
-            Phase::Removing => Ok(()),
-            Phase::Make => {
-                self.built.add(nodes)?;
-                self.children.push(scope)?;
-                Ok(())
-            }
-            Phase::Roots(_) => {
-                add_numbers(&mut self.roots, nodes.as_slice())?;
-                Ok(())
-            }
-            Phase::Last(_) => {
-                self.behind = last_number(self.behind, nodes.as_slice());
-                Ok(())
-            }
+            Phase::Make(place) => self.new.seat(&place, scope.0),
+            Phase::Asked(_) => Ok(()),
         }
     }
 
@@ -225,54 +227,90 @@ impl<P: Parts> Patch<P> {
     pub fn is_done(&self) -> bool
         ensures done { IsTrue result ↔ IsDone self.now }
     {
-        let free = match self.phase {
+        let free = match &self.phase {
             Phase::Free => true,
-            Phase::Removing => false,
-            Phase::Make => false,
-            Phase::Roots(_) => false,
-            Phase::Last(_) => false,
+            Phase::Make(_) => false,
+            Phase::Asked(_) => false,
         };
-        free && self.plan.is_empty() && self.drops.is_empty() && self.gone.is_empty()
+        free && self.edits.is_empty()
+            && self.plan.is_empty()
+            && self.drops.is_empty()
+            && self.gone.is_empty()
     }
 
     /// The mounted tree, once all steps were done.
     pub fn finish(self) -> Block<P>
-        requires done { IsDone self }
-        ensures tree { result.tree ≡ self.tree }
-        ensures numbers { result.numbers.items ≡ (left self []).numbers }
-        ensures children { result.children.items ≡ (left self []).children }
+        ensures block { result ≡ self.new }
     {
-        let Patch {
-            tree,
-            numbers,
-            children,
-            ..
-        } = self;
-        Block {
-            tree,
-            numbers,
-            children,
+        let Patch { new, .. } = self;
+        new
+    }
+}
+
+// What a walk over the old tree, if there is one, and the new one meets.
+fn plan_over<P: Parts>(
+    alloc: Global,
+    old: &Side<P>,
+    tree: &VNode<P>,
+) -> Result<List<Met<P>>, OutOfMemory>
+    ensures { IfOk result (λ plan. PlansOver old.now.output tree.now plan) }
+{
+    let mut planning = Planning {
+        plan: List::new(alloc),
+    };
+    match &old.output {
+        Some(was) => {
+            walk(alloc, was, tree, &mut planning)?;
+            let Planning { plan } = planning;
+            Ok(plan)
+        }
+        None => {
+            walk_new(alloc, tree, &mut planning)?;
+            let Planning { plan } = planning;
+            Ok(plan)
         }
     }
 }
 
-// Adds the number of each node.
-fn add_numbers(numbers: &mut VecDeque<ElementId>, nodes: &[DocNode]) -> Result<(), OutOfMemory>
-    ensures { OnOk result (numbers.new.items ≡ numbers.old.items ++ numbers_of nodes.now) }
+// The new block at its start.
+fn block_for<P: Parts>(
+    alloc: Global,
+    old: &Side<P>,
+    tree: VNode<P>,
+) -> Result<Block<P>, OutOfMemory>
+    ensures kept { IfOk result (λ block. KeepsOf old.now tree block.side) }
+    ensures tree { IfOk result (λ block. block.side.output ≡ Some tree) }
 {
-    for node in nodes {
-        numbers.push_back(node.id)?;
-    }
-    Ok(())
+    let side = kept_for(alloc, old, tree)?;
+    let block = Block { side };
+    Ok(block)
 }
 
-// The number of the last node, or another one where there is none.
-fn last_number(other: ElementId, nodes: &[DocNode]) -> ElementId
-    ensures { result ≡ last_or other (numbers_of nodes.now) }
+// The new tree with its nodes and components, and with the numbers and child scopes that are kept
+// of the old one.
+fn kept_for<P: Parts>(alloc: Global, old: &Side<P>, tree: VNode<P>) -> Result<Side<P>, OutOfMemory>
+    ensures kept { IfOk result (λ side. KeepsOf old.now tree side) }
+    ensures tree { IfOk result (λ side. side.output ≡ Some tree) }
 {
-    let mut last = other;
-    for node in nodes {
-        last = node.id;
-    }
-    last
+    let found = walk_both(alloc, 0, SideName::Main, old, &tree)?;
+    let Patched {
+        work: _work,
+        drops: _drops,
+        nodes,
+        seats,
+        nodes_to,
+        seats_to,
+    } = found;
+    let numbers = old.numbers.moved(alloc, nodes_to.as_slice())?;
+    let children = old.children.moved(alloc, seats_to.as_slice())?;
+    let nodes = Nodes::from_list(alloc, nodes)?;
+    let seats = Seats::from_list(alloc, seats)?;
+    let side = Side {
+        output: Some(tree),
+        nodes,
+        seats,
+        numbers,
+        children,
+    };
+    Ok(side)
 }

@@ -1,41 +1,87 @@
-//! What each instruction of a plan leads to.
+//! What each mark leads to.
 
-ghost use Rattle.std.specs.Prelude.{◌≡◌, ◌++◌, ◌∷◌, [], true, false, List as Items, ◌^◌, ◌-◌, IfOk, IfErr, IfSome, IfNone, OnOk, OnSome, ◌+◌, suc};
-ghost use Rattle.rt_tree.specs.Building.{taken};
-ghost use Rattle.rt_tree.specs.Counts.{other_of, others_of};
-ghost use Rattle.rt_tree.specs.Gathered.{drawing, last_or, no_scope, number_back};
-ghost use Rattle.rt_tree.specs.Steps.{Answer, told};
-ghost use Rattle.rt_tree.specs.Told.{IfDone, IfDrawn, IfEdit, UnlessDrawn};
+ghost use Rattle.std.specs.Prelude.{ℕ, ◌≡◌, ◌≢◌, ◌∷◌, ◌++◌, [], ◌+◌, ◌-◌, ◌^◌, map, Some, IfErr, IfNone, IfOk, IfSome, OnOk};
+ghost use Rattle.run_named.specs.Named.{path_from, step_in, steps_from};
+ghost use Rattle.run_places.specs.Places.{kind_of, place_of, side_of};
+ghost use Rattle.run_places.specs.Sides.{and_number, child_in, number_in};
+ghost use Rattle.rt_tree.specs.Asks.{asked_at};
+ghost use Rattle.rt_tree.specs.Awaits.{awaited, awaits, no_answer};
+ghost use Rattle.rt_model.specs.OneLog.{types};
+ghost use Rattle.rt_model.specs.Run.{drop_at};
+ghost use Rattle.rt_model.specs.State.{SideName};
+ghost use Rattle.rt_model.specs.World.{Application};
+ghost use Rattle.run_met.specs.Mets.{mark_of};
+ghost use Rattle.rt_tree.specs.Counts.{at_end, deeds, one_if, other_of, others};
+ghost use Rattle.rt_tree.specs.Does.{Does, StillFor};
+ghost use Rattle.rt_tree.specs.Drawing.{IsComing};
+ghost use Rattle.rt_tree.specs.Endings.{LeavesBy, drops_left, gone_left};
+ghost use Rattle.rt_tree.specs.Served.{FirstAsks, Keeps, Leaves, Silent, Turned, Written, marks_left};
+ghost use Rattle.rt_tree.specs.Told.{IfDone, IfDrawn, IfNodes, UnlessDrawn};
+ghost use Rattle.rt_tree.specs.Wrote.{FirstOf, IfAsks, IfAsksFor, IfNothing, UnlessAsks, wrote_awaits};
 
 use crate::patch::{Patch, Phase};
 use crate::step::{PatchStep, TreeFault};
+use crate::wording::{Words, named_steps};
 use rt_edits::Edit;
-use rt_values::{ElementId, List, ScopeId, Serials};
+use rt_values::{ElementId, List, OutOfMemory, ScopeId, Serials};
+use run_met::Met;
+use run_places::{Kind, Place, Trail};
 use std::alloc::Global;
-use tree_nodes::{Parts, Step, VComponent};
-use tree_plan::{Instruction, Shape};
+use std::collections::VecDeque;
+use tree_nodes::Parts;
+
+/// What a mark that is only written leads to.
+#[derive(Drop)]
+pub(crate) enum Wrote {
+    /// A scope is asked for its nodes first.
+    Asks(ScopeId),
+    /// The first of its edits.
+    First(Edit),
+    Nothing,
+}
 
 impl<P: Parts> Patch<P> {
-    ghost use Rattle.rt_tree.specs.Left.{ahead, awaited, awaits, built_of, due, due_ahead, kept, left, named, others, seen};
-
-    /// Does what an instruction says, and answers the step that it leads to.
+    /// One mark, and the step that it leads to. What is only written leads to none where the block
+    /// isn't shown.
     pub(crate) fn turn(
         &mut self,
         alloc: Global,
-        instruction: Instruction<P>,
+        met: Met<P>,
         ids: &mut Serials,
     ) -> Result<Option<PatchStep<P>>, TreeFault>
-        requires { self.old.phase ≡ Phase.Free }
-        ensures some { IfOk result (λ told. IfSome told (λ step. (answers : Items Answer) →
-            ahead instruction self.old (named step answers)
-            ≡ seen step (left self.new answers))) }
-        ensures none { IfOk result (λ told. IfNone told ((answers : Items Answer) →
-            ahead instruction self.old answers ≡ left self.new answers)) }
+        requires free { awaited self.now.phase ≡ no_answer }
+        requires spent { self.now.edits.items ≡ [] }
         ensures awaits { IfOk result (λ told. IfSome told (λ step.
-            awaited self.new.phase ≡ awaits step)) }
-        ensures free { IfOk result (λ told. IfNone told (self.new.phase ≡ Phase.Free)) }
-        ensures plan { self.new.plan.items ≡ self.old.plan.items }
-        ensures tree { self.new.tree ≡ self.old.tree }
+            awaited self.exit.now.phase ≡ awaits step)) }
+        ensures free { IfOk result (λ told. IfNone told (awaited self.exit.now.phase ≡ no_answer)) }
+        ensures spent { IfOk result (λ told. IfNone told (self.exit.now.edits.items ≡ [])) }
+        ensures plan { IfOk result (λ told. IfNone told (
+            self.exit.now.plan.items ≡ self.entry.now.plan.items)) }
+        ensures tree { self.exit.now.new.side.output ≡ self.entry.now.new.side.output }
+
+        // The mark is written by what both blocks have then, and nothing of these changes where it
+        // leads to no step.
+        ensures some { IfOk result (λ told. IfSome told (λ step. (app : Application
+            (types P.Component P.Props P.Value P.Handler P.TaskState P.Effect P.Payload)) →
+            Turned app (mark_of met) self.entry.now step self.exit.now)) }
+        ensures none { IfOk result (λ told. IfNone told ((app : Application
+            (types P.Component P.Props P.Value P.Handler P.TaskState P.Effect P.Payload)) →
+            Silent app (mark_of met) self.entry.now self.exit.now)) }
+        ensures keeps { IfOk result (λ told. IfNone told (Keeps self.entry.now self.exit.now)) }
+
+        // A scope that is asked is the one that its mark asks, and other steps do what it leads to.
+        ensures asks { IfOk result (λ told. IfSome told (λ step.
+            IfNodes step (λ scope. FirstAsks self.exit.now scope))) }
+        ensures does { IfOk result (λ told. IfSome told (λ step.
+            Does (mark_of met) self.entry.now step self.exit.now)) }
+        ensures leaves { IfOk result (λ told. IfSome told (λ step.
+            Leaves self.entry.now self.exit.now)) }
+        ensures still { IfOk result (λ told. StillFor
+            (side_of self.entry.now.old).children told (mark_of met)) }
+
+        // What a mark drops, and the number that goes, are left for the end.
+        ensures ends { IfOk result (λ told.
+            LeavesBy told (mark_of met) self.entry.now self.exit.now) }
 
         // A number is drawn by one kind of step alone, and is the one that comes next.
         ensures drawn { IfOk result (λ told. IfSome told (λ step.
@@ -45,196 +91,190 @@ impl<P: Parts> Patch<P> {
         ensures undrawn { IfOk result (λ told. IfSome told (λ step.
             UnlessDrawn step (ids.new ≡ ids.old))) }
         ensures untouched { IfOk result (λ told. IfNone told (ids.new ≡ ids.old)) }
+        ensures goes_on { IfOk result (λ told. IfSome told (λ step. IfDone step ⊥)) }
+
+        // A step that is neither an edit nor a question is one fewer of them.
+        ensures fewer { IfOk result (λ told.
+            deeds (side_of self.entry.now.old).children (mark_of met) + others self.entry.now
+            ≡ other_of told + others self.exit.now) }
+
+        // None is drawn at the end, and a fault comes there alone, at a node that comes.
         ensures end { IfErr result (λ fault.
             fault ≡ TreeFault.IdsExhausted → ids.old ≡ 2 ^ 64 - 1) }
-
-        // What is left falls, and no step is the last one.
-        ensures fewer { IfOk result (λ told.
-            others_of instruction + others self.old ≡ other_of told + others self.new) }
-        ensures due { IfOk result (λ told. IfSome told (λ step.
-            IfEdit step (due_ahead instruction self.old ≡ suc (due self.new)))) }
-        ensures due_later { IfOk result (λ told. IfNone told (
-            due_ahead instruction self.old ≡ due self.new)) }
-        ensures goes_on { IfOk result (λ told. IfSome told (λ step. IfDone step ⊥)) }
+        ensures coming { IfErr result (λ fault.
+            fault ≡ TreeFault.IdsExhausted → IsComing (mark_of met)) }
+        ensures before_end { IfOk result (λ told. IfSome told (λ step.
+            IfDrawn step (λ id. ids.old ≢ 2 ^ 64 - 1))) }
     {
-        match instruction {
-            Instruction::Keep => {
-                self.keep()?;
+        match met {
+            Met::Stays { .. } => Ok(None),
+            Met::Goes { place, kind } => {
+                self.go(alloc, &place, kind)?;
                 Ok(None)
             }
-            Instruction::Rewrite(text) => Ok(Some(self.rewrite(text)?)),
-            Instruction::Adjust { ahead, change } => Ok(Some(self.adjust(ahead, change))),
-            Instruction::Feed(component) => Ok(Some(self.feed(component)?)),
-            Instruction::Lose { root } => Ok(self.lose(root)?),
-            Instruction::Leave { root } => Ok(self.leave(root)?),
-            Instruction::Draw { steps, path, shape } => {
-                Ok(Some(self.draw(alloc, steps, path, shape, ids)?))
+            Met::Comes { place, kind } => {
+                let Words { id, steps, path } = self.draw(alloc, &place, kind, ids)?;
+                Ok(Some(PatchStep::Drawn { id, steps, path }))
             }
-            Instruction::Close => {
-                self.built.close()?;
-                Ok(None)
-            }
-            Instruction::Make(component) => Ok(Some(self.make(component))),
-            Instruction::Replace => match self.replace(alloc) {
-                Some(edit) => Ok(Some(PatchStep::Edit(edit))),
+            Met::Fed { place, next, .. } => match self.old.child_at(&place) {
+                Some(child) => Ok(Some(PatchStep::Feed {
+                    scope: ScopeId(child),
+                    component: next,
+                })),
                 None => Ok(None),
             },
-            Instruction::Erase => match self.erase() {
-                Some(edit) => Ok(Some(PatchStep::Edit(edit))),
-                None => Ok(None),
+            Met::Left { place, .. } => {
+                self.leave(&place)?;
+                Ok(None)
+            }
+            Met::Made { place, next } => {
+                self.phase = Phase::Make(place);
+                Ok(Some(PatchStep::Make(next)))
+            }
+            written => match self.write(alloc, written)? {
+                Wrote::Asks(scope) => Ok(Some(PatchStep::Nodes(scope))),
+                Wrote::First(edit) => Ok(Some(PatchStep::Edit(edit))),
+                Wrote::Nothing => Ok(None),
             },
-            Instruction::Behind { back } => {
-                self.behind = number_back(self.numbers.as_slice(), back);
-                Ok(None)
-            }
-            Instruction::BehindChild => {
-                self.neighbour = last_of(self.children.as_slice());
-                Ok(None)
-            }
-            Instruction::Ask => Ok(Some(self.ask())),
-            Instruction::Insert => Ok(Some(self.insert(alloc))),
         }
     }
 
-    // Draws a number for a new node of this shape.
+    // The number of a node that goes is told at the end.
+    fn go(&mut self, alloc: Global, place: &Place, kind: Kind) -> Result<(), OutOfMemory>
+        ensures phase { self.exit.now.phase ≡ self.entry.now.phase }
+        ensures keeps { Keeps self.entry.now self.exit.now }
+        ensures behind { OnOk result (at_end self.exit.now ≡ at_end self.entry.now + 1) }
+        ensures told { OnOk result (gone_left self.exit.now ≡ gone_left self.entry.now
+            ++ number_in self.entry.now.old (place_of place.now) (kind_of kind) ∷ []) }
+        ensures drops { self.exit.now.drops ≡ self.entry.now.drops }
+        ensures edits { self.exit.now.edits.items ≡ self.entry.now.edits.items }
+        ensures plan { self.exit.now.plan.items ≡ self.entry.now.plan.items }
+        ensures tree { self.exit.now.new.side.output ≡ self.entry.now.new.side.output }
+    {
+        let steps = place.steps(alloc)?;
+        let number = self.old.number_on(&Trail::At(&steps), kind);
+        self.gone.push_back(ElementId(number))?;
+        Ok(())
+    }
+
+    // Draws a number for a new node.
     fn draw(
         &mut self,
         alloc: Global,
-        steps: List<Step>,
-        path: List<u8>,
-        shape: Shape,
+        place: &Place,
+        kind: Kind,
         ids: &mut Serials,
-    ) -> Result<PatchStep<P>, TreeFault>
-        ensures step { IfOk result (λ step. step
-            ≡ PatchStep.Drawn (record { 0 = ids.old }) steps path) }
-        ensures kept { OnOk result (kept self.new
-            ≡ drawing (record { 0 = ids.old }) shape (kept self.old)) }
-        ensures numbers { self.new.old_numbers.items ≡ self.old.old_numbers.items }
-        ensures children { self.new.old_children.items ≡ self.old.old_children.items }
-        ensures phase { self.new.phase ≡ self.old.phase }
-        ensures plan { self.new.plan.items ≡ self.old.plan.items }
-        ensures tree { self.new.tree ≡ self.old.tree }
+    ) -> Result<Words, TreeFault>
+        ensures number { IfOk result (λ words. words.id.0 ≡ ids.old) }
+        ensures steps { IfOk result (λ words.
+            map step_in words.steps ≡ steps_from 0 (place_of place.now)) }
+        ensures path { IfOk result (λ words. words.path ≡ path_from [] (place_of place.now)) }
+        ensures drawn { OnOk result (side_of self.exit.now.new.side
+            ≡ and_number (side_of self.entry.now.new.side) (place_of place.now, kind_of kind, ids.old)) }
+        ensures phase { self.exit.now.phase ≡ self.entry.now.phase }
+        ensures edits { self.exit.now.edits.items ≡ self.entry.now.edits.items }
+        ensures plan { self.exit.now.plan.items ≡ self.entry.now.plan.items }
+        ensures tree { self.exit.now.new.side.output ≡ self.entry.now.new.side.output }
+        ensures behind { at_end self.exit.now ≡ at_end self.entry.now }
+        ensures drops { self.exit.now.drops ≡ self.entry.now.drops }
+        ensures gone { self.exit.now.gone ≡ self.entry.now.gone }
+        ensures was { self.exit.now.old ≡ self.entry.now.old }
+        ensures rows { self.exit.now.given ≡ self.entry.now.given }
+        ensures shows { self.exit.now.shown ≡ self.entry.now.shown }
 
         // The number stays drawn after a fault, which comes at the last one.
         ensures rises { OnOk result (ids.new ≡ ids.old + 1) }
+        ensures before_end { OnOk result (ids.old ≢ 2 ^ 64 - 1) }
         ensures end { IfErr result (λ fault.
             fault ≡ TreeFault.IdsExhausted → ids.old ≡ 2 ^ 64 - 1) }
     {
         let Some(number) = ids.next() else {
             return Err(TreeFault::IdsExhausted);
         };
-        let id = ElementId(number);
-        self.numbers.push(id)?;
-        self.built.draw(alloc, id, shape)?;
-        Ok(PatchStep::Drawn { id, steps, path })
+        self.new.draw(place, kind, number)?;
+        Ok(named_steps(alloc, ElementId(number), place)?)
     }
 
-    // A scope is to be made.
-    fn make(&mut self, component: VComponent<P>) -> PatchStep<P>
-        ensures step { result ≡ PatchStep.Make component }
-        ensures phase { self.new ≡ record self.old { phase = Phase.Make } }
+    // The child scope of a component that goes is dropped at the end.
+    fn leave(&mut self, place: &Place) -> Result<(), OutOfMemory>
+        ensures phase { self.exit.now.phase ≡ self.entry.now.phase }
+        ensures keeps { Keeps self.entry.now self.exit.now }
+        ensures behind { OnOk result (at_end self.exit.now
+            ≡ at_end self.entry.now + one_if (child_in self.entry.now.old (place_of place.now))) }
+        ensures dropped { OnOk result ((scope : ℕ) (side : SideName) →
+            drops_left scope side self.exit.now ≡ drops_left scope side self.entry.now
+            ++ drop_at scope side (child_in self.entry.now.old (place_of place.now))) }
+        ensures gone { self.exit.now.gone ≡ self.entry.now.gone }
+        ensures edits { self.exit.now.edits.items ≡ self.entry.now.edits.items }
+        ensures plan { self.exit.now.plan.items ≡ self.entry.now.plan.items }
+        ensures tree { self.exit.now.new.side.output ≡ self.entry.now.new.side.output }
     {
-        self.phase = Phase::Make;
-        PatchStep::Make(component)
+        match self.old.child_at(place) {
+            Some(child) => {
+                self.drops.push_back(ScopeId(child))?;
+                Ok(())
+            }
+            None => Ok(()),
+        }
     }
 
-    // The first root that goes is replaced by what was built.
-    fn replace(&mut self, alloc: Global) -> Option<Edit>
-        requires { self.old.phase ≡ Phase.Free }
-        ensures some { IfSome result (λ edit. (answers : Items Answer) →
-            ahead Instruction.Replace self.old answers
-            ≡ told (PatchStep.Edit edit) (left self.new answers)) }
-        ensures none { IfNone result ((answers : Items Answer) →
-            ahead Instruction.Replace self.old answers ≡ left self.new answers) }
-        ensures removing { OnSome result (self.new.phase ≡ Phase.Removing) }
-        ensures free { IfNone result (self.new.phase ≡ Phase.Free) }
-        ensures plan { self.new.plan.items ≡ self.old.plan.items }
-        ensures tree { self.new.tree ≡ self.old.tree }
-        ensures others { others self.new ≡ others self.old }
-        ensures due { OnSome result (
-            due_ahead Instruction.Replace self.old ≡ suc (due self.new)) }
-        ensures due_later { IfNone result (
-            due_ahead Instruction.Replace self.old ≡ due self.new) }
+    // What is written at a mark, where the block is shown. Where a scope has to be asked for its
+    // nodes first, the mark stays in front of the others.
+    fn write(&mut self, alloc: Global, met: Met<P>) -> Result<Wrote, OutOfMemory>
+        requires free { awaited self.now.phase ≡ no_answer }
+        requires spent { self.now.edits.items ≡ [] }
+        ensures awaits { IfOk result (λ wrote. awaited self.exit.now.phase ≡ wrote_awaits wrote) }
+        ensures spent { IfOk result (λ wrote. IfNothing wrote (self.exit.now.edits.items ≡ [])) }
+        ensures plan { IfOk result (λ wrote.
+            UnlessAsks wrote (self.exit.now.plan.items ≡ self.entry.now.plan.items)) }
+        ensures front { IfOk result (λ wrote.
+            IfAsks wrote (marks_left self.exit.now ≡ mark_of met ∷ marks_left self.entry.now)) }
+        ensures tree { self.exit.now.new.side.output ≡ self.entry.now.new.side.output }
+
+        // It is written by what both blocks have, and nothing of these changes.
+        ensures written { IfOk result (λ wrote. (app : Application
+            (types P.Component P.Props P.Value P.Handler P.TaskState P.Effect P.Payload)) →
+            Written app (mark_of met) self.entry.now wrote self.exit.now) }
+        ensures keeps { IfOk result (λ wrote.
+            IfNothing wrote (Keeps self.entry.now self.exit.now)) }
+
+        // A scope that is asked is the one that the mark asks.
+        ensures asks { IfOk result (λ wrote. IfAsksFor wrote (λ scope.
+            asked_at self.exit.now (mark_of met) ≡ Some scope.0)) }
+        ensures behind { at_end self.exit.now ≡ at_end self.entry.now }
+        ensures drops { self.exit.now.drops ≡ self.entry.now.drops }
+        ensures gone { self.exit.now.gone ≡ self.entry.now.gone }
+        ensures was { self.exit.now.old ≡ self.entry.now.old }
+        ensures new { self.exit.now.new.side ≡ self.entry.now.new.side }
+        ensures rows { self.exit.now.given ≡ self.entry.now.given }
+        ensures shows { self.exit.now.shown ≡ self.entry.now.shown }
     {
-        let id = self.roots.pop_front()?;
-        let nodes = self.built.take(alloc);
-        self.phase = Phase::Removing;
-        Some(Edit::ReplaceNodeWith { id, nodes })
+        if !self.shown {
+            return Ok(Wrote::Nothing);
+        }
+        match self.unknown_at(alloc, &met)? {
+            Some(scope) => {
+                let scope = ScopeId(scope);
+                self.plan.push_front(met)?;
+                self.phase = Phase::Asked(scope);
+                Ok(Wrote::Asks(scope))
+            }
+            None => {
+                let edits = self.written_at(alloc, &met)?;
+                Ok(self.keep(edits))
+            }
+        }
     }
 
-    // The first root that goes is removed.
-    fn erase(&mut self) -> Option<Edit>
-        requires { self.old.phase ≡ Phase.Free }
-        ensures some { IfSome result (λ edit. (answers : Items Answer) →
-            ahead Instruction.Erase self.old answers
-            ≡ told (PatchStep.Edit edit) (left self.new answers)) }
-        ensures none { IfNone result ((answers : Items Answer) →
-            ahead Instruction.Erase self.old answers ≡ left self.new answers) }
-        ensures removing { OnSome result (self.new.phase ≡ Phase.Removing) }
-        ensures free { IfNone result (self.new.phase ≡ Phase.Free) }
-        ensures plan { self.new.plan.items ≡ self.old.plan.items }
-        ensures tree { self.new.tree ≡ self.old.tree }
-        ensures others { others self.new ≡ others self.old }
-        ensures due { OnSome result (
-            due_ahead Instruction.Erase self.old ≡ suc (due self.new)) }
-        ensures due_later { IfNone result (
-            due_ahead Instruction.Erase self.old ≡ due self.new) }
+    // Keeps the edits of a mark, but for the first of them.
+    fn keep(&mut self, edits: List<Edit>) -> Wrote
+        ensures first { FirstOf edits result self.exit.now.edits.items }
+        ensures others { self.exit.now ≡ record self.entry.now { edits = self.exit.now.edits } }
     {
-        let id = self.roots.pop_front()?;
-        self.phase = Phase::Removing;
-        Some(Edit::RemoveNode { id })
-    }
-
-    // The scope behind which more is inserted is asked for its nodes.
-    fn ask(&mut self) -> PatchStep<P>
-        ensures step { result ≡ PatchStep.Nodes self.old.neighbour }
-        ensures phase { self.new ≡ record self.old { phase = Phase.Last self.old.neighbour } }
-    {
-        self.phase = Phase::Last(self.neighbour);
-        PatchStep::Nodes(self.neighbour)
-    }
-
-    // What was built is inserted.
-    fn insert(&mut self, alloc: Global) -> PatchStep<P>
-        ensures step { result
-            ≡ PatchStep.Edit (Edit.InsertNodesAfter self.old.behind self.old.built.row) }
-        ensures kept { kept self.new
-            ≡ record (kept self.old) { built = taken (built_of self.old.built) } }
-        ensures numbers { self.new.old_numbers.items ≡ self.old.old_numbers.items }
-        ensures children { self.new.old_children.items ≡ self.old.old_children.items }
-        ensures phase { self.new.phase ≡ self.old.phase }
-        ensures plan { self.new.plan.items ≡ self.old.plan.items }
-        ensures tree { self.new.tree ≡ self.old.tree }
-    {
-        let nodes = self.built.take(alloc);
-        PatchStep::Edit(Edit::InsertNodesAfter {
-            id: self.behind,
-            nodes,
-        })
-    }
-}
-
-// The number that is so far from the end.
-fn number_back(numbers: &[ElementId], back: u64) -> ElementId
-    ensures { result ≡ number_back numbers.now back }
-{
-    let back = back as usize;
-    if numbers.len() < back {
-        return ElementId(0);
-    }
-    if 0 < back {
-        numbers[numbers.len() - back]
-    } else {
-        ElementId(0)
-    }
-}
-
-// The last child scope.
-fn last_of(children: &[ScopeId]) -> ScopeId
-    ensures { result ≡ last_or no_scope children.now }
-{
-    match children.last() {
-        Some(scope) => *scope,
-        None => ScopeId(0),
+        self.edits = VecDeque::from_vec(edits.into_vec());
+        match self.edits.pop_front() {
+            Some(edit) => Wrote::First(edit),
+            None => Wrote::Nothing,
+        }
     }
 }

@@ -1,7 +1,7 @@
 //! Serves the steps of patches, as a layer above does.
 
 ghost use Rattle.std.specs.Prelude.{◌≡◌};
-ghost use Rattle.rt_tree.specs.Left.{awaited, awaits, no_answer};
+ghost use Rattle.rt_tree.specs.Awaits.{awaited, awaits, no_answer};
 
 use super::printing::{print_nodes, print_step};
 use super::trees::{Numbers, Shape, push, text};
@@ -69,8 +69,8 @@ impl Stage {
 
     /// Does one step.
     fn turn(&mut self, rt: &impl Abort, alloc: Global, patch: &mut Patch<Numbers>)
-        requires { awaited patch.old.phase ≡ no_answer }
-        ensures { awaited patch.new.phase ≡ no_answer }
+        requires { awaited patch.now.phase ≡ no_answer }
+        ensures { awaited patch.exit.now.phase ≡ no_answer }
     {
         let step = patch.next(alloc, &mut self.ids).expect(rt, "a step");
         assert!(rt; print_step(&mut self.told, &step).is_ok());
@@ -85,8 +85,8 @@ impl Stage {
         patch: &mut Patch<Numbers>,
         step: PatchStep<Numbers>,
     )
-        requires { awaited patch.old.phase ≡ awaits step }
-        ensures { awaited patch.new.phase ≡ no_answer }
+        requires { awaited patch.now.phase ≡ awaits step }
+        ensures { awaited patch.exit.now.phase ≡ no_answer }
     {
         match step {
             PatchStep::Make(_) => {

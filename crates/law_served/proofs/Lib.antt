@@ -1,0 +1,12 @@
+mod Passing
+mod Spots
+mod Rows
+mod Fed
+mod Finally
+mod Whole
+mod Hiding
+mod Begun
+mod Ended
+mod Opened
+mod Filled
+mod Blocks

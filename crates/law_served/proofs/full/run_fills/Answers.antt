@@ -1,0 +1,6 @@
+-- By what all marks brought.
+use Rattle.law_served.proofs.Filled as filled
+use Rattle.law_served.proofs.full.run_fills.Goals as goal
+
+pub returns : goal.returns
+returns g c = λ app. filled.run_fills app

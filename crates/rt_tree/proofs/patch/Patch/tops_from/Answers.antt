@@ -1,0 +1,18 @@
+-- What stands at the top of these items.
+use Rattle.std.proofs.Common.{◌∙◌, ap}
+use Rattle.std.proofs.lemmas.Result.{IfOk-weaker}
+use Rattle.run_places.specs.Places.{place_of}
+use Rattle.run_places.proofs.Trails.{on_At}
+use Rattle.run_shown.specs.Pieces.{items_pieces}
+use Rattle.rt_tree.proofs.patch.Patch.tops_from.Goals as goal
+
+pub returns : goal.returns
+returns g c =
+    IfOk-weaker c.items_pieces.result _ _
+    (
+    λ tops h.
+    h
+    ∙ ap (λ p. items_pieces c.args.self.now.old c.args.first 0 p c.items_from.result.now) (on_At _ ∙ ap place_of c.in_ok-steps.ensures.steps)
+    ∙ ap (λ ts. items_pieces c.args.self.now.old c.args.first 0 (place_of c.args.place.now) ts) c.items_from.ensures
+    )
+    c.items_pieces.ensures
