@@ -149,7 +149,7 @@ module _ {K : Types} where
 
   -- a look: what comes up after it
 
-  inactive_gone : (tasks : List (ℕ × TaskRow K)) (t : ℕ) → is_some (at tasks t) ≡ false → active_in tasks t ≡ false
+  pub inactive_gone : (tasks : List (ℕ × TaskRow K)) (t : ℕ) → is_some (at tasks t) ≡ false → active_in tasks t ≡ false
   inactive_gone tasks t h = by (at tasks t) h
     where
       by : (o : Option (TaskRow K)) → is_some o ≡ false → (elim o as (λ z. Bool) [ None ↦ false | Some x ↦ x.active ]) ≡ false

@@ -1,30 +1,13 @@
 -- Scopes go one after another, from the greatest order down.
 use Rattle.run_records.specs.Kept.{each}
-use Rattle.std.proofs.Common.{ℕ, zero, suc, ◌+◌, ◌-◌, ◌<◌, ◌≤◌, Bool, List, [], ◌∷◌, ◌≡◌, refl, ap, ◌∙◌, length, arith}
+use Rattle.std.proofs.Common.{ℕ, zero, suc, ◌+◌, ◌-◌, ◌<◌, ◌≤◌, List, [], ◌∷◌, ◌≡◌, refl, ap, ◌∙◌, length, arith}
 use Rattle.std.specs.Prelude.{Option, Some, None}
 use Rattle.rt_lemmas.proofs.Numbers.{fewer, none_left}
 use Rattle.rt_model.specs.Tree.{Types}
 use Rattle.rt_model.specs.World.{Application}
-use Rattle.rt_model.specs.State.{Scope, State, Outcome, Done, onward}
-use Rattle.rt_model.specs.Next.{is_before, least, least_from}
+use Rattle.rt_model.specs.State.{State, Outcome, Done, onward}
+use Rattle.rt_model.specs.Next.{is_before, least}
 use Rattle.rt_model.specs.Removal.{closes, numbers_of, removed_apart}
-use Rattle.run_answers.specs.Closed.{greater}
-
--- the least from one that was found on
-abbrev pub least_on : (ℕ → ℕ → Bool) → Option ℕ → List ℕ → Option ℕ
-least_on earlier None xs = least earlier xs
-least_on earlier (Some s) xs = Some (least_from earlier s xs)
-
-module _ {K : Types} where
-  -- one more of them
-  pub on_next : (scopes : List (ℕ × Scope K)) (found : Option ℕ) (t : ℕ) (ts : List ℕ)
-      → least_on (λ a b. is_before scopes b a) (Some (greater scopes found t)) ts ≡ least_on (λ a b. is_before scopes b a) found (t ∷ ts)
-  on_next scopes None t ts = refl
-  on_next scopes (Some s) t ts = refl
-
-  pub on_none : (scopes : List (ℕ × Scope K)) (found : Option ℕ) → found ≡ least_on (λ a b. is_before scopes b a) found []
-  on_none scopes None = refl
-  on_none scopes (Some s) = refl
 
 module _ {K : Types} (app : Application K) where
   -- the last one goes next

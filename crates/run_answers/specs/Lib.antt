@@ -1,6 +1,6 @@
 pub mod Untils
 pub mod Owed
-pub mod Closed
-pub mod Resolved
+pub mod Ranked
 pub mod Provided
 pub mod Polls
+pub mod Barred

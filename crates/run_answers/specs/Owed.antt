@@ -4,11 +4,17 @@ use Rattle.rt_model.specs.Lists.{at}
 use Rattle.rt_model.specs.Tree.{Types}
 use Rattle.rt_model.specs.State.{Posted, Mark, Woken, TaskRow, Scope, State}
 use Rattle.rt_model.specs.Next.{is_before, least, with_effects}
+use Rattle.run_owed.specs.Stands.{behind_number}
 
 -- some number is in it
 abbrev pub sees_any : List ℕ → Bool
 sees_any [] = false
 sees_any (s ∷ ss) = true
+
+-- of some numbers all, or those behind the last that was met
+abbrev pub after_last : Option ℕ → List ℕ → List ℕ
+after_last None ns = ns
+after_last (Some n) ns = behind_number n ns
 
 module _ {K : Types} where
   -- a task is live and active

@@ -7,7 +7,7 @@ ghost use Rattle.rt_model.specs.Removal.{numbers_of};
 ghost use Rattle.run_state.specs.Mirror.{scopes_of, state_of};
 
 use rt_cells::{ReactiveContext, Target};
-use rt_values::{List, OutOfMemory, ScopeId};
+use rt_values::{Boxed, List, OutOfMemory, ScopeId};
 use run_records::Scope;
 use run_state::State;
 use std::alloc::Global;
@@ -50,7 +50,7 @@ pub fn live_scopes<P: Parts>(alloc: Global, state: &State<P>) -> Result<List<Sco
 /// The numbers of rows.
 fn scopes_in<P: Parts>(
     alloc: Global,
-    rows: &[(u64, Scope<P>)],
+    rows: &[(u64, Boxed<Scope<P>>)],
 ) -> Result<List<ScopeId>, OutOfMemory>
     ensures { IfOk result (λ scopes.
         map (λ scope. scope.0) scopes ≡ numbers_of (scopes_of rows.now)) }

@@ -5,12 +5,12 @@
 
 mod descent;
 mod kept;
-mod last;
 mod numbers;
 mod owed;
 mod passing;
 mod poll;
 mod providers;
+mod ranking;
 mod refusal;
 mod remaining;
 mod resolved;
@@ -20,11 +20,10 @@ mod waiting;
 
 pub use descent::is_descendant;
 pub use kept::{context_target, has_cell, live_scopes, value_of};
-pub use last::last_scope;
 pub use numbers::{after, named};
 pub use passing::{polling_rest, rendering_rest};
-pub use poll::{Poll, poll_of};
 pub use providers::{provided_above, provided_here};
+pub use ranking::ranked_scopes;
 pub use refusal::DomFault;
 pub use remaining::suspended_remains;
 pub use resolved::take_resolved;

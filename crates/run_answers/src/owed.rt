@@ -2,7 +2,10 @@
 ghost use Rattle.std.specs.Prelude.{◌≡◌, is_some};
 ghost use Rattle.rt_model.specs.Next.{drops, found, owes};
 ghost use Rattle.run_state.specs.Mirror.{state_of};
-ghost use Rattle.run_answers.specs.Owed.{any_active, any_live, comes_later, comes_up, is_owed, turns_up};
+ghost use Rattle.run_owed.specs.Lists.{wakes_in};
+ghost use Rattle.run_owed.specs.Orders.{first_number};
+ghost use Rattle.run_owed.specs.Stands.{queued_in_turn, woken_in_turn};
+ghost use Rattle.run_answers.specs.Owed.{after_last, any_active, comes_later, comes_up, is_owed, turns_up};
 
 use run_state::State;
 use tree_nodes::Parts;
@@ -40,19 +43,32 @@ pub(crate) fn finds<P: Parts>(state: &State<P>) -> bool
 fn comes_up<P: Parts>(state: &State<P>) -> bool
     ensures { (g : _) → result ≡ comes_up (state_of g state.now) }
 {
-    !state.owed.sees_none() || any_active(state, state.owed.queued())
+    !state.owed.sees_none() || any_queued(state)
 }
 
-/// Whether one of these tasks is active.
-fn any_active<P: Parts>(state: &State<P>, tasks: &[u64]) -> bool
-    ensures { (g : _) → result ≡ any_active (state_of g state.now).tasks tasks.now }
+/// Whether a queued task is active. They are met one by one.
+fn any_queued<P: Parts>(state: &State<P>) -> bool
+    ensures { (g : _) → result
+        ≡ any_active (state_of g state.now).tasks (state_of g state.now).queued }
 {
-    for task in tasks {
-        if state.is_active(*task) {
+    let mut last = None;
+    while let Some(task) = queued_after(state, last) {
+        if state.is_active(task) {
             return true;
         }
+        last = Some(task);
     }
     false
+}
+
+/// The first queued task, or the first one behind the last that was met.
+fn queued_after<P: Parts>(state: &State<P>, last: Option<u64>) -> Option<u64>
+    ensures { result ≡ first_number (after_last last (queued_in_turn state.now.owed)) }
+{
+    match last {
+        Some(task) => state.owed.queued_behind(task),
+        None => state.owed.next_queued(),
+    }
 }
 
 /// Whether a look would see a scope, or queue a task that is active.
@@ -60,17 +76,30 @@ fn turns_up<P: Parts>(state: &State<P>) -> bool
     ensures { (g : _) → result ≡ turns_up (state_of g state.now).scopes (state_of g state.now).tasks
         (state_of g state.now).posted }
 {
-    any_live(state, state.owed.marks()) || any_active(state, state.owed.wakes())
+    state.owed.has_marks() || any_woken(state)
 }
 
-/// Whether one of these scopes is live.
-fn any_live<P: Parts>(state: &State<P>, scopes: &[u64]) -> bool
-    ensures { (g : _) → result ≡ any_live (state_of g state.now).scopes scopes.now }
+/// Whether a task of which a wake is posted is active. They are met one by one.
+fn any_woken<P: Parts>(state: &State<P>) -> bool
+    ensures { (g : _) → result
+        ≡ any_active (state_of g state.now).tasks (wakes_in (state_of g state.now).posted) }
 {
-    for scope in scopes {
-        if state.is_live(*scope) {
+    let mut last = None;
+    while let Some(task) = woken_after(state, last) {
+        if state.is_active(task) {
             return true;
         }
+        last = Some(task);
     }
     false
+}
+
+/// The first task of which a wake is posted, or the first one behind the last that was met.
+fn woken_after<P: Parts>(state: &State<P>, last: Option<u64>) -> Option<u64>
+    ensures { result ≡ first_number (after_last last (woken_in_turn state.now.owed)) }
+{
+    match last {
+        Some(task) => state.owed.woken_behind(task),
+        None => state.owed.next_woken(),
+    }
 }

@@ -1,9 +1,10 @@
 //! What a render or a poll of suspended work passes over.
-ghost use Rattle.std.specs.Prelude.{◌≡◌, Some, IfOk, OnOk, if◌then◌else◌};
+ghost use Rattle.std.specs.Prelude.{◌≡◌, OnOk, Some, option_map};
 ghost use Rattle.rt_model.specs.Next.{PollTask, RerunScope, found};
 ghost use Rattle.rt_model.specs.Rendering as rendering;
 ghost use Rattle.run_state.specs.Mirror.{state_of};
 ghost use Rattle.run_state.specs.Names.{task_kind_of, work_of};
+ghost use Rattle.run_answers.specs.Barred.{all_passed, barred, barred_task, every_task_passed, left_out, may_take};
 
 use rt_values::OutOfMemory;
 use run_state::{State, TaskKind, Work, join};
@@ -16,20 +17,16 @@ pub fn rendering_rest<P: Parts>(alloc: Global, state: &mut State<P>) -> Result<(
         state_of g state.new ≡ rendering.rendering_rest (state_of g state.old)) }
 {
     state.look(alloc)?;
-    let most = state.owed.seen().len() as u128 + state.owed.queued().len() as u128;
-    pass_all(state, most)
+    pass_all(state)
 }
 
-/// Passes over what comes up and may not be taken, at most so many times.
-fn pass_all<P: Parts>(state: &mut State<P>, most: u128) -> Result<(), OutOfMemory>
-    ensures { OnOk result ((g : _) →
-        state_of g state.new ≡ rendering.passes most (state_of g state.old)) }
+/// Passes over all that comes up and may not be taken.
+fn pass_all<P: Parts>(state: &mut State<P>) -> Result<(), OutOfMemory>
+    ensures passed { OnOk result ((g : _) →
+        state_of g state.new ≡ all_passed (state_of g state.old)) }
 {
-    for _step in 0..most {
-        let passed = passes_over(state)?;
-        if !passed {
-            return Ok(());
-        }
+    while let Some(work) = barred(state) {
+        leave_out(state, work)?;
     }
     Ok(())
 }
@@ -41,78 +38,88 @@ pub fn polling_rest<P: Parts>(alloc: Global, state: &mut State<P>) -> Result<(),
         state_of g state.new ≡ rendering.polling_rest (state_of g state.old)) }
 {
     state.look(alloc)?;
-    let most = state.owed.queued().len();
-    pass_tasks(state, most)
+    pass_tasks(state)
 }
 
-/// Passes over tasks that come up and may not be polled, at most so many times.
-fn pass_tasks<P: Parts>(state: &mut State<P>, most: usize) -> Result<(), OutOfMemory>
-    ensures { OnOk result ((g : _) →
-        state_of g state.new ≡ rendering.tasks_passed most (state_of g state.old)) }
+/// Passes over the tasks that come up and may not be polled, while no scope is seen.
+fn pass_tasks<P: Parts>(state: &mut State<P>) -> Result<(), OutOfMemory>
+    ensures passed { OnOk result ((g : _) →
+        state_of g state.new ≡ every_task_passed (state_of g state.old)) }
 {
-    for _step in 0..most {
-        if state.first_seen().is_some() {
-            return Ok(());
-        }
-        let passed = passes_over(state)?;
-        if !passed {
-            return Ok(());
-        }
+    while let Some(work) = barred_task(state) {
+        leave_out(state, work)?;
     }
     Ok(())
 }
 
-/// Passes over what comes up, where it may not be taken. A scope that is passed over is listed,
-/// once.
-fn passes_over<P: Parts>(state: &mut State<P>) -> Result<bool, OutOfMemory>
-    ensures { IfOk result (λ passed. (g : _) (go : _) →
-        rendering.pass_over go (state_of g state.old) (found (state_of g state.old))
-        ≡ (if passed then go (state_of g state.new) else state_of g state.new)) }
+/// What comes up, where no scope is seen and it may not be taken.
+fn barred_task<P: Parts>(state: &State<P>) -> Option<Work>
+    ensures { (g : _) → option_map work_of result ≡ barred_task (state_of g state.now) }
+{
+    if state.first_seen().is_some() {
+        return None;
+    }
+    barred(state)
+}
+
+/// What comes up, where it may not be taken.
+fn barred<P: Parts>(state: &State<P>) -> Option<Work>
+    ensures { (g : _) → option_map work_of result
+        ≡ barred (state_of g state.now) (found (state_of g state.now)) }
 {
     match state.found() {
-        Some(work) => passes(state, work),
-        None => Ok(false),
+        Some(work) => {
+            if may_take(state, work) {
+                None
+            } else {
+                Some(work)
+            }
+        }
+        None => None,
     }
 }
 
-/// Passes over work, where it may not be taken.
-fn passes<P: Parts>(state: &mut State<P>, work: Work) -> Result<bool, OutOfMemory>
-    ensures { IfOk result (λ passed. (g : _) (go : _) →
-        rendering.pass_over go (state_of g state.old) (Some (work_of work))
-        ≡ (if passed then go (state_of g state.new) else state_of g state.new)) }
+/// Whether a suspended render takes this work. Effects are nothing that it passes over.
+fn may_take<P: Parts>(state: &State<P>, work: Work) -> bool
+    ensures { (g : _) → result ≡ may_take (state_of g state.now) (work_of work) }
 {
     match work {
-        Work::RerunScope(scope) => passes_scope(state, scope),
-        Work::PollTask(task) => Ok(passes_task(state, task)),
-        Work::RunEffects(_) => Ok(false),
+        Work::RerunScope(scope) => may_rerun(state, scope),
+        Work::PollTask(task) => may_poll(state, task),
+        Work::RunEffects(_) => true,
     }
 }
 
-/// Passes over a scope that isn't rerun, and lists it.
-fn passes_scope<P: Parts>(state: &mut State<P>, scope: u64) -> Result<bool, OutOfMemory>
-    ensures { IfOk result (λ passed. (g : _) (go : _) →
-        rendering.pass_over go (state_of g state.old) (Some (RerunScope scope))
-        ≡ (if passed then go (state_of g state.new) else state_of g state.new)) }
+/// Passes over work.
+fn leave_out<P: Parts>(state: &mut State<P>, work: Work) -> Result<(), OutOfMemory>
+    ensures out { OnOk result ((g : _) →
+        state_of g state.new ≡ left_out (state_of g state.old) (work_of work)) }
 {
-    if may_rerun(state, scope) {
-        return Ok(false);
+    match work {
+        Work::RerunScope(scope) => leave_out_scope(state, scope),
+        Work::PollTask(task) => {
+            leave_out_task(state, task);
+            Ok(())
+        }
+        Work::RunEffects(_) => Ok(()),
     }
+}
+
+/// Passes over a scope, which is listed, once.
+fn leave_out_scope<P: Parts>(state: &mut State<P>, scope: u64) -> Result<(), OutOfMemory>
+    ensures out { OnOk result ((g : _) →
+        state_of g state.new ≡ left_out (state_of g state.old) (RerunScope scope)) }
+{
     join(&mut state.skipped, scope)?;
     state.owed.unsee(scope);
-    Ok(true)
+    Ok(())
 }
 
-/// Passes over a task that isn't polled.
-fn passes_task<P: Parts>(state: &mut State<P>, task: u64) -> bool
-    ensures { (g : _) (go : _) →
-        rendering.pass_over go (state_of g state.old) (Some (PollTask task))
-        ≡ (if result then go (state_of g state.new) else state_of g state.new) }
+/// Passes over a task.
+fn leave_out_task<P: Parts>(state: &mut State<P>, task: u64)
+    ensures { (g : _) → state_of g state.new ≡ left_out (state_of g state.old) (PollTask task) }
 {
-    if may_poll(state, task) {
-        return false;
-    }
     state.owed.unqueue(task);
-    true
 }
 
 /// Whether a suspended render reruns a scope: it is below a suspense boundary that isn't frozen.

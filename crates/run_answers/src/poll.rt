@@ -1,13 +1,8 @@
 //! What a poll answers.
 ghost use Rattle.std.specs.Prelude.{◌≡◌};
-ghost use Rattle.run_answers.specs.Polls.{answers, told_by};
+ghost use Rattle.run_answers.specs.Polls.{answers};
 
-/// Whether there is something to do, or the caller may wait.
-#[derive(Clone, Copy, Debug, PartialEq, Eq)]
-pub enum Poll<T> {
-    Ready(T),
-    Pending,
-}
+use run_reports::Poll;
 
 /// Pending where nothing is to be done.
 pub(crate) fn pending_where(waits: bool) -> Poll<()>
@@ -17,16 +12,5 @@ pub(crate) fn pending_where(waits: bool) -> Poll<()>
         Poll::Pending
     } else {
         Poll::Ready(())
-    }
-}
-
-/// Ready, or pending.
-pub fn poll_of(ready: bool) -> Poll<()>
-    ensures { result ≡ told_by ready }
-{
-    if ready {
-        Poll::Ready(())
-    } else {
-        Poll::Pending
     }
 }

@@ -4,8 +4,9 @@ ghost use Rattle.rt_model.specs.Rendering.{suspended_remains};
 ghost use Rattle.run_answers.specs.Polls.{answers, sees_none};
 ghost use Rattle.run_state.specs.Mirror.{state_of};
 
-use crate::poll::{Poll, pending_where};
+use crate::poll::pending_where;
 use crate::remaining::suspended_remains;
+use run_reports::Poll;
 use run_state::State;
 use tree_nodes::Parts;
 

@@ -12,7 +12,7 @@ ghost use Rattle.run_outside.specs.Short.{PartBy, PartOf};
 
 use rt_values::{OutOfMemory, ScopeId, Task};
 use run_reports::Fault;
-use run_state::{Fault as Cause, Stop};
+use run_state::{Cause, Stop};
 
 /// Why a session ends early.
 #[derive(Clone, Copy, Debug, PartialEq, Eq)]

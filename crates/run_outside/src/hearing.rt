@@ -1,6 +1,6 @@
 //! An event on its way through the listeners that hear it.
+use crate::awaiting::Awaiting;
 use author_calls::App;
-use rt_values::List;
 use run_shown::Listener;
 use tree_nodes::Event;
 
@@ -10,5 +10,5 @@ pub struct Hearing<A: App> {
     pub event: Event<A::Payload>,
     pub bubbles: bool,
     /// Those that wait, in order; some may be of scopes that are gone.
-    pub listeners: List<Listener<A>>,
+    pub listeners: Awaiting<Listener<A>>,
 }

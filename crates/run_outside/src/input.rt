@@ -1,13 +1,17 @@
 //! Inputs, and the listeners that an event calls.
-ghost use Rattle.std.specs.Prelude.{◌≡◌, ◌∷◌, ◌++◌, [], map, IfOk, OnOk, MatchOption};
+ghost use Rattle.std.specs.Prelude.{◌≡◌, ◌∷◌, ◌++◌, [], map, IfOk, OnOk};
 ghost use Rattle.rt_model.specs.Heard.{heard};
 ghost use Rattle.rt_model.specs.Replay.{post_message, post_messages, taken_in, then_looked, further};
 ghost use Rattle.author_calls.specs.Answers.{event_of};
 ghost use Rattle.run_reports.specs.Seen.{input_of, message_of, post_of};
+ghost use Rattle.rt_model.specs.Queries.{node_place};
+ghost use Rattle.run_state.specs.Drawn.{standing_scope};
 ghost use Rattle.run_state.specs.Mirror.{state_of};
 ghost use Rattle.run_shown.specs.Hearing.{listener_in, listeners_of};
+ghost use Rattle.run_outside.specs.Among.{are_live};
 ghost use Rattle.run_outside.specs.Hearings.{has_waiting, listeners_in, live_listeners, silent, hearing_at, TakesWaiting};
 
+use crate::awaiting::Awaiting;
 use crate::hearing::Hearing;
 use author_calls::App;
 use rt_inbox::{Msg, Post};
@@ -71,25 +75,37 @@ fn silent<A: App>(alloc: Global, hearing: Option<Hearing<A>>) -> Option<Hearing<
         Some(hearing) => Some(Hearing {
             event: hearing.event,
             bubbles: hearing.bubbles,
-            listeners: List::new(alloc),
+            listeners: Awaiting::new(alloc),
         }),
         None => None,
     }
 }
 
 /// The listeners of an event, in order.
-fn hearers<P: Parts>(
+pub fn hearers<P: Parts>(
     alloc: Global,
     state: &State<P>,
     name: &Text,
     element: ElementId,
     bubbles: bool,
-) -> Result<List<Listener<P>>, OutOfMemory>
+) -> Result<Awaiting<Listener<P>>, OutOfMemory>
     ensures { IfOk result (λ listeners. (g : _) → listeners_of listeners
         ≡ heard (state_of g state.now) name.now element.0 bubbles) }
 {
     let look = Look::now(&state.rows);
-    heard(alloc, &look, name, element.0, bubbles)
+    let holder = holder_of(state, element.0);
+    let listeners = heard(alloc, &look, holder, name, element.0, bubbles)?;
+    Awaiting::of(alloc, listeners)
+}
+
+/// The scope in which a node stands, hidden ones included.
+fn holder_of<P: Parts>(state: &State<P>, number: u64) -> Option<u64>
+    ensures { (g : _) → result ≡ standing_scope (node_place (state_of g state.now) number) }
+{
+    match state.place_of(number) {
+        Some(place) => Some(place.scope.0),
+        None => None,
+    }
 }
 
 /// Does what messages ask for, in order.
@@ -116,7 +132,14 @@ fn post_message<P: Parts>(state: &mut State<P>, message: &Msg) -> Result<(), Out
 }
 
 /// Whether a listener waits whose scope is live.
-fn waits<P: Parts>(state: &State<P>, listeners: &[Listener<P>]) -> bool
+fn waits<P: Parts>(state: &State<P>, listeners: &Awaiting<Listener<P>>) -> bool
+    ensures { (g : _) → result ≡ has_waiting (state_of g state.now) (listeners_of listeners.now) }
+{
+    has_live(state, listeners.last_first())
+}
+
+/// Whether one of these is of a live scope.
+fn has_live<P: Parts>(state: &State<P>, listeners: &[Listener<P>]) -> bool
     ensures { (g : _) → result ≡ has_waiting (state_of g state.now) (listeners_of listeners.now) }
 {
     for listener in listeners {
@@ -159,33 +182,50 @@ fn add_live<P: Parts>(
     }
 }
 
-/// Takes the first item off.
-fn take_first<T: Drop>(items: &mut List<T>) -> Option<T>
-    ensures { MatchOption result ((items.old ≡ []) × (items.new ≡ []))
-        (λ first. items.old ≡ first ∷ items.new) }
+/// Whether all these scopes are live.
+fn are_live<P: Parts>(state: &State<P>, scopes: &[u64]) -> bool
+    ensures { (g : _) → result ≡ are_live (state_of g state.now) scopes.now }
 {
-    if items.is_empty() {
-        None
-    } else {
-        Some(items.remove(0))
+    for index in 0..scopes.len() {
+        if !state.is_live(scopes[index]) {
+            return false;
+        }
     }
+    true
+}
+
+/// Leaves the listeners whose scopes are live. Where all are it asks once for each scope.
+fn leave_live<P: Parts>(
+    alloc: Global,
+    state: &State<P>,
+    listeners: &mut Awaiting<Listener<P>>,
+) -> Result<(), OutOfMemory>
+    ensures { OnOk result ((g : _) → listeners_of listeners.new
+        ≡ live_listeners (state_of g state.now) (listeners_of listeners.old)) }
+{
+    if are_live(state, listeners.scopes()) {
+        return Ok(());
+    }
+    let all = mem::replace(listeners, Awaiting::new(alloc));
+    let live = live_ones(alloc, state, all.into_list())?;
+    *listeners = Awaiting::of(alloc, live)?;
+    Ok(())
 }
 
 /// Takes the first listener that waits, and leaves the others that wait. Where none waits all stay.
 pub fn first_waiting<P: Parts>(
     alloc: Global,
     state: &State<P>,
-    listeners: &mut List<Listener<P>>,
+    listeners: &mut Awaiting<Listener<P>>,
 ) -> Result<Option<Listener<P>>, OutOfMemory>
     ensures { IfOk result (λ first. (g : _) →
         TakesWaiting (state_of g state.now) first listeners.old listeners.new) }
 {
-    if !waits(state, listeners.as_slice()) {
+    if !waits(state, listeners) {
         return Ok(None);
     }
-    let all = mem::replace(listeners, List::new(alloc));
-    *listeners = live_ones(alloc, state, all)?;
-    Ok(take_first(listeners))
+    leave_live(alloc, state, listeners)?;
+    Ok(listeners.take_first())
 }
 
 /// A look, unless a listener waits.
@@ -209,7 +249,7 @@ fn any_waits<A: App>(state: &State<A>, hearing: &Option<Hearing<A>>) -> bool
     ensures { (g : _) → result ≡ has_waiting (state_of g state.now) (listeners_in hearing.now) }
 {
     match hearing {
-        Some(hearing) => waits(state, hearing.listeners.as_slice()),
+        Some(hearing) => waits(state, &hearing.listeners),
         None => false,
     }
 }
@@ -219,13 +259,13 @@ pub fn further<P: Parts>(
     alloc: Global,
     bubbles: bool,
     event: &Event<P::Payload>,
-    listeners: List<Listener<P>>,
-) -> List<Listener<P>>
+    listeners: Awaiting<Listener<P>>,
+) -> Awaiting<Listener<P>>
     ensures { (app : _) (m : _) → listeners_of result
         ≡ further app (record m { bubbles = bubbles }) (event_of event.now) (listeners_of listeners) }
 {
     if bubbles && !event.propagates {
-        List::new(alloc)
+        Awaiting::new(alloc)
     } else {
         listeners
     }

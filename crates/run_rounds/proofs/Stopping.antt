@@ -22,8 +22,8 @@ use Rattle.law_moves.proofs.Reports.{reports_go_on}
 use Rattle.law_moves.proofs.Tellings.{told_machine}
 use Rattle.run_state.specs.Mirror.{at_first, state_of}
 use Rattle.run_state.specs.Names.{fault_of}
-use Rattle.run_state.specs.declared.names.Fault.{Fault}
-use Rattle.run_state.specs.declared.names.Fault.TheVariants as faults
+use Rattle.run_state.specs.declared.names.Cause.{Cause}
+use Rattle.run_state.specs.declared.names.Cause.TheVariants as faults
 use Rattle.run_state.specs.declared.names.Stop.{Stop}
 use Rattle.run_state.specs.declared.names.Stop.TheVariants as stops
 use Rattle.law_behavior.specs.Doms.{NoneOpens}
@@ -48,7 +48,7 @@ some_none : {X : Type 0} {a : model.Fault} → Some a ≡ None → X
 some_none h = cc
 
 -- no call of the application ends for want of units
-turns_of : (what : Fault) (units : ℕ) → fault_of what ≡ model.OutOfTurns units → ⊥
+turns_of : (what : Cause) (units : ℕ) → fault_of what ≡ model.OutOfTurns units → ⊥
 turns_of (faults.IdsExhausted counter) units h = cc
 turns_of (faults.HookChanged scope index kept asked) units h = cc
 turns_of (faults.NoSuchTask scope task) units h = cc

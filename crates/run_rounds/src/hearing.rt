@@ -1,19 +1,15 @@
 //! An event on its way through those that hear it.
 
-ghost use Rattle.std.specs.Prelude.{◌≡◌, [], IfOk};
-ghost use Rattle.rt_model.specs.Heard.{heard};
+ghost use Rattle.std.specs.Prelude.{◌≡◌, []};
 ghost use Rattle.run_machine.specs.Machines.{machine_of, noted};
 ghost use Rattle.run_rounds.specs.Handled.{HeardSo, HearsAll, HearsOn};
 ghost use Rattle.run_rounds.specs.Rounds.{RestsAt};
 ghost use Rattle.rt_scopes.specs.Counts.{Counts};
-ghost use Rattle.run_shown.specs.Hearing.{listeners_of};
-ghost use Rattle.run_state.specs.Mirror.{state_of};
 
 use author_calls::{App, Calls};
-use rt_values::{ElementId, List, OutOfMemory, Text};
+use rt_values::{ElementId, Text};
 use run_machine::Machine;
-use run_outside::Hearing;
-use run_shown::{Listener, Look, heard};
+use run_outside::{Hearing, hearers};
 use run_state::Stop;
 use tree_nodes::Event;
 
@@ -33,7 +29,13 @@ pub fn handle<A: App>(
         event.prevented result machine.new calls.new }
 {
     let bubbles = event.propagates;
-    let listeners = hearers(machine, name, element, bubbles)?;
+    let listeners = hearers(
+        machine.scopes.alloc,
+        &machine.scopes.state,
+        name,
+        element,
+        bubbles,
+    )?;
     machine.units = 0;
     machine.default_enabled = true;
     machine.hearing = Some(Hearing {
@@ -48,20 +50,6 @@ pub fn handle<A: App>(
         Some(heard) => Ok(heard.event),
         None => Err(Stop::OutOfMemory),
     }
-}
-
-/// The listeners of an event, in order.
-fn hearers<A: App>(
-    machine: &Machine<A>,
-    name: &Text,
-    element: ElementId,
-    bubbles: bool,
-) -> Result<List<Listener<A>>, OutOfMemory>
-    ensures { IfOk result (λ listeners. (g : _) → listeners_of listeners
-        ≡ heard (state_of g machine.now.scopes.state) name.now element.0 bubbles) }
-{
-    let look = Look::now(&machine.scopes.state.rows);
-    heard(machine.scopes.alloc, &look, name, element.0, bubbles)
 }
 
 /// Calls listeners as long as one waits.

@@ -7,6 +7,5 @@ pub returns-else-not-sees_none : goal.returns-else-not-sees_none
 returns-else-not-sees_none g c =
     λ kept.
     let w = state_of kept c.args.state.now in
-    c.any_active.ensures kept
-    ∙ ap (λ xs. any_active w.tasks xs) c.queued.ensures.queued
+    c.any_queued.ensures kept
     ∙ ap (λ xs. sees_any xs || any_active w.tasks w.queued) (sym (c.if-not-sees_none.ensures.empty.0 refl))

@@ -1,8 +1,11 @@
 -- What is left to pass over from here gives what all of it does.
-use Rattle.std.proofs.Common.{◌≡◌, ◌-◌}
-use Rattle.rt_model.specs.Rendering.{passes}
+use Rattle.std.proofs.Common.{◌≡◌, ◌+◌, length}
 use Rattle.run_state.specs.Mirror.{state_of}
+use Rattle.run_answers.specs.Barred.{all_passed}
 use Rattle.run_answers.proofs.passing.pass_all.Given as goal
 
-abbrev pub invariant-loop-step : goal.invariant-loop-step
-invariant-loop-step g l = (kept : _) → passes (l.fn.most - l._step) (state_of kept l.state) ≡ passes l.fn.most (state_of kept l.fn.state)
+abbrev pub invariant-loop-work : goal.invariant-loop-work
+invariant-loop-work g l = (kept : _) → all_passed (state_of kept l.state) ≡ all_passed (state_of kept l.fn.state)
+
+abbrev pub decreases-loop-work : goal.decreases-loop-work
+decreases-loop-work g l = length ((l.state).owed).seen + length ((l.state).owed).queued

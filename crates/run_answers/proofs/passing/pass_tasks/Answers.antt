@@ -1,34 +1,26 @@
-use Rattle.std.proofs.Common.{◌+◌, ◌-◌, ◌∙◌, sym}
-use Rattle.rt_model.specs.Rendering.{tasks_passed}
-use Rattle.run_state.specs.Mirror.{state_of}
-use Rattle.run_answers.proofs.Passes.{none_is, some_is, tasks_begin, tasks_on, tasks_stop, tasks_seen, tasks_end}
+use Rattle.std.proofs.Common.{ap, sym, ◌∙◌}
+use Rattle.std.specs.Prelude.{option_map}
+use Rattle.run_state.specs.Mirror.{at_first, state_of}
+use Rattle.run_state.specs.Names.{work_of}
+use Rattle.run_answers.proofs.Passes.{tasks_less, tasks_on, tasks_over}
 use Rattle.run_answers.proofs.passing.pass_tasks.Goals as goal
 
-pub loop-step-init : goal.loop-step-init
-loop-step-init g c = λ kept. tasks_begin c.args.most (state_of kept c.args.state.now)
+pub loop-work-smaller : goal.loop-work-smaller
+loop-work-smaller g c =
+    tasks_less (state_of at_first c.loop-work.state) (state_of at_first c.leave_out.new.state) (work_of c.in-Some.work)
+    (sym (ap (λ o. option_map work_of o) c.in-Some.is) ∙ c.barred_task.ensures at_first) (c.in_ok-leave_out.ensures.out at_first)
 
-pub returns-then-is_some : goal.returns-then-is_some
-returns-then-is_some g c =
+pub loop-work-preserved : goal.loop-work-preserved
+loop-work-preserved g c =
     λ kept.
-    let seen = some_is c.first_seen.result (sym c.is_some.ensures ∙ c.if-is_some.true) in
-    tasks_seen c.args.most c.loop-step._step (state_of kept c.loop-step.state) seen.0 c.loop-step-test.true (sym (c.first_seen.ensures kept) ∙ seen.1)
-    ∙ c.loop-step.invariant kept
-
-pub loop-step-preserved : goal.loop-step-preserved
-loop-step-preserved g c =
-    λ kept.
-    tasks_on c.args.most c.loop-step._step (state_of kept c.loop-step.state) (state_of kept c.passes_over.new.state) c.in_ok-passed.passed c.loop-step-test.true
-    (sym (c.first_seen.ensures kept) ∙ none_is c.first_seen.result (sym c.is_some.ensures ∙ c.if-is_some.false)) c.if-not-passed.false
-    (c.in_ok-passed.ensures kept (λ w. tasks_passed (c.args.most - (c.loop-step._step + 1)) w))
-    ∙ c.loop-step.invariant kept
-
-pub returns-then-not-passed : goal.returns-then-not-passed
-returns-then-not-passed g c =
-    λ kept.
-    tasks_stop c.args.most c.loop-step._step (state_of kept c.loop-step.state) (state_of kept c.passes_over.new.state) c.in_ok-passed.passed c.loop-step-test.true
-    (sym (c.first_seen.ensures kept) ∙ none_is c.first_seen.result (sym c.is_some.ensures ∙ c.if-is_some.false)) c.if-not-passed.true
-    (c.in_ok-passed.ensures kept (λ w. tasks_passed (c.args.most - (c.loop-step._step + 1)) w))
-    ∙ c.loop-step.invariant kept
+    tasks_on (state_of kept c.loop-work.state) (state_of kept c.leave_out.new.state) (work_of c.in-Some.work)
+    (sym (ap (λ o. option_map work_of o) c.in-Some.is) ∙ c.barred_task.ensures kept) (c.in_ok-leave_out.ensures.out kept)
+    ∙ c.loop-work.invariant kept
 
 pub returns : goal.returns
-returns g c = λ kept. tasks_end c.args.most c.loop-step._step (state_of kept c.loop-step.state) c.loop-step-test.false ∙ c.loop-step.invariant kept
+returns g c =
+    record {
+      passed = λ kept.
+          tasks_over (state_of kept c.loop-work.state) (sym (ap (λ o. option_map work_of o) c.in_default.is) ∙ c.barred_task.ensures kept)
+          ∙ c.loop-work.invariant kept;
+    }
