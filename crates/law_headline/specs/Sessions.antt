@@ -13,6 +13,8 @@ use Rattle.rt_model.specs.Told.{Told}
 use Rattle.rt_model.specs.Reports.{Report, logs_of}
 use Rattle.rt_model.specs.Headline.{DocumentIs, Recorded, Holds, Headline, CameTo}
 use Rattle.rt_model.specs.Ran.{Ran, RanTo}
+use Rattle.rt_model.specs.Finished.{RanIsValid}
+use Rattle.law_headline.specs.Carried.{HeadlinesCarryAnew}
 
 module _ {K : Types} (app : Application K) where
   -- of a session that finished: its edits, run from an empty document, never fault, and after each report give what shows
@@ -57,3 +59,14 @@ module _ {K : Types} (app : Application K) where
       → Recorded app props inputs reports told
       → replay_within app limits (Some (start app props inputs)) (joined (logs_of reports) ++ more) ≡ Some last
       → Holds app props inputs reports told
+
+  -- all that follows from what code proves of a session, whichever way it ended
+  pub record SessionsHold : Type 0 where
+    -- one that finished keeps the headline, its edits carry no number that came before but of hidden nodes, and its inputs are valid
+    pub headline : RanIsHeadline
+    pub carried : HeadlinesCarryAnew app
+    pub valid : RanIsValid app
+    -- one that came to a fault keeps it of its finished reports
+    pub came_to : RanToIsCameTo
+    -- so do reports that were finished, whatever came after them
+    pub held : FinishedHold

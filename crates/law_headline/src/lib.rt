@@ -32,6 +32,7 @@ pub use rows::{
 };
 pub use sessions::{
     calm_entries_leave, finished_hold, ran_is_headline, ran_shows, ran_to_is_came_to, ran_to_shows,
+    sessions_hold,
 };
 pub use standing::{
     reached_are_trees, reached_have_one_root, reached_unfold, settled_have_children,

@@ -1,7 +1,7 @@
 //! From what code proves of a session to the headline.
 
 ghost use Rattle.law_headline.specs.Calm.{CalmEntriesLeave};
-ghost use Rattle.law_headline.specs.Sessions.{FinishedHold, RanIsHeadline, RanShows, RanToIsCameTo, RanToShows};
+ghost use Rattle.law_headline.specs.Sessions.{FinishedHold, RanIsHeadline, RanShows, RanToIsCameTo, RanToShows, SessionsHold};
 ghost use Rattle.rt_model.specs.OneLog.{types};
 ghost use Rattle.rt_model.specs.World.{Application};
 
@@ -33,4 +33,9 @@ pub fn ran_to_is_came_to<C, P, V, H, T, E, L>()
 /// Reports that were finished keep the headline's sentences, whatever came after them.
 pub fn finished_hold<C, P, V, H, T, E, L>()
     ensures { (app : Application (types C P V H T E L)) → FinishedHold app }
+{}
+
+/// All of a session that code proves its part of: that it finished, came to a fault or broke off.
+pub fn sessions_hold<C, P, V, H, T, E, L>()
+    ensures { (app : Application (types C P V H T E L)) → SessionsHold app }
 {}

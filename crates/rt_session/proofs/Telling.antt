@@ -2,13 +2,12 @@
 use Rattle.std.proofs.Common.{◌≡◌, ◌≢◌, ℕ, List, map, refl, sym, ◌∙◌, subst, inl, inr}
 use Rattle.std.specs.Prelude.{◌⊎◌, Option}
 use Rattle.rt_edits.specs.declared.edit.Edit.{Edit}
-use Rattle.law_headline.specs.Sessions.{FinishedHold}
+use Rattle.law_headline.specs.Sessions.{SessionsHold}
 use Rattle.rt_inbox.specs.declared.message.Msg.{Msg}
 use Rattle.rt_inbox.specs.declared.message.Post.{Post}
-use Rattle.run_outside.specs.Sessions.{Broken, BrokeOff, CameAt, FinishedAt}
+use Rattle.run_outside.specs.Sessions.{BrokeOff, FinishedAt}
 use Rattle.run_outside.specs.Short.{PartBy, PartOf}
 use Rattle.run_outside.specs.declared.ended.Ended.{Ended}
-use Rattle.run_outside.proofs.Short.{short_as}
 use Rattle.rt_model.specs.Causes.{Limits}
 use Rattle.rt_model.specs.Document as doc
 use Rattle.rt_model.specs.Laws.{IsLawful}
@@ -22,30 +21,22 @@ use Rattle.run_reports.specs.declared.fault.Fault.{Fault}
 use Rattle.run_reports.specs.declared.fault.Fault.TheVariants as faults
 use Rattle.rt_session.specs.Posted.{BreaksOff, TookFronts, drains_of, lists_of}
 use Rattle.rt_session.specs.Sittings.{IsWanting}
-use Rattle.rt_session.proofs.Held.{held_of}
+use Rattle.rt_session.proofs.Held.{broken_of, came_of}
 
 module _ {K : Types} (app : Application K) (props : K.Props) (inputs : List (Input K)) (limits : Limits) (before now : Option (List Edit))
     (reports : List Report) (ended : Ended) (fault : Fault) where
   -- it broke off, or memory is told to be wanting for a fault
-  pub breaks_off : FinishedHold app
+  pub breaks_off : SessionsHold app
       → IsLawful K app
-      → ((cause : model.Fault) → FinishedAt app props inputs limits before now reports cause → CameAt app props inputs limits before now reports cause)
       → ((taken edits : List doc.Edit) → PartBy ended taken edits → PartOf fault taken edits)
       → (IsWanting ended → fault ≡ faults.OutOfMemory)
       → BrokeOff app props inputs limits before now reports (PartBy ended)
       ⊎ (IsWanting ended × (cause : model.Fault) × FinishedAt app props inputs limits before now reports cause)
       → BreaksOff app props inputs limits before now reports fault
-  breaks_off law lawful came parts wants (inl broke) =
-      inl
-      (record {
-        broke = record {
-          wrote = broke.wrote;
-          told = broke.told;
-          ran_short = short_as app limits props inputs _ _ _ _ parts broke.ran_short;
-        };
-        held = held_of app props inputs limits _ _ _ law lawful broke.ran_short;
-      })
-  breaks_off law lawful came parts wants (inr covered) = inr (wants covered.0, covered.1, came covered.1 covered.2)
+  breaks_off laws lawful parts wants (inl broke) =
+      inl (broken_of app laws lawful props inputs limits before now reports (PartBy ended) (PartOf fault) parts broke)
+  breaks_off laws lawful parts wants (inr covered) =
+      inr (wants covered.0, covered.1, came_of app laws lawful props inputs limits before now reports covered.1 covered.2)
 
 -- where it wasn't
 fronts_other : (posts : List (List Post)) (drains : List (List Msg)) (ended : Ended) (fault : Fault)

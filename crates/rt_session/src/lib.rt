@@ -3,6 +3,7 @@
 #![tactic(auto)]
 
 pub mod app;
+mod laws;
 mod meeting;
 mod merges;
 mod posted;

@@ -13,13 +13,12 @@ ghost use Rattle.rt_session.specs.Meetings.{HoldsAs};
 ghost use Rattle.rt_session.specs.Sittings.{IsWanting};
 ghost use Rattle.rt_session.specs.Posted.{BreaksOff, TookAll, TookFronts, drains_of, lists_of};
 
+use crate::laws::laws_of;
 use crate::meeting::hold;
 use crate::sitting::Sitting;
 use author_calls::App;
-use law_headline::{finished_hold, ran_is_headline, ran_to_is_came_to};
 use rt_edits::WriteMutations;
 use rt_inbox::{Gate, Msg, Post, Taken};
-use rt_model::ran_is_valid;
 use rt_values::{List, OutOfMemory};
 use run_outside::Ended;
 use run_reports::{Fault, Limits, Report};
@@ -99,42 +98,7 @@ pub fn session_posted<R: Threads + Wait + Sync, A: App, G: Gate, M: WriteMutatio
         IfErr result (λ refused. fault_of refused.fault ≡ None) }
 {
     // What was done is the headline, whether it finished, came to a fault or broke off.
-    ran_is_headline::<
-        A::Component,
-        A::Props,
-        A::Value,
-        A::Handler,
-        A::TaskState,
-        A::Effect,
-        A::Payload,
-    >();
-    ran_to_is_came_to::<
-        A::Component,
-        A::Props,
-        A::Value,
-        A::Handler,
-        A::TaskState,
-        A::Effect,
-        A::Payload,
-    >();
-    finished_hold::<
-        A::Component,
-        A::Props,
-        A::Value,
-        A::Handler,
-        A::TaskState,
-        A::Effect,
-        A::Payload,
-    >();
-    ran_is_valid::<
-        A::Component,
-        A::Props,
-        A::Value,
-        A::Handler,
-        A::TaskState,
-        A::Effect,
-        A::Payload,
-    >();
+    laws_of(&app);
     let mut drains = List::new(alloc);
     let mut reports = List::new(alloc);
     match run_posted(

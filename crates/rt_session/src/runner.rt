@@ -12,10 +12,9 @@ ghost use Rattle.run_outside.specs.Sessions.{Broken, CameAt, Headlined};
 ghost use Rattle.run_outside.specs.Short.{PartOf};
 ghost use Rattle.run_machine.specs.Stands.{RunsAs};
 
+use crate::laws::laws_of;
 use author_calls::{App, Calls};
-use law_headline::{finished_hold, headlines_carry_anew, ran_is_headline, ran_to_is_came_to};
 use rt_edits::WriteMutations;
-use rt_model::ran_is_valid;
 use rt_values::List;
 use run_machine::Machine;
 use run_outside::Ended;
@@ -66,51 +65,7 @@ pub fn session<A: App, M: WriteMutations>(
         IfErr result (λ refused. fault_of refused.fault ≡ None) }
 {
     // What was done is the headline, whether it finished, came to a fault or broke off.
-    ran_is_headline::<
-        A::Component,
-        A::Props,
-        A::Value,
-        A::Handler,
-        A::TaskState,
-        A::Effect,
-        A::Payload,
-    >();
-    ran_to_is_came_to::<
-        A::Component,
-        A::Props,
-        A::Value,
-        A::Handler,
-        A::TaskState,
-        A::Effect,
-        A::Payload,
-    >();
-    finished_hold::<
-        A::Component,
-        A::Props,
-        A::Value,
-        A::Handler,
-        A::TaskState,
-        A::Effect,
-        A::Payload,
-    >();
-    headlines_carry_anew::<
-        A::Component,
-        A::Props,
-        A::Value,
-        A::Handler,
-        A::TaskState,
-        A::Effect,
-        A::Payload,
-    >();
-    ran_is_valid::<
-        A::Component,
-        A::Props,
-        A::Value,
-        A::Handler,
-        A::TaskState,
-        A::Effect,
-        A::Payload,
-    >();
+    laws_of(&app);
     let mut reports = List::new(alloc);
     match run_all(alloc, &app, root_props, inputs, sink, limits, &mut reports) {
         Ok(()) => Ok(reports),

@@ -1,12 +1,13 @@
 //! A session whose inputs come one by one, and of whose past nothing is kept.
 ghost use Rattle.std.specs.Prelude.{◌≡◌, ◌≤◌, ◌+◌, map, IfOk, IfErr, OnOk};
+ghost use Rattle.law_headline.specs.Sessions.{SessionsHold};
 ghost use Rattle.run_ongoing.specs.Ongoings.{AwaitsMore, BeginsAs, Begun, Carries, TakenIn, TakesOne, number_of};
 ghost use Rattle.run_outside.specs.Ends.{Causes, Ends, Took};
 ghost use Rattle.run_outside.specs.Sessions.{Headlined};
 ghost use Rattle.run_reports.specs.Seen.{input_of, limits_of, report_of};
 
 use author_calls::{App, Calls};
-use law_headline::{ran_is_headline, ran_to_is_came_to};
+use law_headline::sessions_hold;
 use rt_edits::WriteMutations;
 use run_machine::Machine;
 use run_outside::Ended;
@@ -49,15 +50,7 @@ impl<A: App> Ongoing<A> {
     {
         // What a session came to, each fault but want of memory and one of the sink, is the
         // headline's for the reports that were finished.
-        ran_to_is_came_to::<
-            A::Component,
-            A::Props,
-            A::Value,
-            A::Handler,
-            A::TaskState,
-            A::Effect,
-            A::Payload,
-        >();
+        laws_of(&app);
         match Ongoing::build(alloc, app, root_props, limits, sink) {
             Ok(made) => Ok(made),
             Err(ended) => Err(ended.fault()),
@@ -113,15 +106,7 @@ impl<A: App> Ongoing<A> {
             Causes self.old.limits (M.faults sink.old) (M.faults sink.new) fault) }
         ensures counted { M.faults sink.old ≤ M.faults sink.new }
     {
-        ran_to_is_came_to::<
-            A::Component,
-            A::Props,
-            A::Value,
-            A::Handler,
-            A::TaskState,
-            A::Effect,
-            A::Payload,
-        >();
+        laws_of(&self.app);
         match self.take_in(input, sink) {
             Ok(report) => Ok(report),
             Err(ended) => Err(ended.fault()),
@@ -169,14 +154,21 @@ impl<A: App> Ongoing<A> {
             AwaitsMore (λ app. A.meaning app) app limits props inputs before now reports self.now →
             Headlined app props inputs (limits_of limits) before now (map report_of reports) }
     {
-        ran_is_headline::<
-            A::Component,
-            A::Props,
-            A::Value,
-            A::Handler,
-            A::TaskState,
-            A::Effect,
-            A::Payload,
-        >();
+        laws_of(&self.app);
     }
+}
+
+/// The law of sessions, of an application.
+fn laws_of<A: App>(app: &A)
+    ensures { SessionsHold (A.meaning app.now) }
+{
+    sessions_hold::<
+        A::Component,
+        A::Props,
+        A::Value,
+        A::Handler,
+        A::TaskState,
+        A::Effect,
+        A::Payload,
+    >();
 }

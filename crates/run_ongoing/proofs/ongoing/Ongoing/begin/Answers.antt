@@ -10,7 +10,7 @@ pub returns-in-Err-clause-begins : goal.returns-in-Err-clause-begins
 returns-in-Err-clause-begins g c =
     ends_at (g.A.App.meaning c.args.app) c.args.limits c.args.root_props []
     (g.M.WriteMutations.taken c.args.sink.now) (g.M.WriteMutations.taken c.build.new.sink) [] c.in-Err.ended c.fault.result (g.met.A.App.lawful c.args.app)
-    (c.ran_to_is_came_to.ensures (g.A.App.meaning c.args.app)) c.fault.ensures.of c.fault.ensures.parts c.in-Err.ensures.begins
+    (c.laws_of.ensures).came_to c.fault.ensures.of c.fault.ensures.parts c.in-Err.ensures.begins
 
 pub returns-in-Err-clause-refused : goal.returns-in-Err-clause-refused
 returns-in-Err-clause-refused g c =

@@ -1,5 +1,6 @@
 -- Why it ends early, as a fault.
 use Rattle.std.proofs.Common.{◌∷◌, ◌++◌, [], subst}
+use Rattle.law_headline.specs.Sessions.{RanToIsCameTo}
 use Rattle.rt_model.specs.Laws.{IsLawful}
 use Rattle.run_ongoing.proofs.Ended.{ends_at}
 use Rattle.run_reports.specs.Seen.{input_of}
@@ -12,7 +13,7 @@ pub returns-in-Err-clause-takes : goal.returns-in-Err-clause-takes
 returns-in-Err-clause-takes g c = λ app limits props inputs before now after reports awaits carries.
     ends_at app limits props (inputs ++ input_of c.args.input ∷ []) before after reports c.in-Err.ended c.fault.result
     (subst (λ a. IsLawful _ a) awaits.owned (g.met.A.App.lawful c.args.self.now.app))
-    (c.ran_to_is_came_to.ensures app) c.fault.ensures.of c.fault.ensures.parts
+    (subst (λ a. RanToIsCameTo a) awaits.owned (c.laws_of.ensures).came_to) c.fault.ensures.of c.fault.ensures.parts
     (c.in-Err.ensures.takes app limits props inputs before now after reports awaits carries)
 
 pub returns-in-Err-clause-refused : goal.returns-in-Err-clause-refused

@@ -1,0 +1,4 @@
+use Rattle.run_ongoing.proofs.ongoing.laws_of.Goals as goal
+
+pub returns : goal.returns
+returns g c = c.sessions_hold.ensures (g.A.App.meaning c.args.app.now)
