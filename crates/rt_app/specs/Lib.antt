@@ -149,7 +149,7 @@ pub use Rattle.law_minding.specs.Tended as MemosTended
 pub use Rattle.rt_vdom.specs.Handles
 pub use Rattle.rt_vdom.specs.Runs
 pub use Rattle.rt_vdom.specs.declared.dom.VirtualDom
-pub use Rattle.run_answers.specs.declared.poll.Poll
+pub use Rattle.run_reports.specs.declared.poll.Poll
 pub use Rattle.run_answers.specs.declared.refusal.DomFault
 pub use Rattle.run_reports.specs.Seen
 pub use Rattle.run_reports.specs.Counted

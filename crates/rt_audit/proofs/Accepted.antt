@@ -24,8 +24,8 @@ use Rattle.law_moves.proofs.Logs.{settles}
 use Rattle.law_moves.proofs.Settles.{settled_stays}
 use Rattle.law_moves.specs.Underway.{Rests, Works, Refused}
 use Rattle.run_state.specs.Names.{fault_of}
-use Rattle.run_state.specs.declared.names.Fault.{Fault}
-use Rattle.run_state.specs.declared.names.Fault.TheVariants as faults
+use Rattle.run_state.specs.declared.names.Cause.{Cause}
+use Rattle.run_state.specs.declared.names.Cause.TheVariants as faults
 use Rattle.run_machine.specs.Machines.{machine_of, noted, first_in}
 use Rattle.run_machine.specs.Stands.{Going, StandsFor, StandsAt, Settled}
 use Rattle.run_machine.specs.declared.machine.Machine.{Machine as Code}
@@ -174,7 +174,7 @@ module _ {K : Types} (limits : Limits) where
       by None is q = absurd (later (depth_refused limits (next_height m)) refl q)
 
 -- the faults of the run itself are such
-pub owns : (what : Fault) → IsOwn (fault_of what)
+pub owns : (what : Cause) → IsOwn (fault_of what)
 owns (faults.IdsExhausted what) = record { deep = λ n h. cc; spent = λ n h. cc }
 owns (faults.HookChanged scope index kept asked) = record { deep = λ n h. cc; spent = λ n h. cc }
 owns (faults.NoSuchTask scope task) = record { deep = λ n h. cc; spent = λ n h. cc }

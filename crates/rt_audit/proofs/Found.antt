@@ -16,7 +16,7 @@ use Rattle.law_moves.proofs.Sessions.{rest_owes_none}
 use Rattle.run_reports.specs.Seen.{entry_of}
 use Rattle.run_reports.specs.declared.entry.Entry.{Entry as Noted}
 use Rattle.run_state.specs.Names.{fault_of}
-use Rattle.run_state.specs.declared.names.Fault.{Fault}
+use Rattle.run_state.specs.declared.names.Cause.{Cause}
 use Rattle.run_state.specs.declared.names.Stop.TheVariants as stops
 use Rattle.run_machine.specs.Machines.{machine_of, noted}
 use Rattle.run_outside.specs.Ends.{fault_in}
@@ -83,7 +83,7 @@ module _ {C Q V H T E L : Type 0} (app : Application (types C Q V H T E L)) (r :
 
 module _ {P C Q V H T E L : Type 0} (app : Application (types C Q V H T E L)) (limits : causes.Limits) (r : Going (types C Q V H T E L)) where
   -- where a turn came to a fault of the run
-  pub fell : (edits : List doc.Edit) (before after : Option (List Edit)) (what : Fault) (d : Machine P C Q V H T E L)
+  pub fell : (edits : List doc.Edit) (before after : Option (List Edit)) (what : Cause) (d : Machine P C Q V H T E L)
       → ((fault : model.Fault) → fault_in (ends.Run (stops.Fault what)) ≡ Some fault → CameTo app limits r edits before after fault d)
       → Fell app limits r d
   fell edits before after what d came =

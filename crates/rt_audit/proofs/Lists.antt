@@ -18,7 +18,7 @@ use Rattle.law_moves.specs.Turn.{unit_of}
 use Rattle.law_moves.proofs.Begins.{due_at_rest}
 use Rattle.run_state.specs.Mirror.{Unkept, at_first, state_of}
 use Rattle.run_state.specs.Names.{fault_of}
-use Rattle.run_state.specs.declared.names.Fault.{Fault}
+use Rattle.run_state.specs.declared.names.Cause.{Cause}
 use Rattle.run_state.specs.declared.names.Stop.{Stop}
 use Rattle.run_state.specs.declared.names.Stop.TheVariants as stops
 use Rattle.run_machine.specs.Machines.{machine_of, noted, first_in, IsFresh, Did, WasCut, Builds}
@@ -94,7 +94,7 @@ module _ {P C Q V H T E L : Type 0} (app : Application (types C Q V H T E L)) (l
   built_lists list rest d (Err x) is h = tt
 
   -- a fault in its own call
-  pub built_fault : (list rest : List Entry) (old new : Machine P C Q V H T E L) (what : Fault) → list ≡ Build ∷ rest
+  pub built_fault : (list rest : List Entry) (old new : Machine P C Q V H T E L) (what : Cause) → list ≡ Build ∷ rest
       → IsFresh old
       → state_of at_first (old.scopes).state ≡ first_state app.root props ones
       → ((g : Unkept (types C Q V H T E L)) → WasCut app (unit_of app (state_of g (old.scopes).state) (next.RerunScope 0)) [] (fault_of what) old new)

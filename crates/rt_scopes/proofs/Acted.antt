@@ -74,11 +74,11 @@ module _ {K : Types} (app : Application K) where
       last_on last (acted app w s e false) (λ v. batch_then app last v s es) (λ v. in_turn (λ u x. acted app u s x false) v es) (λ v. batch_in_turn last v s es)
 
   -- the effects that a scope has queued, in turn, and then a look
-  pub effects_in_turn : (w v : State K) (s : ℕ) (es : List K.Effect)
+  pub batch_looked : (w v : State K) (s : ℕ) (es : List K.Effect)
       → v ≡ change w s (λ x. record x { effects = [] })
       → es ≡ effects_of w s
       → effects_run app w s ≡ onward (in_turn (λ u x. acted app u s x false) v es) (λ u. Done (look u) [])
-  effects_in_turn w v s es taken are =
+  batch_looked w v s es taken are =
       ap (λ x. batch_then app look x s (effects_of w s)) (sym taken) ∙ ap (λ xs. batch_then app look v s xs) (sym are) ∙ batch_in_turn look v s es
 
   -- a callback whose scope is live

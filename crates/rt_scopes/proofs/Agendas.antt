@@ -1,5 +1,5 @@
 -- The agenda of a tree on a side, put together from what the code finds.
-use Rattle.std.proofs.Common.{ℕ, List, [], ◌++◌, ◌≡◌, sym, ap, ◌∙◌, map}
+use Rattle.std.proofs.Common.{ℕ, true, List, [], ◌++◌, ◌≡◌, sym, ap, ◌∙◌, map}
 use Rattle.std.specs.Prelude.{Option, Some, None}
 use Rattle.tree_nodes.specs.declared.vnode.VNode.{VNode}
 use Rattle.rt_model.specs.OneLog.{types}
@@ -16,7 +16,9 @@ use Rattle.run_places.specs.declared.place.Step.{Step}
 use Rattle.run_places.specs.declared.side.Side.{Side}
 use Rattle.run_places.specs.declared.side.SideName.{SideName}
 use Rattle.run_places.specs.Drawn.{moved}
+use Rattle.run_places.specs.Known.{knows}
 use Rattle.run_places.specs.Places.{node_of, place_of, placed, seated, side_name_of, side_of}
+use Rattle.run_places.proofs.Knowing.{known_by}
 use Rattle.run_places.proofs.Placed.{placed_moved, seated_moved}
 use Rattle.run_work.specs.declared.item.Item.{Item}
 use Rattle.run_work.specs.Items.{item_of, work_of}
@@ -35,7 +37,15 @@ module _ {P C Q V H T E L : Type 0} (app : Application (types C Q V H T E L)) wh
       → seats ≡ out.seats
       → numbers ≡ moved out.nodes_to was.numbers
       → children ≡ moved out.seats_to was.children
-      → PatchesBy app scope name tree was work (record { output = Some tree; nodes = nodes; seats = seats; numbers = numbers; children = children })
+      → (work_of work
+      ≡ serves app scope (side_name_of name) (spots_of (side_of was).output) (spots [] (tree_of tree))
+      ++ drops_of app scope (side_name_of name) (spots [] (tree_of tree)) (side_of was).children (spots_of (side_of was).output))
+      × ◌≡◌ {A = state.Side (types C Q V H T E L)} (record { output = Some (tree_of tree); numbers = placed (map node_of nodes) numbers; children = seated (map place_of seats) children })
+      (record {
+        output = Some (tree_of tree);
+        numbers = kept_numbers (spots [] (tree_of tree)) (side_of was).numbers;
+        children = kept_children app (spots_of (side_of was).output) (spots [] (tree_of tree)) (side_of was).children;
+      })
   patches scope name tree was out work nodes seats numbers children found work_is nodes_are seats_are numbers_are children_are =
       let kept : placed (map node_of nodes) numbers ≡ kept_numbers (spots [] (tree_of tree)) (side_of was).numbers =
       (λ i. placed (map node_of (nodes_are i)) (numbers_are i))
@@ -45,10 +55,15 @@ module _ {P C Q V H T E L : Type 0} (app : Application (types C Q V H T E L)) wh
       (λ i. seated (map place_of (seats_are i)) (children_are i))
       ∙ ap (λ (ps : List model.Place). seated ps (moved out.seats_to was.children)) found.seats
       ∙ seated_moved app (map place_of was.seats) (spots_of (side_of was).output) (spots [] (tree_of tree)) out.seats_to found.seats_to was.children in
-      record {
-        work_is = ap work_of work_is ∙ mapped item_of out.work out.drops ∙ (λ i. found.work i ++ found.drops i);
-        side_is = λ i. record { output = Some (tree_of tree); numbers = kept i; children = fed i };
-      }
+      (ap work_of work_is ∙ mapped item_of out.work out.drops ∙ (λ i. found.work i ++ found.drops i), (λ i. record { output = Some (tree_of tree); numbers = kept i; children = fed i }))
+
+  -- the side knows its new tree
+  pub patched_known : (scope : ℕ) (name : SideName) (tree : VNode P C Q V H T E L) (was : Side P C Q V H T E L) (out : Patched P C Q V H T E L) (nodes : List NodeAt) (seats : List (List Step))
+      → patches_of.PatchesBy app scope name tree was out → nodes ≡ out.nodes → seats ≡ out.seats → knows (Some tree) nodes seats ≡ true
+  patched_known scope name tree was out nodes seats found nodes_are seats_are =
+      known_by (Some tree) nodes seats
+      (ap (λ (ns : List NodeAt). map node_of ns) nodes_are ∙ found.nodes)
+      (ap (λ (ps : List (List Step)). map place_of ps) seats_are ∙ found.seats)
 
 module _ {K : model.Types} (app : Application K) where
   -- the agenda of a scope that was found

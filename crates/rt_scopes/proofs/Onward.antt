@@ -1,5 +1,5 @@
 -- What a change came to, and then another one.
-use Rattle.std.proofs.Common.{◌≡◌, List, [], Result, Some, refl, ap, sym, subst}
+use Rattle.std.proofs.Common.{◌≡◌, List, [], Result, Ok, Err, Some, refl, ap, sym, subst}
 use Rattle.rt_model.specs.Tree.{Types}
 use Rattle.rt_model.specs.State.{State, Outcome, Done, Cut, Item, onward}
 use Rattle.rt_model.specs.Run as run
@@ -9,7 +9,7 @@ use Rattle.run_state.specs.declared.names.Stop.TheVariants as stops
 use Rattle.author_calls.specs.Calls.{refusal_of}
 use Rattle.run_records.specs.declared.faults.CxFault.{CxFault}
 use Rattle.run_records.specs.declared.faults.CxFault.TheVariants as refusals
-use Rattle.rt_scopes.specs.Outcomes.{CutBy, Came, stop_of}
+use Rattle.rt_scopes.specs.Outcomes.{CutBy, Came, no_work, stop_of}
 
 module _ {K : Types} where
   -- a change was done, and the next one came to this
@@ -25,6 +25,11 @@ module _ {K : Types} where
   -- a change was done, and then the next one
   pub done_on : (o : Outcome K) (f : State K → Outcome K) (v : State K) → o ≡ Done v [] → onward o f ≡ f v
   done_on o f v done = ap (λ x. onward x f) done
+
+  -- a change was done or cut, and no other one follows it
+  pub came_alone : {A : Type 0} (o : Outcome K) (v : State K) (result : Result A Stop) → Came o v no_work result → Came (onward o (λ u. Done u [])) v no_work result
+  came_alone o v (Ok answer) done = done_on o (λ u. Done u []) v done
+  came_alone o v (Err stop) cut = cut_on o (λ u. Done u []) v stop cut
 
   -- the same change by another name
   pub came_as : {A : Type 0} (o p : Outcome K) (v : State K) (items : A → List (Item K)) (result : Result A Stop)

@@ -47,24 +47,9 @@ module _ {K : Types} where
   row_scope w t x found = ap (λ (o : Option (TaskRow K)). elim o [ None ↦ 0 | Some y ↦ y.scope ]) found
 
 module _ {K : Types} (app : Application K) where
-  -- the poll of a task that stands
-  pub polled_as : (w u : model.State K) (t s : ℕ) (a : K.TaskState) (x : TaskRow K) → unqueued w t ≡ u → StandsWith u s t a x
-      → polled app w t ≡ polled_by app (called_once u) t x (app.poll a (world_of u s (Some t) false))
-  polled_as w u t s a x same stands =
-      ap (λ (v : model.State K). polled_at app v t (at v.tasks t)) same
-      ∙ ap (λ (o : Option (TaskRow K)). polled_at app u t o) stands.found
-      ∙ ap (λ (b : K.TaskState). polled_by app (called_once u) t x (app.poll b (world_of u x.scope (Some t) false))) stands.was
-      ∙ ap (λ (n : ℕ). polled_by app (called_once u) t x (app.poll a (world_of u n (Some t) false))) stands.own
-
   not_found : (o : Option (TaskRow K)) → is_some o ≡ false → o ≡ None
   not_found None h = refl
   not_found (Some x) h = cc
-
-  -- the poll of a task that is gone
-  pub polled_gone : (w u : model.State K) (t : ℕ) → unqueued w t ≡ u → is_some (at u.tasks t) ≡ false → polled app w t ≡ Done u []
-  polled_gone w u t same gone =
-      ap (λ (v : model.State K). polled_at app v t (at v.tasks t)) same
-      ∙ ap (λ (o : Option (TaskRow K)). polled_at app u t o) (not_found (at u.tasks t) gone)
 
   -- a poll left another state
   pub left_pending : (w v : model.State K) (t s : ℕ) (a : K.TaskState) (x : TaskRow K) (m : Meaning K (TaskStep K)) (asked : List (Command K))
@@ -87,7 +72,7 @@ module _ {K : Types} (app : Application K) where
       ∙ ap (λ (n : ℕ). end (commands app w n (Some t) asked) t) (sym own)
       ∙ ap (λ (cs : List (Command K)). end (commands app w x.scope (Some t) cs) t) (sym are)
 
-  -- the poll without the look of a task that stands
+  -- the poll of a task that stands, without the look
   pub apart_as : (w u : model.State K) (t s : ℕ) (a : K.TaskState) (x : TaskRow K) → unqueued w t ≡ u → StandsWith u s t a x
       → polled_apart app w t ≡ polled_apart_by app (called_once u) t x (app.poll a (world_of u s (Some t) false))
   apart_as w u t s a x same stands =
@@ -139,7 +124,7 @@ module _ {K : Types} (app : Application K) where
   state_in (Cut v fault) u = v
 
   -- then the look follows, unless it was cut
-  pub look_follows : (w v u : model.State K) (t : ℕ) (x : TaskRow K) (m : Meaning K (TaskStep K))
+  look_follows : (w v u : model.State K) (t : ℕ) (x : TaskRow K) (m : Meaning K (TaskStep K))
       → polled_apart_by app w t x m ≡ Done v []
       → u ≡ look v
       → polled_by app w t x m ≡ Done u []
@@ -153,7 +138,7 @@ module _ {K : Types} (app : Application K) where
           ap (λ (o : Outcome K). Done (look (state_in o w)) []) h ∙ ap (λ (y : model.State K). Done y []) (sym looked)
       by (Some f) some h = absurd (cc h)
 
-  pub cut_stays : (w v : model.State K) (fault : model.Fault) (t : ℕ) (x : TaskRow K) (m : Meaning K (TaskStep K))
+  cut_stays : (w v : model.State K) (fault : model.Fault) (t : ℕ) (x : TaskRow K) (m : Meaning K (TaskStep K))
       → polled_apart_by app w t x m ≡ Cut v fault
       → polled_by app w t x m ≡ Cut v fault
   cut_stays w v fault t x m cut = by m.fault refl cut
@@ -164,11 +149,27 @@ module _ {K : Types} (app : Application K) where
       by None none h = absurd (cc h)
       by (Some f) some h = h
 
-  pub cut_by_stays : (w v : model.State K) (stop : Stop) (t : ℕ) (x : TaskRow K) (m : Meaning K (TaskStep K))
-      → CutBy (polled_apart_by app w t x m) v stop
-      → CutBy (polled_by app w t x m) v stop
-  cut_by_stays w v stops.OutOfMemory t x m cut = tt
-  cut_by_stays w v (stops.Fault what) t x m cut = cut_stays w v (fault_of what) t x m cut
+  cut_at : (w v : model.State K) (t : ℕ) (fault : model.Fault) (o : Option (TaskRow K)) → polled_apart_at app w t o ≡ Cut v fault → polled_at app w t o ≡ Cut v fault
+  cut_at w v t fault None cut = absurd (cc cut)
+  cut_at w v t fault (Some x) cut = cut_stays (called_once w) v fault t x (poll_meant app w t x) cut
+
+  -- a poll that was done, of a task that stands, and then the look
+  pub polled_looked : (w v u : model.State K) (t : ℕ) (x : TaskRow K) → at w.tasks t ≡ Some x → polled_apart app w t ≡ Done v [] → u ≡ look v
+      → polled app w t ≡ Done u []
+  polled_looked w v u t x found done looked =
+      ap (λ (o : Option (TaskRow K)). polled_at app (unqueued w t) t o) found
+      ∙ look_follows (called_once (unqueued w t)) v u t x (poll_meant app (unqueued w t) t x)
+      (ap (λ (o : Option (TaskRow K)). polled_apart_at app (unqueued w t) t o) (sym found) ∙ done) looked
+
+  -- one that was cut
+  pub polled_cut : (w v : model.State K) (t : ℕ) (stop : Stop) → CutBy (polled_apart app w t) v stop → CutBy (polled app w t) v stop
+  polled_cut w v t stops.OutOfMemory cut = tt
+  polled_cut w v t (stops.Fault what) cut = cut_at (unqueued w t) v t (fault_of what) (at w.tasks t) cut
+
+  -- and one of a task that is gone
+  pub polled_gone : (w u : model.State K) (t : ℕ) → unqueued w t ≡ u → is_some (at w.tasks t) ≡ false → polled app w t ≡ Done u []
+  polled_gone w u t same gone =
+      ap (λ (o : Option (TaskRow K)). polled_at app (unqueued w t) t o) (not_found (at w.tasks t) gone) ∙ ap (λ (v : model.State K). Done v []) same
 
 module _ {C Q V H T E L : Type 0} where
   -- whether a task has ended, as the definitions say it of its step

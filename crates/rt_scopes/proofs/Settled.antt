@@ -31,7 +31,7 @@ use Rattle.run_records.specs.declared.rest.Scope.{Scope}
 use Rattle.author_calls.specs.declared.turn.TurnParts.{TurnParts}
 use Rattle.run_records.proofs.Gathered.{gathered-more, gathered-none}
 use Rattle.run_state.proofs.Each.{at-each}
-use Rattle.run_state.specs.declared.names.Fault.TheVariants as faults
+use Rattle.run_state.specs.declared.names.Cause.TheVariants as faults
 use Rattle.run_state.specs.declared.names.Stop.{Stop}
 use Rattle.run_state.specs.declared.names.Stop.TheVariants as stops
 use Rattle.run_state.specs.declared.state.State as code

@@ -8,17 +8,21 @@ use Rattle.rt_model.specs.Tree as model
 use Rattle.rt_model.specs.Tree.{Place, Kind, Spot, same_kind, same_place, spots}
 use Rattle.rt_model.specs.Lists.{at}
 use Rattle.rt_model.specs.State as state
-use Rattle.rt_model.specs.State.{Done, change, changed_scope, with_side}
+use Rattle.rt_model.specs.State.{Done, change, with_side}
 use Rattle.rt_model.specs.Run.{drops_of, has_node, kept_children, kept_numbers, serves, spots_of, start_agenda}
 use Rattle.rt_model.proofs.Among.{kind_same, place_same}
 use Rattle.rt_model.proofs.Maps.{pick_true}
 use Rattle.tree_mirror.specs.Sealed.{tree_of}
+use Rattle.run_places.specs.declared.nodes.NodeAt.{NodeAt}
+use Rattle.run_places.specs.declared.place.Step.{Step}
 use Rattle.run_places.specs.declared.side.Side.{Side}
 use Rattle.run_places.specs.declared.side.SideName.{SideName}
-use Rattle.run_places.specs.Places.{node_of, place_of, placed, seated, side_name_of, side_of}
+use Rattle.run_places.specs.Drawn.{nodes_in, seats_in}
+use Rattle.run_places.specs.Known.{knows, spots_kept}
+use Rattle.run_places.specs.Places.{node_of, output_of, place_of, placed, seated, side_name_of, side_of}
+use Rattle.run_places.proofs.Knowing.{kept_spots, known_by, known_nodes, known_seats, spots_standing}
 use Rattle.run_places.proofs.Placed.{by_option, placed_none, placed_one}
-use Rattle.run_state.specs.Sides.{with_output}
-use Rattle.run_work.specs.Stay.{AllStay, standing}
+use Rattle.rt_scopes.specs.Stay.{AllStay, standing}
 use Rattle.rt_scopes.proofs.Agendas.{started}
 
 or_true : (b : _) → (b || true) ≡ true
@@ -99,16 +103,41 @@ module _ {P C Q V H T E L : Type 0} (app : Application (types C Q V H T E L)) wh
       λ t. record { output = Some (tree_of tree); numbers = numbers t; children = children t }
 
   -- the agenda of a scope that was found
-  pub stays_on : (w v : state.State (types C Q V H T E L)) (s : ℕ) (name : SideName) (tree : VNode P C Q V H T E L) (was : Side P C Q V H T E L) (x : state.Scope (types C Q V H T E L))
+  pub stays_on : (w v : state.State (types C Q V H T E L)) (s : ℕ) (name : SideName) (tree : VNode P C Q V H T E L) (was side : Side P C Q V H T E L) (x : state.Scope (types C Q V H T E L))
       → at w.scopes s ≡ Some x → side_of was ≡ state.side_of x (side_name_of name) → AllStay was tree
-      → v ≡ change w s (λ y. with_output (side_name_of name) (tree_of tree) y)
+      → side_of side ≡ record (side_of was) { output = Some (tree_of tree) }
+      → v ≡ change w s (λ y. with_side y (side_name_of name) (side_of side))
       → start_agenda app w s (side_name_of name) (tree_of tree) ≡ Done v []
-  stays_on w v s name tree was x found before stay changed =
+  stays_on w v s name tree was side x found before stay keeps changed =
       let Sides : Type 0 = state.Side (types C Q V H T E L) in
-      let kept : Sides = record (state.side_of x (side_name_of name)) { output = Some (tree_of tree) } in
-      let put_there : Option (state.Scope (types C Q V H T E L)) → state.State (types C Q V H T E L) = λ o. changed_scope w s (λ y. with_output (side_name_of name) (tree_of tree) y) o in
-      let side_there : Option (state.Scope (types C Q V H T E L)) → state.State (types C Q V H T E L) = λ o. changed_scope w s (λ y. with_side y (side_name_of name) kept) o in
-      started app w s (side_name_of name) (tree_of tree) x kept [] found
+      started app w s (side_name_of name) (tree_of tree) x (side_of side) [] found
       (subst (λ (a : Sides). [] ≡ serves app s (side_name_of name) (spots_of a.output) (spots [] (tree_of tree)) ++ drops_of app s (side_name_of name) (spots [] (tree_of tree)) a.children (spots_of a.output)) before (nothing_left s name tree was stay))
-      (subst (λ (a : Sides). ◌≡◌ {A = Sides} (record a { output = Some (tree_of tree) }) (record { output = Some (tree_of tree); numbers = kept_numbers (spots [] (tree_of tree)) a.numbers; children = kept_children app (spots_of a.output) (spots [] (tree_of tree)) a.children })) before (side_stays tree was stay))
-      ∙ ap (λ u. Done u []) (ap side_there found ∙ sym (ap put_there found) ∙ sym changed)
+      (
+      subst (λ (a : Sides). ◌≡◌ {A = Sides} (side_of side) (record { output = Some (tree_of tree); numbers = kept_numbers (spots [] (tree_of tree)) a.numbers; children = kept_children app (spots_of a.output) (spots [] (tree_of tree)) a.children })) before
+      (keeps ∙ side_stays tree was stay)
+      )
+      ∙ ap (λ u. Done u []) (sym changed)
+
+module _ {P C Q V H T E L : Type 0} where
+  -- a side of which all nodes stay knows its new tree
+  pub stays_known : (tree : VNode P C Q V H T E L) (was : Side P C Q V H T E L) (nodes : List NodeAt) (seats : List (List Step)) → AllStay was tree → knows was.output was.nodes was.seats ≡ true
+      → nodes ≡ was.nodes → seats ≡ was.seats → knows (Some tree) nodes seats ≡ true
+  stays_known tree was nodes seats stay known nodes_are seats_are =
+      let spots_are : spots_kept was.output ≡ spots [] (tree_of tree) = kept_spots was.output ∙ stay.before ∙ sym stay.after in
+      known_by (Some tree) nodes seats
+      (ap (λ (ns : List NodeAt). map node_of ns) nodes_are ∙ known_nodes was.output was.nodes was.seats known ∙ ap (λ (ss : List (Spot (types C Q V H T E L))). nodes_in ss) spots_are)
+      (ap (λ (ps : List (List Step)). map place_of ps) seats_are ∙ known_seats was.output was.nodes was.seats known ∙ ap (λ (ss : List (Spot (types C Q V H T E L))). seats_in ss) spots_are)
+
+  -- what stands in the tree of a side that knows no component
+  pub side_stands : (side : Side P C Q V H T E L) (old : VNode P C Q V H T E L) → side.output ≡ Some old → knows side.output side.nodes side.seats ≡ true → side.seats ≡ []
+      → spots [] (tree_of old) ≡ standing (map node_of side.nodes)
+  side_stands side old is known none =
+      let kept : List (Spot (types C Q V H T E L)) = spots_kept side.output in
+      let bare : seats_in kept ≡ [] = sym (known_seats side.output side.nodes side.seats known) ∙ ap (λ ps. map place_of ps) none in
+      sym (ap (λ (o : Option (VNode P C Q V H T E L)). spots_kept o) is)
+      ∙ spots_standing kept bare
+      ∙ ap (λ (ns : List (Place × Kind)). standing {K = types C Q V H T E L} ns) (sym (known_nodes side.output side.nodes side.seats known))
+
+  -- the spots of an output
+  pub output_stands : (side : Side P C Q V H T E L) (old : VNode P C Q V H T E L) → side.output ≡ Some old → spots_of (output_of side.output) ≡ spots [] (tree_of old)
+  output_stands side old is = ap (λ (o : Option (VNode P C Q V H T E L)). spots_of (output_of o)) is

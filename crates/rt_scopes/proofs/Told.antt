@@ -4,7 +4,7 @@ use Rattle.std.specs.Prelude.{IfErr, OnOk}
 use Rattle.rt_model.specs.OneLog.{types}
 use Rattle.rt_model.specs.State as model
 use Rattle.rt_model.specs.State.{Outcome, Done, Cut, Item}
-use Rattle.run_state.specs.declared.names.Fault.{Fault}
+use Rattle.run_state.specs.declared.names.Cause.{Cause}
 use Rattle.run_state.specs.declared.names.Stop.{Stop}
 use Rattle.run_state.specs.declared.names.Stop.TheVariants as stops
 use Rattle.run_state.specs.declared.state.State.{State}
@@ -16,7 +16,7 @@ module _ {P C Q V H T E L : Type 0} where
   -- a change that two clauses tell of, and that calls nothing
   pub told : (change : model.State (types C Q V H T E L) → Outcome (types C Q V H T E L)) (old new : State P C Q V H T E L) (count : ℕ) (result : Result (Unit {0}) Stop)
       → OnOk result ((g : Unkept (types C Q V H T E L)) → change (state_of g old) ≡ Done (state_of g new) [])
-      → ((what : Fault) → IfErr result (λ stop. stop ≡ stops.Fault what → (g : Unkept (types C Q V H T E L)) → change (state_of g old) ≡ Cut (state_of g new) (fault_of what)))
+      → ((what : Cause) → IfErr result (λ stop. stop ≡ stops.Fault what → (g : Unkept (types C Q V H T E L)) → change (state_of g old) ≡ Cut (state_of g new) (fault_of what)))
       → Comes change old count new count no_work result
   told change old new count (Ok u) done cut = λ kept. (kept, done kept, λ was. was)
   told change old new count (Err stops.OutOfMemory) done cut = λ kept. (kept, tt, tt)

@@ -1,4 +1,5 @@
 pub mod Sides
+pub mod Stay
 pub mod Agendas
 pub mod Counts
 pub mod Outcomes

@@ -11,7 +11,7 @@ use Rattle.run_state.specs.Mirror.{Unkept, state_of}
 use Rattle.run_state.specs.Names.{fault_of}
 use Rattle.run_records.specs.declared.faults.CxFault.{CxFault}
 use Rattle.run_records.specs.declared.faults.CxFault.TheVariants as refusals
-use Rattle.run_state.specs.declared.names.Fault.TheVariants as faults
+use Rattle.run_state.specs.declared.names.Cause.TheVariants as faults
 use Rattle.rt_scopes.specs.Counts.{CountsOn}
 
 -- what a refusal of a call leads to

@@ -7,7 +7,7 @@ use Rattle.rt_model.specs.World.{Application, Command, Meaning, TaskStep}
 use Rattle.rt_model.specs.State as model
 use Rattle.rt_model.specs.State.{world_of}
 use Rattle.rt_model.specs.Run.{called_once}
-use Rattle.rt_model.specs.Replay.{left_by_poll, polled_apart_by, polled_by}
+use Rattle.rt_model.specs.Replay.{left_by_poll, polled_apart_by}
 use Rattle.run_state.specs.declared.names.Stop.{Stop}
 use Rattle.run_state.specs.declared.state.State.{State}
 use Rattle.run_state.specs.Mirror.{Unkept, state_of}
@@ -22,18 +22,7 @@ module _ {K : Types} where
     pub was : x.state ≡ state
 
 module _ {P C Q V H T E L : Type 0} (app : Application (types C Q V H T E L)) where
-  -- the poll of a task of a scope, which stands with this state
-  abbrev pub Polls : State P C Q V H T E L → ℕ → ℕ → ℕ → T → State P C Q V H T E L → ℕ → Result (Unit {0}) Stop → Type 0
-  Polls old old_count scope task state new new_count result =
-      (g : Unkept (types C Q V H T E L)) (x : model.TaskRow (types C Q V H T E L))
-      → StandsWith (state_of g old) scope task state x
-      → (h : Unkept (types C Q V H T E L))
-      × Came
-      (polled_by app (called_once (state_of g old)) task x (app.poll state (world_of (state_of g old) scope (Some task) false)))
-      (state_of h new) no_work result
-      × CountsOn old_count g.calls new_count h.calls result
-
-  -- the same without the look
+  -- the poll of a task of a scope, which stands with this state; no look follows
   abbrev pub PollsApart : {A : Type 0} → State P C Q V H T E L → ℕ → ℕ → ℕ → T → State P C Q V H T E L → ℕ → Result A Stop → Type 0
   PollsApart old old_count scope task state new new_count result =
       (g : Unkept (types C Q V H T E L)) (x : model.TaskRow (types C Q V H T E L))

@@ -20,7 +20,7 @@ use crate::trees::{children_tree, copy_of, error_tree, root_tree};
 use author_calls::{App, BodyCx, Calls, TurnParts};
 use rt_cells::Source;
 use rt_values::{List, OutOfMemory, Part, ScopeId, Text};
-use run_state::{Fault, State, Stop};
+use run_state::{Cause, State, Stop};
 use tree_fits::fits;
 use tree_nodes::{
     CapturedError, Element, ErrorHandler, Fallback, Parts, RootProps, VComponent, VNode,
@@ -140,7 +140,7 @@ impl<A: App> Scopes<A> {
         let asked = self.after_call(left)?;
         self.state.keep_reads(self.alloc, scope, reads)?;
         if !answer_fits(answer) {
-            return Err(Stop::Fault(Fault::BadNode { scope }));
+            return Err(Stop::Fault(Cause::BadNode { scope }));
         }
         self.do_commands(ScopeId(scope), asked)?;
         Ok(())

@@ -1,14 +1,14 @@
 //! Effects: of a batch, of hooks, of resolved callbacks.
-ghost use Rattle.std.specs.Prelude.{◌≡◌, ◌++◌, IfOk, OnOk};
+ghost use Rattle.std.specs.Prelude.{◌≡◌, ◌++◌, false, IfOk, OnOk};
 ghost use Rattle.rt_model.specs.Run.{acted, hooks_called};
 ghost use Rattle.rt_model.specs.State.{hooks_of};
-ghost use Rattle.rt_model.specs.Replay.{effects_run};
 ghost use Rattle.rt_model.specs.Boundary.{called_back};
 ghost use Rattle.rt_scopes.specs.Outcomes.{Comes, no_work};
 ghost use Rattle.rt_scopes.specs.Hooks.{effect_in, effects_in, in_turn, one_called, render_kind};
 
 use crate::scopes::{Scopes, apart};
 use author_calls::{App, Calls, Cx, Plain};
+use rt_sched::Effect;
 use rt_values::{List, OutOfMemory, Part, ScopeId};
 use run_records::{AFTER_RENDER, BEFORE_RENDER, Hook};
 use run_state::Stop;
@@ -116,15 +116,19 @@ impl<A: App> Scopes<A> {
         self.act_all(app, calls, scope.0, effects.as_slice(), true)
     }
 
-    /// Takes the effects that a scope has queued and does them in order. A look follows.
-    pub fn call_effects(&mut self, app: &A, calls: &mut Calls, scope: ScopeId) -> Result<(), Stop>
-        ensures run { Comes (λ w. effects_run (A.meaning app.now) w scope.0)
+    /// Does the effects of a batch in its scope, in order. No look follows.
+    pub fn call_effects(
+        &mut self,
+        app: &A,
+        calls: &mut Calls,
+        batch: Effect<A::Effect>,
+    ) -> Result<(), Stop>
+        ensures run { Comes (λ w.
+            in_turn (λ u e. acted (A.meaning app.now) u batch.order.id.0 e false) w batch.effects)
             self.old.state calls.old self.new.state calls.new no_work result }
     {
-        let effects = self.state.take_effects(self.alloc, scope.0)?;
-        self.act_all(app, calls, scope.0, effects.as_slice(), false)?;
-        self.state.look(self.alloc)?;
-        Ok(())
+        let scope = batch.order.id();
+        self.act_all(app, calls, scope.0, batch.effects.as_slice(), false)
     }
 
     /// Does resolved callbacks in order, each in its scope. Those of scopes that are gone are

@@ -5,7 +5,6 @@
 
 mod agenda;
 mod answers;
-mod apart;
 mod bodies;
 mod children;
 mod effects;

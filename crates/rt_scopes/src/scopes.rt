@@ -14,7 +14,7 @@ ghost use Rattle.rt_scopes.specs.Outcomes.{stop_of};
 use author_calls::{App, Calls, TurnParts, no_calls};
 use rt_values::{List, OutOfMemory, ScopeId};
 use run_records::{Command, CxFault, Firsts};
-use run_state::{Fault, State, Stop};
+use run_state::{Cause, State, Stop};
 use std::alloc::Global;
 use tree_nodes::Parts;
 
@@ -61,13 +61,13 @@ fn stop_of(refusal: CxFault) -> Stop
 {
     match refusal {
         CxFault::OutOfMemory => Stop::OutOfMemory,
-        CxFault::IdsExhausted { what } => Stop::Fault(Fault::IdsExhausted { what }),
+        CxFault::IdsExhausted { what } => Stop::Fault(Cause::IdsExhausted { what }),
         CxFault::HookChanged {
             scope,
             index,
             kept,
             asked,
-        } => Stop::Fault(Fault::HookChanged {
+        } => Stop::Fault(Cause::HookChanged {
             scope: scope.0,
             index,
             kept,

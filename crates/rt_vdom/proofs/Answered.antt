@@ -30,7 +30,7 @@ use Rattle.rt_vdom.specs.Handles.{HandlesAs, PollCut, RenderCut, PolledFrom, Pol
 use Rattle.run_answers.specs.Polls.{answers, sees_none}
 use Rattle.rt_vdom.specs.Runs.{Builds, BuildsToList, BuildStopped, HoldsBy, PrebuiltStopped, RendersToList, Runs, RunsAs, RunsOnce, Stopped, Went}
 use Rattle.rt_vdom.specs.declared.dom.VirtualDom.{VirtualDom}
-use Rattle.run_answers.specs.declared.poll.Poll.{Poll}
+use Rattle.run_reports.specs.declared.poll.Poll.{Poll}
 use Rattle.run_answers.specs.declared.refusal.DomFault.{DomFault}
 use Rattle.run_answers.specs.declared.refusal.DomFault.TheVariants as refusals
 

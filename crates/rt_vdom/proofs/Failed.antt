@@ -9,7 +9,7 @@ use Rattle.run_outside.specs.declared.ended.Ended.TheVariants as ends
 use Rattle.run_reports.specs.Seen.{fault_of}
 use Rattle.run_reports.specs.declared.fault.Fault.{Fault}
 use Rattle.run_reports.specs.declared.fault.Fault.TheVariants as faults
-use Rattle.run_state.specs.declared.names.Fault.TheVariants as causes
+use Rattle.run_state.specs.declared.names.Cause.TheVariants as causes
 use Rattle.run_state.specs.declared.names.Stop.{Stop}
 use Rattle.run_state.specs.declared.names.Stop.TheVariants as stops
 use Rattle.rt_vdom.specs.Calls.{FailsAt, Ran, RanNoUnit, ran_fault, spent_in}

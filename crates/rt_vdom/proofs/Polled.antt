@@ -27,11 +27,11 @@ use Rattle.run_state.specs.Names.{fault_of as cause_of}
 use Rattle.run_state.specs.declared.names.Stop.{Stop}
 use Rattle.run_state.specs.declared.names.Stop.TheVariants as stops
 use Rattle.rt_vdom.specs.Calls.{PolledNow, PollsNowAs, ran_fault}
-use Rattle.run_answers.specs.Polls.{told_by}
+use Rattle.run_reports.specs.Polls.{told_by}
 use Rattle.rt_vdom.specs.Doms.{Stands, StateIn}
 use Rattle.run_answers.specs.declared.stage.Stage.TheVariants as stages
 use Rattle.rt_vdom.specs.declared.dom.VirtualDom.{VirtualDom}
-use Rattle.run_answers.specs.declared.poll.Poll.{Poll}
+use Rattle.run_reports.specs.declared.poll.Poll.{Poll}
 use Rattle.run_answers.specs.declared.refusal.DomFault.{DomFault}
 use Rattle.run_answers.specs.declared.refusal.DomFault.TheVariants as refusals
 
@@ -105,23 +105,23 @@ module _ {P C Q V H T E L : Type 0} (meaning : P → Application (types C Q V H 
   after_poll scopes calls = record d { calls = calls; machine = record (d.machine) { scopes = scopes } }
 
   -- one that is active is polled
-  pub polls_one : (scopes : Scopes P C Q V H T E L) (calls : ℕ) (ready : Bool) → d.stage ≡ stages.Built
+  pub polls_one : (scopes : Scopes P C Q V H T E L) (calls : ℕ) (answer : Poll (Unit {0})) → d.stage ≡ stages.Built
       → IsLawful (types C Q V H T E L) (meaning d.app)
       → ((props : Q) (whole : Bool) → AsidesLead (meaning d.app) (limits_of d.limits) props whole)
       → ((g : Unkept (types C Q V H T E L)) → is_active (StateIn g d) task ≡ true)
       → ((g : Unkept (types C Q V H T E L)) → (h : Unkept (types C Q V H T E L))
       × (replay.polled_apart (meaning d.app) (StateIn g d) task ≡ model.Done (state_of h scopes.state) [])
       × (Counts d.calls g.calls → Counts calls h.calls))
-      → ((g : Unkept (types C Q V H T E L)) → ready ≡ replay.ready_now (meaning d.app) (StateIn g d) task)
-      → PolledNow meaning task d (after_poll scopes calls) (told_by ready)
-  polls_one scopes calls ready built lawful leads active comes is_ready =
+      → ((g : Unkept (types C Q V H T E L)) → answer ≡ told_by (replay.ready_now (meaning d.app) (StateIn g d) task))
+      → PolledNow meaning task d (after_poll scopes calls) answer
+  polls_one scopes calls answer built lawful leads active comes is_ready =
       record {
         built = built;
         state =
             λ g counts.
             let came = comes g in
             (came.0, polled_is (meaning d.app) (StateIn g d) task (active g) ∙ came.1, came.2 counts);
-        ready = λ g. ap (λ (b : Bool). told_by b) (is_ready g);
+        ready = is_ready;
         stands =
             λ props whole w s.
             let came = comes s.kept in

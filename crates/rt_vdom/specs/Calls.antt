@@ -23,8 +23,8 @@ use Rattle.run_reports.specs.Seen.{fault_of}
 use Rattle.run_outside.specs.Ends.{Causes}
 use Rattle.run_outside.specs.Short.{PartOf}
 use Rattle.rt_scopes.specs.Counts.{Counts}
-use Rattle.run_answers.specs.declared.poll.Poll.{Poll}
-use Rattle.run_answers.specs.Polls.{told_by}
+use Rattle.run_reports.specs.declared.poll.Poll.{Poll}
+use Rattle.run_reports.specs.Polls.{told_by}
 use Rattle.run_state.specs.Mirror.{Unkept}
 use Rattle.rt_vdom.specs.Doms.{IsStarted, NextIn, Stands, StateIn}
 use Rattle.run_answers.specs.declared.stage.Stage.{Stage}

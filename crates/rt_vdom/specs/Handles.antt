@@ -24,7 +24,7 @@ use Rattle.rt_vdom.specs.Doms.{Stands}
 use Rattle.rt_vdom.specs.Carried.{StepsCarryOn}
 use Rattle.rt_vdom.specs.Runs.{HoldsBy, Stopped}
 use Rattle.rt_vdom.specs.declared.dom.VirtualDom.{VirtualDom}
-use Rattle.run_answers.specs.declared.poll.Poll.{Poll}
+use Rattle.run_reports.specs.declared.poll.Poll.{Poll}
 use Rattle.run_answers.specs.Polls.{answers, sees_none}
 use Rattle.run_answers.specs.declared.refusal.DomFault.{DomFault}
 use Rattle.run_answers.specs.declared.refusal.DomFault.TheVariants as refusals

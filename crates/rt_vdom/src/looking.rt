@@ -84,7 +84,7 @@ impl<A: App> VirtualDom<A> {
 
     /// The number of scopes above a live scope. None where it isn't live; no dom is refused. In
     /// dioxus-core the runtime's `height`.
-    pub fn height(&self, id: ScopeId) -> Option<u64>
+    pub fn height(&self, id: ScopeId) -> Option<u32>
         ensures height { (g : _) → result
             ≡ option_map (λ scope. scope.height) (at (StateIn g self.now).scopes id.0) }
     {

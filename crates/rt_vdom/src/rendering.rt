@@ -12,9 +12,9 @@ use author_calls::App;
 use rt_edits::{Mutations, NoOpMutations, WriteMutations};
 use rt_inbox::Drained;
 use rt_values::OutOfMemory;
-use run_answers::{DomFault, Poll, Stage, Until, waits};
+use run_answers::{DomFault, Stage, Until, waits};
 use run_outside::post_messages;
-use run_reports::Report;
+use run_reports::{Poll, Report};
 use run_rounds::run_report;
 
 impl<A: App> VirtualDom<A> {

@@ -6,6 +6,7 @@ ghost use Rattle.rt_model.specs.State as model;
 ghost use Rattle.rt_vdom.specs.Calls.{CausesAt, Does, FailsOn, Keeps, LeavesAll, Ran, WantsBuilt, WantsMemory};
 ghost use Rattle.rt_vdom.specs.Doms.{StateIn};
 ghost use Rattle.rt_vdom.specs.Handles.{PollsOnSuspended, PollsSuspended, RendersSuspended};
+ghost use Rattle.run_state.specs.Names.{scope_numbers};
 
 use crate::dom::VirtualDom;
 use author_calls::App;
@@ -13,8 +14,8 @@ use rt_boundary::SuspenseContext;
 use rt_edits::WriteMutations;
 use rt_inbox::Drained;
 use rt_values::{List, OutOfMemory, ScopeId};
-use run_answers::{DomFault, Poll, Stage, suspended_remains, waits_suspended};
-use run_reports::Fault;
+use run_answers::{DomFault, Stage, suspended_remains, waits_suspended};
+use run_reports::{Fault, Poll};
 use run_rounds::{poll_suspended, render_suspended};
 
 impl<A: App> VirtualDom<A> {
@@ -106,8 +107,8 @@ impl<A: App> VirtualDom<A> {
 
     /// The scopes that suspended renders passed over, in order, each once. A scope is listed until
     /// it runs or is removed. dioxus-core has no such call: it logs them.
-    pub fn skipped(&self) -> &[u64]
-        ensures skipped { (g : _) → result.now ≡ (StateIn g self.now).skipped }
+    pub fn skipped(&self) -> &[ScopeId]
+        ensures skipped { (g : _) → scope_numbers result.now ≡ (StateIn g self.now).skipped }
     {
         self.machine.scopes.state.skipped.as_slice()
     }

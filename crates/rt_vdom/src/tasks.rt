@@ -11,9 +11,9 @@ ghost use Rattle.rt_vdom.specs.Doms.{StateIn};
 use crate::dom::VirtualDom;
 use author_calls::App;
 use rt_values::{OutOfMemory, ScopeId, Task};
-use run_answers::{DomFault, Poll, Stage, after, poll_of};
+use run_answers::{DomFault, Stage, after};
 use run_outside::Ended;
-use run_reports::{Counter, Fault};
+use run_reports::{Counter, Fault, Poll};
 use run_state::Posted;
 
 /// The calls on a task of a dom.
@@ -337,9 +337,9 @@ impl<A: App> VirtualDom<A> {
         match self
             .machine
             .scopes
-            .poll_apart(&self.app, &mut self.calls, task)
+            .poll_task(&self.app, &mut self.calls, task)
         {
-            Ok(ready) => Ok(poll_of(ready)),
+            Ok(polled) => Ok(polled),
             Err(stop) => Err(self.ended(Ended::Run(stop))),
         }
     }

@@ -17,7 +17,7 @@ use Rattle.run_state.specs.Names.{fault_of}
 use Rattle.run_state.specs.declared.names.Stop.{Stop}
 use Rattle.run_state.specs.declared.names.Stop.TheVariants as stops
 use Rattle.run_state.specs.Made.{IsMade}
-use Rattle.run_state.specs.declared.names.Fault.TheVariants.{the_data as CodeFault}
+use Rattle.run_state.specs.declared.names.Cause.TheVariants.{the_data as CodeCause}
 use Rattle.law_moves.specs.Turn.{again, and_then, turn_of}
 use Rattle.run_turns.specs.Fed.{fed_entries, fed_outcome}
 use Rattle.run_turns.specs.Notes.{NotedBy}
@@ -35,7 +35,7 @@ module _ {K : Types} where
   cut_as o p v stop same cut = subst (λ (x : Outcome K). CutBy x v stop) (sym same) cut
 
   -- by each fault that it may be
-  pub cut_by : (o : Outcome K) (v : State K) (stop : Stop) → ((what : CodeFault) → stop ≡ stops.Fault what → o ≡ Cut v (fault_of what)) → CutBy o v stop
+  pub cut_by : (o : Outcome K) (v : State K) (stop : Stop) → ((what : CodeCause) → stop ≡ stops.Fault what → o ≡ Cut v (fault_of what)) → CutBy o v stop
   cut_by o v stops.OutOfMemory h = tt
   cut_by o v (stops.Fault what) h = h what refl
 
@@ -79,7 +79,7 @@ module _ {K : Types} (app : Application K) where
   cut_by_end w s side p c None live full = cc
   cut_by_end w s side p c (Some x) live full = pick_true (Cut w (IdsExhausted Scopes)) (run app (with_new_scope w s side p c x) w.next_scope) full
 
-  pub made_cut : (w v : State K) (s : ℕ) (side : SideName) (p : Place) (c : VComponent K) (what : CodeFault) → is_live w s ≡ true → (fault_of what ≡ IdsExhausted Scopes) × (at_end w.next_scope ≡ true) × (v ≡ w)
+  pub made_cut : (w v : State K) (s : ℕ) (side : SideName) (p : Place) (c : VComponent K) (what : CodeCause) → is_live w s ≡ true → (fault_of what ≡ IdsExhausted Scopes) × (at_end w.next_scope ≡ true) × (v ≡ w)
       → made app w s side p c ≡ Cut v (fault_of what)
   made_cut w v s side p c what live h =
       cut_by_end w s side p c (at w.scopes s) live h.1 ∙ ap (λ x. Cut x (IdsExhausted Scopes)) (sym h.2) ∙ ap (λ f. Cut v f) (sym h.0)

@@ -224,7 +224,7 @@ impl Driven for Kept {
     fn scope(&self, scope: ScopeId) -> Option<Scoped> {
         match self.dom.get_scope(scope) {
             Some(found) => Some(Scoped {
-                height: found.height(),
+                height: u64::from(found.height()),
                 built: found.try_root_node().is_some(),
             }),
             None => None,
@@ -236,7 +236,10 @@ impl Driven for Kept {
     }
 
     fn height(&self, scope: ScopeId) -> Option<u64> {
-        self.dom.height(scope)
+        match self.dom.height(scope) {
+            Some(height) => Some(u64::from(height)),
+            None => None,
+        }
     }
 
     fn suspense_context(&self, scope: ScopeId) -> Option<ScopeId> {
@@ -263,8 +266,7 @@ impl Driven for Kept {
     }
 
     fn error_context(&self, scope: ScopeId) -> Option<ScopeId> {
-        let state = &self.dom.scopes().state;
-        match ErrorContext::of(state, scope) {
+        match ErrorContext::of(self.dom.scopes(), scope) {
             Some(context) => Some(context.scope),
             None => None,
         }
@@ -272,16 +274,16 @@ impl Driven for Kept {
 
     fn error(&self, boundary: ScopeId) -> Option<&CapturedError> {
         let context = ErrorContext { scope: boundary };
-        context.error(&self.dom.scopes().state)
+        context.error(self.dom.scopes())
     }
 
     fn boundary(&self, scope: ScopeId) -> Option<Boundary> {
-        let state = &self.dom.scopes().state;
-        match SuspenseContext::downcast_suspense_boundary_from_scope(state, scope) {
+        let scopes = self.dom.scopes();
+        match SuspenseContext::downcast_suspense_boundary_from_scope(scopes, scope) {
             Some(context) => Some(Boundary {
-                frozen: context.frozen(state),
-                hidden: context.is_suspended(state),
-                held: context.has_suspended_tasks(state),
+                frozen: context.frozen(scopes),
+                hidden: context.is_suspended(scopes),
+                held: context.has_suspended_tasks(scopes),
             }),
             None => None,
         }
@@ -299,7 +301,7 @@ impl Driven for Kept {
         task.paused(&self.dom)
     }
 
-    fn skipped(&self) -> &[u64] {
+    fn skipped(&self) -> &[ScopeId] {
         self.dom.skipped()
     }
 

@@ -164,7 +164,8 @@ pub(crate) fn put_query<D: Driven>(
     put_tasks(alloc, out, dom)?;
     out.push_str("skipped")?;
     for scope in dom.skipped() {
-        out.push_str(format!(in alloc; " {scope}")?.as_str())?;
+        let number = scope.0;
+        out.push_str(format!(in alloc; " {number}")?.as_str())?;
     }
     put_either(
         out,

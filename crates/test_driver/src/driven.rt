@@ -226,7 +226,7 @@ pub trait Driven {
     fn paused(&self, task: Task) -> bool;
 
     /// The scopes that were passed over.
-    fn skipped(&self) -> &[u64];
+    fn skipped(&self) -> &[ScopeId];
 
     /// Whether suspended tasks remain.
     fn suspended_tasks_remaining(&self) -> bool;

@@ -53,7 +53,7 @@ fn uses(alloc: Global, lines: &mut List<u8>, dom: &mut Kept) -> Result<u64, DomF
     builds(alloc, lines, dom)?;
     clicks(alloc, lines, dom)?;
     writes(alloc, lines, dom)?;
-    Ok(dom.height(COMPONENT).unwrap_or(0))
+    Ok(u64::from(dom.height(COMPONENT).unwrap_or(0)))
 }
 
 /// Makes the runtime, uses it and closes it, and appends the lines of what it wrote. The height of

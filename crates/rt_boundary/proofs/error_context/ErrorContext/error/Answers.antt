@@ -13,8 +13,8 @@ returns-in-Some g c =
       kept =
           λ kept.
           ap (option_map error_of) c.as_ref.ensures.value
-          ∙ error_there (state_of kept c.args.scopes.now) c.args.self.now.scope.0 (scope_of c.in-Some.found.now)
-          (found-each scope_of (c.args.scopes.now.rows).table c.args.self.now.scope.0 (Some c.in-Some.found.now) c.in-Some.ensures);
+          ∙ error_there (state_of kept c.args.scopes.now.state) c.args.self.now.scope.0 (scope_of c.in-Some.found.now)
+          (found-each scope_of (c.args.scopes.now.state.rows).table c.args.self.now.scope.0 (Some c.in-Some.found.now) c.in-Some.ensures);
     }
 
 pub returns-in-None : goal.returns-in-None
@@ -22,6 +22,6 @@ returns-in-None g c =
     record {
       kept =
           λ kept.
-          error_gone (state_of kept c.args.scopes.now) c.args.self.now.scope.0
-          (found-each scope_of (c.args.scopes.now.rows).table c.args.self.now.scope.0 None c.in-None.ensures);
+          error_gone (state_of kept c.args.scopes.now.state) c.args.self.now.scope.0
+          (found-each scope_of (c.args.scopes.now.state.rows).table c.args.self.now.scope.0 None c.in-None.ensures);
     }

@@ -6,7 +6,7 @@ use Rattle.rt_boundary.specs.Seen.{hidden_in}
 use Rattle.rt_boundary.proofs.suspense_context.SuspenseContext.suspended_nodes.Goals as goal
 
 pub returns-in-Some : goal.returns-in-Some
-returns-in-Some g c = record { hidden = λ kept. c.hidden_output.ensures ∙ ap hidden_in (sym (found-each scope_of (c.args.scopes.now.rows).table c.args.self.now.scope.0 (Some c.in-Some.found.now) c.in-Some.ensures)) }
+returns-in-Some g c = record { hidden = λ kept. c.hidden_output.ensures ∙ ap hidden_in (sym (found-each scope_of (c.args.scopes.now.state.rows).table c.args.self.now.scope.0 (Some c.in-Some.found.now) c.in-Some.ensures)) }
 
 pub returns-in-None : goal.returns-in-None
-returns-in-None g c = record { hidden = λ kept. ap hidden_in (sym (found-each scope_of (c.args.scopes.now.rows).table c.args.self.now.scope.0 None c.in-None.ensures)) }
+returns-in-None g c = record { hidden = λ kept. ap hidden_in (sym (found-each scope_of (c.args.scopes.now.state.rows).table c.args.self.now.scope.0 None c.in-None.ensures)) }

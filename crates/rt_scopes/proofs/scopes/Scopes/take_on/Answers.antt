@@ -6,7 +6,7 @@ use Rattle.rt_model.specs.Commands.{commands}
 use Rattle.tree_mirror.specs.Sealed.{element_of}
 use Rattle.run_records.specs.Records.{command_of}
 use Rattle.run_state.specs.Mirror.{state_of}
-use Rattle.run_state.specs.declared.names.Fault.TheVariants as faults
+use Rattle.run_state.specs.declared.names.Cause.TheVariants as faults
 use Rattle.run_state.specs.declared.names.Stop.TheVariants as stops
 use Rattle.rt_scopes.specs.Counts.{counts_where}
 use Rattle.rt_scopes.proofs.Settled.{owned, taken_bad, taken_no, taken_ok}

@@ -2,7 +2,7 @@
 use Rattle.std.proofs.Common.{sym, ap, ◌∙◌}
 use Rattle.law_behavior.proofs.Leading.{asides_lead}
 use Rattle.run_reports.specs.Seen.{limits_of}
-use Rattle.run_answers.specs.Polls.{told_by}
+use Rattle.run_reports.specs.Polls.{told_by}
 use Rattle.rt_vdom.specs.Doms.{StateIn}
 use Rattle.rt_vdom.proofs.Failed.{no_unit}
 use Rattle.rt_vdom.proofs.Polled.{polls_none, polls_one, polls_now_err, polled_is, ready_gone, gone_idle, ready_paused, cut_now}
@@ -29,11 +29,10 @@ returns-in-Ok-clause-polled g c =
     λ built.
     let d = c.args.self.now in
     let app = g.A.App.meaning d.app in
-    rw c.poll_of.ensures
-    (polls_one (λ app. g.A.App.meaning app) c.args.task.0 d c.poll_apart.new.self c.poll_apart.new.calls c.in-Ok.ready built
+    polls_one (λ app. g.A.App.meaning app) c.args.task.0 d c.poll_task.new.self c.poll_task.new.calls c.in-Ok.polled built
     (g.met.A.App.lawful d.app)
     (λ props whole. asides_lead app (limits_of d.limits) props whole)
-    (λ kept. sym (c.is_active.ensures kept) ∙ c.if-not-is_active.false) c.in-Ok.ensures.polled (λ kept. c.in-Ok.ensures.ready kept (sym (c.is_active.ensures kept) ∙ c.if-not-is_active.false)))
+    (λ kept. sym (c.is_active.ensures kept) ∙ c.if-not-is_active.false) c.in-Ok.ensures.polled (λ kept. c.in-Ok.ensures.ready kept (sym (c.is_active.ensures kept) ∙ c.if-not-is_active.false))
 
 pub returns-in-Err-clause-polled : goal.returns-in-Err-clause-polled
 returns-in-Err-clause-polled g c =
