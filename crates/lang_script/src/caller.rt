@@ -7,10 +7,13 @@ ghost use Rattle.lang_script.specs.Seen.{caller_of};
 
 use crate::script::Script;
 use lang_views::{Content, Value};
-use rt_values::{List, OutOfMemory, Part, ScopeId, Task, copy_slice};
+use rt_values::{List, OutOfMemory, Part, ScopeId, Task};
 use std::alloc::Global;
 use std::mem;
 use tree_nodes::Element;
+
+/// How many names most calls bind at most.
+const NAMES: usize = 4;
 
 /// Who evaluates.
 #[derive(Drop)]
@@ -40,6 +43,26 @@ pub(crate) struct Frame<'a> {
     pub stays: bool,
 }
 
+/// The room for so many arguments, and for the names that most calls bind besides.
+fn room_for(arguments: usize) -> usize {
+    if arguments == 0 {
+        0
+    } else {
+        arguments.saturating_add(NAMES)
+    }
+}
+
+/// The values of arguments, with room for the names that are bound behind them.
+fn held_of(alloc: Global, arguments: &[Value]) -> Result<List<Value>, OutOfMemory>
+    ensures held { IfOk result (λ held. held ≡ arguments.now) }
+{
+    let mut held = List::with_room(alloc, room_for(arguments.len()))?;
+    for value in arguments {
+        held.push(value.copy(alloc)?)?;
+    }
+    Ok(held)
+}
+
 impl<'a> Frame<'a> {
     /// A frame at the start of a call with these arguments.
     pub fn new(alloc: Global, by: Caller<'a>, arguments: &[Value]) -> Result<Frame<'a>, OutOfMemory>
@@ -49,7 +72,7 @@ impl<'a> Frame<'a> {
         ensures prevented { IfOk result (λ frame. frame.prevented ≡ false) }
         ensures stays { IfOk result (λ frame. frame.stays ≡ false) }
     {
-        let held = List::from_vec(copy_slice(alloc, arguments)?);
+        let held = held_of(alloc, arguments)?;
         Ok(Frame {
             by,
             held,

@@ -22,7 +22,7 @@ use crate::rounds::{error_boundary, fragment, suspense_boundary};
 use crate::script::Script;
 use author_calls::BodyCx;
 use lang_syntax::ComponentUse;
-use lang_views::{Content, Doing, Fill, Plan, Props, SlotPlan, Value, item_count, text_of};
+use lang_views::{Content, Doing, Fill, Plan, Props, SlotPlan, Value, into_text, item_count};
 use rt_values::{List, OutOfMemory, Shared, both};
 use std::alloc::Global;
 use tree_nodes::{Attribute, AttributeValue, DynamicNode, Template, VComponent, VNode};
@@ -117,7 +117,7 @@ fn put(
     match fill {
         Fill::Attribute { name, value } => {
             let value = evaluate(alloc, cx, frame, value)?;
-            let value = attribute_value(alloc, &value)?;
+            let value = attribute_value(alloc, value)?;
             filling.attributes.push(slot_with(alloc, name, value)?)?;
         }
         Fill::Listener {
@@ -156,7 +156,7 @@ fn node_of(
     match slot {
         SlotPlan::TextOf(text) => {
             let value = evaluate(alloc, cx, frame, text)?;
-            Ok(DynamicNode::Text(text_of(alloc, &value)?))
+            Ok(DynamicNode::Text(into_text(alloc, value)?))
         }
         SlotPlan::ListOf { count, item } => {
             let count = item_count(&evaluate(alloc, cx, frame, count)?);

@@ -25,8 +25,8 @@ use Rattle.lang_sources.specs.Statements.{one_more, block_of, when_of, formed, s
 use Rattle.lang_sources.specs.declared.forms.Binder.TheVariants.{Let, Cell, Hook, Memo, Resource}
 use Rattle.lang_sources.specs.declared.forms.Calling.{Calling}
 use Rattle.lang_sources.specs.declared.forms.Calling.TheVariants.{AtRemoval, BeforeRender, AfterRender, AsEffect, OnceResolved}
-use Rattle.lang_sources.specs.declared.forms.Form.{Form}
-use Rattle.lang_sources.specs.declared.forms.Form.TheVariants.{Binds, Spawn, When, Does}
+use Rattle.lang_sources.specs.declared.forms.StatementForm.{StatementForm}
+use Rattle.lang_sources.specs.declared.forms.StatementForm.TheVariants.{Binds, Spawn, When, Does}
 use Rattle.lang_sources.specs.declared.forms.Place.{Place}
 use Rattle.lang_sources.specs.declared.forms.Plain.{Plain}
 use Rattle.lang_sources.specs.declared.forms.Plain.TheVariants.{Calls, Says, Mark, Throw, Fail, Forget, Suspend, Provide, Write, Act}
@@ -144,7 +144,7 @@ module _ (names : Names) (variables : List (List ℕ)) where
 
   formed_outside : (place : Place) → is_body place ≡ false → (block : List (List ℕ) → Items → Option Block) →
       ((inner : List (List ℕ)) (items : Items) (b : Block) → block inner items ≡ Some b → stand_outside b.1 ≡ true) →
-      (key : List ℕ) (form : Form) → stands place form ≡ true → (d : Data) (r : Bound) → formed block names variables key form d ≡ Some r → stands_outside r.1 ≡ true
+      (key : List ℕ) (form : StatementForm) → stands place form ≡ true → (d : Data) (r : Bound) → formed block names variables key form d ≡ Some r → stands_outside r.1 ≡ true
   formed_outside place out block blocks key (Binds Let) h d r is =
       behind (λ (b : List ℕ × Statement). (Some b.0, b.1)) (binding_in names variables Let d) r is (λ b given. binding_outside d b given)
   formed_outside place out block blocks key (Binds Cell) h d r is = contrary (is_body place) h out
@@ -177,7 +177,7 @@ unfolding statement_of
 statement_outside zero names place out variables d r is = none_is r is
 statement_outside (suc levels) names place out variables d r is =
     let block = block_of (statement_of levels names place) in
-    let of_form = λ (form : List ℕ × Form). if stands place form.1 then formed block names variables form.0 form.1 d else None in
+    let of_form = λ (form : List ℕ × StatementForm). if stands place form.1 then formed block names variables form.0 form.1 d else None in
     let form = first of_form (form_in d) r is in
     let may = held (stands place form.0.1) (formed block names variables form.0.0 form.0.1 d) r form.1.1 in
     formed_outside names variables place out block

@@ -11,8 +11,8 @@ use Rattle.lang_sources.specs.declared.forms.Word.{Word}
 use Rattle.lang_sources.specs.declared.forms.Word.TheVariants.{Freeze, Clear, Stop, Prevent, Stay}
 use Rattle.lang_sources.specs.declared.forms.Plain.{Plain}
 use Rattle.lang_sources.specs.declared.forms.Plain.TheVariants.{Calls, Says, Mark, Throw, Fail, Forget, Suspend, Provide, Write, Act}
-use Rattle.lang_sources.specs.declared.forms.Form.{Form}
-use Rattle.lang_sources.specs.declared.forms.Form.TheVariants.{Binds, Spawn, When, Does}
+use Rattle.lang_sources.specs.declared.forms.StatementForm.{StatementForm}
+use Rattle.lang_sources.specs.declared.forms.StatementForm.TheVariants.{Binds, Spawn, When, Does}
 
 -- the keys that bind a name to what expressions give
 unfoldable pub binder_of : List ℕ → Option Binder
@@ -60,12 +60,12 @@ plain_of key =
     calls_or (calling_of key) (option_map Says (word_of key))
 
 -- a binding where there is one, else something else
-abbrev pub binds_or : Option Binder → Option Form → Option Form
+abbrev pub binds_or : Option Binder → Option StatementForm → Option StatementForm
 binds_or (Some binder) other = Some (Binds binder)
 binds_or None other = other
 
 -- the form that a key names
-unfoldable pub form_of : List ℕ → Option Form
+unfoldable pub form_of : List ℕ → Option StatementForm
 form_of key =
     if bytes_eq key (codes "spawn") then Some Spawn else
     if bytes_eq key (codes "when") then Some When else
@@ -113,7 +113,7 @@ plain_stands place Write = true
 plain_stands place Act = true
 
 -- whether a statement of a form may stand in a place
-abbrev pub stands : Place → Form → Bool
+abbrev pub stands : Place → StatementForm → Bool
 stands place (Binds Let) = true
 stands place (Binds Cell) = is_body place
 stands place (Binds Hook) = is_body place
@@ -124,17 +124,17 @@ stands place When = true
 stands place (Does plain) = plain_stands place plain
 
 -- a key with its form where it names one, else something else
-abbrev pub form_or : List ℕ → Option Form → Option (List ℕ × Form) → Option (List ℕ × Form)
+abbrev pub form_or : List ℕ → Option StatementForm → Option (List ℕ × StatementForm) → Option (List ℕ × StatementForm)
 form_or key None other = other
 form_or key (Some form) other = Some (key, form)
 
 -- the first key of some members that names a form, and the form
-unfoldable pub first_form : Members → Option (List ℕ × Form)
+unfoldable pub first_form : Members → Option (List ℕ × StatementForm)
 first_form no_members = None
 first_form (member key d rest) = form_or key (form_of key) (first_form rest)
 
 -- the key of a statement that names its form, and the form
-abbrev pub form_in : Data → Option (List ℕ × Form)
+abbrev pub form_in : Data → Option (List ℕ × StatementForm)
 form_in null = None
 form_in (boolean b) = None
 form_in (number n) = None

@@ -9,8 +9,8 @@ use Rattle.lang_expressions.specs.Calls.{expression_at}
 use Rattle.lang_syntax.specs.declared.statement.Statement.{Statement}
 use Rattle.lang_syntax.specs.declared.statement.Statement.TheVariants as s
 use Rattle.lang_sources.specs.declared.forms.Place.{Place}
-use Rattle.lang_sources.specs.declared.forms.Form.{Form}
-use Rattle.lang_sources.specs.declared.forms.Form.TheVariants.{Binds, Spawn, When, Does}
+use Rattle.lang_sources.specs.declared.forms.StatementForm.{StatementForm}
+use Rattle.lang_sources.specs.declared.forms.StatementForm.TheVariants.{Binds, Spawn, When, Does}
 use Rattle.lang_sources.specs.Forms.{stands, form_in}
 use Rattle.lang_sources.specs.Readings.{binding_in, spawned_in, plain_in}
 use Rattle.lang_sources.specs.Binding.{with_bound}
@@ -34,8 +34,8 @@ when_of block names variables d =
     else None
 
 -- the statement of a form, with a list of statements in it read by a function, behind the name that it binds
-abbrev pub formed : (List (List ℕ) → Items → Option (List (List ℕ) × List Statement)) → Names → List (List ℕ) → List ℕ → Form → Data →
-    Option (Option (List ℕ) × Statement)
+abbrev pub formed : (List (List ℕ) → Items → Option (List (List ℕ) × List Statement)) → Names → List (List ℕ) → List ℕ → StatementForm →
+    Data → Option (Option (List ℕ) × Statement)
 formed block names variables key (Binds binder) d = option_map (λ b. (Some b.0, b.1)) (binding_in names variables binder d)
 formed block names variables key Spawn d = option_map (λ b. (Some b.0, b.1)) (spawned_in names variables d)
 formed block names variables key When d = option_map (λ done. (None, done)) (when_of block names variables d)

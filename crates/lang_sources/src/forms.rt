@@ -60,7 +60,7 @@ pub enum Plain {
 
 /// The forms of a statement.
 #[derive(Clone, Copy, Debug, PartialEq, Eq)]
-pub enum Form {
+pub enum StatementForm {
     Binds(Binder),
     Spawn,
     When,
@@ -156,18 +156,18 @@ fn plain_of(key: &str) -> Option<Plain>
 
 /// The form of the statements with this key.
 #[tactic(auto, unfolding(crate::specs::Forms::form_of))]
-fn form_of(key: &str) -> Option<Form>
+fn form_of(key: &str) -> Option<StatementForm>
     ensures form { result ≡ form_of key.now }
 {
     if key == "spawn" {
-        Some(Form::Spawn)
+        Some(StatementForm::Spawn)
     } else if key == "when" {
-        Some(Form::When)
+        Some(StatementForm::When)
     } else if let Some(binder) = binder_of(key) {
-        Some(Form::Binds(binder))
+        Some(StatementForm::Binds(binder))
     } else {
         match plain_of(key) {
-            Some(plain) => Some(Form::Does(plain)),
+            Some(plain) => Some(StatementForm::Does(plain)),
             None => None,
         }
     }
@@ -223,21 +223,21 @@ fn plain_stands(place: Place, plain: Plain) -> bool
 }
 
 /// Whether statements of a form may stand in a place.
-pub fn stands(place: Place, form: Form) -> bool
+pub fn stands(place: Place, form: StatementForm) -> bool
     ensures stands { result ≡ stands place form }
 {
     match form {
-        Form::Binds(Binder::Let) | Form::Spawn | Form::When => true,
-        Form::Binds(Binder::Cell | Binder::Hook | Binder::Memo | Binder::Resource) => {
+        StatementForm::Binds(Binder::Let) | StatementForm::Spawn | StatementForm::When => true,
+        StatementForm::Binds(Binder::Cell | Binder::Hook | Binder::Memo | Binder::Resource) => {
             is_body(place)
         }
-        Form::Does(plain) => plain_stands(place, plain),
+        StatementForm::Does(plain) => plain_stands(place, plain),
     }
 }
 
 /// The first key of some members that names a form, and the form.
 #[tactic(auto, unfolding(crate::specs::Forms::first_form))]
-fn first_form(members: &Map<String, Value>) -> Option<(&str, Form)>
+fn first_form(members: &Map<String, Value>) -> Option<(&str, StatementForm)>
     ensures form { option_map (λ form. (form.0.now, form.1)) result
         ≡ first_form (members_view members.now.entries) }
 {
@@ -250,7 +250,7 @@ fn first_form(members: &Map<String, Value>) -> Option<(&str, Form)>
 }
 
 /// The key of a statement that names its form, and the form.
-pub fn form_in(value: &Value) -> Option<(&str, Form)>
+pub fn form_in(value: &Value) -> Option<(&str, StatementForm)>
     ensures form { option_map (λ form. (form.0.now, form.1)) result ≡ form_in (view value.now) }
 {
     match value {

@@ -12,7 +12,7 @@ mod signatures;
 mod statements;
 mod whole;
 
-pub use forms::{Binder, Calling, Form, Place, Plain, Word, form_in, stands};
+pub use forms::{Binder, Calling, Place, Plain, StatementForm, Word, form_in, stands};
 pub use inputs::input;
 pub use reading::{SOURCE_LIMIT, read_source};
 pub use signatures::names_in;

@@ -6,7 +6,7 @@ ghost use Rattle.lang_sources.specs.Reads.{WasTested, WasJoined};
 ghost use Rattle.lang_sources.specs.Statements.{statement_of, when_of, block_of, block_in};
 
 use crate::binding::{bind, binding, spawned};
-use crate::forms::{Binder, Form, Place, Plain, form_in, stands};
+use crate::forms::{Binder, Place, Plain, StatementForm, form_in, stands};
 use crate::plain::plain_of;
 use lang_expressions::{Names, expression_at, is_object_of, list_at};
 use lang_syntax::{Expression, Statement};
@@ -146,13 +146,13 @@ fn statement(
         return Ok(None);
     }
     match form {
-        Form::When => {
+        StatementForm::When => {
             let when = when_of(alloc, levels - 1, names, place, variables, value)?;
             Ok(unnamed(when))
         }
-        Form::Binds(binder) => bound_statement(alloc, names, variables, binder, value),
-        Form::Spawn => spawning(alloc, names, variables, value),
-        Form::Does(plain) => done_statement(alloc, names, variables, key, plain, value),
+        StatementForm::Binds(binder) => bound_statement(alloc, names, variables, binder, value),
+        StatementForm::Spawn => spawning(alloc, names, variables, value),
+        StatementForm::Does(plain) => done_statement(alloc, names, variables, key, plain, value),
     }
 }
 

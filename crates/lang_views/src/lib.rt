@@ -21,5 +21,5 @@ pub use parsing::parse;
 pub use plan::{ComponentPlan, Fill, Plan, SlotPlan};
 pub use planning::component_plans;
 pub use props::Props;
-pub use texts::{put_text, text_of};
+pub use texts::{into_text, put_text, text_of};
 pub use value::{Content, Value};

@@ -28,3 +28,13 @@ pub fn text_of(alloc: Global, value: &Value) -> Result<Text, OutOfMemory>
     put_text(&mut text, value)?;
     Ok(Text::from_string(text))
 }
+
+/// The text of a value that is used up: a text is moved.
+pub fn into_text(alloc: Global, value: Value) -> Result<Text, OutOfMemory>
+    ensures text { IfOk result (λ text. text ≡ language.text_of value) }
+{
+    match value.into_content() {
+        Content::Text(text) => Ok(text),
+        other => text_of(alloc, &Value::new(other)),
+    }
+}

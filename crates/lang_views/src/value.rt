@@ -71,6 +71,14 @@ impl Value {
         &self.content
     }
 
+    /// What the value held, moved.
+    pub fn into_content(self) -> Content
+        ensures { value_of result ≡ self }
+    {
+        let Value { content } = self;
+        content
+    }
+
     /// 1 or 0.
     pub fn flag(is_so: bool) -> Value
         ensures { result ≡ flag is_so }

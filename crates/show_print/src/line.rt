@@ -10,7 +10,7 @@ use std::alloc::Global;
 use std::marker::Model;
 
 /// How many bytes most lines fit into.
-const SHORT: usize = 64;
+const SHORT: usize = 40;
 
 /// A line under way, as its bytes.
 #[derive(Drop)]
