@@ -132,11 +132,18 @@ fn take_room(alloc: Global, bytes: usize) {
     let _taken: Result<Vec<u8>, AllocError> = Vec::with_capacity(alloc, bytes);
 }
 
-/// Has the heap of this thread grow once by the second of these. Else it grows page by page, with a
-/// call of the system for each. Once the first was given back, the second is kept.
+/// Takes room twice, and then gives both back.
+fn take_twice(alloc: Global, bytes: usize) {
+    let _first: Result<Vec<u8>, AllocError> = Vec::with_capacity(alloc, bytes);
+    take_room(alloc, bytes);
+}
+
+/// Has the heap of this thread grow at once by 48 MiB. Else it grows page by page, with a call of the
+/// system for each. Once the first room was given back, what is less than it comes from the heap, and
+/// is kept there.
 fn make_room(alloc: Global) {
-    take_room(alloc, 24 << 20);
-    take_room(alloc, 16 << 20);
+    take_room(alloc, 31 << 20);
+    take_twice(alloc, 24 << 20);
 }
 
 /// Runs what the words ask for over the bytes of the source, or over the reader where they ask for
