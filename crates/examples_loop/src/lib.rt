@@ -8,4 +8,4 @@ mod running;
 
 pub use laws::click_settles;
 pub use posting::looped;
-pub use running::{POSTS, Running};
+pub use running::{POSTS, Running, Served};

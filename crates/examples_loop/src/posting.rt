@@ -3,10 +3,11 @@ ghost use Rattle.std.specs.Prelude.{IfOk};
 ghost use Rattle.rt_app.specs.InboxEnds.{IsOwnerOf};
 ghost use Rattle.rt_app.specs.Posters.{AllReady};
 
-use crate::running::{POSTS, Running};
+use crate::running::{POSTS, Running, Served};
 use rt_app::dom::DomFault;
 use rt_app::{
-    Bell, Inbox, List, OutOfMemory, Owner, Post, Poster, ScopeId, post_beside, posters_for, two,
+    App, Bell, Event, Inbox, List, OutOfMemory, Owner, Post, Poster, ScopeId, post_beside,
+    posters_for, two,
 };
 use std::alloc::Global;
 use std::sync::Wait;
@@ -21,13 +22,13 @@ const DRAINS: u64 = 1_000;
 const NAP: u64 = 20;
 
 /// Takes posts in until all were taken. Where there are none it sleeps until the bell has rung.
-fn serve<R: Wait>(
+fn serve<R: Wait, S: Served>(
     rt: &R,
     alloc: Global,
     inbox: &Inbox,
     bell: &Bell,
     owner: &mut Owner,
-    running: &mut Running,
+    running: &mut S,
 ) -> Result<(), DomFault>
     requires own { IsOwnerOf inbox.now owner.old }
     ensures own { IsOwnerOf inbox.now owner.new }
@@ -48,28 +49,28 @@ fn serve<R: Wait>(
 }
 
 /// The posters post in threads of their own while the runtime is served in this one.
-fn serve_beside<R: Threads + Wait + Sync>(
+fn serve_beside<R: Threads + Wait + Sync, S: Served>(
     rt: &R,
     alloc: Global,
     inbox: &Inbox,
+    bell: &Bell,
     posters: &mut [Poster],
     owner: &mut Owner,
-    running: &mut Running,
+    running: &mut S,
 ) -> Result<(), DomFault>
     requires own { IsOwnerOf inbox.now owner.old }
     requires ready { AllReady inbox.now posters.old }
     ensures own { IsOwnerOf inbox.now owner.new }
 {
-    let bell = Bell::new();
     post_beside(
         rt,
         inbox,
-        &bell,
+        bell,
         posters,
         &mut || -> Result<(), DomFault>
             requires { IsOwnerOf inbox.now owner.now }
             ensures { IsOwnerOf inbox.entry.now owner.exit.now }
-        { serve(rt, alloc, inbox, &bell, owner, running) },
+        { serve(rt, alloc, inbox, bell, owner, running) },
     )
 }
 
@@ -87,16 +88,34 @@ fn convened(alloc: Global) -> Result<(Inbox, Owner, Vec<Poster>), OutOfMemory>
     Ok((inbox, owner, posters.into_vec()))
 }
 
-/// An application is built, served until all posts were taken, and closed. The rows that show at
-/// its end, as lines.
-pub fn looped<R: Threads + Wait + Sync>(rt: &R, alloc: Global) -> Result<List<u8>, DomFault> {
-    let mut running = Running::new(alloc)?;
+/// A runtime is built, and served until all posts were taken. The rows that show then, as lines.
+fn run<R: Threads + Wait + Sync, S: Served>(
+    rt: &R,
+    alloc: Global,
+    running: &mut S,
+) -> Result<List<u8>, DomFault> {
+    running.build()?;
     let (inbox, mut owner, mut posters) = convened(alloc)?;
+    let bell = Bell::new();
     let all = posters.as_mut_slice();
-    serve_beside(rt, alloc, &inbox, all, &mut owner, &mut running)?;
+    serve_beside(rt, alloc, &inbox, &bell, all, &mut owner, running)?;
     // Where no thread could be started the posts come behind the loop.
-    serve(rt, alloc, &inbox, &Bell::new(), &mut owner, &mut running)?;
-    let lines = running.lines(alloc)?;
-    running.close()?;
+    serve(rt, alloc, &inbox, &bell, &mut owner, running)?;
+    running.lines(alloc)
+}
+
+/// An application is built, served until all posts were taken, and closed whatever came; with the
+/// first of them the click comes. The rows that show at its end, as lines.
+pub fn looped<R: Threads + Wait + Sync, A: App>(
+    rt: &R,
+    alloc: Global,
+    app: A,
+    click: Event<A::Payload>,
+) -> Result<List<u8>, DomFault> {
+    let mut running = Running::new(alloc, app, click)?;
+    let lines = run(rt, alloc, &mut running);
+    let closed = running.close();
+    let lines = lines?;
+    closed?;
     Ok(lines)
 }

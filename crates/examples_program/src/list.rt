@@ -1,8 +1,6 @@
-//! The program of the list: words are typed and added, and an item is taken out. The
-//! edits and reports are printed.
-#![tactic(auto)]
+//! The list: words are typed and added, and an item is taken out.
 
-use examples_lines::{click, lines, print_lines};
+use examples_lines::{click, lines};
 use examples_list::{Shopping, no_props};
 use rt_app::{ElementId, Input, List, OutOfMemory, Paged, Text};
 use std::alloc::Global;
@@ -23,7 +21,7 @@ fn clicked(alloc: Global, element: u64) -> Result<Input<Paged<Shopping>>, OutOfM
 }
 
 /// The lines of a session: two items are added, and the first is taken out.
-fn printed(alloc: Global) -> Result<List<u8>, OutOfMemory> {
+pub(crate) fn printed(alloc: Global) -> Result<List<u8>, OutOfMemory> {
     let mut inputs = List::new(alloc);
     inputs.push(clicked(alloc, 5)?)?;
     inputs.push(typed(alloc, "milk", 3)?)?;
@@ -33,8 +31,4 @@ fn printed(alloc: Global) -> Result<List<u8>, OutOfMemory> {
     inputs.push(clicked(alloc, 12)?)?;
     let pages = Shopping::new(alloc)?;
     lines(alloc, Paged { pages }, no_props(alloc)?, inputs)
-}
-
-fn main(rt: HostRuntime) {
-    print_lines(&rt, printed(rt.alloc()));
 }

@@ -1,9 +1,7 @@
-//! The program of examples_derived: a session of the memo and one of the resource. Their edits and
-//! reports are printed.
-#![tactic(auto)]
+//! The memo and the resource: a session of each.
 
 use examples_derived::{Component, Derived, Deriving, Value};
-use examples_lines::{lines_of, print_lines};
+use examples_lines::lines_of;
 use rt_app::{
     Bodied, Input, Limits, List, Mutations, NoData, OutOfMemory, Task, Text, memo_session,
 };
@@ -55,12 +53,8 @@ fn loaded(alloc: Global) -> Result<List<u8>, OutOfMemory> {
 }
 
 /// The lines of both.
-fn printed(alloc: Global) -> Result<List<u8>, OutOfMemory> {
+pub(crate) fn printed(alloc: Global) -> Result<List<u8>, OutOfMemory> {
     let mut all = chosen(alloc)?;
     all.append(loaded(alloc)?)?;
     Ok(all)
-}
-
-fn main(rt: HostRuntime) {
-    print_lines(&rt, printed(rt.alloc()));
 }
